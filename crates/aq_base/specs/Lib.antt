@@ -1,0 +1,8 @@
+-- The field's own definitions, which every other crate cites.
+pub mod Calendar
+pub mod Decimal
+pub mod Site
+pub mod Quals
+pub mod Rule
+pub mod Standard
+pub mod Places

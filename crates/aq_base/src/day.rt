@@ -1,0 +1,124 @@
+//! Days, hours and quarters of the profile, by their numbers. All hours are local standard time.
+ghost use Rattle.std.specs.Prelude.{◌≡◌, ℕ, ◌<◌, ◌≤◌};
+ghost use Rattle.aq_base.specs.declared.day.TheConstants.{LAST_DAY, LAST_HOUR, QUARTERS};
+
+use std::marker::Model;
+
+/// The profile begins on 1 January of this year, which is day 0 (own).
+pub const FIRST_YEAR: u16 = 2000;
+
+/// The profile ends on 31 December of this year (own).
+pub const LAST_YEAR: u16 = 2049;
+
+/// The number of the profile's last day.
+pub const LAST_DAY: u16 = 18_262;
+
+/// The number of the profile's last hour.
+pub const LAST_HOUR: u32 = 438_311;
+
+/// How many calendar quarters the profile has.
+pub const QUARTERS: u8 = 200;
+
+/// A day of the profile, by the number of days since its first. Contracts see the number.
+#[derive(Clone, Copy, Debug, PartialEq, Eq, PartialOrd, Ord, Hash)]
+pub struct Day {
+    number: u16,
+}
+
+impl Model for Day {
+    ghost Value = { ℕ };
+
+    ghost view = { λ day. day.number };
+
+    ghost invariant = { λ day. day.number ≤ LAST_DAY };
+
+    ghost inverse = { λ number. record { number = number } };
+}
+
+impl Day {
+    /// The day with this number.
+    pub fn new(number: u16) -> Day
+        requires { number ≤ LAST_DAY }
+        ensures { result ≡ number }
+    {
+        Day { number }
+    }
+
+    /// How many days of the profile come before it.
+    pub fn number(self) -> u16
+        ensures value { result ≡ self }
+        ensures range { result ≤ LAST_DAY }
+    {
+        self.number
+    }
+}
+
+/// An hour of the profile, which starts at a full hour, by the number of hours since the profile's
+/// first. Contracts see the number.
+#[derive(Clone, Copy, Debug, PartialEq, Eq, PartialOrd, Ord, Hash)]
+pub struct Hour {
+    number: u32,
+}
+
+impl Model for Hour {
+    ghost Value = { ℕ };
+
+    ghost view = { λ hour. hour.number };
+
+    ghost invariant = { λ hour. hour.number ≤ LAST_HOUR };
+
+    ghost inverse = { λ number. record { number = number } };
+}
+
+impl Hour {
+    /// The hour with this number.
+    pub fn new(number: u32) -> Hour
+        requires { number ≤ LAST_HOUR }
+        ensures { result ≡ number }
+    {
+        Hour { number }
+    }
+
+    /// How many hours of the profile come before it.
+    pub fn number(self) -> u32
+        ensures value { result ≡ self }
+        ensures range { result ≤ LAST_HOUR }
+    {
+        self.number
+    }
+}
+
+/// A calendar quarter of the profile, by the number of quarters since its first. Contracts see the
+/// number.
+#[derive(Clone, Copy, Debug, PartialEq, Eq, PartialOrd, Ord, Hash)]
+pub struct Quarter {
+    number: u8,
+}
+
+impl Model for Quarter {
+    ghost Value = { ℕ };
+
+    ghost view = { λ quarter. quarter.number };
+
+    ghost invariant = { λ quarter. quarter.number < QUARTERS };
+
+    ghost inverse = { λ number. record { number = number } };
+}
+
+impl Quarter {
+    /// The quarter with this number.
+    pub fn new(number: u8) -> Quarter
+        requires { number < QUARTERS }
+        ensures { result ≡ number }
+    {
+        Quarter { number }
+    }
+
+    /// How many quarters of the profile come before it.
+    pub fn number(self) -> u8
+        ensures value { result ≡ self }
+        ensures range { result < QUARTERS }
+    {
+        self.number
+    }
+}

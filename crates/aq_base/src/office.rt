@@ -1,0 +1,109 @@
+//! The agency's own records, beside the observations.
+use crate::code::Code;
+use crate::day::{Day, Hour};
+use crate::monitor::{Duration, MonitorId, Pollutant};
+use crate::site::SiteId;
+
+/// A record of the agency's office (own).
+#[derive(Clone, Copy, Debug, PartialEq, Eq)]
+pub enum OfficeRecord {
+    /// A registered monitor. Only an eligible one's values count.
+    Monitor {
+        id: MonitorId,
+        duration: Duration,
+        eligible: bool,
+    },
+    /// The primary monitor of a site and pollutant from a day on. POC 0 means none.
+    Primary {
+        site: SiteId,
+        pollutant: Pollutant,
+        from: Day,
+        poc: u8,
+    },
+    /// The sampling schedule of a site and pollutant from a day on: each day whose distance from the
+    /// anchor is a multiple of the interval, which is 1, 2, 3 or 6 days.
+    Schedule {
+        site: SiteId,
+        pollutant: Pollutant,
+        from: Day,
+        interval: u8,
+        anchor: Day,
+    },
+    /// The ozone season of a site and year.
+    Season {
+        site: SiteId,
+        year: u16,
+        first: Day,
+        last: Day,
+    },
+    /// A PM2.5 sample that makes up for a missed scheduled one.
+    Makeup {
+        site: SiteId,
+        missed: Day,
+        makeup: Day,
+    },
+    /// An exceptional event: the hours of a site and pollutant, and the qualifier code of the
+    /// observations that it flags.
+    Event {
+        number: u32,
+        site: SiteId,
+        pollutant: Pollutant,
+        first: Hour,
+        last: Hour,
+        code: Code,
+    },
+    /// Whether the Regional Administrator concurred in an event (40 CFR 50.14).
+    Concurrence {
+        number: u32,
+        agreed: bool,
+    },
+    /// An ozone day that counts as valid by approval.
+    Approved {
+        site: SiteId,
+        day: Day,
+    },
+}
+
+/// What tells an office record apart from the others of its kind.
+#[derive(Clone, Copy, Debug, PartialEq, Eq, PartialOrd, Ord)]
+pub enum OfficeKey {
+    Monitor {
+        id: MonitorId,
+    },
+    Primary {
+        site: SiteId,
+        pollutant: Pollutant,
+        from: Day,
+    },
+    Schedule {
+        site: SiteId,
+        pollutant: Pollutant,
+        from: Day,
+    },
+    Season {
+        site: SiteId,
+        year: u16,
+    },
+    Makeup {
+        site: SiteId,
+        missed: Day,
+    },
+    Event {
+        number: u32,
+    },
+    Concurrence {
+        number: u32,
+    },
+    Approved {
+        site: SiteId,
+        day: Day,
+    },
+}
+
+/// What an office line asks for: a new record, a changed one, or one dropped.
+#[derive(Clone, Copy, Debug, PartialEq, Eq)]
+pub enum OfficeLine {
+    Put(OfficeRecord),
+    Change(OfficeRecord),
+    Drop(OfficeKey),
+}
