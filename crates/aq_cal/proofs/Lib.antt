@@ -1,0 +1,3 @@
+-- What the calendar of jiff and the profile's own say of one another.
+pub mod Dates
+pub mod Counts

@@ -1,0 +1,1 @@
+-- What this crate's contracts cite beside aq_base's definitions.

@@ -1,0 +1,7 @@
+//! Dates of the profile: the numbers of days, hours and quarters, and the civil dates that they
+//! stand for. All are in local standard time. The calendar itself is the crate `jiff`'s.
+#![tactic(auto)]
+
+mod date;
+
+pub use date::{Civil, civil_of, day_of, hour_of};
