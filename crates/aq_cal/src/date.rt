@@ -67,7 +67,7 @@ fn first_date() -> Date
 }
 
 /// The day of a date in one of the profile's years.
-fn number_of(date: Date) -> Day
+pub(crate) fn number_of(date: Date) -> Day
     requires { IsBetween (pos FIRST_YEAR) (pos LAST_YEAR) date.year }
     ensures { result ≡ day_number (unsigned_abs date.year) date.month date.day }
 {

@@ -3,5 +3,12 @@
 #![tactic(auto)]
 
 mod date;
+mod spans;
+mod text;
 
 pub use date::{Civil, civil_of, day_of, hour_of};
+pub use spans::{quarter_of, quarter_span, year_span};
+pub use text::write_day;
+
+#[cfg(test)]
+mod tests;
