@@ -1,9 +1,5 @@
-use Rattle.std.proofs.Common.{◌≡◌, ◌∙◌, ◌<◌, ◌+◌, sym, refl, arith}
-use Rattle.std.specs.BTreeMap.Range.{entries_between}
-use Rattle.std.specs.declared.ops.Bound.TheVariants.{Included, Excluded}
+use Rattle.std.proofs.Common.{◌≡◌, ◌∙◌, ◌<◌, ◌+◌, arith}
 use Rattle.aq_base.specs.declared.day.TheConstants.{LAST_HOUR}
-use Rattle.aq_base.specs.declared.observation.ObsKey.{ObsKey}
-use Rattle.aq_shelf.proofs.Order.{derived_cmp}
 use Rattle.aq_shelf.proofs.EntryLemmas.{filter-half_open, filter-closed}
 use Rattle.aq_shelf.proofs.shelf.entries_in.Goals as goal
 

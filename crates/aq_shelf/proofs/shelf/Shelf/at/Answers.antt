@@ -1,5 +1,4 @@
-use Rattle.std.proofs.Common.{◌≡◌, ◌∙◌, ap, sym, subst, IfSome}
-use Rattle.aq_shelf.specs.Values.{HasValueInRange}
+use Rattle.std.proofs.Common.{◌∙◌, ap}
 use Rattle.aq_shelf.specs.Entries.{observation_at}
 use Rattle.aq_shelf.proofs.EntryLemmas.{IfSome-observation_at, lookup-derived}
 use Rattle.aq_shelf.proofs.shelf.Shelf.at.Goals as goal

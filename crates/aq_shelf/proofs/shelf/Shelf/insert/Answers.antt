@@ -1,6 +1,5 @@
-use Rattle.std.proofs.Common.{◌≡◌, ◌∙◌, ◌≤◌, ◌<◌, ◌≢◌, ap, sym, subst, refl, Bool, true, false, Option, Some, None, List, length, arith, is_some}
+use Rattle.std.proofs.Common.{◌≡◌, ◌∙◌, ◌<◌, ap, sym, subst, refl, false, Option, Some, None, length, arith, is_some}
 use Rattle.std.proofs.lemmas.Bool.{false≢true}
-use Rattle.aq_base.specs.declared.observation.ObsKey.{ObsKey}
 use Rattle.aq_base.specs.declared.observation.Observation.{Observation}
 use Rattle.aq_shelf.specs.declared.shelf.TheConstants.{MOST_OBSERVATIONS}
 use Rattle.aq_shelf.specs.Entries.{observation_at, with_entry, IsShelf}

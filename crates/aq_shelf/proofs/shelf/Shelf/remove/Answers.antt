@@ -1,8 +1,5 @@
-use Rattle.std.proofs.Common.{◌≡◌, ◌∙◌, ap, sym, Some, None}
-use Rattle.std.specs.Map.{remove_entry}
-use Rattle.aq_base.specs.declared.observation.ObsKey.{ObsKey}
+use Rattle.std.proofs.Common.{◌≡◌, ◌∙◌, ap, sym}
 use Rattle.aq_shelf.specs.Entries.{observation_at, without_key}
-use Rattle.aq_shelf.proofs.Order.{same_test}
 use Rattle.aq_shelf.proofs.EntryLemmas.{IsShelf-remove, lookup-derived, remove_entry-derived}
 use Rattle.aq_shelf.proofs.shelf.Shelf.remove.Goals as goal
 use Rattle.aq_shelf.proofs.shelf.Shelf.remove.Goals.{in-Some, in-None}
