@@ -1,0 +1,14 @@
+//! The shelf: the observations that stand, one for each key. Contracts see it as the list of its
+//! entries in the order of keys.
+#![tactic(auto)]
+
+mod fault;
+mod shelf;
+mod span;
+
+pub use fault::{NotThere, ShelfFault};
+pub use shelf::{MOST_OBSERVATIONS, Shelf};
+pub use span::Span;
+
+#[cfg(test)]
+mod tests;

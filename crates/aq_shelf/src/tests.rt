@@ -1,0 +1,1 @@
+//! Each public call, against a plain list of pairs.
