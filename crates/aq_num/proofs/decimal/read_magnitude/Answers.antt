@@ -1,0 +1,17 @@
+use Rattle.std.proofs.Common.{◌≡◌, suc, ◌+◌, true, false, length, drop, [], ◌∷◌, get_or, sym, ◌∙◌, arith, rules, Some}
+use Rattle.std.proofs.lemmas.Grind.{common_steps}
+use Rattle.std.proofs.lemmas.List.{drop_all}
+use Rattle.aq_num.proofs.Scan.{scan, scan-is, scan-none}
+use Rattle.aq_num.proofs.decimal.read_magnitude.Goals as goal
+
+pub returns-else-is_ascii_digit : goal.returns-else-is_ascii_digit
+returns-else-is_ascii_digit c =
+    grind (arith, common_steps, scan-is, scan-none)
+
+pub returns-then-has_digit : goal.returns-then-has_digit
+returns-then-has_digit c =
+    grind (arith, common_steps, scan-is)
+
+pub returns-else-has_digit : goal.returns-else-has_digit
+returns-else-has_digit c =
+    grind (arith, common_steps, scan-is)

@@ -1,0 +1,3 @@
+-- What the calls of this crate promise, over the definitions of aq_base.
+pub mod DecimalIn
+pub mod Fractions
