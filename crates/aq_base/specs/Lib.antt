@@ -5,4 +5,5 @@ pub mod Site
 pub mod Quals
 pub mod Rule
 pub mod Standard
+pub mod Values
 pub mod Places

@@ -1,0 +1,14 @@
+use Rattle.std.proofs.Common.{◌≡◌, ◌++◌, ℕ, ◌+◌, ◌-◌, ◌≤◌, vec_len}
+use Rattle.std.specs.Option.{option_map}
+use Rattle.aq_desk.specs.declared.body.TheConstants.{MOST_BYTES}
+use Rattle.aq_desk.proofs.body.fill.Given as goal
+
+abbrev pub invariant-loop-body : goal.invariant-loop-body
+invariant-loop-body g l = record {
+  told : option_map (λ left. l.body.items ++ left) (g.S.Source.left l.input) ≡ g.S.Source.left l.fn.input;
+  few : vec_len l.body ≤ MOST_BYTES + 1;
+  grows : g.S.Source.faults l.fn.input ≤ g.S.Source.faults l.input;
+}
+
+abbrev pub decreases-loop-body : goal.decreases-loop-body
+decreases-loop-body g l = MOST_BYTES + 1 - vec_len l.body

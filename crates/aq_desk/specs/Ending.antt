@@ -1,0 +1,57 @@
+-- How a command ends, the status of each ending, and what it says of the input and the output (own).
+use Rattle.std.specs.Prelude.{◌≡◌, ℕ, ◌≤◌, ◌⊎◌, length, List, Option, IfSome}
+use Rattle.aq_desk.specs.declared.body.BodyFault.{BodyFault}
+use Rattle.aq_desk.specs.declared.body.BodyFault.TheVariants as fault
+use Rattle.aq_desk.specs.declared.body.TheConstants.{MOST_BYTES}
+use Rattle.aq_desk.specs.declared.ending.Ending.{Ending}
+use Rattle.aq_desk.specs.declared.ending.Ending.TheVariants.{Done, NoCommand, InputFailed, OutputFailed, Memory, TooManyBytes, NoSite}
+
+abbrev pub status_of : Ending → ℕ
+status_of Done = 0
+status_of NoCommand = 2
+status_of InputFailed = 3
+status_of OutputFailed = 4
+status_of Memory = 7
+status_of TooManyBytes = 10
+status_of (NoSite site) = 12
+
+abbrev pub ending_of : BodyFault → Ending
+ending_of fault.InputFailed = InputFailed
+ending_of fault.Memory = Memory
+ending_of fault.TooManyBytes = TooManyBytes
+
+-- a body within the limit, where the source tells it
+abbrev pub TellsFew : Option (List ℕ) → Type 0
+TellsFew before = IfSome before (λ left. length left ≤ MOST_BYTES)
+
+-- why a command ended so: the words are none, the input's count rose, the output's count rose, the body is too long, or it was read whole; want of memory has no cause that is told
+abbrev pub HasReason : Type 0 → Type 0 → Type 0 → Type 0 → Type 0 → Ending → Type 0
+HasReason no_words input_risen output_risen too_long whole Done = whole
+HasReason no_words input_risen output_risen too_long whole NoCommand = no_words
+HasReason no_words input_risen output_risen too_long whole InputFailed = input_risen
+HasReason no_words input_risen output_risen too_long whole OutputFailed = output_risen × whole
+HasReason no_words input_risen output_risen too_long whole Memory = Unit {0}
+HasReason no_words input_risen output_risen too_long whole TooManyBytes = too_long
+HasReason no_words input_risen output_risen too_long whole (NoSite site) = whole
+
+-- the endings before which nothing is written
+abbrev pub IsSilent : Type 0 → Ending → Type 0
+IsSilent unwritten Done = Unit {0}
+IsSilent unwritten NoCommand = unwritten
+IsSilent unwritten InputFailed = unwritten
+IsSilent unwritten OutputFailed = Unit {0}
+IsSilent unwritten Memory = Unit {0}
+IsSilent unwritten TooManyBytes = unwritten
+IsSilent unwritten (NoSite site) = Unit {0}
+
+-- the statuses that a command may have
+abbrev pub IsStatus : ℕ → Type 0
+IsStatus n = (n ≡ 0) ⊎ (n ≡ 2) ⊎ (n ≡ 3) ⊎ (n ≡ 4) ⊎ (n ≡ 7) ⊎ (n ≡ 10) ⊎ (n ≡ 12)
+
+-- the statuses of a command that read its input to the end
+abbrev pub ReadsWhole : ℕ → Type 0
+ReadsWhole n = (n ≡ 0) ⊎ (n ≡ 4) ⊎ (n ≡ 12)
+
+-- the statuses of one that wrote nothing
+abbrev pub WritesNothing : ℕ → Type 0
+WritesNothing n = (n ≡ 2) ⊎ (n ≡ 3) ⊎ (n ≡ 10)

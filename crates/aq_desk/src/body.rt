@@ -1,0 +1,91 @@
+//! The body of a load, read from a source to its end.
+ghost use Rattle.std.specs.Prelude.{◌≡◌, ◌<◌, ◌≤◌, length, vec_len, [], IfOk, IfErr, OnOk};
+ghost use Rattle.aq_desk.specs.Body.{IsBody, IsBodyFault, TellsTooMany, Extends};
+
+use crate::outside::Source;
+use aq_base::{Failed, Memory};
+use std::alloc::{AllocError, Global};
+
+/// A load's body has at most this many bytes.
+pub const MOST_BYTES: usize = 8_388_608;
+
+const PIECE: usize = 65_536;
+
+// Why a body was not read.
+#[derive(Clone, Copy, Debug, PartialEq, Eq)]
+pub(crate) enum BodyFault {
+    InputFailed,
+    Memory,
+    TooManyBytes,
+}
+
+impl From<Failed> for BodyFault {
+    ghost use Rattle.std.specs.Prelude.{◌≡◌};
+    ghost use Rattle.aq_desk.specs.declared.body.BodyFault.TheVariants.{InputFailed};
+
+    ghost from_gives = { λ _ fault. fault ≡ InputFailed };
+
+    fn from(_: Failed) -> Self {
+        BodyFault::InputFailed
+    }
+}
+
+impl From<AllocError> for BodyFault {
+    ghost use Rattle.std.specs.Prelude.{◌≡◌};
+    ghost use Rattle.aq_desk.specs.declared.body.BodyFault.TheVariants.{Memory};
+
+    ghost from_gives = { λ _ fault. fault ≡ Memory };
+
+    fn from(_: AllocError) -> Self {
+        BodyFault::Memory
+    }
+}
+
+// Reads one piece behind the body.
+fn read_piece<S: Source>(
+    input: &mut S,
+    buffer: &mut [u8],
+    body: &mut Vec<u8>,
+) -> Result<usize, BodyFault>
+    requires { 0 < length buffer.old }
+    ensures count { IfOk result (λ n. Extends (S.left input.old) (S.left input.new) body.old.items body.new.items n) }
+    ensures within { IfOk result (λ n. n ≤ length buffer.old) }
+    ensures grows { S.faults input.old ≤ S.faults input.new }
+    ensures fault { IfErr result (λ fault. IsBodyFault (S.faults input.old) (S.faults input.new) ⊥ fault) }
+{
+    let n = input.read(buffer)?;
+    body.extend_from_slice(&buffer[..n])?;
+    Ok(n)
+}
+
+// Reads to the end behind an empty body, or as far as one byte beyond what a body may have.
+fn fill<S: Source>(input: &mut S, buffer: &mut [u8], body: &mut Vec<u8>) -> Result<(), BodyFault>
+    requires room { 0 < length buffer.old }
+    requires empty { body.old.items ≡ [] }
+    ensures body { OnOk result (IsBody (S.left input.old) body.new.items) }
+    ensures few { OnOk result (vec_len body.new ≤ MOST_BYTES) }
+    ensures grows { S.faults input.old ≤ S.faults input.new }
+    ensures fault { IfErr result (λ fault. IsBodyFault (S.faults input.old) (S.faults input.new) (TellsTooMany (S.left input.old)) fault) }
+{
+    while body.len() <= MOST_BYTES {
+        let room = buffer.len().min(MOST_BYTES + 1 - body.len());
+        let n = read_piece(input, &mut buffer[..room], body)?;
+        if n == 0 {
+            return Ok(());
+        }
+    }
+    Err(BodyFault::TooManyBytes)
+}
+
+/// Reads a source to its end, or as far as one byte beyond what a body may have.
+pub(crate) fn read_body<S: Source>(alloc: Global, input: &mut S) -> Result<Vec<u8>, BodyFault>
+    ensures body { IfOk result (λ body. IsBody (S.left input.old) body.items) }
+    ensures few { IfOk result (λ body. vec_len body ≤ MOST_BYTES) }
+    ensures grows { S.faults input.old ≤ S.faults input.new }
+    ensures fault { IfErr result (λ fault. IsBodyFault (S.faults input.old) (S.faults input.new) (TellsTooMany (S.left input.old)) fault) }
+{
+    let mut buffer = vec![in alloc; 0; PIECE]?;
+    let mut body = Vec::new(alloc);
+    fill(input, &mut buffer, &mut body)?;
+    Ok(body)
+}

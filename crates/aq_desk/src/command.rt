@@ -1,0 +1,128 @@
+//! The top call.
+ghost use Rattle.std.specs.Prelude.{◌≡◌, ◌<◌, ◌≤◌, ◌↔◌, length, IsNone, IfErr, OnOk, map, string_bytes};
+ghost use Rattle.aq_desk.specs.Outside.{HasRisen};
+ghost use Rattle.aq_desk.specs.Body.{TellsTooMany};
+ghost use Rattle.aq_desk.specs.Ending.{HasReason, IsSilent, IsStatus, ReadsWhole, TellsFew, WritesNothing};
+ghost use Rattle.aq_desk.specs.Words.{command_of};
+ghost use Rattle.aq_desk.specs.declared.body.TheConstants.{MOST_BYTES};
+ghost use Rattle.aq_desk.specs.declared.ending.Ending.TheVariants.{NoCommand};
+
+use crate::body::read_body;
+use crate::ending::Ending;
+use crate::load::take_load;
+use crate::office::Office;
+use crate::outside::{Sink, Source};
+use crate::sheets::{load_text, windows_text};
+use crate::windows::{WINDOWS, WindowRow, day_windows};
+use crate::words::{Command, read_words};
+use crate::writing::write_all;
+use aq_base::{Day, SiteId, Steps};
+use std::alloc::Global;
+use std::marker::Brand;
+use std::sync::ledger::{Blank, Ledger};
+
+/// Does what the words ask for, and answers the exit status. Messages go to `errors`, whose failures
+/// change nothing.
+pub fn run<S: Source, O: Sink, E: Sink>(
+    alloc: Global,
+    words: &[String],
+    input: &mut S,
+    output: &mut O,
+    errors: &mut E,
+) -> u8
+    ensures statuses { IsStatus result }
+    ensures no_command { (result ≡ 2) ↔ IsNone (command_of (map string_bytes words.now)) }
+    ensures input_failed { result ≡ 3 → HasRisen (S.faults input.old) (S.faults input.new) }
+    ensures output_failed { result ≡ 4 → HasRisen (O.faults output.old) (O.faults output.new) }
+
+    // A body of too many bytes, and no other, ends with 10, unless the input or memory failed first.
+    ensures too_many { result ≡ 10 → TellsTooMany (S.left input.old) }
+    ensures whole { ReadsWhole result → TellsFew (S.left input.old) }
+
+    ensures silent { WritesNothing result → output.new ≡ output.old }
+    ensures unused { result ≡ 2 → input.new ≡ input.old }
+{
+    let ending = perform(alloc, words, input, output);
+    ending.tell(errors);
+    ending.status()
+}
+
+fn perform<S: Source, O: Sink>(
+    alloc: Global,
+    words: &[String],
+    input: &mut S,
+    output: &mut O,
+) -> Ending
+    ensures no_command { IsNone (command_of (map string_bytes words.now)) → result ≡ NoCommand }
+    ensures reason { HasReason (IsNone (command_of (map string_bytes words.now))) (HasRisen (S.faults input.old) (S.faults input.new)) (HasRisen (O.faults output.old) (O.faults output.new)) (TellsTooMany (S.left input.old)) (TellsFew (S.left input.old)) result }
+    ensures silent { IsSilent (output.new ≡ output.old) result }
+    ensures unused { result ≡ NoCommand → input.new ≡ input.old }
+{
+    let Some(command) = read_words(words) else {
+        return Ending::NoCommand;
+    };
+    let outcome = match &command {
+        Command::Scan { site, day } => scan(alloc, *site, *day, input, output),
+    };
+    match outcome {
+        Ok(()) => Ending::Done,
+        Err(ending) => ending,
+    }
+}
+
+fn scan<S: Source, O: Sink>(
+    alloc: Global,
+    site: SiteId,
+    day: Day,
+    input: &mut S,
+    output: &mut O,
+) -> Result<(), Ending>
+    ensures whole { OnOk result (TellsFew (S.left input.old)) }
+    ensures reason { IfErr result (HasReason ⊥ (HasRisen (S.faults input.old) (S.faults input.new)) (HasRisen (O.faults output.old) (O.faults output.new)) (TellsTooMany (S.left input.old)) (TellsFew (S.left input.old))) }
+    ensures silent { IfErr result (IsSilent (output.new ≡ output.old)) }
+{
+    let body = read_body(alloc, input)?;
+    answer(alloc, site, day, &body, output)
+}
+
+/// Prints the reply to the body as a load, and the windows.
+fn answer<O: Sink>(
+    alloc: Global,
+    site: SiteId,
+    day: Day,
+    body: &[u8],
+    output: &mut O,
+) -> Result<(), Ending>
+    requires { length body.now ≤ MOST_BYTES }
+    ensures reason { IfErr result (HasReason ⊥ ⊥ (HasRisen (O.faults output.old) (O.faults output.new)) ⊥ (Unit {0})) }
+{
+    let taken = take_load(alloc, body)?;
+    let text = load_text(alloc, &taken.reply)?;
+    print(output, &text)?;
+    if !taken.office.has_site(site) {
+        return Err(Ending::NoSite(site));
+    }
+    let rows = counted::<Brand>(&taken.office, day, Blank::new(1));
+    let text = windows_text(alloc, site, day, &rows)?;
+    print(output, &text)
+}
+
+/// The day's windows, on a counter of their own.
+fn counted<L: Ledger>(office: &Office, day: Day, blank: Blank) -> [WindowRow; WINDOWS]
+    requires name { blank.name ≡ L.name }
+    requires parts { blank.parts ≡ L.parts }
+    requires some { 0 < L.parts }
+{
+    let mut steps = Steps::<L>::new(blank);
+    day_windows(office, day, &mut steps)
+}
+
+fn print<O: Sink>(output: &mut O, text: &[u8]) -> Result<(), Ending>
+    ensures reason { IfErr result (HasReason ⊥ ⊥ (HasRisen (O.faults output.old) (O.faults output.new)) ⊥ (Unit {0})) }
+    ensures grows { O.faults output.old ≤ O.faults output.new }
+{
+    match write_all(output, text) {
+        Ok(()) => Ok(()),
+        Err(_) => Err(Ending::OutputFailed),
+    }
+}

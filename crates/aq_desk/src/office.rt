@@ -1,0 +1,152 @@
+//! What stands while a load is taken: one ozone monitor at most, and its observations.
+ghost use Rattle.aq_base.specs.Values.{HasValueInRange};
+ghost use Rattle.aq_rd.specs.Ranges.{HasLineRange};
+
+use aq_base::{Hour, MonitorId, ObsKey, Observation, Rule, SiteId, Steps};
+use aq_rd::{Cursor, RdLine, ozone_monitor, read_rd};
+use aq_shelf::{Shelf, ShelfFault};
+use std::alloc::Global;
+use std::sync::ledger::Ledger;
+
+/// The office as far as it is built.
+#[derive(Drop)]
+pub(crate) struct Office {
+    monitor: Option<MonitorId>,
+    shelf: Shelf,
+}
+
+/// Why a line was not taken.
+#[derive(Clone, Copy, Debug, PartialEq, Eq)]
+pub(crate) enum Refusal {
+    Broken(Rule),
+    Memory,
+}
+
+impl From<ShelfFault> for Refusal {
+    fn from(fault: ShelfFault) -> Self {
+        match fault {
+            ShelfFault::AlreadyThere => Refusal::Broken(Rule::AlreadyThere),
+            ShelfFault::Full => Refusal::Broken(Rule::ObservationsFull),
+            ShelfFault::Memory => Refusal::Memory,
+        }
+    }
+}
+
+/// Reads the plain line of an ozone monitor, `XM|I|SS|CCC|NNNN|44201|P|1|Y`.
+fn read_monitor(line: &[u8]) -> Option<MonitorId> {
+    let mut text = Cursor::new(line);
+    text.skip(b"XM|I|")?;
+    let monitor = ozone_monitor(&mut text)?;
+    text.skip(b"Y")?;
+    if text.is_empty() { Some(monitor) } else { None }
+}
+
+impl Office {
+    /// An office of which nothing stands.
+    pub(crate) fn new(alloc: Global) -> Office {
+        Office {
+            monitor: None,
+            shelf: Shelf::new(alloc),
+        }
+    }
+
+    /// Takes a line. After a refusal the office is as before.
+    pub(crate) fn take(&mut self, line: &[u8]) -> Result<(), Refusal> {
+        if let Some(monitor) = read_monitor(line) {
+            return self.register(monitor);
+        }
+        match read_rd(line) {
+            Ok(line) => self.apply(&line),
+            Err(rule) => Err(Refusal::Broken(rule)),
+        }
+    }
+
+    fn register(&mut self, monitor: MonitorId) -> Result<(), Refusal> {
+        if self.monitor.is_some() {
+            return Err(Refusal::Broken(Rule::NotBuilt));
+        }
+        self.monitor = Some(monitor);
+        Ok(())
+    }
+
+    fn is_registered(&self, monitor: &MonitorId) -> bool {
+        match &self.monitor {
+            Some(registered) => registered == monitor,
+            None => false,
+        }
+    }
+
+    fn apply(&mut self, line: &RdLine) -> Result<(), Refusal>
+        requires { HasLineRange line.now }
+    {
+        match line {
+            RdLine::Put {
+                update,
+                monitor,
+                hour,
+                content,
+                ..
+            } => self.put(*update, monitor, *hour, content),
+            RdLine::Delete { monitor, hour } => self.delete(monitor, *hour),
+        }
+    }
+
+    fn put(
+        &mut self,
+        update: bool,
+        monitor: &MonitorId,
+        hour: Hour,
+        content: &Observation,
+    ) -> Result<(), Refusal>
+        requires { HasValueInRange monitor.now.pollutant content.now }
+    {
+        if !self.is_registered(monitor) {
+            return Err(Refusal::Broken(Rule::UnknownMonitor));
+        }
+        let key = ObsKey {
+            monitor: *monitor,
+            hour,
+        };
+        if update {
+            match self.shelf.update(key, *content) {
+                Ok(_) => Ok(()),
+                Err(_) => Err(Refusal::Broken(Rule::NotThere)),
+            }
+        } else {
+            self.shelf.insert(key, *content)?;
+            Ok(())
+        }
+    }
+
+    fn delete(&mut self, monitor: &MonitorId, hour: Hour) -> Result<(), Refusal> {
+        if !self.is_registered(monitor) {
+            return Err(Refusal::Broken(Rule::UnknownMonitor));
+        }
+        let key = ObsKey {
+            monitor: *monitor,
+            hour,
+        };
+        match self.shelf.remove(key) {
+            Ok(_) => Ok(()),
+            Err(_) => Err(Refusal::Broken(Rule::NotThere)),
+        }
+    }
+
+    /// Whether a monitor of the site is registered.
+    pub(crate) fn has_site(&self, site: SiteId) -> bool {
+        match &self.monitor {
+            Some(registered) => registered.site == site,
+            None => false,
+        }
+    }
+
+    /// The site's value for an hour, in thousandths of a ppm.
+    pub(crate) fn value_at<L: Ledger>(&self, hour: Hour, steps: &mut Steps<L>) -> Option<i32> {
+        let monitor = self.monitor.as_ref()?;
+        let key = ObsKey {
+            monitor: *monitor,
+            hour,
+        };
+        self.shelf.at(key, steps)?.value
+    }
+}
