@@ -4,7 +4,8 @@ use Rattle.std.specs.Prelude.{count_by, unsigned_abs}
 use Rattle.std.specs.List.{range_with_len}
 use Rattle.std.proofs.lemmas.List.Sums.{sum_by-cons}
 use Rattle.std.proofs.lemmas.Bool.Decides.{nat_tests}
-use Rattle.aq_base.specs.Calendar.{days_in_year, days_in_month, days_of_years, days_of_months, day_number, day_of_year, year_of, month_of, day_of_month}
+use Rattle.aq_base.specs.Calendar.{years, days_in_year, days_in_month, days_of_years, days_of_months, day_number, day_of_year, year_of, month_of, day_of_month}
+use Rattle.aq_base.specs.declared.day.TheConstants.{FIRST_YEAR, LAST_YEAR}
 use Rattle.jiff_core.specs.Calendar as Civil
 use Rattle.jiff_core.specs.declared.civil.date.Date.{Date}
 use Rattle.jiff_core.proofs.SignedLemmas.{signed_arith}
@@ -62,8 +63,8 @@ months_before year m n h = let same : n - m + m ≡ n = omega arith in rw same a
 
 -- a date of the profile
 pub record IsDay (year month day : ℕ) : Type 0 where
-  pub year_low : 2000 ≤ year
-  pub year_high : year ≤ 2049
+  pub year_low : FIRST_YEAR ≤ year
+  pub year_high : year ≤ LAST_YEAR
   pub month_low : 1 ≤ month
   pub month_high : month ≤ 12
   pub day_low : 1 ≤ day
@@ -84,12 +85,12 @@ pub year_is : (year month day : ℕ) → IsDay year month day → year_of (day_n
 unfolding year_of
 year_is year month day h =
     let n = day_number year month day in
-    let next : 2000 + (year - 2000) ≡ year = omega (arith, h.year_low) in
-    let last : n < days_of_years (suc (year - 2000)) = rw (days_of_years_next (year - 2000), next) (omega (arith, place_before year month day 12 h h.month_high, months_all year)) in
-    let count = count_below (λ i. nat_le (days_of_years (i + 1)) n) 0 50 (year - 2000) (omega (arith, h.year_high))
-    (λ i lt. le_true _ _ (omega (arith, years_before (i + 1) (year - 2000) (omega arith))))
-    (λ i le. le_false _ _ (omega (arith, years_before (suc (year - 2000)) (i + 1) (omega arith)))) in
-    ap (λ k. 2000 + k) count ∙ next
+    let next : FIRST_YEAR + (year - FIRST_YEAR) ≡ year = omega (arith, h.year_low) in
+    let last : n < days_of_years (suc (year - FIRST_YEAR)) = rw (days_of_years_next (year - FIRST_YEAR), next) (omega (arith, place_before year month day 12 h h.month_high, months_all year)) in
+    let count = count_below (λ i. nat_le (days_of_years (i + 1)) n) 0 years (year - FIRST_YEAR) (omega (arith, h.year_high))
+    (λ i lt. le_true _ _ (omega (arith, years_before (i + 1) (year - FIRST_YEAR) (omega arith))))
+    (λ i le. le_false _ _ (omega (arith, years_before (suc (year - FIRST_YEAR)) (i + 1) (omega arith)))) in
+    ap (λ k. FIRST_YEAR + k) count ∙ next
 
 in_year : (year month day : ℕ) → IsDay year month day → day_of_year (day_number year month day) ≡ place year month day
 in_year year month day h = rw (year_is year month day h) (omega arith)
@@ -107,11 +108,11 @@ day_is year month day h =
     rw (in_year year month day h, year_is year month day h, month_is year month day h) (omega (arith, h.day_low))
 
 -- the same of one of jiff's dates
-pub is_day : (d : Date) → Civil.IsBetween (pos 2000) (pos 2049) d.year → IsDay (unsigned_abs d.year) d.month d.day
+pub is_day : (d : Date) → Civil.IsBetween (pos FIRST_YEAR) (pos LAST_YEAR) d.year → IsDay (unsigned_abs d.year) d.month d.day
 is_day d year =
     let same = not_negative d.year year.0 in
-    let low : 2000 ≤ unsigned_abs d.year = omega (arith, signed_arith, year.0) in
-    let high : unsigned_abs d.year ≤ 2049 = omega (arith, signed_arith, year.1) in
+    let low : FIRST_YEAR ≤ unsigned_abs d.year = omega (arith, signed_arith, year.0) in
+    let high : unsigned_abs d.year ≤ LAST_YEAR = omega (arith, signed_arith, year.1) in
     let last = rw (same, month_length (unsigned_abs d.year) d.month low high) at d.day_in.1 in
     record {
       year_low = low;

@@ -1,5 +1,6 @@
--- What the calendar of jiff and the profile's own say of one another.
+-- Lemmas on dates: jiff's calendar against the definitions, and laws for callers.
 pub mod Dates
 pub mod Counts
 pub mod Lengths
 pub mod Texts
+pub mod Within

@@ -39,7 +39,7 @@ pub fn civil_of(day: Day) -> Civil
     ensures year { result.year ≡ year_of day }
     ensures month { result.month ≡ month_of day }
     ensures day_of_month { result.day ≡ day_of_month day }
-    ensures year_range { IsInRange 2000 2049 result.year }
+    ensures year_range { IsInRange FIRST_YEAR LAST_YEAR result.year }
     ensures month_range { IsInRange 1 12 result.month }
     ensures day_range { IsInRange 1 31 result.day }
 {

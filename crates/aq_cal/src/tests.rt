@@ -1,6 +1,6 @@
 //! Each public call, with dates from the calendar by hand.
 use crate::*;
-use aq_base::{Day, Quarter};
+use aq_base::Day;
 use std::test::Fail;
 
 /// Days with their numbers: 2000-01-01 is 0, and 2024-07-01 comes after 24 years, 6 of them leap
@@ -51,28 +51,30 @@ fn hours_go_on_from_day_to_day(rt: HostRuntime) {
     }
 }
 
-/// A quarter's number, its first day and its last: 2000 is a leap year, 2001 and 2049 are not.
-const QUARTERS: [(u8, u16, u16); 10] = [
-    (0, 0, 90),
-    (1, 91, 181),
-    (2, 182, 273),
-    (3, 274, 365),
-    (4, 366, 455),
-    (5, 456, 546),
-    (6, 547, 638),
-    (7, 639, 730),
-    (98, 8948, 9039),
-    (199, 18_171, 18_262),
-];
-
 #[test]
-fn quarters_have_their_days(rt: HostRuntime) {
-    for (number, first, last) in QUARTERS {
-        let (day, days) = quarter_span(Quarter::new(number));
-        assert_eq!(rt; (day.number(), u16::from(days)), (first, last + 1 - first));
-        assert_eq!(rt; quarter_of(Day::new(first)).number(), number);
-        assert_eq!(rt; quarter_of(Day::new(last)).number(), number);
+fn quarters_have_their_days(rt: HostRuntime) -> Result<(), Fail> {
+    // 2000 is a leap year, and 2001 is not.
+    let cases = [
+        (0, (2000, 1, 1), (2000, 3, 31), 91),
+        (1, (2000, 4, 1), (2000, 6, 30), 91),
+        (2, (2000, 7, 1), (2000, 9, 30), 92),
+        (3, (2000, 10, 1), (2000, 12, 31), 92),
+        (4, (2001, 1, 1), (2001, 3, 31), 90),
+        (5, (2001, 4, 1), (2001, 6, 30), 91),
+        (6, (2001, 7, 1), (2001, 9, 30), 92),
+        (7, (2001, 10, 1), (2001, 12, 31), 92),
+        (98, (2024, 7, 1), (2024, 9, 30), 92),
+        (199, (2049, 10, 1), (2049, 12, 31), 92),
+    ];
+    for (number, first, last, days) in cases {
+        let first = day_of(first.0, first.1, first.2).ok_or("a day")?;
+        let last = day_of(last.0, last.1, last.2).ok_or("a day")?;
+        let quarter = quarter_of(first);
+        assert_eq!(rt; quarter.number(), number);
+        assert_eq!(rt; quarter_of(last), quarter);
+        assert_eq!(rt; quarter_span(quarter), (first, days));
     }
+    Ok(())
 }
 
 #[test]
