@@ -14,3 +14,4 @@ pub mod OzoneYear
 pub mod OzoneVerdict
 pub mod Sheet
 pub mod Sheets
+pub mod OzoneExamples

@@ -1,0 +1,30 @@
+//! The averages of a day, worked out, as their sheets print them.
+#![tactic(auto)]
+ghost use Rattle.std.specs.Prelude.{◌≡◌, ◌+◌, ◌++◌, codes};
+ghost use Rattle.aq_base.specs.Calendar.{hour_number};
+ghost use Rattle.aq_profile.specs.Sheet.{text_of};
+ghost use Rattle.aq_profile.specs.Sheets.{load_sheet, windows_answer};
+ghost use Rattle.aq_profile.specs.OzoneExamples.{site, summer_day, old_years_day, new_years_day, afternoon, nine_lines, one_hour};
+
+/// The reply to a monitor and eight hours of values.
+pub fn load_of_nine_lines()
+    ensures {
+        text_of (load_sheet nine_lines)
+        ≡ codes "load 0\nlines 9\naccepted 9\nrefused 0\nline rule name count\n"
+    }
+{
+}
+
+/// Eight hours of 0.071 ppm from 10:00: the averages that read six of them or more are there.
+pub fn windows_of_eight_hours()
+    ensures {
+        text_of (windows_answer afternoon site summer_day)
+        ≡ codes "site 06-037-1103\nday 2024-07-01\nhour average hours full full_hours\n"
+        ++ codes "07:00 - 5 - 5\n08:00 0.071 6 0.071 6\n09:00 0.071 7 0.071 7\n"
+        ++ codes "10:00 0.071 8 0.071 8\n11:00 0.071 7 0.071 7\n12:00 0.071 6 0.071 6\n"
+        ++ codes "13:00 - 5 - 5\n14:00 - 4 - 4\n15:00 - 3 - 3\n16:00 - 2 - 2\n17:00 - 1 - 1\n"
+        ++ codes "18:00 - 0 - 0\n19:00 - 0 - 0\n20:00 - 0 - 0\n21:00 - 0 - 0\n22:00 - 0 - 0\n"
+        ++ codes "23:00 - 0 - 0\n"
+    }
+{
+}
