@@ -1,5 +1,5 @@
 -- Small offices of one site, on which the laws work the rules out.
-use Rattle.std.specs.Prelude.{ℕ, ◌+◌, true, List, [], ◌∷◌, ◌++◌, map, Some, None, pos}
+use Rattle.std.specs.Prelude.{ℕ, ◌-◌, Bool, true, List, [], ◌∷◌, ◌++◌, map, replicate, Some, None, pos}
 use Rattle.std.specs.List.{range_with_len}
 use Rattle.aq_base.specs.Calendar.{day_number, hour_number}
 use Rattle.aq_base.specs.Site.{Site}
@@ -13,6 +13,9 @@ use Rattle.aq_base.specs.declared.office.OfficeRecord.{OfficeRecord}
 use Rattle.aq_base.specs.declared.office.OfficeRecord.TheVariants.{Monitor, Primary, Event, Concurrence}
 use Rattle.aq_base.specs.declared.reply.LoadReply.{LoadReply}
 use Rattle.aq_profile.specs.Office.{Office}
+use Rattle.aq_profile.specs.EightHour.{WindowRow}
+use Rattle.aq_profile.specs.OzoneDay.{OzoneDay, day_of_windows}
+use Rattle.aq_profile.specs.OzoneYear.{OzoneYear}
 
 -- 06-037-1103
 abbrev pub site : Site
@@ -80,3 +83,29 @@ smoke_day =
 -- the event of these hours
 abbrev pub smoke_event : OfficeRecord
 smoke_event = Event 1 site Ozone (hour_number summer_day 12) (hour_number summer_day 14) smoke
+
+-- the smoky day, with the event and what the Administrator said of it
+abbrev pub smoky : Bool → Office
+smoky agreed = office_of (registered 1 ∷ smoke_event ∷ Concurrence 1 agreed ∷ []) smoke_day
+
+-- rows of a day: one without an average, one of a single hour, and one of eight hours with this average
+abbrev pub empty_row : WindowRow
+empty_row = record { net = None; net_hours = 0; full = None; full_hours = 0 }
+
+abbrev pub single_row : WindowRow
+single_row = record { net = Some (pos 71); net_hours = 1; full = Some (pos 71); full_hours = 1 }
+
+abbrev pub whole_row : ℕ → WindowRow
+whole_row value = record { net = Some (pos value); net_hours = 8; full = Some (pos value); full_hours = 8 }
+
+-- a day with so many averages, of which the first is `first` and the others 0.070 ppm
+abbrev pub day_with : ℕ → ℕ → OzoneDay
+day_with count first =
+    day_of_windows (whole_row first ∷ replicate (count - 1) (whole_row 70) ++ replicate (17 - count) empty_row)
+
+-- a year with a season of 245 days, so many of them valid, and this fourth highest value
+abbrev pub year_with : ℕ → ℕ → OzoneYear
+year_with valid fourth = record { season_days = 245; season_valid = valid; ranked = valid; fourth = Some (pos fourth) }
+
+abbrev pub year_without_fourth : OzoneYear
+year_without_fourth = record { season_days = 245; season_valid = 3; ranked = 3; fourth = None }

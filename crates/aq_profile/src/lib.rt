@@ -3,4 +3,10 @@
 #![tactic(auto)]
 
 pub mod eight_hour;
+pub mod office_records;
+pub mod ozone_day;
+pub mod ozone_verdict;
+pub mod ozone_year;
+pub mod sheets;
+pub mod site_hour;
 pub mod windows;
