@@ -1,0 +1,2 @@
+-- Lemmas for the laws.
+mod Ranges
