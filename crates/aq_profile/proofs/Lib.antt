@@ -1,2 +1,5 @@
 -- Lemmas for the laws.
 mod Ranges
+mod Order
+mod Ranked
+mod AnyOrder

@@ -1,5 +1,5 @@
 -- Lists over a range of numbers depend on nothing outside the range.
-use Rattle.std.proofs.Common.{◌≡◌, ℕ, zero, suc, ◌+◌, ◌*◌, ◌<◌, ◌≤◌, Bool, true, false, cond, List, [], ◌∷◌, map, refl, ap, arith}
+use Rattle.std.proofs.Common.{◌≡◌, ℕ, zero, suc, ◌+◌, ◌*◌, ◌<◌, ◌≤◌, Bool, true, false, cond, ◌∷◌, map, refl, ap, arith}
 use Rattle.std.specs.List.{filter, filter_map, range_with_len}
 use Rattle.std.specs.Prelude.{Option, nat_le}
 use Rattle.aq_base.specs.declared.day.TheConstants.{LAST_HOUR}
@@ -18,7 +18,7 @@ filter_map-range {Y} f g p a (suc n) same =
     in
     let here : f a ≡ g a = same a (omega arith) (omega arith) in
     elim (p a) as (λ b. filter_map f (cond b (a ∷ filter p (range_with_len (a + 1) n)) (filter p (range_with_len (a + 1) n))) ≡ filter_map g (cond b (a ∷ filter p (range_with_len (a + 1) n)) (filter p (range_with_len (a + 1) n))))
-        [ true ↦ cc | false ↦ rest ]
+    [ true ↦ cc | false ↦ rest ]
 
 map-range : {Y : Type 0} (f g : ℕ → Y) (a n : ℕ) → ((k : ℕ) → a ≤ k → k < a + n → f k ≡ g k)
     → map f (range_with_len a n) ≡ map g (range_with_len a n)
@@ -44,7 +44,7 @@ pub windows-same : (a b : Office) (site : Site) (day : ℕ)
 unfolding windows starts_of
 windows-same a b site day same =
     map-range (window a site) (window b site) (24 * day + 7) 17
-        (λ start low high. window-same a b site start (λ hour from to. same hour (omega arith) (omega arith)))
+    (λ start low high. window-same a b site start (λ hour from to. same hour (omega arith) (omega arith)))
 
 pub ozone_day-same : (a b : Office) (site : Site) (day : ℕ)
     → ((hour : ℕ) → 24 * day + 7 ≤ hour → hour < 24 * day + 31 → site_hour a site hour ≡ site_hour b site hour)

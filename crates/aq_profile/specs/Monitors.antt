@@ -5,6 +5,7 @@ use Rattle.aq_base.specs.Site.{Site}
 use Rattle.aq_base.specs.declared.monitor.Pollutant.{Pollutant}
 use Rattle.aq_base.specs.declared.monitor.Pollutant.TheVariants.{Ozone, Pm25, Pm10}
 use Rattle.aq_base.specs.declared.monitor.MonitorId.{MonitorId}
+use Rattle.aq_base.specs.declared.observation.ObsKey.{ObsKey}
 use Rattle.aq_base.specs.declared.office.OfficeRecord.{OfficeRecord}
 use Rattle.aq_base.specs.declared.office.OfficeRecord.TheVariants.{Monitor}
 
@@ -19,6 +20,10 @@ is_same_pollutant _ _ = false
 
 abbrev pub is_same_monitor : MonitorId → MonitorId → Bool
 is_same_monitor a b = is_same_site a.site b.site && is_same_pollutant a.pollutant b.pollutant && (a.poc == b.poc)
+
+-- whether two observations stand at one place
+abbrev pub is_same_key : ObsKey → ObsKey → Bool
+is_same_key a b = is_same_monitor a.monitor b.monitor && (a.hour == b.hour)
 
 -- whether the record registers the monitor as eligible
 abbrev pub makes_eligible : MonitorId → OfficeRecord → Bool

@@ -1,5 +1,6 @@
 //! What the office's records say of a site and day, worked out.
 #![tactic(auto)]
+
 ghost use Rattle.std.specs.Prelude.{◌≡◌, true, false, ◌∷◌, [], Some, None};
 ghost use Rattle.aq_base.specs.declared.monitor.Pollutant.TheVariants.{Ozone, Pm25};
 ghost use Rattle.aq_base.specs.declared.office.OfficeRecord.TheVariants.{Primary, Schedule, Season as SeasonRecord};
@@ -15,8 +16,7 @@ pub fn latest_designation_counts()
     ensures first { primary_on (Primary site Ozone 100 2 ∷ Primary site Ozone 50 1 ∷ []) site Ozone 99 ≡ Some 1 }
     ensures second { primary_on (Primary site Ozone 100 2 ∷ Primary site Ozone 50 1 ∷ []) site Ozone 100 ≡ Some 2 }
     ensures ended { primary_on (Primary site Ozone 50 1 ∷ Primary site Ozone 100 0 ∷ []) site Ozone 100 ≡ None }
-{
-}
+{}
 
 /// Every third day counts from an anchor, before it and after it, once the schedule has begun.
 pub fn every_third_day_is_scheduled()
@@ -25,12 +25,10 @@ pub fn every_third_day_is_scheduled()
     ensures earlier { is_scheduled (Schedule site Pm25 10 3 20 ∷ []) site Pm25 11 ≡ true }
     ensures between { is_scheduled (Schedule site Pm25 10 3 20 ∷ []) site Pm25 22 ≡ false }
     ensures not_begun { is_scheduled (Schedule site Pm25 10 3 20 ∷ []) site Pm25 8 ≡ false }
-{
-}
+{}
 
 /// The season on record counts for its year; another year's season is the whole year.
 pub fn season_without_a_record_is_the_year()
     ensures recorded { season_of (SeasonRecord site 2000 60 304 ∷ []) site 2000 ≡ record { first = 60; last = 304 } }
     ensures whole { season_of (SeasonRecord site 2000 60 304 ∷ []) site 2001 ≡ record { first = 366; last = 730 } }
-{
-}
+{}
