@@ -1,6 +1,6 @@
 -- A site hour does not depend on the order of the observations.
 use Rattle.std.proofs.Common.{◌≡◌, ℕ, zero, suc, ◌≤◌, Bool, true, false, cond, ◌&&◌, ◌||◌, List, [], ◌∷◌, length, map, refl, sym, ap, ◌∙◌, arith}
-use Rattle.std.specs.List.{filter, filter_map, cons_option, find, list_any, slice_get}
+use Rattle.std.specs.List.{filter, filter_map, cons_option, find, list_any, slice_get, count_by}
 use Rattle.std.specs.List.Sorted.{IsPermutation}
 use Rattle.std.specs.Prelude.{Option, Some, None, option_map, ℤ, pos, ◌+ℤ◌, ◌==◌}
 use Rattle.std.proofs.lemmas.List.Sorted.{length_permutation}
@@ -17,6 +17,12 @@ use Rattle.aq_profile.specs.Lists.{total}
 use Rattle.aq_profile.specs.Monitors.{is_same_site, is_same_pollutant, is_same_key, is_eligible}
 use Rattle.aq_profile.specs.Designation.{primary_on}
 use Rattle.aq_profile.specs.SiteHour.{Cell, Sample, sample_of, samples_at, is_for_hour, mean_of, is_of_poc, chosen, site_hour}
+use Rattle.aq_profile.specs.Season.{season_of, is_in_season}
+use Rattle.aq_profile.specs.Approval.{is_approved}
+use Rattle.aq_profile.specs.EightHour.{window}
+use Rattle.aq_profile.specs.OzoneDay.{OzoneDay, ozone_day}
+use Rattle.aq_profile.specs.OzoneYear.{OzoneYear, days_of, ozone_days, ranked_maxima, fourth_of, ozone_year}
+use Rattle.aq_profile.proofs.Ranges.{window-same, ozone_day-same}
 use Rattle.aq_profile.proofs.Order.{fold_in_any_order, filter_map-moved, one_order}
 
 -- ---- the mean, by the number of samples, their sum, and whether one is excluded
@@ -151,3 +157,31 @@ site_hour-any_order a b site hour records moved distinct =
     ap (λ (r : List OfficeRecord). hour_by r b.observations site hour) records
     in
     first ∙ second
+
+pub window-any_order : (a b : Office) (site : Site) (start : ℕ) → a.records ≡ b.records → IsPermutation a.observations b.observations
+    → ((key : ObsKey) → length (filter (λ (e : Entry). is_same_key e.0 key) a.observations) ≤ 1)
+    → window a site start ≡ window b site start
+window-any_order a b site start records moved distinct =
+    window-same a b site start (λ hour from to. site_hour-any_order a b site hour records moved distinct)
+
+pub ozone_day-any_order : (a b : Office) (site : Site) (day : ℕ) → a.records ≡ b.records → IsPermutation a.observations b.observations
+    → ((key : ObsKey) → length (filter (λ (e : Entry). is_same_key e.0 key) a.observations) ≤ 1)
+    → ozone_day a site day ≡ ozone_day b site day
+ozone_day-any_order a b site day records moved distinct =
+    ozone_day-same a b site day (λ hour from to. site_hour-any_order a b site hour records moved distinct)
+
+-- a year, by the records and its days
+abbrev year_by : List OfficeRecord → (ℕ → OzoneDay) → Site → ℕ → OzoneYear
+year_by records day_at site year = record {
+  season_days = count_by (λ day. is_in_season (season_of records site year) day) (days_of year);
+  season_valid = count_by (λ day. is_in_season (season_of records site year) day && ((day_at day).valid || is_approved records site day)) (days_of year);
+  ranked = length (ranked_maxima (map day_at (days_of year)));
+  fourth = fourth_of (ranked_maxima (map day_at (days_of year)));
+}
+
+pub ozone_year-any_order : (a b : Office) (site : Site) (year : ℕ) → a.records ≡ b.records → IsPermutation a.observations b.observations
+    → ((key : ObsKey) → length (filter (λ (e : Entry). is_same_key e.0 key) a.observations) ≤ 1)
+    → ozone_year a site year ≡ ozone_year b site year
+unfolding ozone_year ozone_days
+ozone_year-any_order a b site year records moved distinct =
+    λ i. year_by (records i) (λ day. ozone_day-any_order a b site day records moved distinct i) site year

@@ -3,3 +3,7 @@ mod Ranges
 mod Order
 mod Ranked
 mod AnyOrder
+mod Sameness
+mod Exclusions
+mod Greatest
+mod Rows

@@ -3,6 +3,9 @@
 #![tactic(auto)]
 
 pub mod eight_hour;
+pub mod exclusion;
+pub mod lists;
+pub mod monitors;
 pub mod office_records;
 pub mod ozone_day;
 pub mod ozone_verdict;

@@ -1,10 +1,16 @@
 //! The fourth highest value of a year, worked out.
 #![tactic(auto)]
 
-ghost use Rattle.std.specs.Prelude.{◌≡◌, ℕ, ℤ, ◌+◌, ◌<◌, true, false, List, ◌∷◌, [], length, slice_index_or, IsPermutation, int_lt, Some, None, pos};
-ghost use Rattle.aq_profile.specs.OzoneDay.{OzoneDay};
+ghost use Rattle.std.specs.Prelude.{◌≡◌, ℕ, ◌≤◌, true, false, ◌∷◌, [], length, filter, IsPermutation, Some, None, pos};
+ghost use Rattle.aq_base.specs.Site.{Site};
+ghost use Rattle.aq_base.specs.declared.observation.ObsKey.{ObsKey};
+ghost use Rattle.aq_base.specs.declared.observation.Observation.{Observation};
+ghost use Rattle.aq_profile.specs.Office.{Office};
+ghost use Rattle.aq_profile.specs.Monitors.{is_same_key};
+ghost use Rattle.aq_profile.specs.EightHour.{window};
+ghost use Rattle.aq_profile.specs.OzoneDay.{OzoneDay, ozone_day};
 ghost use Rattle.aq_profile.specs.Lists.{ranked};
-ghost use Rattle.aq_profile.specs.OzoneYear.{fourth_of, ranked_maxima};
+ghost use Rattle.aq_profile.specs.OzoneYear.{fourth_of, ozone_year, ranked_maxima};
 
 /// Equal values are counted each.
 pub fn fourth_highest_counts_ties()
@@ -26,15 +32,22 @@ pub fn valid_maxima_are_ranked()
         ≡ pos 60 ∷ pos 50 ∷ [] }
 {}
 
-/// The ranked list has the given values, each as often, and no value stands before a greater one.
-pub fn ranked_values_are_sorted_downwards()
-    ensures values { (values : List ℤ) → IsPermutation values (ranked values) }
-    ensures falls { (values : List ℤ) (k : ℕ) (d : ℤ)
-        → k + 1 < length (ranked values)
-        → int_lt (slice_index_or (ranked values) k d) (slice_index_or (ranked values) (k + 1) d) ≡ false }
-{}
-
-/// The order in which the values are given does not matter.
-pub fn ranking_forgets_the_order()
-    ensures { (a b : List ℤ) → IsPermutation a b → ranked a ≡ ranked b }
+/// The order of the observations does not matter to an average, a day or a year, where no two stand
+/// at one key.
+pub fn ozone_forgets_the_order()
+    ensures average { (a b : Office) (site : Site) (start : ℕ)
+        → a.records ≡ b.records
+        → IsPermutation a.observations b.observations
+        → ((key : ObsKey) → length (filter (λ (e : ObsKey × Observation). is_same_key e.0 key) a.observations) ≤ 1)
+        → window a site start ≡ window b site start }
+    ensures day { (a b : Office) (site : Site) (day : ℕ)
+        → a.records ≡ b.records
+        → IsPermutation a.observations b.observations
+        → ((key : ObsKey) → length (filter (λ (e : ObsKey × Observation). is_same_key e.0 key) a.observations) ≤ 1)
+        → ozone_day a site day ≡ ozone_day b site day }
+    ensures year { (a b : Office) (site : Site) (year : ℕ)
+        → a.records ≡ b.records
+        → IsPermutation a.observations b.observations
+        → ((key : ObsKey) → length (filter (λ (e : ObsKey × Observation). is_same_key e.0 key) a.observations) ≤ 1)
+        → ozone_year a site year ≡ ozone_year b site year }
 {}

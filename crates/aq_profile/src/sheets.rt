@@ -1,12 +1,15 @@
 //! The sheets of ozone days and of a design value, as they print.
 #![tactic(auto)]
 
-ghost use Rattle.std.specs.Prelude.{◌≡◌, ◌+◌, true, false, ◌∷◌, [], ◌++◌, codes, Some, None, pos};
+ghost use Rattle.std.specs.Prelude.{◌≡◌, ℕ, ◌+◌, length, true, false, ◌∷◌, [], ◌++◌, codes, Some, None, pos};
+ghost use Rattle.aq_base.specs.Calendar.{days_in_year};
+ghost use Rattle.aq_base.specs.Site.{Site};
+ghost use Rattle.aq_profile.specs.Office.{Office};
 ghost use Rattle.aq_profile.specs.Season.{Season};
 ghost use Rattle.aq_profile.specs.OzoneDay.{OzoneDay};
 ghost use Rattle.aq_profile.specs.OzoneVerdict.{ozone_dv};
 ghost use Rattle.aq_profile.specs.Sheet.{text_of};
-ghost use Rattle.aq_profile.specs.Sheets.{days_sheet, ozone_value_sheet};
+ghost use Rattle.aq_profile.specs.Sheets.{days_answer, days_sheet, ozone_value_answer, ozone_value_sheet, windows_answer};
 ghost use Rattle.aq_profile.specs.OzoneExamples.{site, day_with, year_with, year_without_fourth};
 
 /// The first two days of a year, of which the second has no average and is approved.
@@ -35,4 +38,11 @@ pub fn design_value_prints()
         ≡ codes "standard O3-2015\nsite 06-037-1103\nyear 2024\nvalue -\ntest -\nverdict NoValue\n"
         ++ codes "year ranked fourth season_days season_valid\n"
         ++ codes "2022 3 - 245 3\n2023 245 0.071 245 245\n2024 240 0.070 245 240\n" }
+{}
+
+/// The windows of a day have seventeen rows, a year's days one row each, and a design value three.
+pub fn sheets_have_their_rows()
+    ensures windows { (office : Office) (site : Site) (day : ℕ) → length (windows_answer office site day).rows ≡ 17 }
+    ensures days { (office : Office) (site : Site) (year : ℕ) → length (days_answer office site year).rows ≡ days_in_year year }
+    ensures value { (office : Office) (site : Site) (year : ℕ) → length (ozone_value_answer office site year).rows ≡ 3 }
 {}

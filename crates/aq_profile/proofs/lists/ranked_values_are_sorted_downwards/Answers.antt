@@ -1,5 +1,5 @@
 use Rattle.aq_profile.proofs.Ranked.{ranked-moved, ranked-falls}
-use Rattle.aq_profile.proofs.ozone_year.ranked_values_are_sorted_downwards.Goals as goal
+use Rattle.aq_profile.proofs.lists.ranked_values_are_sorted_downwards.Goals as goal
 
 pub returns-clause-values : goal.returns-clause-values
 returns-clause-values c = ranked-moved
