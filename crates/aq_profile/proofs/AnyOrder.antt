@@ -1,10 +1,11 @@
 -- A site hour does not depend on the order of the observations.
 use Rattle.std.proofs.Common.{◌≡◌, ℕ, zero, suc, ◌≤◌, Bool, true, false, cond, ◌&&◌, ◌||◌, List, [], ◌∷◌, length, map, refl, sym, ap, ◌∙◌, arith}
-use Rattle.std.specs.List.{filter, filter_map, cons_option, find, list_any, slice_get, count_by}
+use Rattle.std.specs.List.{filter, filter_map, cons_option, find, fold, list_any, slice_get, count_by}
 use Rattle.std.specs.List.Sorted.{IsPermutation}
 use Rattle.std.specs.Prelude.{Option, Some, None, option_map, ℤ, pos, ◌+ℤ◌, ◌==◌}
 use Rattle.std.proofs.lemmas.List.Sorted.{length_permutation}
 use Rattle.std.proofs.lemmas.Int.{ints}
+use Rattle.std.proofs.Math.IntN.{+ℤ_idl}
 use Rattle.aq_base.specs.Calendar.{day_of_hour}
 use Rattle.aq_base.specs.Decimal.{truncated}
 use Rattle.aq_base.specs.Site.{Site}
@@ -50,10 +51,22 @@ or_turns true false c = refl
 or_turns false true c = refl
 or_turns false false c = refl
 
+-- the sum of a first value and the others
+total-from : (a : ℤ) (xs : List ℤ) → fold (λ sum value. sum +ℤ value) a xs ≡ a +ℤ total xs
+total-from a [] = omega (arith, ints)
+total-from a (x ∷ xs) =
+    let first : fold (λ sum value. sum +ℤ value) (a +ℤ x) xs ≡ (a +ℤ x) +ℤ total xs = total-from (a +ℤ x) xs in
+    let second : fold (λ sum value. sum +ℤ value) (pos 0 +ℤ x) xs ≡ (pos 0 +ℤ x) +ℤ total xs = total-from (pos 0 +ℤ x) xs in
+    omega (arith, ints, first, second)
+
+total-step : (x : ℤ) (xs : List ℤ) → total (x ∷ xs) ≡ x +ℤ total xs
+total-step x xs = total-from (pos 0 +ℤ x) xs ∙ ap (λ (z : ℤ). z +ℤ total xs) (+ℤ_idl x)
+
 total-any_order : (xs ys : List Sample) → IsPermutation xs ys → total (map value_of xs) ≡ total (map value_of ys)
 total-any_order =
-    fold_in_any_order (λ (xs : List Sample). total (map value_of xs)) (λ s sum. value_of s +ℤ sum) (λ s xs. refl)
-    (λ s t sum. sum_turns (value_of s) (value_of t) sum)
+    fold_in_any_order (λ (xs : List Sample). total (map value_of xs)) (λ s sum. value_of s +ℤ sum)
+        (λ s xs. total-step (value_of s) (map value_of xs))
+        (λ s t sum. sum_turns (value_of s) (value_of t) sum)
 
 out-any_order : (xs ys : List Sample) → IsPermutation xs ys → list_any is_out xs ≡ list_any is_out ys
 out-any_order =

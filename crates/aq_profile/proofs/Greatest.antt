@@ -1,14 +1,22 @@
 -- The greatest value of a list, and the latest of some records.
-use Rattle.std.proofs.Common.{◌≡◌, ℕ, zero, suc, ◌<◌, ◌≤◌, Bool, true, false, cond, List, [], ◌∷◌, length, get_or, refl, ap, arith}
+use Rattle.std.proofs.Common.{◌≡◌, ℕ, zero, suc, ◌<◌, ◌≤◌, Bool, true, false, cond, List, [], ◌∷◌, length, get_or, refl, arith}
 use Rattle.std.specs.Prelude.{ℤ, ◌≤ℤ◌, int_lt, nat_lt, Option, Some, None, MatchOption, IsSomeAnd, All, Contains, fold}
 use Rattle.std.proofs.lemmas.Int.{ints}
 use Rattle.std.proofs.lemmas.Bool.Decides.{nat_tests}
 use Rattle.std.proofs.lemmas.List.Elements.{All-cons, All-tail}
-use Rattle.aq_profile.specs.Lists.{greatest, greatest_with, later, latest}
+use Rattle.std.specs.Int.{int_max}
+use Rattle.aq_profile.specs.Lists.{greater, greatest, later, latest}
 
 -- an element behind the first one
 further : {X : Type 0} (x : X) (xs : List X) (y : X) → Contains xs y → Contains (x ∷ xs) y
 further x xs y h = (suc h.0, omega (arith, h.1), h.2)
+
+first_of_two : {X : Type 0} (a b r : X) (xs : List X) → Contains (a ∷ xs) r → Contains (a ∷ b ∷ xs) r
+first_of_two a b r xs h = by_place h.0 h.1 h.2
+    where
+      by_place : (k : ℕ) → k < length (a ∷ xs) → get_or (a ∷ xs) k r ≡ r → Contains (a ∷ b ∷ xs) r
+      by_place zero within e = (0, omega arith, e)
+      by_place (suc k) within e = (suc (suc k), omega arith, e)
 
 abbrev IsGreatest : List ℤ → ℤ → Type 0
 IsGreatest values top = Contains values top × All (λ v. v ≤ℤ top) values
@@ -16,23 +24,32 @@ IsGreatest values top = Contains values top × All (λ v. v ≤ℤ top) values
 at_most_itself : (v : ℤ) → v ≤ℤ v
 at_most_itself v = omega (arith, ints)
 
-none_above : (top : ℤ) (vs : List ℤ) → vs ≡ [] → All (λ v. v ≤ℤ top) vs
-none_above top vs e k d within = absurd (let empty : length vs ≡ 0 = ap length e in omega (arith, empty, within))
+-- of two values, the one that is not below the other
+top_of_two : (a b r : ℤ) (xs : List ℤ) (t : Bool) → int_lt b a ≡ t → IsGreatest (cond t a b ∷ xs) r → IsGreatest (a ∷ b ∷ xs) r
+top_of_two a b r xs true above h =
+    let top : a ≤ℤ r = h.1 0 a (omega arith) in
+    let rest = All-tail (λ v. v ≤ℤ r) a xs h.1 in
+    (first_of_two a b r xs h.0, All-cons (λ v. v ≤ℤ r) a (b ∷ xs) top (All-cons (λ v. v ≤ℤ r) b xs (grind (arith, ints)) rest))
+top_of_two a b r xs false above h =
+    let top : b ≤ℤ r = h.1 0 b (omega arith) in
+    let rest = All-tail (λ v. v ≤ℤ r) b xs h.1 in
+    (further a (b ∷ xs) r h.0, All-cons (λ v. v ≤ℤ r) a (b ∷ xs) (grind (arith, ints)) (All-cons (λ v. v ≤ℤ r) b xs top rest))
 
-all_below : (v w : ℤ) (vs : List ℤ) → w ≤ℤ v → All (λ u. u ≤ℤ w) vs → All (λ u. u ≤ℤ v) vs
-all_below v w vs below all k d within = let one = all k d within in omega (arith, ints, one, below)
+top_some : (a b : ℤ) (xs : List ℤ) (o : Option ℤ) → IsSomeAnd o (IsGreatest (int_max a b ∷ xs)) → IsSomeAnd o (IsGreatest (a ∷ b ∷ xs))
+top_some a b xs None h = h
+top_some a b xs (Some r) h = top_of_two a b r xs (int_lt b a) refl h
 
-with_one : (v : ℤ) (vs : List ℤ) (o : Option ℤ) → MatchOption o (vs ≡ []) (IsGreatest vs) → MatchOption (greatest_with v o) (v ∷ vs ≡ []) (IsGreatest (v ∷ vs))
-with_one v vs None empty = ((0, omega arith, refl), All-cons (λ u. u ≤ℤ v) v vs (at_most_itself v) (none_above v vs empty))
-with_one v vs (Some w) h = by_test (int_lt w v) refl
-  where
-    by_test : (b : Bool) → int_lt w v ≡ b → IsGreatest (v ∷ vs) (cond b v w)
-    by_test true above = ((0, omega arith, refl), All-cons (λ u. u ≤ℤ v) v vs (at_most_itself v) (all_below v w vs (grind (arith, ints)) h.1))
-    by_test false above = (further v vs w h.0, All-cons (λ u. u ≤ℤ w) v vs (grind (arith, ints)) h.1)
+greatest_from : (a : ℤ) (xs : List ℤ) → IsSomeAnd (fold greater (Some a) xs) (IsGreatest (a ∷ xs))
+greatest_from a [] = ((0, omega arith, refl), All-cons (λ v. v ≤ℤ a) a [] (at_most_itself a) (λ k d within. absurd (omega (arith, within))))
+greatest_from a (b ∷ xs) = top_some a b xs (fold greater (Some (int_max a b)) xs) (greatest_from (int_max a b) xs)
+
+top_matches : (xs : List ℤ) (o : Option ℤ) → IsSomeAnd o (IsGreatest xs) → MatchOption o (xs ≡ []) (IsGreatest xs)
+top_matches xs None h = absurd h
+top_matches xs (Some r) h = h
 
 pub greatest-is : (values : List ℤ) → MatchOption (greatest values) (values ≡ []) (IsGreatest values)
 greatest-is [] = refl
-greatest-is (v ∷ vs) = with_one v vs (greatest vs) (greatest-is vs)
+greatest-is (v ∷ vs) = top_matches (v ∷ vs) (fold greater (Some v) vs) (greatest_from v vs)
 
 module _ {X : Type 0} (day : X → ℕ) where
   abbrev IsLatest : List X → X → Type 0

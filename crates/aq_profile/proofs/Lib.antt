@@ -1,9 +1,9 @@
--- Lemmas for the laws.
-mod Ranges
-mod Order
-mod Ranked
-mod AnyOrder
-mod Sameness
-mod Exclusions
-mod Greatest
-mod Rows
+-- Lemmas for the laws. Crates above may cite them.
+pub mod Ranges
+pub mod Order
+pub mod Ranked
+pub mod AnyOrder
+pub mod Sameness
+pub mod Exclusions
+pub mod Greatest
+pub mod Rows

@@ -1,5 +1,5 @@
 -- The ranked list: it has the values, it falls, and their order does not count.
-use Rattle.std.proofs.Common.{◌≡◌, ℕ, zero, suc, ◌+◌, ◌<◌, Bool, true, false, cond, List, [], ◌∷◌, length, get_or, refl, ap, add-one, arith}
+use Rattle.std.proofs.Common.{◌≡◌, ℕ, zero, suc, ◌+◌, ◌<◌, Bool, true, false, cond, List, [], ◌∷◌, length, get_or, refl, ap, ◌∙◌, add-one, suc-add, arith}
 use Rattle.std.specs.List.Sorted.{IsPermutation}
 use Rattle.std.specs.Prelude.{ℤ, int_lt, ⊤}
 use Rattle.std.proofs.lemmas.List.Sorted.{IsPermutation-refl, IsPermutation-trans, IsPermutation-cons, IsPermutation-middle}
@@ -94,3 +94,22 @@ Falls-at (x ∷ y ∷ xs) (suc k) d falls within = Falls-at (y ∷ xs) k d falls
 
 pub ranked-falls : (xs : List ℤ) (k : ℕ) (d : ℤ) → k + 1 < length (ranked xs) → int_lt (get_or (ranked xs) k d) (get_or (ranked xs) (k + 1) d) ≡ false
 ranked-falls xs k d within = rw add-one (Falls-at (ranked xs) k d (Falls-ranked xs) (omega arith))
+
+-- the ranked list is the only one: a list that falls is its own ranked list
+Falls-from_places : (xs : List ℤ) → ((k : ℕ) (d : ℤ) → k + 1 < length xs → int_lt (get_or xs k d) (get_or xs (k + 1) d) ≡ false) → Falls xs
+Falls-from_places [] falls = tt
+Falls-from_places (x ∷ []) falls = (tt, tt)
+Falls-from_places (x ∷ y ∷ xs) falls =
+    (falls 0 x (omega arith), Falls-from_places (y ∷ xs) (λ k d within. let one = falls (suc k) d (omega arith) in rw add-one (rw (suc-add, add-one) at one)))
+
+ranked_in-top : (x : ℤ) (xs : List ℤ) → IsTop x xs → ranked_in x xs ≡ x ∷ xs
+ranked_in-top x [] top = refl
+ranked_in-top x (y ∷ ys) top = rw top refl
+
+ranked-itself : (xs : List ℤ) → Falls xs → ranked xs ≡ xs
+unfolding ranked
+ranked-itself [] falls = refl
+ranked-itself (x ∷ xs) falls = ap (ranked_in x) (ranked-itself xs falls.1) ∙ ranked_in-top x xs falls.0
+
+pub ranked-only : (xs ys : List ℤ) → IsPermutation xs ys → ((k : ℕ) (d : ℤ) → k + 1 < length ys → int_lt (get_or ys k d) (get_or ys (k + 1) d) ≡ false) → ranked xs ≡ ys
+ranked-only xs ys moved falls = ranked-in_any_order xs ys moved ∙ ranked-itself ys (Falls-from_places ys falls)

@@ -4,17 +4,15 @@ use Rattle.std.specs.Int.{int_max}
 
 -- the sum
 abbrev pub total : List ℤ → ℤ
-total [] = pos 0
-total (value ∷ values) = value +ℤ total values
+total values = fold (λ sum value. sum +ℤ value) (pos 0) values
 
 -- the greatest value, if there is one
-abbrev pub greatest_with : ℤ → Option ℤ → Option ℤ
-greatest_with value None = Some value
-greatest_with value (Some other) = Some (int_max value other)
+abbrev pub greater : Option ℤ → ℤ → Option ℤ
+greater None value = Some value
+greater (Some other) value = Some (int_max other value)
 
 abbrev pub greatest : List ℤ → Option ℤ
-greatest [] = None
-greatest (value ∷ values) = greatest_with value (greatest values)
+greatest values = fold greater None values
 
 -- the value put into a list that falls, before the first one that is not above it
 abbrev pub ranked_in : ℤ → List ℤ → List ℤ
