@@ -1,3 +1,15 @@
 //! The book of rules: the definitions in `specs/` say what the program must compute and keep. The
 //! functions here are laws, which show that a definition means what a reader expects.
 #![tactic(auto)]
+
+pub mod eight_hour;
+pub mod exclusion;
+pub mod lists;
+pub mod monitors;
+pub mod office_records;
+pub mod ozone_day;
+pub mod ozone_verdict;
+pub mod ozone_year;
+pub mod sheets;
+pub mod site_hour;
+pub mod windows;

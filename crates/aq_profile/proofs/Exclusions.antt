@@ -1,0 +1,49 @@
+-- What an exclusion needs, and what follows where there is none.
+use Rattle.std.proofs.Common.{◌≡◌, ℕ, Bool, true, false, cond, not, ◌&&◌, ◌||◌, List, [], ◌∷◌, refl, ap}
+use Rattle.std.specs.List.{list_any, filter}
+use Rattle.std.specs.Prelude.{ℤ}
+use Rattle.aq_base.specs.declared.code.Code.{Code}
+use Rattle.aq_base.specs.declared.observation.ObsKey.{ObsKey}
+use Rattle.aq_base.specs.declared.office.OfficeRecord.{OfficeRecord}
+use Rattle.aq_base.specs.declared.office.OfficeRecord.TheVariants.{Monitor, Primary, Schedule, Season, Makeup, Event, Concurrence, Approved}
+use Rattle.aq_profile.specs.Exclusion.{excluded, takes_out, agrees_to}
+use Rattle.aq_profile.specs.SiteHour.{Cell}
+use Rattle.aq_profile.specs.EightHour.{row_of, net_values, full_values}
+
+none_of : {X : Type 0} (test : X → Bool) (xs : List X) → ((x : X) → test x ≡ false) → list_any test xs ≡ false
+none_of test [] none = refl
+none_of test (x ∷ xs) none = rw (none x) (none_of test xs none)
+
+and_none : (a b : Bool) → b ≡ false → (a && b) ≡ false
+and_none true b h = h
+and_none false b h = refl
+
+pub excluded-unagreed : (records : List OfficeRecord) (key : ObsKey) (codes : List Code)
+    → ((number : ℕ) → list_any (agrees_to number) records ≡ false) → excluded records key codes ≡ false
+unfolding excluded
+excluded-unagreed records key codes none = none_of (takes_out records key codes) records (each none)
+  where
+    each : ((number : ℕ) → list_any (agrees_to number) records ≡ false) → (r : OfficeRecord) → takes_out records key codes r ≡ false
+    each none (Monitor id duration eligible) = refl
+    each none (Primary site pollutant from poc) = refl
+    each none (Schedule site pollutant from interval anchor) = refl
+    each none (Season site year first last) = refl
+    each none (Makeup site missed makeup) = refl
+    each none (Event number site pollutant first last code) = and_none _ (list_any (agrees_to number) records) (none number)
+    each none (Concurrence number agreed) = refl
+    each none (Approved site day) = refl
+
+-- where no cell is excluded the net values are the full ones
+net_values-all : (cells : List Cell) → list_any (λ (c : Cell). c.excluded) cells ≡ false → net_values cells ≡ full_values cells
+net_values-all [] none = refl
+net_values-all (cell ∷ cells) none = by_flag cell.excluded cells none (net_values-all cells)
+  where
+    by_flag : (flag : Bool) (rest : List Cell) → (flag || list_any (λ (c : Cell). c.excluded) rest) ≡ false
+        → (list_any (λ (c : Cell). c.excluded) rest ≡ false → net_values rest ≡ full_values rest)
+        → full_values (cond (not flag) (cell ∷ filter (λ (c : Cell). not c.excluded) rest) (filter (λ (c : Cell). not c.excluded) rest)) ≡ full_values (cell ∷ rest)
+    by_flag true rest none before = cc
+    by_flag false rest none before = ap (λ (l : List ℤ). cell.value ∷ l) (before none)
+
+pub row-unexcluded : (cells : List Cell) → list_any (λ (c : Cell). c.excluded) cells ≡ false
+    → row_of cells ≡ record { net = (row_of cells).full; net_hours = (row_of cells).full_hours; full = (row_of cells).full; full_hours = (row_of cells).full_hours }
+row-unexcluded cells none = rw (net_values-all cells none) refl

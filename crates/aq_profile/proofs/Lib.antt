@@ -1,0 +1,9 @@
+-- Lemmas for the laws. Crates above may cite them.
+pub mod Ranges
+pub mod Order
+pub mod Ranked
+pub mod AnyOrder
+pub mod Sameness
+pub mod Exclusions
+pub mod Greatest
+pub mod Rows

@@ -1,0 +1,79 @@
+-- A sheet and its text: heads, and a table under column names (own).
+use Rattle.std.specs.Prelude.{ℕ, Bool, true, false, List, [], ◌∷◌, ◌++◌, map, codes, flat_map, ℤ, pos, Option, Some, None}
+use Rattle.std.specs.List.{join_with_byte}
+use Rattle.std.specs.Fmt.{signed_decimal}
+use Rattle.aq_base.specs.Calendar.{year_of, month_of, day_of_month}
+use Rattle.aq_base.specs.Decimal.{fixed, last_digits}
+use Rattle.aq_base.specs.Site.{Site}
+
+-- a whole number; v / 10 ^ places; a text; or no value
+pub data SheetCell : Type 0 where
+  Int : (value : ℤ) → SheetCell
+  Fixed : (value : ℤ) (places : ℕ) → SheetCell
+  Text : (text : List ℕ) → SheetCell
+  Missing : SheetCell
+
+pub record Head : Type 0 where
+  pub name : List ℕ
+  pub cell : SheetCell
+
+-- each row has one cell for each column
+pub record Sheet : Type 0 where
+  pub heads : List Head
+  pub columns : List (List ℕ)
+  pub rows : List (List SheetCell)
+
+abbrev pub cell_text : SheetCell → List ℕ
+cell_text (Int value) = signed_decimal value
+cell_text (Fixed value places) = fixed value places
+cell_text (Text text) = text
+cell_text Missing = codes "-"
+
+-- a line of words with single spaces between them, and LF at its end
+abbrev pub line_of : List (List ℕ) → List ℕ
+line_of words = join_with_byte 32 words ++ codes "\n"
+
+abbrev pub head_text : Head → List ℕ
+head_text head = line_of (head.name ∷ cell_text head.cell ∷ [])
+
+abbrev pub row_text : List SheetCell → List ℕ
+row_text row = line_of (map cell_text row)
+
+-- the column names and the rows, where there are columns
+abbrev pub table_text : List (List ℕ) → List (List SheetCell) → List ℕ
+table_text [] rows = []
+table_text (column ∷ columns) rows = line_of (column ∷ columns) ++ flat_map row_text rows
+
+unfoldable pub text_of : Sheet → List ℕ
+text_of sheet = flat_map head_text sheet.heads ++ table_text sheet.columns sheet.rows
+
+-- ---- how things of the field print
+
+-- SS-CCC-NNNN
+unfoldable pub site_text : Site → List ℕ
+site_text site = last_digits 2 site.state ++ codes "-" ++ last_digits 3 site.county ++ codes "-" ++ last_digits 4 site.number
+
+-- YYYY-MM-DD
+unfoldable pub day_text : ℕ → List ℕ
+day_text day = last_digits 4 (year_of day) ++ codes "-" ++ last_digits 2 (month_of day) ++ codes "-" ++ last_digits 2 (day_of_month day)
+
+-- an hour of a day, HH:00
+unfoldable pub hour_text : ℕ → List ℕ
+hour_text hour = last_digits 2 hour ++ codes ":00"
+
+abbrev pub truth_text : Bool → List ℕ
+truth_text true = codes "Y"
+truth_text false = codes "N"
+
+-- ---- cells
+
+abbrev pub count_cell : ℕ → SheetCell
+count_cell n = Int (pos n)
+
+-- thousandths of a ppm as ppm
+abbrev pub ppm_cell : Option ℤ → SheetCell
+ppm_cell None = Missing
+ppm_cell (Some value) = Fixed value 3
+
+abbrev pub head_of : List ℕ → SheetCell → Head
+head_of name cell = record { name = name; cell = cell }
