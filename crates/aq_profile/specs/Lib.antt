@@ -1,2 +1,9 @@
 -- The book of rules: what the program must compute and keep, over plain lists and whole numbers.
 pub mod Office
+pub mod Limits
+pub mod Fields
+pub mod Lines
+pub mod Spellings
+pub mod RdForm
+pub mod OfficeForms
+pub mod Reading
