@@ -1,5 +1,4 @@
 -- The book of rules: what the program must compute and keep, over plain lists and whole numbers.
-pub mod Office
 pub mod Limits
 pub mod Fields
 pub mod Lines
@@ -7,3 +6,7 @@ pub mod Spellings
 pub mod RdForm
 pub mod OfficeForms
 pub mod Reading
+pub mod Canonical
+pub mod Office
+pub mod Refusal
+pub mod Load

@@ -1,5 +1,5 @@
 -- The record that an office line spells, and the key that a line of deletion spells, form by form (own).
-use Rattle.std.specs.Prelude.{ℕ, ◌+◌, ◌*◌, ◌/◌, Bool, true, false, ◌&&◌, ◌==◌, nat_le, nat_lt, if◌then◌else◌, Option, Some, None, List, [], ◌∷◌}
+use Rattle.std.specs.Prelude.{ℕ, ◌+◌, Bool, ◌&&◌, ◌==◌, nat_le, nat_lt, if◌then◌else◌, Option, Some, None, List}
 use Rattle.aq_base.specs.Calendar.{hour_number, year_of, quarter_of}
 use Rattle.aq_base.specs.Site.{Site}
 use Rattle.aq_base.specs.declared.office.OfficeRecord.{OfficeRecord}

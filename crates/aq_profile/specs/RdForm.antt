@@ -1,5 +1,5 @@
 -- The value of an RD line: a sample to be inserted, updated or deleted (AQS raw data transaction format (RD)).
-use Rattle.std.specs.Prelude.{ℕ, Bool, true, false, if◌then◌else◌, Option, Some, None, List, [], ◌∷◌, take, drop}
+use Rattle.std.specs.Prelude.{ℕ, Bool, if◌then◌else◌, Option, Some, None, List, take, drop}
 use Rattle.aq_base.specs.Calendar.{hour_number}
 use Rattle.aq_base.specs.declared.monitor.Pollutant.{Pollutant}
 use Rattle.aq_base.specs.declared.monitor.Duration.{Duration}

@@ -1,5 +1,5 @@
 -- Which reading rules a line breaks, whatever the order of testing, and the value that a line spells (the limits of RD fields are those of the AQS raw data transaction format; rules, numbers and office lines are (own)).
-use Rattle.std.specs.Prelude.{ℕ, ◌+◌, Bool, true, false, not, ◌&&◌, ◌||◌, ◌==◌, nat_le, nat_lt, if◌then◌else◌, Option, Some, None, is_none, ℤ, List, [], ◌∷◌, ◌++◌, length, map, drop, codes, bytes_eq, find}
+use Rattle.std.specs.Prelude.{ℕ, ◌+◌, Bool, true, false, not, ◌&&◌, ◌||◌, nat_le, nat_lt, if◌then◌else◌, Option, Some, None, is_none, ℤ, List, [], ◌∷◌, length, drop, codes, bytes_eq, find}
 use Rattle.std.specs.List.{list_any, list_all}
 use Rattle.aq_base.specs.Decimal.{is_decimal}
 use Rattle.aq_base.specs.declared.monitor.Pollutant.{Pollutant}

@@ -12,7 +12,6 @@ use Rattle.aq_base.specs.declared.monitor.Pollutant.{Pollutant}
 use Rattle.aq_base.specs.declared.monitor.Pollutant.TheVariants.{Ozone, Pm25, Pm10}
 use Rattle.aq_base.specs.declared.monitor.Duration.{Duration}
 use Rattle.aq_base.specs.declared.monitor.Duration.TheVariants.{Hour, Day}
-use Rattle.aq_profile.specs.Fields.{is_empty}
 use Rattle.aq_profile.specs.Limits.{LEAST_VALUE, greatest_value, LAST_EVENT_NUMBER}
 
 -- what the first spells is handed on; where it spells nothing, the whole spells nothing
