@@ -16,6 +16,7 @@ use Rattle.aq_base.specs.declared.office.OfficeKey.{OfficeKey}
 use Rattle.aq_base.specs.declared.office.OfficeKey.TheVariants.{Monitor as MonitorKey, Primary as PrimaryKey, Schedule as ScheduleKey, Season as SeasonKey, Makeup as MakeupKey, Event as EventKey, Concurrence as ConcurrenceKey, Approved as ApprovedKey}
 use Rattle.aq_base.specs.declared.office.OfficeLine.{OfficeLine}
 use Rattle.aq_base.specs.declared.office.OfficeLine.TheVariants.{Put, Change, Drop}
+use Rattle.aq_profile.specs.Office.{key_of}
 use Rattle.aq_profile.specs.RdForm.{RdValue, Put as PutSample, Delete as DeleteSample}
 
 -- ---- texts of the parts
@@ -96,32 +97,6 @@ canonical_rd value = joined (rd_texts value)
 abbrev pub list_texts : Site → Pollutant → ℕ → List (List ℕ)
 list_texts site pollutant from = site_texts site ++ parameter_text pollutant ∷ date_text from ∷ []
 
--- a record's form and fields
-abbrev pub record_tag : OfficeRecord → List ℕ
-record_tag (Monitor id duration eligible) = codes "XM"
-record_tag (Primary site pollutant from poc) = codes "XP"
-record_tag (Schedule site pollutant from interval anchor) = codes "XS"
-record_tag (Season site year first last) = codes "XO"
-record_tag (Makeup site missed makeup) = codes "XU"
-record_tag (Event number site pollutant first last code) = codes "XE"
-record_tag (Concurrence number agreed) = codes "XC"
-record_tag (Approved site day) = codes "XA"
-
-abbrev pub record_texts : OfficeRecord → List (List ℕ)
-record_texts (Monitor id duration eligible) =
-    monitor_texts id ++ duration_text duration ∷ truth_text eligible ∷ []
-record_texts (Primary site pollutant from poc) = list_texts site pollutant from ++ decimal poc ∷ []
-record_texts (Schedule site pollutant from interval anchor) =
-    list_texts site pollutant from ++ decimal interval ∷ date_text anchor ∷ []
-record_texts (Season site year first last) =
-    site_texts site ++ last_digits 4 year ∷ date_text first ∷ date_text last ∷ []
-record_texts (Makeup site missed makeup) = list_texts site Pm25 missed ++ date_text makeup ∷ []
-record_texts (Event number site pollutant first last code) =
-    decimal number ∷ site_texts site ++ parameter_text pollutant ∷ start_texts first ++ start_texts last
-    ++ code_text code ∷ []
-record_texts (Concurrence number agreed) = decimal number ∷ truth_text agreed ∷ []
-record_texts (Approved site day) = site_texts site ++ date_text day ∷ []
-
 -- the form of a key, and the fields of its deletion
 abbrev pub key_tag : OfficeKey → List ℕ
 key_tag (MonitorKey id) = codes "XM"
@@ -143,9 +118,24 @@ deletion_texts (EventKey number) = decimal number ∷ []
 deletion_texts (ConcurrenceKey number) = decimal number ∷ []
 deletion_texts (ApprovedKey site day) = site_texts site ++ date_text day ∷ []
 
+-- what a record's line has behind the fields of its key
+abbrev pub content_texts : OfficeRecord → List (List ℕ)
+content_texts (Monitor id duration eligible) = duration_text duration ∷ truth_text eligible ∷ []
+content_texts (Primary site pollutant from poc) = decimal poc ∷ []
+content_texts (Schedule site pollutant from interval anchor) = decimal interval ∷ date_text anchor ∷ []
+content_texts (Season site year first last) = date_text first ∷ date_text last ∷ []
+content_texts (Makeup site missed makeup) = date_text makeup ∷ []
+content_texts (Event number site pollutant first last code) =
+    site_texts site ++ parameter_text pollutant ∷ start_texts first ++ start_texts last ++ code_text code ∷ []
+content_texts (Concurrence number agreed) = truth_text agreed ∷ []
+content_texts (Approved site day) = []
+
+abbrev pub office_texts_of : List ℕ → OfficeRecord → List (List ℕ)
+office_texts_of action r = key_tag (key_of r) ∷ action ∷ deletion_texts (key_of r) ++ content_texts r
+
 unfoldable pub office_texts : OfficeLine → List (List ℕ)
-office_texts (Put r) = record_tag r ∷ codes "I" ∷ record_texts r
-office_texts (Change r) = record_tag r ∷ codes "U" ∷ record_texts r
+office_texts (Put r) = office_texts_of (codes "I") r
+office_texts (Change r) = office_texts_of (codes "U") r
 office_texts (Drop key) = key_tag key ∷ codes "D" ∷ deletion_texts key
 
 abbrev pub canonical_office : OfficeLine → List ℕ

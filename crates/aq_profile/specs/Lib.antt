@@ -6,7 +6,7 @@ pub mod Spellings
 pub mod RdForm
 pub mod OfficeForms
 pub mod Reading
-pub mod Canonical
 pub mod Office
+pub mod Canonical
 pub mod Refusal
 pub mod Load
