@@ -2,6 +2,8 @@
 //! functions here are laws, which show that a definition means what a reader expects.
 #![tactic(auto)]
 
+mod lines;
 mod reading;
 
-pub use reading::each_rule_is_broken_first;
+pub use lines::{fields_without_spaces_round_them, lines_of_a_body};
+pub use reading::{rules_of_office_lines, rules_of_samples};
