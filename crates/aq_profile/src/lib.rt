@@ -2,8 +2,10 @@
 //! functions here are laws, which show that a definition means what a reader expects.
 #![tactic(auto)]
 
+mod canonical;
 mod lines;
 mod reading;
 
+pub use canonical::{samples_are_read, samples_are_written, values_are_cut};
 pub use lines::{fields_without_spaces_round_them, lines_of_a_body};
 pub use reading::{rules_of_office_lines, rules_of_samples};
