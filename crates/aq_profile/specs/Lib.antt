@@ -10,3 +10,4 @@ pub mod Office
 pub mod Canonical
 pub mod Refusal
 pub mod Load
+pub mod LineExamples
