@@ -53,5 +53,6 @@ pub fn full_lists()
     ensures next_quarter { refusal (many_makeups 5) (codes "XU|I|06|037|1103|88101|20240401|20240402") ≡ None }
     ensures makeup_taken { refusal (many_makeups 5) (codes "XU|I|06|037|1103|88101|20240107|20240108") ≡ Some AlreadyThere }
     ensures primaries { refusal (many_primaries 64) (codes "XP|I|06|037|1103|44201|20240101|1") ≡ Some ListFull }
+    ensures events { refusal (many_events 10000) (codes "XE|I|10001|06|037|1103|44201|20240101|00:00|20240101|05:00|RT") ≡ Some EventsFull }
     ensures room_for_primary { refusal (many_primaries 63) (codes "XP|I|06|037|1103|44201|20240101|1") ≡ None }
 {}
