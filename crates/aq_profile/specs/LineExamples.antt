@@ -1,5 +1,5 @@
 -- A small office, on which laws of the lines compute their examples.
-use Rattle.std.specs.Prelude.{ℕ, ◌+◌, Bool, true, Option, Some, None, List, [], ◌∷◌, ◌++◌, map, codes, pos, ℤ}
+use Rattle.std.specs.Prelude.{ℕ, ◌+◌, Bool, true, Option, Some, None, List, [], ◌∷◌, ◌++◌, map, codes, pos, ℤ, replicate}
 use Rattle.std.specs.List.{range_with_len}
 use Rattle.aq_base.specs.Site.{Site}
 use Rattle.aq_base.specs.declared.code.Code.{Code}
@@ -8,7 +8,7 @@ use Rattle.aq_base.specs.declared.monitor.Pollutant.{Pollutant}
 use Rattle.aq_base.specs.declared.monitor.Pollutant.TheVariants.{Ozone, Pm25}
 use Rattle.aq_base.specs.declared.monitor.Duration.TheVariants.{Hour, Day}
 use Rattle.aq_base.specs.declared.office.OfficeRecord.{OfficeRecord}
-use Rattle.aq_base.specs.declared.office.OfficeRecord.TheVariants.{Monitor, Primary, Makeup, Event}
+use Rattle.aq_base.specs.declared.office.OfficeRecord.TheVariants.{Monitor, Primary, Makeup, Event, Concurrence}
 use Rattle.aq_base.specs.declared.observation.ObsKey.{ObsKey}
 use Rattle.aq_base.specs.declared.observation.Observation.{Observation}
 use Rattle.aq_profile.specs.Office.{Office, nothing}
@@ -84,3 +84,24 @@ abbrev pub many_events : ℕ → Office
 many_events count = record nothing {
   records = Monitor ozone_monitor Hour true ∷ map (λ number. Event number home Ozone 0 0 code_rt) (range_with_len 1 count);
 }
+
+-- a body that inserts an ozone hour, the same again, and the next one
+abbrev pub three_lines : List ℕ
+three_lines =
+    codes "RD|I|06|037|1103|44201|1|1|007|087|20240701|13:00|0.071\nRD|I|06|037|1103|44201|1|1|007|087|20240701|13:00|0.072\nRD|I|06|037|1103|44201|1|1|007|087|20240701|14:00|0.073\n"
+
+abbrev pub hour_key : ℕ → ObsKey
+hour_key hour = record { monitor = ozone_monitor; hour = hour }
+
+-- an event with its concurrence
+abbrev pub agreed_event : Office
+agreed_event = record nothing {
+  records = Monitor ozone_monitor Hour true ∷ Event 12 home Ozone 0 0 code_rt ∷ Concurrence 12 true ∷ [];
+}
+
+-- a digest, and another one
+abbrev pub digest_a : List ℕ
+digest_a = replicate 32 1
+
+abbrev pub digest_b : List ℕ
+digest_b = replicate 32 2
