@@ -11,3 +11,4 @@ pub mod Canonical
 pub mod Refusal
 pub mod Load
 pub mod LineExamples
+pub mod Least
