@@ -49,9 +49,9 @@ most_fields Rd = 28
 most_fields tag = fewest_fields tag false
 
 -- whether the line has too few fields, or a text behind those of its form
-abbrev pub has_wrong_count : Tag → List (List ℕ) → Bool
-has_wrong_count tag texts =
-    nat_lt (length texts) (fewest_fields tag (is_deletion texts))
+abbrev pub has_wrong_count : Tag → Bool → List (List ℕ) → Bool
+has_wrong_count tag deletes texts =
+    nat_lt (length texts) (fewest_fields tag deletes)
     || list_any (λ text. not (is_empty text)) (drop (most_fields tag) texts)
 
 -- the places of a form's fields
@@ -130,54 +130,58 @@ makeup_test texts = do
   makeup ← date_in (field 8 texts)
   Some (is_makeup missed makeup)
 
--- whether a line of the form breaks the rule in its fields
-abbrev pub breaks_in : Rule → Tag → List (List ℕ) → Bool
-breaks_in FieldCount tag texts = has_wrong_count tag texts
-breaks_in BadAction tag texts = is_none (action_for tag (field 2 texts))
-breaks_in BadSite tag texts = is_none (site_at (site_place tag) texts)
-breaks_in ParameterOutOfProfile tag texts = is_none (pollutant_of tag texts)
-breaks_in BadPoc Xp texts = is_none (primary_in (field (poc_place Xp) texts))
-breaks_in BadPoc tag texts = is_none (poc_in (field (poc_place tag) texts))
-breaks_in BadDuration tag texts = is_none (pollutant_of tag texts >>= λ pollutant. duration_in pollutant (field 8 texts))
-breaks_in BadUnit tag texts = is_none (pollutant_of tag texts >>= λ pollutant. unit_in pollutant (field 9 texts))
-breaks_in BadMethod tag texts = is_none (method_in (field 10 texts))
-breaks_in BadDate Xo texts =
+-- whether a line of the form breaks the rule in its fields; of a deletion fewer are read
+abbrev pub breaks_in : Rule → Tag → Bool → List (List ℕ) → Bool
+breaks_in FieldCount tag deletes texts = has_wrong_count tag deletes texts
+breaks_in BadAction tag deletes texts = is_none (action_for tag (field 2 texts))
+breaks_in BadSite tag deletes texts = is_none (site_at (site_place tag) texts)
+breaks_in ParameterOutOfProfile tag deletes texts = is_none (pollutant_of tag texts)
+breaks_in BadPoc Xp deletes texts = is_none (primary_in (field (poc_place Xp) texts))
+breaks_in BadPoc tag deletes texts = is_none (poc_in (field (poc_place tag) texts))
+breaks_in BadDuration tag deletes texts = is_none (pollutant_of tag texts >>= λ pollutant. duration_in pollutant (field 8 texts))
+breaks_in BadUnit tag deletes texts = is_none (pollutant_of tag texts >>= λ pollutant. unit_in pollutant (field 9 texts))
+breaks_in BadMethod tag deletes texts = is_none (method_in (field 10 texts))
+breaks_in BadDate Xo deletes texts =
     is_none (year_in (field 6 texts))
-    || list_any (λ place. is_none (date_in (field place texts))) (date_places Xo (is_deletion texts))
-breaks_in BadDate tag texts =
-    list_any (λ place. is_none (date_in (field place texts))) (date_places tag (is_deletion texts))
-breaks_in BadTime tag texts = list_any (λ place. is_none (time_in (field place texts))) (time_places tag)
-breaks_in ValueAndNull tag texts = has_value texts && has_null texts
-breaks_in NeitherValueNorNull tag texts = not (has_value texts) && not (has_null texts)
-breaks_in BadValue tag texts = has_value texts && not (is_decimal (field 13 texts))
-breaks_in ValueOutOfRange tag texts =
+    || list_any (λ place. is_none (date_in (field place texts))) (date_places Xo deletes)
+breaks_in BadDate tag deletes texts =
+    list_any (λ place. is_none (date_in (field place texts))) (date_places tag deletes)
+breaks_in BadTime tag deletes texts = list_any (λ place. is_none (time_in (field place texts))) (time_places tag)
+breaks_in ValueAndNull tag deletes texts = has_value texts && has_null texts
+breaks_in NeitherValueNorNull tag deletes texts = not (has_value texts) && not (has_null texts)
+breaks_in BadValue tag deletes texts = has_value texts && not (is_decimal (field 13 texts))
+breaks_in ValueOutOfRange tag deletes texts =
     has_value texts && is_decimal (field 13 texts) && is_none (reported_value texts)
-breaks_in BadNull tag texts = has_null texts && is_none (null_in (field 14 texts))
-breaks_in BadQualifier tag texts = is_none (qualifiers_in (qualifier_fields texts))
-breaks_in BadSpan tag texts = fails (span_test texts)
-breaks_in BadInterval tag texts = is_none (interval_in (field 8 texts))
-breaks_in BadSeason tag texts = fails (season_test texts)
-breaks_in BadMakeup tag texts = fails (makeup_test texts)
-breaks_in BadCode Xm texts = is_none (truth_in (field 9 texts))
-breaks_in BadCode Xe texts =
+breaks_in BadNull tag deletes texts = has_null texts && is_none (null_in (field 14 texts))
+breaks_in BadQualifier tag deletes texts = is_none (qualifiers_in (qualifier_fields texts))
+breaks_in BadSpan tag deletes texts = fails (span_test texts)
+breaks_in BadInterval tag deletes texts = is_none (interval_in (field 8 texts))
+breaks_in BadSeason tag deletes texts = fails (season_test texts)
+breaks_in BadMakeup tag deletes texts = fails (makeup_test texts)
+breaks_in BadCode Xm deletes texts = is_none (truth_in (field 9 texts))
+breaks_in BadCode Xe deletes texts =
     is_none (event_number_in (field 3 texts))
-    || (not (is_deletion texts) && is_none (event_code_in (field 12 texts)))
-breaks_in BadCode Xc texts = is_none (event_number_in (field 3 texts)) || is_none (truth_in (field 4 texts))
-breaks_in rule tag texts = false
+    || (not deletes && is_none (event_code_in (field 12 texts)))
+breaks_in BadCode Xc deletes texts = is_none (event_number_in (field 3 texts)) || is_none (truth_in (field 4 texts))
+breaks_in rule tag deletes texts = false
 
 -- the form of a line
 abbrev pub tag_of : List ℕ → Option Tag
 tag_of line = tag_in (field 1 (fields line))
 
-abbrev pub breaks_for : Rule → Option Tag → List (List ℕ) → Bool
-breaks_for rule None texts = false
-breaks_for rule (Some tag) texts = breaks_in rule tag texts
+-- whether a line of this form and these fields breaks the rule
+abbrev pub breaks_parts : Rule → Bool → Option Tag → List (List ℕ) → Bool
+breaks_parts BadBytes plain tag texts = not plain
+breaks_parts BadTag plain tag texts = is_none tag
+breaks_parts rule plain None texts = false
+breaks_parts rule plain (Some tag) texts = breaks_in rule tag (is_deletion texts) texts
+
+abbrev pub is_plain : List ℕ → Bool
+is_plain line = list_all is_plain_byte line
 
 -- whether a line breaks the rule
 abbrev pub breaks : Rule → List ℕ → Bool
-breaks BadBytes line = not (list_all is_plain_byte line)
-breaks BadTag line = is_none (tag_of line)
-breaks rule line = breaks_for rule (tag_of line) (fields line)
+breaks rule line = breaks_parts rule (is_plain line) (tag_of line) (fields line)
 
 -- ---- the rules that a line meets, in rising number
 
@@ -226,10 +230,10 @@ value_for tag action texts = office_line_in tag action texts >>= λ line. Some (
 
 abbrev pub form_value : Tag → List (List ℕ) → Option LineValue
 form_value tag texts =
-    if has_wrong_count tag texts then None
+    if has_wrong_count tag (is_deletion texts) texts then None
     else (action_for tag (field 2 texts) >>= λ action. value_for tag action texts)
 
 -- the value that a line spells: of plain bytes, with the fields and an action of its form
 abbrev pub line_value : List ℕ → Option LineValue
 line_value line =
-    if list_all is_plain_byte line then (tag_of line >>= λ tag. form_value tag (fields line)) else None
+    if is_plain line then (tag_of line >>= λ tag. form_value tag (fields line)) else None
