@@ -49,8 +49,8 @@ unfoldable pub xp_record : List (List ℕ) → Option OfficeRecord
 xp_record texts = do
   site ← site_at 3 texts
   pollutant ← parameter_of Xp (field 6 texts)
-  from ← date_in (field 7 texts)
   poc ← primary_in (field 8 texts)
+  from ← date_in (field 7 texts)
   Some (Primary site pollutant from poc)
 
 unfoldable pub xp_key : List (List ℕ) → Option OfficeKey
@@ -66,8 +66,8 @@ xs_record texts = do
   site ← site_at 3 texts
   pollutant ← parameter_of Xs (field 6 texts)
   from ← date_in (field 7 texts)
-  interval ← interval_in (field 8 texts)
   anchor ← date_in (field 9 texts)
+  interval ← interval_in (field 8 texts)
   Some (Schedule site pollutant from interval anchor)
 
 unfoldable pub xs_key : List (List ℕ) → Option OfficeKey
@@ -111,11 +111,11 @@ xu_key texts = do
 -- XE|a|number|state|county|site|parameter|date|time|date|time|code
 unfoldable pub xe_record : List (List ℕ) → Option OfficeRecord
 xe_record texts = do
-  number ← event_number_in (field 3 texts)
   site ← site_at 4 texts
   pollutant ← parameter_of Xe (field 7 texts)
   first ← hour_in (field 8 texts) (field 9 texts)
   last ← hour_in (field 10 texts) (field 11 texts)
+  number ← event_number_in (field 3 texts)
   code ← event_code_in (field 12 texts)
   if is_span first last then Some (Event number site pollutant first last code) else None
 
