@@ -1,4 +1,11 @@
 -- The book of rules: what the program must compute and keep, over plain lists and whole numbers.
+pub mod Limits
+pub mod Fields
+pub mod Lines
+pub mod Spellings
+pub mod RdForm
+pub mod OfficeForms
+pub mod Reading
 pub mod Office
 pub mod Lists
 pub mod Monitors
@@ -15,3 +22,8 @@ pub mod OzoneVerdict
 pub mod Sheet
 pub mod Sheets
 pub mod OzoneExamples
+pub mod Canonical
+pub mod Refusal
+pub mod Load
+pub mod LineExamples
+pub mod Least

@@ -2,14 +2,19 @@
 //! functions here are laws, which show that a definition means what a reader expects.
 #![tactic(auto)]
 
+pub mod canonical;
 pub mod eight_hour;
 pub mod exclusion;
+pub mod lines;
 pub mod lists;
+pub mod load;
 pub mod monitors;
 pub mod office_records;
 pub mod ozone_day;
 pub mod ozone_verdict;
 pub mod ozone_year;
+pub mod reading;
+pub mod refusal;
 pub mod sheets;
 pub mod site_hour;
 pub mod windows;

@@ -1,0 +1,290 @@
+-- A line spells a value exactly where it breaks no reading rule.
+use Rattle.std.proofs.Common.{◌≡◌, ℕ, ◌⊎◌, Bool, true, false, cond, not, ◌&&◌, ◌||◌, List, [], ◌∷◌, Some, None, Option, refl, sym, ap, ◌∙◌, arith, inl, inr, subst}
+use Rattle.std.specs.Prelude.{find, is_some, is_none, ℤ, if◌then◌else◌}
+use Rattle.std.proofs.lemmas.Bool.{false≢true}
+use Rattle.aq_base.specs.Decimal.{is_decimal, cut}
+use Rattle.aq_base.specs.declared.code.Code.{Code}
+use Rattle.aq_base.specs.declared.monitor.Pollutant.{Pollutant}
+use Rattle.aq_base.specs.Calendar.{hour_number}
+use Rattle.aq_base.specs.declared.observation.Observation.{Observation}
+use Rattle.aq_base.specs.declared.office.OfficeRecord.{OfficeRecord}
+use Rattle.aq_base.specs.declared.office.OfficeRecord.TheVariants.{Monitor, Primary, Schedule, Season, Makeup, Event, Concurrence, Approved}
+use Rattle.aq_base.specs.declared.rule.Rule.{Rule}
+use Rattle.aq_base.specs.declared.rule.Rule.TheVariants.{BadBytes, BadTag, FieldCount, BadAction, BadSite, ParameterOutOfProfile, BadPoc, BadDuration, BadUnit, BadMethod, BadDate, BadTime, ValueAndNull, NeitherValueNorNull, BadValue, ValueOutOfRange, BadNull, BadQualifier, BadSpan, BadInterval, BadSeason, BadMakeup, BadCode}
+use Rattle.aq_profile.specs.Fields.{is_empty, field}
+use Rattle.aq_profile.specs.Spellings.{◌>>=◌, Tag, Rd, Xm, Xp, Xs, Xo, Xu, Xe, Xc, Xa, parameter_in, parameter_of, poc_in, site_in, duration_in, unit_in, method_in, date_in, time_in, value_in, is_in_range, null_in, qualifiers_in, truth_in, primary_in, interval_in, year_in, event_number_in, event_code_in}
+use Rattle.aq_profile.specs.RdForm.{RdValue, monitor_in, start_in, content_in, put_in, delete_in, qualifier_fields}
+use Rattle.aq_profile.specs.OfficeForms.{site_at, hour_in, is_season, is_makeup, is_span, xm_record, xp_record, xp_key, xs_record, xs_key, xo_record, xo_key, xu_record, xu_key, xe_record, xe_key, xc_record, xa_record, xa_key}
+use Rattle.aq_profile.specs.Reading.{breaks_in, rules_of, reported_value, fails}
+
+-- a part that spells something, exactly where its rule is not broken
+agree : {A B : Type 0} (part : Option A) (next : A → Option B) (is_broken : Bool) (rule : Rule) (rest : Option Rule)
+    → is_broken ≡ is_none part → ((x : A) → part ≡ Some x → is_some (next x) ≡ is_none rest)
+    → is_some (part >>= next) ≡ is_none (cond is_broken (Some rule) rest)
+agree None next is_broken rule rest same go = sym (ap (λ b. is_none (cond b (Some rule) rest)) same)
+agree (Some x) next is_broken rule rest same go =
+    go x refl ∙ sym (ap (λ b. is_none (cond b (Some rule) rest)) same)
+
+bind-assoc : {A B C : Type 0} (part : Option A) (f : A → Option B) (g : B → Option C)
+    → ((part >>= f) >>= g) ≡ (part >>= λ x. f x >>= g)
+bind-assoc None f g = refl
+bind-assoc (Some x) f g = refl
+
+-- the same of a part inside a part
+agree_inside : {A B C : Type 0} (part : Option A) (f : A → Option B) (g : B → Option C) (is_broken : Bool) (rule : Rule) (rest : Option Rule)
+    → is_broken ≡ is_none part → ((x : A) → part ≡ Some x → is_some (f x >>= g) ≡ is_none rest)
+    → is_some ((part >>= f) >>= g) ≡ is_none (cond is_broken (Some rule) rest)
+agree_inside part f g is_broken rule rest same go =
+    ap is_some (bind-assoc part f g) ∙ agree part (λ x. f x >>= g) is_broken rule rest same go
+
+-- a value that is handed on whole
+kept : {A B : Type 0} (part : Option A) (f : A → B) → is_some (part >>= λ x. Some (f x)) ≡ is_some part
+kept None f = refl
+kept (Some x) f = refl
+
+or_false : (b : Bool) → (b || false) ≡ b
+or_false true = refl
+or_false false = refl
+
+parameter-Rd : (part : Option Pollutant) → is_none (part >>= λ x. Some x) ≡ is_none part
+parameter-Rd None = refl
+parameter-Rd (Some x) = refl
+
+null-empty : (text : List ℕ) → is_empty text ≡ true → is_none (null_in text) ≡ true
+null-empty [] e = refl
+null-empty (b ∷ bs) e = absurd (false≢true e)
+
+content : (no_value no_null : Bool) (null : Option Code) (codes : Option (List Code)) (decimal in_range : Bool) (value : ℤ) (reported : Option ℤ)
+    → (no_null ≡ true → is_none null ≡ true) → reported ≡ (if decimal && in_range then Some value else None)
+    → (f : Code → List Code → Option Observation) → ((c : Code) (cs : List Code) → is_some (f c cs) ≡ true)
+    → (g : ℤ → List Code → Option Observation) → ((v : ℤ) (cs : List Code) → is_some (g v cs) ≡ true)
+    → is_some (if no_value then (null >>= λ c. codes >>= λ cs. f c cs)
+      else (if no_null then ((if decimal && in_range then Some value else None) >>= λ v. codes >>= λ cs. g v cs) else None))
+      ≡ is_none (cond (not no_value && not no_null) (Some ValueAndNull)
+          (cond (not (not no_value) && not (not no_null)) (Some NeitherValueNorNull)
+          (cond (not no_value && not decimal) (Some BadValue)
+          (cond (not no_value && decimal && is_none reported) (Some ValueOutOfRange)
+          (cond (not no_null && is_none null) (Some BadNull)
+          (cond (is_none codes) (Some BadQualifier) None))))))
+content true true None codes d r v w h e f hf g hg = refl
+content true true (Some c) codes d r v w h e f hf g hg = absurd (false≢true (h refl))
+content true false None codes d r v w h e f hf g hg = refl
+content true false (Some c) None d r v w h e f hf g hg = refl
+content true false (Some c) (Some cs) d r v w h e f hf g hg = hf c cs
+content false true null codes false r v w h e f hf g hg = refl
+content false true null codes true false v w h e f hf g hg = sym (ap (λ o. is_none (cond (is_none o) (Some ValueOutOfRange) (cond (is_none codes) (Some BadQualifier) None))) e)
+content false true null None true true v w h e f hf g hg = sym (ap (λ o. is_none (cond (is_none o) (Some ValueOutOfRange) (Some BadQualifier))) e)
+content false true null (Some cs) true true v w h e f hf g hg =
+    hg v cs ∙ sym (ap (λ o. is_none (cond (is_none o) (Some ValueOutOfRange) None)) e)
+content false false null codes d r v w h e f hf g hg = refl
+
+pub agree-rd_put : (update : Bool) (texts : List (List ℕ))
+    → is_some (put_in update texts) ≡ is_none (find (λ rule. breaks_in rule Rd false texts) (rules_of Rd false))
+unfolding put_in monitor_in start_in content_in parameter_of value_in
+agree-rd_put update texts =
+    agree_inside (site_in (field 3 texts) (field 4 texts) (field 5 texts)) _ _ _ BadSite _ refl λ site is_site.
+    agree_inside (parameter_in (field 6 texts)) _ _ _ ParameterOutOfProfile _ (parameter-Rd (parameter_in (field 6 texts))) λ pollutant is_pollutant.
+    agree_inside (poc_in (field 7 texts)) _ _ _ BadPoc _ refl λ poc is_poc.
+    agree (duration_in pollutant (field 8 texts)) _ _ BadDuration _
+    (ap (λ q. is_none ((q >>= λ x. Some x) >>= λ p. duration_in p (field 8 texts))) is_pollutant) λ duration is_duration.
+    agree (unit_in pollutant (field 9 texts)) _ _ BadUnit _
+    (ap (λ q. is_none ((q >>= λ x. Some x) >>= λ p. unit_in p (field 9 texts))) is_pollutant) λ places is_places.
+    agree (method_in (field 10 texts)) _ _ BadMethod _ refl λ method is_method.
+    agree_inside (date_in (field 11 texts)) _ _ _ BadDate _ (or_false (is_none (date_in (field 11 texts)))) λ day is_day.
+    agree_inside (time_in (field 12 texts)) _ _ _ BadTime _ (or_false (is_none (time_in (field 12 texts)))) λ hour is_hour.
+    kept (content_in pollutant places texts) _
+    ∙ content (is_empty (field 13 texts)) (is_empty (field 14 texts)) (null_in (field 14 texts)) (qualifiers_in (qualifier_fields texts))
+    (is_decimal (field 13 texts)) (is_in_range pollutant (cut (field 13 texts) places)) (cut (field 13 texts) places) (reported_value texts)
+    (null-empty (field 14 texts))
+    (ap (λ q. (q >>= λ x. Some x) >>= λ p. unit_in p (field 9 texts) >>= λ n. value_in p n (field 13 texts)) is_pollutant
+    ∙ ap (λ q. q >>= λ n. value_in pollutant n (field 13 texts)) is_places)
+    (λ code codes. Some (record { value = None; null = Some code; quals = codes })) (λ code codes. refl)
+    (λ value codes. Some (record { value = Some value; null = None; quals = codes })) (λ value codes. refl)
+
+pub agree-rd_delete : (texts : List (List ℕ))
+    → is_some (delete_in texts) ≡ is_none (find (λ rule. breaks_in rule Rd true texts) (rules_of Rd true))
+unfolding delete_in monitor_in start_in parameter_of
+agree-rd_delete texts =
+    agree_inside (site_in (field 3 texts) (field 4 texts) (field 5 texts)) _ _ _ BadSite _ refl λ site is_site.
+    agree_inside (parameter_in (field 6 texts)) _ _ _ ParameterOutOfProfile _ (parameter-Rd (parameter_in (field 6 texts))) λ pollutant is_pollutant.
+    agree_inside (poc_in (field 7 texts)) _ _ _ BadPoc _ refl λ poc is_poc.
+    agree_inside (date_in (field 11 texts)) _ _ _ BadDate _ (or_false (is_none (date_in (field 11 texts)))) λ day is_day.
+    agree_inside (time_in (field 12 texts)) _ _ _ BadTime _ (or_false (is_none (time_in (field 12 texts)))) λ hour is_hour.
+    refl
+
+-- XM
+agree-xm : (deletes : Bool) (texts : List (List ℕ))
+    → is_some (xm_record texts) ≡ is_none (find (λ rule. breaks_in rule Xm deletes texts) (rules_of Xm deletes))
+unfolding xm_record monitor_in parameter_of
+agree-xm deletes texts =
+    agree_inside (site_in (field 3 texts) (field 4 texts) (field 5 texts)) _ _ _ BadSite _ refl λ site is_site.
+    agree_inside (parameter_in (field 6 texts)) _ _ _ ParameterOutOfProfile _ (parameter-Rd (parameter_in (field 6 texts))) λ pollutant is_pollutant.
+    agree_inside (poc_in (field 7 texts)) _ _ _ BadPoc _ refl λ poc is_poc.
+    agree (duration_in pollutant (field 8 texts)) _ _ BadDuration _
+    (ap (λ q. is_none ((q >>= λ x. Some x) >>= λ p. duration_in p (field 8 texts))) is_pollutant) λ duration is_duration.
+    agree (truth_in (field 9 texts)) _ _ BadCode _ refl λ eligible is_eligible.
+    refl
+
+-- XP
+agree-xp : (texts : List (List ℕ)) → is_some (xp_record texts) ≡ is_none (find (λ rule. breaks_in rule Xp false texts) (rules_of Xp false))
+unfolding xp_record
+agree-xp texts =
+    agree (site_at 3 texts) _ _ BadSite _ refl λ site is_site.
+    agree (parameter_of Xp (field 6 texts)) _ _ ParameterOutOfProfile _ refl λ pollutant is_pollutant.
+    agree (primary_in (field 8 texts)) _ _ BadPoc _ refl λ poc is_poc.
+    agree (date_in (field 7 texts)) _ _ BadDate _ (or_false (is_none (date_in (field 7 texts)))) λ from is_from.
+    refl
+
+agree-xp_key : (texts : List (List ℕ)) → is_some (xp_key texts) ≡ is_none (find (λ rule. breaks_in rule Xp true texts) (rules_of Xp true))
+unfolding xp_key
+agree-xp_key texts =
+    agree (site_at 3 texts) _ _ BadSite _ refl λ site is_site.
+    agree (parameter_of Xp (field 6 texts)) _ _ ParameterOutOfProfile _ refl λ pollutant is_pollutant.
+    agree (date_in (field 7 texts)) _ _ BadDate _ (or_false (is_none (date_in (field 7 texts)))) λ from is_from.
+    refl
+
+-- two parts under one rule
+agree_two : {A B C : Type 0} (one : Option A) (two : Option B) (next : A → B → Option C) (rule : Rule) (rest : Option Rule)
+    → ((x : A) (y : B) → one ≡ Some x → two ≡ Some y → is_some (next x y) ≡ is_none rest)
+    → is_some (one >>= λ x. two >>= λ y. next x y) ≡ is_none (cond (is_none one || (is_none two || false)) (Some rule) rest)
+agree_two None two next rule rest go = refl
+agree_two (Some x) None next rule rest go = refl
+agree_two (Some x) (Some y) next rule rest go = go x y refl refl
+
+-- XS
+agree-xs : (texts : List (List ℕ)) → is_some (xs_record texts) ≡ is_none (find (λ rule. breaks_in rule Xs false texts) (rules_of Xs false))
+unfolding xs_record
+agree-xs texts =
+    agree (site_at 3 texts) _ _ BadSite _ refl λ site is_site.
+    agree (parameter_of Xs (field 6 texts)) _ _ ParameterOutOfProfile _ refl λ pollutant is_pollutant.
+    agree_two (date_in (field 7 texts)) (date_in (field 9 texts)) _ BadDate _ λ from anchor is_from is_anchor.
+    agree (interval_in (field 8 texts)) _ _ BadInterval _ refl λ interval is_interval.
+    refl
+
+agree-xs_key : (texts : List (List ℕ)) → is_some (xs_key texts) ≡ is_none (find (λ rule. breaks_in rule Xs true texts) (rules_of Xs true))
+unfolding xs_key
+agree-xs_key texts =
+    agree (site_at 3 texts) _ _ BadSite _ refl λ site is_site.
+    agree (parameter_of Xs (field 6 texts)) _ _ ParameterOutOfProfile _ refl λ pollutant is_pollutant.
+    agree (date_in (field 7 texts)) _ _ BadDate _ (or_false (is_none (date_in (field 7 texts)))) λ from is_from.
+    refl
+
+-- a test at the end
+tested : {A : Type 0} (passed : Bool) (value : A) (rule : Rule)
+    → is_some (if passed then Some value else None) ≡ is_none (cond (not passed) (Some rule) None)
+tested true value rule = refl
+tested false value rule = refl
+
+-- XO
+xo_end : (year first last : Option ℕ) (f : ℕ → ℕ → ℕ → Bool) (h : ℕ → ℕ → ℕ → OfficeRecord)
+    → is_some (year >>= λ y. first >>= λ a. last >>= λ b. if f y a b then Some (h y a b) else None)
+    ≡ is_none (cond (is_none year || (is_none first || (is_none last || false))) (Some BadDate)
+      (cond (fails (year >>= λ y. first >>= λ a. last >>= λ b. Some (f y a b))) (Some BadSeason) None))
+xo_end None first last f h = refl
+xo_end (Some y) None last f h = refl
+xo_end (Some y) (Some a) None f h = refl
+xo_end (Some y) (Some a) (Some b) f h = tested (f y a b) (h y a b) BadSeason
+
+agree-xo : (texts : List (List ℕ)) → is_some (xo_record texts) ≡ is_none (find (λ rule. breaks_in rule Xo false texts) (rules_of Xo false))
+unfolding xo_record
+agree-xo texts =
+    agree (site_at 3 texts) _ _ BadSite _ refl λ site is_site.
+    xo_end (year_in (field 6 texts)) (date_in (field 7 texts)) (date_in (field 8 texts)) is_season (λ y a b. Season site y a b)
+
+agree-xo_key : (texts : List (List ℕ)) → is_some (xo_key texts) ≡ is_none (find (λ rule. breaks_in rule Xo true texts) (rules_of Xo true))
+unfolding xo_key
+agree-xo_key texts =
+    agree (site_at 3 texts) _ _ BadSite _ refl λ site is_site.
+    agree (year_in (field 6 texts)) _ _ BadDate _ (or_false (is_none (year_in (field 6 texts)))) λ year is_year.
+    refl
+
+-- XU
+xu_end : (missed makeup : Option ℕ) (f : ℕ → ℕ → Bool) (h : ℕ → ℕ → OfficeRecord)
+    → is_some (missed >>= λ a. makeup >>= λ b. if f a b then Some (h a b) else None)
+    ≡ is_none (cond (is_none missed || (is_none makeup || false)) (Some BadDate)
+      (cond (fails (missed >>= λ a. makeup >>= λ b. Some (f a b))) (Some BadMakeup) None))
+xu_end None makeup f h = refl
+xu_end (Some a) None f h = refl
+xu_end (Some a) (Some b) f h = tested (f a b) (h a b) BadMakeup
+
+agree-xu : (texts : List (List ℕ)) → is_some (xu_record texts) ≡ is_none (find (λ rule. breaks_in rule Xu false texts) (rules_of Xu false))
+unfolding xu_record
+agree-xu texts =
+    agree (site_at 3 texts) _ _ BadSite _ refl λ site is_site.
+    agree (parameter_of Xu (field 6 texts)) _ _ ParameterOutOfProfile _ refl λ pollutant is_pollutant.
+    xu_end (date_in (field 7 texts)) (date_in (field 8 texts)) is_makeup (λ a b. Makeup site a b)
+
+agree-xu_key : (texts : List (List ℕ)) → is_some (xu_key texts) ≡ is_none (find (λ rule. breaks_in rule Xu true texts) (rules_of Xu true))
+unfolding xu_key
+agree-xu_key texts =
+    agree (site_at 3 texts) _ _ BadSite _ refl λ site is_site.
+    agree (parameter_of Xu (field 6 texts)) _ _ ParameterOutOfProfile _ refl λ pollutant is_pollutant.
+    agree (date_in (field 7 texts)) _ _ BadDate _ (or_false (is_none (date_in (field 7 texts)))) λ missed is_missed.
+    refl
+
+-- XE
+xe_end : (number : Option ℕ) (code : Option Code) (passed : Bool) (h : ℕ → Code → OfficeRecord)
+    → is_some (number >>= λ n. code >>= λ c. if passed then Some (h n c) else None)
+    ≡ is_none (cond (not passed) (Some BadSpan) (cond (is_none number || is_none code) (Some BadCode) None))
+xe_end None code true h = refl
+xe_end None code false h = refl
+xe_end (Some n) None true h = refl
+xe_end (Some n) None false h = refl
+xe_end (Some n) (Some c) true h = refl
+xe_end (Some n) (Some c) false h = refl
+
+hour_of : Option ℕ → Option ℕ → Option ℕ
+hour_of day hour = day >>= λ d. hour >>= λ h. Some (hour_number d h)
+
+xe_hours : {A : Type 0} (day hour last_day last_hour : Option ℕ) (next : ℕ → ℕ → Option A) (rest : Option Rule)
+    → ((first last : ℕ) → hour_of day hour ≡ Some first → hour_of last_day last_hour ≡ Some last → is_some (next first last) ≡ is_none rest)
+    → is_some (hour_of day hour >>= λ first. hour_of last_day last_hour >>= λ last. next first last)
+    ≡ is_none (cond (is_none day || (is_none last_day || false)) (Some BadDate) (cond (is_none hour || (is_none last_hour || false)) (Some BadTime) rest))
+unfolding hour_of
+xe_hours None hour last_day last_hour next rest go = refl
+xe_hours (Some d) None None last_hour next rest go = refl
+xe_hours (Some d) (Some h) None last_hour next rest go = refl
+xe_hours (Some d) None (Some e) last_hour next rest go = refl
+xe_hours (Some d) (Some h) (Some e) None next rest go = refl
+xe_hours (Some d) (Some h) (Some e) (Some i) next rest go = go (hour_number d h) (hour_number e i) refl refl
+
+agree-xe : (texts : List (List ℕ)) → is_some (xe_record texts) ≡ is_none (find (λ rule. breaks_in rule Xe false texts) (rules_of Xe false))
+unfolding xe_record hour_of
+agree-xe texts =
+    agree (site_at 4 texts) _ _ BadSite _ refl λ site is_site.
+    agree (parameter_of Xe (field 7 texts)) _ _ ParameterOutOfProfile _ refl λ pollutant is_pollutant.
+    xe_hours (date_in (field 8 texts)) (time_in (field 9 texts)) (date_in (field 10 texts)) (time_in (field 11 texts)) _ _ λ first last is_first is_last.
+    xe_end (event_number_in (field 3 texts)) (event_code_in (field 12 texts)) (is_span first last) (λ n c. Event n site pollutant first last c)
+    ∙ sym (ap (λ o. is_none (cond (fails o) (Some BadSpan) (cond (is_none (event_number_in (field 3 texts)) || is_none (event_code_in (field 12 texts))) (Some BadCode) None)))
+    (ap (λ q. q >>= λ a. hour_in (field 10 texts) (field 11 texts) >>= λ b. Some (is_span a b)) is_first ∙ ap (λ q. q >>= λ b. Some (is_span first b)) is_last))
+
+agree-xe_key : (texts : List (List ℕ)) → is_some (xe_key texts) ≡ is_none (find (λ rule. breaks_in rule Xe true texts) (rules_of Xe true))
+unfolding xe_key
+agree-xe_key texts =
+    agree (event_number_in (field 3 texts)) _ _ BadCode _ (or_false (is_none (event_number_in (field 3 texts)))) λ number is_number.
+    refl
+
+-- XC
+agree-xc : (deletes : Bool) (texts : List (List ℕ)) → is_some (xc_record texts) ≡ is_none (find (λ rule. breaks_in rule Xc deletes texts) (rules_of Xc deletes))
+unfolding xc_record
+agree-xc deletes texts = xc_end (event_number_in (field 3 texts)) (truth_in (field 4 texts))
+  where
+    xc_end : (number : Option ℕ) (flag : Option Bool) → is_some (number >>= λ n. flag >>= λ f. Some (Concurrence n f)) ≡ is_none (cond (is_none number || is_none flag) (Some BadCode) None)
+    xc_end None flag = refl
+    xc_end (Some n) None = refl
+    xc_end (Some n) (Some f) = refl
+
+-- XA
+agree-xa : (texts : List (List ℕ)) → is_some (xa_record texts) ≡ is_none (find (λ rule. breaks_in rule Xa false texts) (rules_of Xa false))
+unfolding xa_record
+agree-xa texts =
+    agree (site_at 3 texts) _ _ BadSite _ refl λ site is_site.
+    agree (date_in (field 6 texts)) _ _ BadDate _ (or_false (is_none (date_in (field 6 texts)))) λ day is_day.
+    refl
+
+agree-xa_key : (texts : List (List ℕ)) → is_some (xa_key texts) ≡ is_none (find (λ rule. breaks_in rule Xa true texts) (rules_of Xa true))
+unfolding xa_key
+agree-xa_key texts =
+    agree (site_at 3 texts) _ _ BadSite _ refl λ site is_site.
+    agree (date_in (field 6 texts)) _ _ BadDate _ (or_false (is_none (date_in (field 6 texts)))) λ day is_day.
+    refl

@@ -1,0 +1,86 @@
+-- The first broken rule of a list in rising number is the least one.
+use Rattle.std.proofs.Common.{◌≡◌, ℕ, ◌<◌, ◌≤◌, ◌⊎◌, Bool, true, false, cond, ◌&&◌, List, [], ◌∷◌, length, Some, None, Option, refl, sym, ap, ◌∙◌, arith, rules, get_or, inl, inr, suc, subst}
+use Rattle.std.specs.Prelude.{All, Contains, find}
+use Rattle.std.specs.List.{AllByRecursion}
+use Rattle.std.proofs.lemmas.List.Elements.{All-from_recursion, All-cons, All-nil}
+use Rattle.std.proofs.lemmas.Grind.{common_steps}
+use Rattle.std.proofs.lemmas.Bool.{false≢true}
+use Rattle.std.proofs.lemmas.Bool.Decides.{nat_tests}
+use Rattle.aq_base.specs.Rule.{rule_number}
+use Rattle.aq_base.specs.declared.rule.Rule.{Rule}
+use Rattle.aq_profile.specs.Office.{rises, rises_from, comes_before}
+use Rattle.aq_profile.specs.Least.{IsLeastBroken, rule_rank}
+
+-- the parts of two tests that must hold
+pub both : (a b : Bool) → (a && b) ≡ true → (a ≡ true) × (b ≡ true)
+both true b h = (refl, h)
+both false b h = absurd (false≢true h)
+
+pub true_or_false : (b : Bool) → (b ≡ true) ⊎ (b ≡ false)
+true_or_false true = inl refl
+true_or_false false = inr refl
+
+one_before : (a b : ℕ) → comes_before (a ∷ []) (b ∷ []) ≡ true → a < b
+one_before a b h = grind (arith, nat_tests)
+
+-- the rules behind one in a rising list have greater numbers
+above : (n : ℕ) (first : Rule) (rest : List Rule) → n ≤ rule_number first → rises_from rule_rank first rest ≡ true
+    → AllByRecursion (λ other. n < rule_number other) rest
+above n first [] small rising = tt
+above n first (next ∷ rest) small rising =
+    let parts = both (comes_before (rule_rank first) (rule_rank next)) (rises_from rule_rank next rest) rising in
+    let lower : rule_number first < rule_number next = one_before (rule_number first) (rule_number next) parts.0 in
+    (omega arith, above n next rest (omega arith) parts.1)
+
+rises_rest : (first : Rule) (rest : List Rule) → rises_from rule_rank first rest ≡ true → rises rule_rank rest ≡ true
+rises_rest first [] rising = refl
+rises_rest first (next ∷ rest) rising =
+    (both (comes_before (rule_rank first) (rule_rank next)) (rises_from rule_rank next rest) rising).1
+
+greater_not_less : (p : Rule → Bool) (rule : Rule) (rest : List Rule) → AllByRecursion (λ other. rule_number rule < rule_number other) rest
+    → AllByRecursion (λ other. rule_number other < rule_number rule → p other ≡ false) rest
+greater_not_less p rule [] h = tt
+greater_not_less p rule (next ∷ rest) h = (λ less. absurd (omega (arith, h.0)), greater_not_less p rule rest h.1)
+
+contains_head : (rule : Rule) (rest : List Rule) → Contains (rule ∷ rest) rule
+contains_head rule rest = (0, omega arith, refl)
+
+contains_tail : (first rule : Rule) (rest : List Rule) → Contains rest rule → Contains (first ∷ rest) rule
+contains_tail first rule rest (k, h, e) = (suc k, omega arith, e)
+
+pub IsLeastBroken-find : (p : Rule → Bool) (rules : List Rule) (rule : Rule) → rises rule_rank rules ≡ true → find p rules ≡ Some rule
+    → IsLeastBroken p rules rule
+IsLeastBroken-find p [] rule rising found = cc
+IsLeastBroken-find p (first ∷ rest) rule rising found =
+    elim (true_or_false (p first)) [
+      inl here ↦
+          let same : Some first ≡ Some rule = sym (ap (λ b. cond b (Some first) (find p rest)) here) ∙ found in
+          let is : first ≡ rule = cc in
+          record {
+            listed = subst (λ r. Contains (first ∷ rest) r) is (contains_head first rest);
+            broken = subst (λ r. p r ≡ true) is here;
+            least = subst (λ r. All (λ other. rule_number other < rule_number r → p other ≡ false) (first ∷ rest)) is
+                (All-from_recursion (λ other. rule_number other < rule_number first → p other ≡ false) (first ∷ rest)
+                (λ less. absurd (omega arith), greater_not_less p first rest (above (rule_number first) first rest (omega arith) rising)));
+          }
+    | inr there ↦
+          let later : find p rest ≡ Some rule = sym (ap (λ b. cond b (Some first) (find p rest)) there) ∙ found in
+          let rec = IsLeastBroken-find p rest rule (rises_rest first rest rising) later in
+          record {
+            listed = contains_tail first rule rest rec.listed;
+            broken = rec.broken;
+            least = All-cons (λ other. rule_number other < rule_number rule → p other ≡ false) first rest (λ less. there) rec.least;
+          }
+    ]
+
+pub none_broken-find : (p : Rule → Bool) (rules : List Rule) → find p rules ≡ None → All (λ other. p other ≡ false) rules
+none_broken-find p [] none = All-nil (λ other. p other ≡ false)
+none_broken-find p (first ∷ rest) none =
+    elim (true_or_false (p first)) [
+      inl here ↦
+          let same : Some first ≡ None = sym (ap (λ b. cond b (Some first) (find p rest)) here) ∙ none in
+          cc
+    | inr there ↦
+          let later : find p rest ≡ None = sym (ap (λ b. cond b (Some first) (find p rest)) there) ∙ none in
+          All-cons (λ other. p other ≡ false) first rest there (none_broken-find p rest later)
+    ]
