@@ -8,8 +8,15 @@ mod load;
 mod reading;
 mod refusal;
 
-pub use canonical::{office_lines_are_read, office_lines_are_written, samples_are_read, samples_are_written, values_are_cut};
+pub use canonical::{
+    office_lines_are_read, office_lines_are_written, samples_are_read, samples_are_written,
+    values_are_cut,
+};
 pub use lines::{fields_without_spaces_round_them, lines_of_a_body};
-pub use load::{an_hour_sent_twice};
-pub use reading::{rules_of_office_lines, rules_of_samples};
-pub use refusal::{full_lists, refused_office_lines, refused_samples};
+pub use load::an_hour_sent_twice;
+pub use reading::{
+    a_value_or_a_rule, rules_of_office_lines, rules_of_samples, the_least_rule_is_named,
+};
+pub use refusal::{
+    full_lists, refused_office_lines, refused_samples, the_least_office_rule_is_named,
+};
