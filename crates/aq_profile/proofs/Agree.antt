@@ -1,21 +1,23 @@
 -- A line spells a value exactly where it breaks no reading rule.
-use Rattle.std.proofs.Common.{◌≡◌, ℕ, ◌⊎◌, Bool, true, false, cond, not, ◌&&◌, ◌||◌, List, [], ◌∷◌, Some, None, Option, refl, sym, ap, ◌∙◌, arith, inl, inr, subst}
-use Rattle.std.specs.Prelude.{find, is_some, is_none, ℤ, if◌then◌else◌}
+use Rattle.std.proofs.Common.{◌≡◌, ℕ, Bool, true, false, cond, not, ◌&&◌, ◌||◌, List, [], ◌∷◌, Some, None, Option, refl, sym, ap, ◌∙◌, inl, inr, subst}
+use Rattle.std.specs.Prelude.{bytes_eq, codes, find, is_some, is_none, ℤ, if◌then◌else◌}
 use Rattle.std.proofs.lemmas.Bool.{false≢true}
+use Rattle.std.proofs.lemmas.Slice.Eq.{bytes_eq-Decides}
 use Rattle.aq_base.specs.Decimal.{is_decimal, cut}
 use Rattle.aq_base.specs.declared.code.Code.{Code}
 use Rattle.aq_base.specs.declared.monitor.Pollutant.{Pollutant}
 use Rattle.aq_base.specs.Calendar.{hour_number}
 use Rattle.aq_base.specs.declared.observation.Observation.{Observation}
 use Rattle.aq_base.specs.declared.office.OfficeRecord.{OfficeRecord}
-use Rattle.aq_base.specs.declared.office.OfficeRecord.TheVariants.{Monitor, Primary, Schedule, Season, Makeup, Event, Concurrence, Approved}
+use Rattle.aq_base.specs.declared.office.OfficeRecord.TheVariants.{Season, Makeup, Event, Concurrence}
 use Rattle.aq_base.specs.declared.rule.Rule.{Rule}
 use Rattle.aq_base.specs.declared.rule.Rule.TheVariants.{BadBytes, BadTag, FieldCount, BadAction, BadSite, ParameterOutOfProfile, BadPoc, BadDuration, BadUnit, BadMethod, BadDate, BadTime, ValueAndNull, NeitherValueNorNull, BadValue, ValueOutOfRange, BadNull, BadQualifier, BadSpan, BadInterval, BadSeason, BadMakeup, BadCode}
-use Rattle.aq_profile.specs.Fields.{is_empty, field}
-use Rattle.aq_profile.specs.Spellings.{◌>>=◌, Tag, Rd, Xm, Xp, Xs, Xo, Xu, Xe, Xc, Xa, parameter_in, parameter_of, poc_in, site_in, duration_in, unit_in, method_in, date_in, time_in, value_in, is_in_range, null_in, qualifiers_in, truth_in, primary_in, interval_in, year_in, event_number_in, event_code_in}
-use Rattle.aq_profile.specs.RdForm.{RdValue, monitor_in, start_in, content_in, put_in, delete_in, qualifier_fields}
+use Rattle.aq_profile.proofs.Least.{true_or_false}
+use Rattle.aq_profile.specs.Fields.{is_empty, field, fields}
+use Rattle.aq_profile.specs.Spellings.{◌>>=◌, Action, Insert, Update, Delete, action_in, Tag, Rd, Xm, Xp, Xs, Xo, Xu, Xe, Xc, Xa, parameter_in, parameter_of, poc_in, site_in, duration_in, unit_in, method_in, date_in, time_in, value_in, is_in_range, null_in, qualifiers_in, truth_in, primary_in, interval_in, year_in, event_number_in, event_code_in}
+use Rattle.aq_profile.specs.RdForm.{monitor_in, start_in, content_in, put_in, delete_in, qualifier_fields}
 use Rattle.aq_profile.specs.OfficeForms.{site_at, hour_in, is_season, is_makeup, is_span, xm_record, xp_record, xp_key, xs_record, xs_key, xo_record, xo_key, xu_record, xu_key, xe_record, xe_key, xc_record, xa_record, xa_key}
-use Rattle.aq_profile.specs.Reading.{breaks_in, rules_of, reported_value, fails}
+use Rattle.aq_profile.specs.Reading.{breaks_in, rules_of, reported_value, fails, acts, value_for, action_for, form_value, has_wrong_count, is_deletion, breaks_parts, rules_for, line_value, reading_rule, is_plain, tag_of}
 
 -- a part that spells something, exactly where its rule is not broken
 agree : {A B : Type 0} (part : Option A) (next : A → Option B) (is_broken : Bool) (rule : Rule) (rest : Option Rule)
@@ -42,6 +44,10 @@ kept : {A B : Type 0} (part : Option A) (f : A → B) → is_some (part >>= λ x
 kept None f = refl
 kept (Some x) f = refl
 
+kept_twice : {A B C : Type 0} (part : Option A) (f : A → B) (g : B → C) → is_some ((part >>= λ x. Some (f x)) >>= λ y. Some (g y)) ≡ is_some part
+kept_twice None f g = refl
+kept_twice (Some x) f g = refl
+
 or_false : (b : Bool) → (b || false) ≡ b
 or_false true = refl
 or_false false = refl
@@ -59,13 +65,13 @@ content : (no_value no_null : Bool) (null : Option Code) (codes : Option (List C
     → (f : Code → List Code → Option Observation) → ((c : Code) (cs : List Code) → is_some (f c cs) ≡ true)
     → (g : ℤ → List Code → Option Observation) → ((v : ℤ) (cs : List Code) → is_some (g v cs) ≡ true)
     → is_some (if no_value then (null >>= λ c. codes >>= λ cs. f c cs)
-      else (if no_null then ((if decimal && in_range then Some value else None) >>= λ v. codes >>= λ cs. g v cs) else None))
-      ≡ is_none (cond (not no_value && not no_null) (Some ValueAndNull)
-          (cond (not (not no_value) && not (not no_null)) (Some NeitherValueNorNull)
-          (cond (not no_value && not decimal) (Some BadValue)
-          (cond (not no_value && decimal && is_none reported) (Some ValueOutOfRange)
-          (cond (not no_null && is_none null) (Some BadNull)
-          (cond (is_none codes) (Some BadQualifier) None))))))
+    else (if no_null then ((if decimal && in_range then Some value else None) >>= λ v. codes >>= λ cs. g v cs) else None))
+    ≡ is_none (cond (not no_value && not no_null) (Some ValueAndNull)
+    (cond (not (not no_value) && not (not no_null)) (Some NeitherValueNorNull)
+    (cond (not no_value && not decimal) (Some BadValue)
+    (cond (not no_value && decimal && is_none reported) (Some ValueOutOfRange)
+    (cond (not no_null && is_none null) (Some BadNull)
+    (cond (is_none codes) (Some BadQualifier) None))))))
 content true true None codes d r v w h e f hf g hg = refl
 content true true (Some c) codes d r v w h e f hf g hg = absurd (false≢true (h refl))
 content true false None codes d r v w h e f hf g hg = refl
@@ -179,7 +185,7 @@ tested false value rule = refl
 xo_end : (year first last : Option ℕ) (f : ℕ → ℕ → ℕ → Bool) (h : ℕ → ℕ → ℕ → OfficeRecord)
     → is_some (year >>= λ y. first >>= λ a. last >>= λ b. if f y a b then Some (h y a b) else None)
     ≡ is_none (cond (is_none year || (is_none first || (is_none last || false))) (Some BadDate)
-      (cond (fails (year >>= λ y. first >>= λ a. last >>= λ b. Some (f y a b))) (Some BadSeason) None))
+    (cond (fails (year >>= λ y. first >>= λ a. last >>= λ b. Some (f y a b))) (Some BadSeason) None))
 xo_end None first last f h = refl
 xo_end (Some y) None last f h = refl
 xo_end (Some y) (Some a) None f h = refl
@@ -202,7 +208,7 @@ agree-xo_key texts =
 xu_end : (missed makeup : Option ℕ) (f : ℕ → ℕ → Bool) (h : ℕ → ℕ → OfficeRecord)
     → is_some (missed >>= λ a. makeup >>= λ b. if f a b then Some (h a b) else None)
     ≡ is_none (cond (is_none missed || (is_none makeup || false)) (Some BadDate)
-      (cond (fails (missed >>= λ a. makeup >>= λ b. Some (f a b))) (Some BadMakeup) None))
+    (cond (fails (missed >>= λ a. makeup >>= λ b. Some (f a b))) (Some BadMakeup) None))
 xu_end None makeup f h = refl
 xu_end (Some a) None f h = refl
 xu_end (Some a) (Some b) f h = tested (f a b) (h a b) BadMakeup
@@ -288,3 +294,111 @@ agree-xa_key texts =
     agree (site_at 3 texts) _ _ BadSite _ refl λ site is_site.
     agree (date_in (field 6 texts)) _ _ BadDate _ (or_false (is_none (date_in (field 6 texts)))) λ day is_day.
     refl
+
+-- ---- the whole line
+
+is_delete : Action → Bool
+is_delete Insert = false
+is_delete Update = false
+is_delete Delete = true
+
+chosen : (i u d : Bool) (action : Action) → cond i (Some Insert) (cond u (Some Update) (cond d (Some Delete) None)) ≡ Some action
+    → (i ≡ true → d ≡ false) → (u ≡ true → d ≡ false) → d ≡ is_delete action
+unfolding is_delete
+chosen true u d action is not_i not_u =
+    let same : Insert ≡ action = cc in
+    not_i refl ∙ ap is_delete same
+chosen false true d action is not_i not_u =
+    let same : Update ≡ action = cc in
+    not_u refl ∙ ap is_delete same
+chosen false false true action is not_i not_u =
+    let same : Delete ≡ action = cc in
+    ap is_delete same
+chosen false false false action is not_i not_u = cc
+
+deletion : (text : List ℕ) (action : Action) → action_in text ≡ Some action → bytes_eq text (codes "D") ≡ is_delete action
+deletion text action is_action =
+    chosen (bytes_eq text (codes "I")) (bytes_eq text (codes "U")) (bytes_eq text (codes "D")) action is_action
+    (λ i. ap (λ t. bytes_eq t (codes "D")) ((bytes_eq-Decides text (codes "I")).0 i))
+    (λ u. ap (λ t. bytes_eq t (codes "D")) ((bytes_eq-Decides text (codes "U")).0 u))
+
+agree-value : (tag : Tag) (action : Action) (texts : List (List ℕ)) → acts tag action ≡ true
+    → is_some (value_for tag action texts)
+    ≡ is_none (find (λ rule. breaks_in rule tag (is_delete action) texts) (rules_of tag (is_delete action)))
+unfolding is_delete
+agree-value Rd Insert texts may = kept (put_in false texts) _ ∙ agree-rd_put false texts
+agree-value Rd Update texts may = kept (put_in true texts) _ ∙ agree-rd_put true texts
+agree-value Rd Delete texts may = kept (delete_in texts) _ ∙ agree-rd_delete texts
+agree-value Xm Insert texts may = kept_twice (xm_record texts) _ _ ∙ agree-xm false texts
+agree-value Xm Update texts may = kept_twice (xm_record texts) _ _ ∙ agree-xm false texts
+agree-value Xm Delete texts may = absurd (false≢true may)
+agree-value Xp Insert texts may = kept_twice (xp_record texts) _ _ ∙ agree-xp texts
+agree-value Xp Update texts may = absurd (false≢true may)
+agree-value Xp Delete texts may = kept_twice (xp_key texts) _ _ ∙ agree-xp_key texts
+agree-value Xs Insert texts may = kept_twice (xs_record texts) _ _ ∙ agree-xs texts
+agree-value Xs Update texts may = absurd (false≢true may)
+agree-value Xs Delete texts may = kept_twice (xs_key texts) _ _ ∙ agree-xs_key texts
+agree-value Xo Insert texts may = kept_twice (xo_record texts) _ _ ∙ agree-xo texts
+agree-value Xo Update texts may = absurd (false≢true may)
+agree-value Xo Delete texts may = kept_twice (xo_key texts) _ _ ∙ agree-xo_key texts
+agree-value Xu Insert texts may = kept_twice (xu_record texts) _ _ ∙ agree-xu texts
+agree-value Xu Update texts may = absurd (false≢true may)
+agree-value Xu Delete texts may = kept_twice (xu_key texts) _ _ ∙ agree-xu_key texts
+agree-value Xe Insert texts may = kept_twice (xe_record texts) _ _ ∙ agree-xe texts
+agree-value Xe Update texts may = absurd (false≢true may)
+agree-value Xe Delete texts may = kept_twice (xe_key texts) _ _ ∙ agree-xe_key texts
+agree-value Xc Insert texts may = absurd (false≢true may)
+agree-value Xc Update texts may = kept_twice (xc_record texts) _ _ ∙ agree-xc false texts
+agree-value Xc Delete texts may = absurd (false≢true may)
+agree-value Xa Insert texts may = kept_twice (xa_record texts) _ _ ∙ agree-xa texts
+agree-value Xa Update texts may = absurd (false≢true may)
+agree-value Xa Delete texts may = kept_twice (xa_key texts) _ _ ∙ agree-xa_key texts
+
+-- an action of the form is one that the text spells
+spelled : (tag : Tag) (part : Option Action) (action : Action)
+    → (part >>= λ a. if acts tag a then Some a else None) ≡ Some action → (part ≡ Some action) × (acts tag action ≡ true)
+spelled tag None action is = cc
+spelled tag (Some a) action is =
+    elim (true_or_false (acts tag a)) [
+      | inl may ↦
+          let same : Some a ≡ Some action = sym (ap (λ b. cond b (Some a) None) may) ∙ is in
+          let equal : a ≡ action = cc in
+          (same, subst (λ x. acts tag x ≡ true) equal may)
+      | inr not ↦
+          let none : None ≡ Some action = sym (ap (λ b. cond b (Some a) None) not) ∙ is in
+          cc
+    ]
+
+same_find : (p q : Rule → Bool) → ((rule : Rule) → p rule ≡ q rule) → (rules : List Rule) → find p rules ≡ find q rules
+same_find p q same [] = refl
+same_find p q same (rule ∷ rules) =
+    ap (λ b. cond b (Some rule) (find p rules)) (same rule) ∙ ap (λ o. cond (q rule) (Some rule) o) (same_find p q same rules)
+
+same_breaks : (tag : Tag) (texts : List (List ℕ)) (rule : Rule) → breaks_in rule tag (is_deletion texts) texts ≡ breaks_parts rule true (Some tag) texts
+same_breaks tag texts BadBytes = refl
+same_breaks tag texts BadTag = refl
+same_breaks tag texts rule = refl
+
+agree-form : (tag : Tag) (texts : List (List ℕ)) (wrong : Bool) (rest : Option Rule)
+    → rest ≡ find (λ rule. breaks_in rule tag (is_deletion texts) texts) (rules_of tag (is_deletion texts))
+    → is_some (if wrong then None else (action_for tag (field 2 texts) >>= λ action. value_for tag action texts))
+    ≡ is_none (cond wrong (Some FieldCount) (cond (is_none (action_for tag (field 2 texts))) (Some BadAction) rest))
+agree-form tag texts true rest same = refl
+agree-form tag texts false rest same =
+    agree (action_for tag (field 2 texts)) _ _ BadAction _ refl λ action is_action.
+    let parts = spelled tag (action_in (field 2 texts)) action is_action in
+    agree-value tag action texts parts.1
+    ∙ ap (λ b. is_none (find (λ rule. breaks_in rule tag b texts) (rules_of tag b))) (sym (deletion (field 2 texts) action parts.0))
+    ∙ ap is_none (sym same)
+
+agree-parts : (plain : Bool) (tag : Option Tag) (texts : List (List ℕ))
+    → is_some (if plain then (tag >>= λ t. form_value t texts) else None)
+    ≡ is_none (find (λ rule. breaks_parts rule plain tag texts) (BadBytes ∷ BadTag ∷ FieldCount ∷ BadAction ∷ rules_for tag texts))
+agree-parts false tag texts = refl
+agree-parts true None texts = refl
+agree-parts true (Some tag) texts =
+    agree-form tag texts (has_wrong_count tag (is_deletion texts) texts) _
+    (sym (same_find _ _ (same_breaks tag texts) (rules_of tag (is_deletion texts))))
+
+pub agree-line : (line : List ℕ) → is_some (line_value line) ≡ is_none (reading_rule line)
+agree-line line = agree-parts (is_plain line) (tag_of line) (fields line)

@@ -1,7 +1,9 @@
 //! Which reading rule a line breaks.
-ghost use Rattle.std.specs.Prelude.{◌≡◌, ◌∷◌, Some, None, codes};
+ghost use Rattle.std.specs.Prelude.{◌≡◌, ℕ, ◌∷◌, false, Some, None, codes, List, All, is_some, is_none};
 ghost use Rattle.aq_base.specs.declared.rule.Rule.TheVariants.{BadBytes, BadTag, FieldCount, BadAction, BadSite, ParameterOutOfProfile, BadPoc, BadDuration, BadUnit, BadMethod, BadDate, BadTime, ValueAndNull, NeitherValueNorNull, BadValue, ValueOutOfRange, BadNull, BadQualifier, BadSpan, BadInterval, BadSeason, BadMakeup, BadCode};
-ghost use Rattle.aq_profile.specs.Reading.{reading_rule};
+ghost use Rattle.aq_profile.specs.Reading.{breaks, line_value, reading_rule, reading_rules};
+ghost use Rattle.aq_profile.specs.Least.{IsLeastBroken};
+ghost use Rattle.aq_base.specs.declared.rule.Rule.{Rule};
 
 /// An RD line for each rule that its form meets, of which that rule is the first one broken.
 #[tactic(auto, unfolding(crate::specs::Spellings::site_in, crate::specs::Spellings::parameter_of, crate::specs::Spellings::date_in, crate::specs::Spellings::time_in, crate::specs::Spellings::value_in, crate::specs::Spellings::qualifiers_in, aq_base::specs::Calendar::days_of_years, aq_base::specs::Calendar::days_of_months))]
@@ -51,4 +53,15 @@ pub fn rules_of_office_lines()
     ensures event_code { reading_rule (codes "XE|I|1|06|037|1103|44201|20240101|00:00|20240101|05:00|V") ≡ Some BadCode }
     ensures event_number { reading_rule (codes "XC|U|01|Y") ≡ Some BadCode }
     ensures eligible { reading_rule (codes "XM|I|06|037|1103|44201|1|1|y") ≡ Some BadCode }
+{}
+
+/// The rule of a line is the least one of those that its form meets and that the line breaks.
+pub fn the_least_rule_is_named()
+    ensures rule { (line : List ℕ) (rule : Rule) → reading_rule line ≡ Some rule → IsLeastBroken (λ r. breaks r line) (reading_rules line) rule }
+    ensures none { (line : List ℕ) → reading_rule line ≡ None → All (λ r. breaks r line ≡ false) (reading_rules line) }
+{}
+
+/// A line spells a value exactly where it breaks no rule.
+pub fn a_value_or_a_rule()
+    ensures { (line : List ℕ) → is_some (line_value line) ≡ is_none (reading_rule line) }
 {}

@@ -1,6 +1,11 @@
 //! Which office rule a line breaks, against what stands.
-ghost use Rattle.std.specs.Prelude.{◌≡◌, Some, None, codes, length, ◌≤◌, IsTrue};
+ghost use Rattle.std.specs.Prelude.{◌≡◌, false, Some, None, codes, All};
 ghost use Rattle.aq_base.specs.declared.rule.Rule.TheVariants.{BadDuration, BadInterval, BadSeason, BadSpan, BadCode, UnknownMonitor, WrongDuration, AlreadyThere, NotThere, ObservationsFull, SitesFull, MonitorsFull, MakeupsFull, UnknownEvent, EventsFull, ListFull};
+ghost use Rattle.aq_base.specs.declared.rule.Rule.{Rule};
+ghost use Rattle.aq_profile.specs.Office.{Office};
+ghost use Rattle.aq_profile.specs.Reading.{LineValue};
+ghost use Rattle.aq_profile.specs.Refusal.{broken, breaks_office, office_rules};
+ghost use Rattle.aq_profile.specs.Least.{IsLeastBroken};
 ghost use Rattle.aq_profile.specs.Load.{refusal};
 ghost use Rattle.aq_profile.specs.LineExamples.{one_monitor, one_hour, one_sample, many_monitors, many_sites, many_primaries, many_makeups, many_events};
 
@@ -55,4 +60,10 @@ pub fn full_lists()
     ensures primaries { refusal (many_primaries 64) (codes "XP|I|06|037|1103|44201|20240101|1") ≡ Some ListFull }
     ensures events { refusal (many_events 10000) (codes "XE|I|10001|06|037|1103|44201|20240101|00:00|20240101|05:00|RT") ≡ Some EventsFull }
     ensures room_for_primary { refusal (many_primaries 63) (codes "XP|I|06|037|1103|44201|20240101|1") ≡ None }
+{}
+
+/// The rule of a value is the least one of those that it meets and that it breaks in the office.
+pub fn the_least_office_rule_is_named()
+    ensures rule { (office : Office) (value : LineValue) (rule : Rule) → broken office value ≡ Some rule → IsLeastBroken (λ r. breaks_office r office value) (office_rules value) rule }
+    ensures none { (office : Office) (value : LineValue) → broken office value ≡ None → All (λ r. breaks_office r office value ≡ false) (office_rules value) }
 {}
