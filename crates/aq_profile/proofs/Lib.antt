@@ -7,3 +7,5 @@ pub mod Sameness
 pub mod Exclusions
 pub mod Greatest
 pub mod Rows
+pub mod OtherHours
+pub mod Thirds
