@@ -65,8 +65,8 @@ total-step x xs = total-from (pos 0 +ℤ x) xs ∙ ap (λ (z : ℤ). z +ℤ tota
 total-any_order : (xs ys : List Sample) → IsPermutation xs ys → total (map value_of xs) ≡ total (map value_of ys)
 total-any_order =
     fold_in_any_order (λ (xs : List Sample). total (map value_of xs)) (λ s sum. value_of s +ℤ sum)
-        (λ s xs. total-step (value_of s) (map value_of xs))
-        (λ s t sum. sum_turns (value_of s) (value_of t) sum)
+    (λ s xs. total-step (value_of s) (map value_of xs))
+    (λ s t sum. sum_turns (value_of s) (value_of t) sum)
 
 out-any_order : (xs ys : List Sample) → IsPermutation xs ys → list_any is_out xs ≡ list_any is_out ys
 out-any_order =

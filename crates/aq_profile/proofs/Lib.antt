@@ -9,3 +9,4 @@ pub mod Greatest
 pub mod Rows
 pub mod OtherHours
 pub mod Thirds
+pub mod Joined

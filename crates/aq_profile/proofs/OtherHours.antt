@@ -30,15 +30,15 @@ no_sample office site hour entry other = rw other refl
 abbrev hour_of : List OfficeRecord → List (ObsKey × Observation) → Site → ℕ → Option Cell
 hour_of records entries site hour =
     chosen
-        (find (is_of_poc (primary_on records site Ozone (day_of_hour hour))) (filter_map (sample_of (record { records = records; observations = []; loads = [] }) site hour) entries))
-        (filter_map (sample_of (record { records = records; observations = []; loads = [] }) site hour) entries)
+    (find (is_of_poc (primary_on records site Ozone (day_of_hour hour))) (filter_map (sample_of (record { records = records; observations = []; loads = [] }) site hour) entries))
+    (filter_map (sample_of (record { records = records; observations = []; loads = [] }) site hour) entries)
 
 its_own : (records : List OfficeRecord) (entries : List (ObsKey × Observation)) (site : Site) (hour : ℕ)
     → hour_of records entries site hour ≡ hour_of records (filter (λ (e : ObsKey × Observation). is_ozone_at site hour e.0) entries) site hour
 its_own records entries site hour =
     ap (λ (samples : List Sample). chosen (find (is_of_poc (primary_on records site Ozone (day_of_hour hour))) samples) samples)
-        (passed_over (λ (e : ObsKey × Observation). is_ozone_at site hour e.0) (sample_of (record { records = records; observations = []; loads = [] }) site hour) entries
-            (no_sample (record { records = records; observations = []; loads = [] }) site hour))
+    (passed_over (λ (e : ObsKey × Observation). is_ozone_at site hour e.0) (sample_of (record { records = records; observations = []; loads = [] }) site hour) entries
+    (no_sample (record { records = records; observations = []; loads = [] }) site hour))
 
 pub site_hour-own : (a b : Office) (site : Site) (hour : ℕ) → a.records ≡ b.records
     → filter (λ (e : ObsKey × Observation). is_ozone_at site hour e.0) a.observations ≡ filter (λ (e : ObsKey × Observation). is_ozone_at site hour e.0) b.observations

@@ -18,16 +18,16 @@ shrunk d v some h =
 pub equal_seasons : (d v1 v2 v3 : ℕ) → 0 < d
     → nat_le (27 * (d * d * d)) (10 * (v1 * d * d + v2 * d * d + v3 * d * d)) ≡ nat_le (27 * d) (10 * (v1 + v2 + v3))
 equal_seasons d v1 v2 v3 some = by_test (nat_le (27 * d) (10 * (v1 + v2 + v3))) refl
-    where
-      by_test : (b : Bool) → nat_le (27 * d) (10 * (v1 + v2 + v3)) ≡ b → nat_le (27 * (d * d * d)) (10 * (v1 * d * d + v2 * d * d + v3 * d * d)) ≡ b
-      by_test true h =
-          let below : 27 * d ≤ 10 * (v1 + v2 + v3) = grind (arith, nat_tests) in
-          let result : 27 * (d * d * d) ≤ 10 * (v1 * d * d + v2 * d * d + v3 * d * d) = omega (arith, grown d (10 * (v1 + v2 + v3)) below) in
-          grind (arith, nat_tests)
-      by_test false h =
-          let above : 10 * (v1 + v2 + v3) < 27 * d = grind (arith, nat_tests) in
-          let result : 10 * (v1 * d * d + v2 * d * d + v3 * d * d) < 27 * (d * d * d) = omega (arith, shrunk d (10 * (v1 + v2 + v3)) some above) in
-          grind (arith, nat_tests)
+  where
+    by_test : (b : Bool) → nat_le (27 * d) (10 * (v1 + v2 + v3)) ≡ b → nat_le (27 * (d * d * d)) (10 * (v1 * d * d + v2 * d * d + v3 * d * d)) ≡ b
+    by_test true h =
+        let below : 27 * d ≤ 10 * (v1 + v2 + v3) = grind (arith, nat_tests) in
+        let result : 27 * (d * d * d) ≤ 10 * (v1 * d * d + v2 * d * d + v3 * d * d) = omega (arith, grown d (10 * (v1 + v2 + v3)) below) in
+        grind (arith, nat_tests)
+    by_test false h =
+        let above : 10 * (v1 + v2 + v3) < 27 * d = grind (arith, nat_tests) in
+        let result : 10 * (v1 * d * d + v2 * d * d + v3 * d * d) < 27 * (d * d * d) = omega (arith, shrunk d (10 * (v1 + v2 + v3)) some above) in
+        grind (arith, nat_tests)
 
 pub average_kept-equal_seasons : (a b c : OzoneYear) → 0 < a.season_days → b.season_days ≡ a.season_days → c.season_days ≡ a.season_days
     → is_average_kept a b c ≡ nat_le (27 * a.season_days) (10 * (a.season_valid + b.season_valid + c.season_valid))

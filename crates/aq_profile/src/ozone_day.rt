@@ -27,8 +27,7 @@ pub fn thirteen_averages_are_enough()
 /// Eight hours of 0.071 ppm from 10:00 make a valid day, of five averages.
 pub fn eight_hours_above_the_level_are_a_valid_day()
     ensures { ozone_day afternoon site summer_day ≡ record { averages = 5; valid = true; maximum = Some (pos 71) } }
-{
-}
+{}
 
 /// An event concurred in takes its hours from the maximum, and not from the day's validity.
 pub fn event_lowers_the_maximum_alone()

@@ -39,10 +39,7 @@ pub fn three_quarters_of_each_season()
 /// Where the three seasons are of one length, the mean of the fractions is nine tenths where nine
 /// tenths of all their days are valid.
 pub fn nine_tenths_of_equal_seasons()
-    ensures {
-        (a b c : OzoneYear)
+    ensures { (a b c : OzoneYear)
         → 0 < a.season_days → b.season_days ≡ a.season_days → c.season_days ≡ a.season_days
-        → is_average_kept a b c ≡ nat_le (27 * a.season_days) (10 * (a.season_valid + b.season_valid + c.season_valid))
-    }
-{
-}
+        → is_average_kept a b c ≡ nat_le (27 * a.season_days) (10 * (a.season_valid + b.season_valid + c.season_valid)) }
+{}

@@ -34,11 +34,8 @@ pub fn site_hour_forgets_the_order()
 
 /// A site hour reads no observation of another site, pollutant or hour.
 pub fn site_hour_reads_its_own_observations()
-    ensures {
-        (a b : Office) (site : Site) (hour : ℕ)
+    ensures { (a b : Office) (site : Site) (hour : ℕ)
         → a.records ≡ b.records
         → filter (λ (e : ObsKey × Observation). is_ozone_at site hour e.0) a.observations ≡ filter (λ (e : ObsKey × Observation). is_ozone_at site hour e.0) b.observations
-        → site_hour a site hour ≡ site_hour b site hour
-    }
-{
-}
+        → site_hour a site hour ≡ site_hour b site hour }
+{}
