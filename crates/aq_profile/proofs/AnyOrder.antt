@@ -107,7 +107,7 @@ chosen-any_order poc xs ys one moved =
 
 -- ---- distinct keys leave one sample of a POC
 
-abbrev Entry : Type 0
+abbrev pub Entry : Type 0
 Entry = ObsKey × Observation
 
 abbrev key_at : Site → ℕ → ℕ → ObsKey
@@ -150,7 +150,8 @@ one_kept office site hour (Some poc) distinct =
 
 -- ---- the law
 
-abbrev hour_by : List OfficeRecord → List Entry → Site → ℕ → Option Cell
+-- a site hour, by the records and the observations alone
+abbrev pub hour_by : List OfficeRecord → List Entry → Site → ℕ → Option Cell
 hour_by records entries site hour =
     chosen
     (find (is_of_poc (primary_on records site Ozone (day_of_hour hour))) (filter_map (sample_of (record { records = records; observations = []; loads = [] }) site hour) entries))

@@ -10,7 +10,8 @@ use Rattle.aq_base.specs.declared.observation.Observation.{Observation}
 use Rattle.aq_base.specs.declared.office.OfficeRecord.{OfficeRecord}
 use Rattle.aq_profile.specs.Office.{Office}
 use Rattle.aq_profile.specs.Designation.{primary_on}
-use Rattle.aq_profile.specs.SiteHour.{Cell, Sample, is_ozone_at, sample_of, is_of_poc, chosen, site_hour}
+use Rattle.aq_profile.proofs.AnyOrder.{hour_by}
+use Rattle.aq_profile.specs.SiteHour.{Sample, is_ozone_at, sample_of, is_of_poc, chosen, site_hour}
 
 one_more : {X Y : Type 0} (test : X → Bool) (h : X → Option Y) (x : X) (xs : List X) → (test x ≡ false → h x ≡ None)
     → filter_map h xs ≡ filter_map h (filter test xs)
@@ -27,14 +28,8 @@ passed_over test h (x ∷ xs) none = one_more test h x xs (none x) (passed_over 
 no_sample : (office : Office) (site : Site) (hour : ℕ) (entry : ObsKey × Observation) → is_ozone_at site hour entry.0 ≡ false → sample_of office site hour entry ≡ None
 no_sample office site hour entry other = rw other refl
 
-abbrev hour_of : List OfficeRecord → List (ObsKey × Observation) → Site → ℕ → Option Cell
-hour_of records entries site hour =
-    chosen
-    (find (is_of_poc (primary_on records site Ozone (day_of_hour hour))) (filter_map (sample_of (record { records = records; observations = []; loads = [] }) site hour) entries))
-    (filter_map (sample_of (record { records = records; observations = []; loads = [] }) site hour) entries)
-
 its_own : (records : List OfficeRecord) (entries : List (ObsKey × Observation)) (site : Site) (hour : ℕ)
-    → hour_of records entries site hour ≡ hour_of records (filter (λ (e : ObsKey × Observation). is_ozone_at site hour e.0) entries) site hour
+    → hour_by records entries site hour ≡ hour_by records (filter (λ (e : ObsKey × Observation). is_ozone_at site hour e.0) entries) site hour
 its_own records entries site hour =
     ap (λ (samples : List Sample). chosen (find (is_of_poc (primary_on records site Ozone (day_of_hour hour))) samples) samples)
     (passed_over (λ (e : ObsKey × Observation). is_ozone_at site hour e.0) (sample_of (record { records = records; observations = []; loads = [] }) site hour) entries
@@ -45,13 +40,13 @@ pub site_hour-own : (a b : Office) (site : Site) (hour : ℕ) → a.records ≡ 
     → site_hour a site hour ≡ site_hour b site hour
 unfolding site_hour
 site_hour-own a b site hour records same =
-    let first : hour_of a.records a.observations site hour ≡ hour_of a.records (filter (λ (e : ObsKey × Observation). is_ozone_at site hour e.0) a.observations) site hour =
+    let first : hour_by a.records a.observations site hour ≡ hour_by a.records (filter (λ (e : ObsKey × Observation). is_ozone_at site hour e.0) a.observations) site hour =
     its_own a.records a.observations site hour
     in
-    let second : hour_of b.records b.observations site hour ≡ hour_of b.records (filter (λ (e : ObsKey × Observation). is_ozone_at site hour e.0) b.observations) site hour =
+    let second : hour_by b.records b.observations site hour ≡ hour_by b.records (filter (λ (e : ObsKey × Observation). is_ozone_at site hour e.0) b.observations) site hour =
     its_own b.records b.observations site hour
     in
-    let middle : hour_of a.records (filter (λ (e : ObsKey × Observation). is_ozone_at site hour e.0) a.observations) site hour ≡ hour_of b.records (filter (λ (e : ObsKey × Observation). is_ozone_at site hour e.0) b.observations) site hour =
-    λ i. hour_of (records i) (same i) site hour
+    let middle : hour_by a.records (filter (λ (e : ObsKey × Observation). is_ozone_at site hour e.0) a.observations) site hour ≡ hour_by b.records (filter (λ (e : ObsKey × Observation). is_ozone_at site hour e.0) b.observations) site hour =
+    λ i. hour_by (records i) (same i) site hour
     in
     first ∙ middle ∙ sym second
