@@ -9,3 +9,6 @@ pub mod Greatest
 pub mod Rows
 pub mod Least
 pub mod Agree
+pub mod OtherHours
+pub mod Thirds
+pub mod Joined
