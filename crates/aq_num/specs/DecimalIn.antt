@@ -5,13 +5,12 @@ use Rattle.std.specs.Str.Parse.{digits_value}
 use Rattle.aq_base.specs.Decimal.{is_decimal, cut_magnitude, cut, is_point, are_digits}
 use Rattle.aq_num.specs.declared.decimal.NumberFault.{NumberFault}
 use Rattle.aq_num.specs.declared.decimal.NumberFault.TheVariants.{Spelling, TooLarge}
-use Rattle.aq_num.specs.declared.decimal.TheConstants.{LARGEST, PAST_LARGEST}
 
 -- the number of a decimal text, its fraction dropped toward zero, unless its magnitude is above the largest
 abbrev pub decimal_in : List ℕ → ℕ → Result ℤ NumberFault
 decimal_in text places =
     if is_decimal text
-    then (if nat_lt LARGEST (cut_magnitude text places) then Err TooLarge else Ok (cut text places))
+    then (if nat_lt 999999999 (cut_magnitude text places) then Err TooLarge else Ok (cut text places))
     else Err Spelling
 
 -- The same of a text without a sign. Its magnitude is held at one past the largest.
@@ -28,4 +27,4 @@ magnitude_of digits places =
 
 abbrev pub magnitude_in : List ℕ → ℕ → Option ℕ
 magnitude_in digits places =
-    if is_magnitude digits then Some (min (magnitude_of digits places) PAST_LARGEST) else None
+    if is_magnitude digits then Some (min (magnitude_of digits places) 1000000000) else None
