@@ -9,7 +9,7 @@ use Rattle.std.proofs.lemmas.Str.{digit_value_digit}
 use Rattle.std.specs.Int.{IsInRange}
 use Rattle.std.proofs.Math.Nat.{le-mul_of_pos_right, one-le-pow, pow-suc, mul-one, div-div-eq-div-mul, mul-div-mul_right}
 use Rattle.aq_base.specs.Decimal.{is_point, are_digits}
-use Rattle.aq_num.specs.DecimalIn.{is_magnitude, magnitude_in}
+use Rattle.aq_num.specs.Magnitude.{is_magnitude, magnitude_in}
 
 -- a magnitude, held at one past the largest
 abbrev pub held : ℕ → ℕ

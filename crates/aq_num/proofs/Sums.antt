@@ -9,10 +9,10 @@ use Rattle.std.proofs.Math.Nat.{pow-suc, one-le-mul, mul-le-mul, mul-le-mul_left
 use Rattle.aq_num.specs.Fractions.{sum_of_fractions, sum_in_units}
 
 -- a sum and a product, times a natural number
-scale-add : (a b : ℤ) (n : ℕ) → (a +ℤ b) *ℤ pos n ≡ (a *ℤ pos n) +ℤ (b *ℤ pos n)
+pub scale-add : (a b : ℤ) (n : ℕ) → (a +ℤ b) *ℤ pos n ≡ (a *ℤ pos n) +ℤ (b *ℤ pos n)
 scale-add a b n = omega (arith, ints, ap (λ z. z * n) (sum_is_lem a b))
 
-scale-scale : (a : ℤ) (m n : ℕ) → (a *ℤ pos m) *ℤ pos n ≡ a *ℤ pos (m * n)
+pub scale-scale : (a : ℤ) (m n : ℕ) → (a *ℤ pos m) *ℤ pos n ≡ a *ℤ pos (m * n)
 scale-scale a m n =
     omega (arith, ints, ap (λ z. z * n) (product_is a (pos m)).0, ap (λ z. z * n) (product_is a (pos m)).1)
 

@@ -1,7 +1,8 @@
 //! Reading a decimal text.
 ghost use Rattle.std.specs.Prelude.{◌≡◌, ℕ, ◌≤◌, ◌<◌, ◌+◌, ◌-◌, ◌*◌, ◌↔◌, min, Bool, false, IsTrue, IfOk, unsigned_abs, Err};
 ghost use Rattle.aq_base.specs.Decimal.{is_decimal, cut_magnitude, cut, is_minus, unsigned_part};
-ghost use Rattle.aq_num.specs.DecimalIn.{decimal_in, magnitude_in};
+ghost use Rattle.aq_num.specs.DecimalIn.{decimal_in};
+ghost use Rattle.aq_num.specs.Magnitude.{magnitude_in};
 
 use std::error::Error;
 use std::fmt;

@@ -60,6 +60,16 @@ fn other_texts_and_large_numbers_are_refused(rt: HostRuntime) {
 }
 
 #[test]
+fn faults_have_words(rt: HostRuntime) -> Result<(), Fail> {
+    let words = format!(in rt.alloc(); "{}; {}", NumberFault::Spelling, NumberFault::TooLarge)?;
+    assert_eq!(rt;
+        words.as_str(),
+        "not a decimal number; a number that is too large"
+    );
+    Ok(())
+}
+
+#[test]
 fn a_quotient_is_cut_toward_zero(rt: HostRuntime) {
     for (a, b, want) in [
         (7, 2, 3),
