@@ -1,5 +1,5 @@
 //! Reading a decimal text.
-ghost use Rattle.std.specs.Prelude.{◌≡◌, ℕ, ◌≤◌, ◌<◌, ◌+◌, ◌-◌, ◌*◌, ◌↔◌, min, Bool, false, IsTrue, IfOk, unsigned_abs, Err};
+ghost use Rattle.std.specs.Prelude.{◌≡◌, ℕ, ◌≤◌, ◌<◌, ◌+◌, ◌-◌, ◌*◌, ◌↔◌, min, Bool, false, IsTrue, IfOk, OnOk, unsigned_abs, Err};
 ghost use Rattle.aq_base.specs.Decimal.{is_decimal, cut_magnitude, cut, is_minus, unsigned_part};
 ghost use Rattle.aq_num.specs.DecimalIn.{decimal_in};
 ghost use Rattle.aq_num.specs.Magnitude.{magnitude_in};
@@ -34,15 +34,17 @@ impl Error for NumberFault {}
 
 /// Reads a decimal text: an optional sign and then digits with an optional point and optional
 /// further digits, or a point and digits. Ok is its number in units of 10^-places, truncated toward
-/// zero. A text may be of any length.
+/// zero: `-0.05` at one place is 0. A text may be of any length. Refused are other texts, and numbers
+/// above 999,999,999 units.
 pub fn read_decimal(text: &[u8], places: u8) -> Result<i32, NumberFault>
     requires { places ≤ 6 }
     ensures value { result ≡ decimal_in text.now places }
     ensures spelling { (result ≡ Err NumberFault.Spelling) ↔ (is_decimal text.now ≡ false) }
     ensures too_large { (result ≡ Err NumberFault.TooLarge)
         ↔ (IsTrue (is_decimal text.now) × (999999999 < cut_magnitude text.now places)) }
-    ensures ok { IfOk result (λ number.
-        IsTrue (is_decimal text.now) × (number ≡ cut text.now places) × (unsigned_abs number ≤ 999999999)) }
+    ensures decimal { OnOk result (IsTrue (is_decimal text.now)) }
+    ensures number { IfOk result (λ number. number ≡ cut text.now places) }
+    ensures within { IfOk result (λ number. unsigned_abs number ≤ 999999999) }
 {
     let (is_minus, digits) = split_sign(text);
     let Some(magnitude) = read_magnitude(digits, places) else {
