@@ -4,3 +4,7 @@ pub mod Body
 pub mod Writing
 pub mod Words
 pub mod Ending
+pub mod Built
+pub mod Scan
+pub mod OfficeView
+pub mod WindowView

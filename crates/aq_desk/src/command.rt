@@ -1,5 +1,9 @@
 //! The top call.
-ghost use Rattle.std.specs.Prelude.{◌≡◌, ◌<◌, ◌≤◌, ◌↔◌, length, IsNone, IfErr, OnOk, map, string_bytes};
+ghost use Rattle.std.specs.Prelude.{◌≡◌, ◌<◌, ◌≤◌, ◌↔◌, length, IsNone, IfErr, IsTrue, OnOk, map, string_bytes};
+ghost use Rattle.aq_base.specs.declared.monitor.Pollutant.TheVariants.{Ozone};
+ghost use Rattle.aq_profile.specs.Office.{has_monitor};
+ghost use Rattle.aq_profile.specs.OzoneDay.{windows};
+ghost use Rattle.aq_desk.specs.WindowView.{row_view};
 ghost use Rattle.aq_desk.specs.Outside.{HasRisen};
 ghost use Rattle.aq_desk.specs.Body.{TellsTooMany};
 ghost use Rattle.aq_desk.specs.Ending.{HasReason, IsSilent, IsStatus, ReadsWhole, TellsFew, WritesNothing};
@@ -102,19 +106,21 @@ fn answer<O: Sink>(
     if !taken.office.has_site(site) {
         return Err(Ending::NoSite(site));
     }
-    let rows = counted::<Brand>(&taken.office, day, Blank::new(1));
+    let rows = counted::<Brand>(&taken.office, site, day, Blank::new(1));
     let text = windows_text(alloc, site, day, &rows)?;
     print(output, &text)
 }
 
 /// The day's windows, on a counter of their own.
-fn counted<L: Ledger>(office: &Office, day: Day, blank: Blank) -> [WindowRow; WINDOWS]
+fn counted<L: Ledger>(office: &Office, site: SiteId, day: Day, blank: Blank) -> [WindowRow; WINDOWS]
+    requires site { IsTrue (has_monitor office.now site Ozone) }
     requires name { blank.name ≡ L.name }
     requires parts { blank.parts ≡ L.parts }
     requires some { 0 < L.parts }
+    ensures { map row_view result ≡ windows office.now site day }
 {
     let mut steps = Steps::<L>::new(blank);
-    day_windows(office, day, &mut steps)
+    day_windows(office, site, day, &mut steps)
 }
 
 fn print<O: Sink>(output: &mut O, text: &[u8]) -> Result<(), Ending>

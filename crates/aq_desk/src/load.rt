@@ -1,5 +1,8 @@
 //! A load's lines, taken in their order, and the reply.
-ghost use Rattle.std.specs.Prelude.{◌<◌, ◌≤◌, ◌+◌, length, vec_len, IfOk};
+ghost use Rattle.std.specs.Prelude.{◌≡◌, ◌<◌, ◌≤◌, ◌+◌, length, vec_len, IfOk};
+ghost use Rattle.aq_profile.specs.Lines.{body_lines};
+ghost use Rattle.aq_profile.specs.Office.{nothing};
+ghost use Rattle.aq_desk.specs.Built.{built_after_all, built_reply};
 ghost use Rattle.aq_desk.specs.declared.body.TheConstants.{MOST_BYTES};
 
 use crate::office::{Office, Refusal};
@@ -61,6 +64,8 @@ pub(crate) struct Taken {
 /// Takes the lines of a body over an office of which nothing stands. A line of no bytes is skipped.
 pub(crate) fn take_load(alloc: Global, body: &[u8]) -> Result<Taken, Memory>
     requires { length body.now ≤ MOST_BYTES }
+    ensures office { IfOk result (λ taken. taken.office ≡ built_after_all nothing (body_lines body.now)) }
+    ensures reply { IfOk result (λ taken. taken.reply ≡ built_reply nothing 0 body.now) }
 {
     let mut office = Office::new(alloc);
     let mut refused = Refused::new(alloc);

@@ -1,11 +1,14 @@
 //! What stands while a load is taken: one ozone monitor at most, and its observations.
+ghost use Rattle.std.specs.Prelude.{◌≡◌};
 ghost use Rattle.aq_base.specs.Values.{HasValueInRange};
 ghost use Rattle.aq_rd.specs.Ranges.{HasLineRange};
+ghost use Rattle.aq_desk.specs.Built.{plain_monitor};
 
 use aq_base::{Hour, MonitorId, ObsKey, Observation, Rule, SiteId, Steps};
 use aq_rd::{Cursor, RdLine, ozone_monitor, read_rd};
 use aq_shelf::{Shelf, ShelfFault};
 use std::alloc::Global;
+use std::marker::Model;
 use std::sync::ledger::Ledger;
 
 /// The office as far as it is built.
@@ -23,6 +26,11 @@ pub(crate) enum Refusal {
 }
 
 impl From<ShelfFault> for Refusal {
+    ghost use Rattle.std.specs.Prelude.{◌≡◌};
+    ghost use Rattle.aq_desk.specs.OfficeView.{refusal_of};
+
+    ghost from_gives = { λ fault refusal. refusal ≡ refusal_of fault };
+
     fn from(fault: ShelfFault) -> Self {
         match fault {
             ShelfFault::AlreadyThere => Refusal::Broken(Rule::AlreadyThere),
@@ -33,7 +41,10 @@ impl From<ShelfFault> for Refusal {
 }
 
 /// Reads the plain line of an ozone monitor, `XM|I|SS|CCC|NNNN|44201|P|1|Y`.
-fn read_monitor(line: &[u8]) -> Option<MonitorId> {
+#[tactic(auto, unfolding(crate::specs::Built::plain_monitor))]
+fn read_monitor(line: &[u8]) -> Option<MonitorId>
+    ensures { result ≡ plain_monitor line.now }
+{
     let mut text = Cursor::new(line);
     text.skip(b"XM|I|")?;
     let monitor = ozone_monitor(&mut text)?;
@@ -41,9 +52,30 @@ fn read_monitor(line: &[u8]) -> Option<MonitorId> {
     if text.is_empty() { Some(monitor) } else { None }
 }
 
+impl Model for Office {
+    ghost use Rattle.aq_profile.specs.Office.{Office as OfficeLists};
+    ghost use Rattle.aq_desk.specs.OfficeView.{office_of, IsBuilt};
+
+    ghost Value = { OfficeLists };
+
+    ghost view = { λ office. office_of office.monitor office.shelf };
+
+    ghost invariant = { λ office. IsBuilt office.monitor office.shelf };
+}
+
 impl Office {
+    ghost use Rattle.std.specs.Prelude.{◌≡◌, None, IfErr, IfSome, IsTrue, OnErr, OnOk};
+    ghost use Rattle.aq_base.specs.declared.monitor.Pollutant.TheVariants.{Ozone};
+    ghost use Rattle.aq_profile.specs.Office.{nothing, has_monitor};
+    ghost use Rattle.aq_desk.specs.Built.{built_after, built_refusal};
+    ghost use Rattle.std.specs.Option.{option_map};
+    ghost use Rattle.aq_profile.specs.SiteHour.{site_hour};
+    ghost use Rattle.aq_desk.specs.OfficeView.{IsOzone, IsRefusal, plain_cell};
+
     /// An office of which nothing stands.
-    pub(crate) fn new(alloc: Global) -> Office {
+    pub(crate) fn new(alloc: Global) -> Office
+        ensures { result ≡ nothing }
+    {
         Office {
             monitor: None,
             shelf: Shelf::new(alloc),
@@ -51,7 +83,12 @@ impl Office {
     }
 
     /// Takes a line. After a refusal the office is as before.
-    pub(crate) fn take(&mut self, line: &[u8]) -> Result<(), Refusal> {
+    pub(crate) fn take(&mut self, line: &[u8]) -> Result<(), Refusal>
+        ensures unbroken { OnOk result (built_refusal self.old line.now ≡ None) }
+        ensures after { OnOk result (self.new ≡ built_after self.old line.now) }
+        ensures refused { IfErr result (IsRefusal (built_refusal self.old line.now)) }
+        ensures unchanged { OnErr result (self.new ≡ self.old) }
+    {
         if let Some(monitor) = read_monitor(line) {
             return self.register(monitor);
         }
@@ -133,15 +170,28 @@ impl Office {
     }
 
     /// Whether a monitor of the site is registered.
-    pub(crate) fn has_site(&self, site: SiteId) -> bool {
+    pub(crate) fn has_site(&self, site: SiteId) -> bool
+        ensures { result ≡ has_monitor self.now site Ozone }
+    {
         match &self.monitor {
             Some(registered) => registered.site == site,
             None => false,
         }
     }
 
-    /// The site's value for an hour, in thousandths of a ppm.
-    pub(crate) fn value_at<L: Ledger>(&self, hour: Hour, steps: &mut Steps<L>) -> Option<i32> {
+    /// The value of a registered site for an hour, in thousandths of a ppm. No hour is excluded yet.
+    pub(crate) fn value_at<L: Ledger>(
+        &self,
+        site: SiteId,
+        hour: Hour,
+        steps: &mut Steps<L>,
+    ) -> Option<i32>
+        requires { IsTrue (has_monitor self.now site Ozone) }
+        ensures value { site_hour self.now site hour ≡ option_map plain_cell result }
+        ensures range { IfSome result IsOzone }
+    {
+        // The contract names the site that the monitor has.
+        let _ = site;
         let monitor = self.monitor.as_ref()?;
         let key = ObsKey {
             monitor: *monitor,

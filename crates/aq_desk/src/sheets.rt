@@ -1,5 +1,8 @@
 //! The text of the sheets: a line for each head, and a table of rows below its column names.
-ghost use Rattle.std.specs.Prelude.{◌≤◌};
+ghost use Rattle.std.specs.Prelude.{◌≡◌, ◌≤◌, length, map, IfOk};
+ghost use Rattle.aq_profile.specs.Sheet.{text_of};
+ghost use Rattle.aq_profile.specs.Sheets.{load_sheet, windows_sheet};
+ghost use Rattle.aq_desk.specs.WindowView.{row_view};
 
 use crate::text::{hour_text, site_text};
 use crate::windows::WindowRow;
@@ -9,7 +12,9 @@ use aq_num::write_fixed;
 use std::alloc::Global;
 
 /// The text of a load's sheet.
-pub(crate) fn load_text(alloc: Global, reply: &LoadReply) -> Result<Vec<u8>, Memory> {
+pub(crate) fn load_text(alloc: Global, reply: &LoadReply) -> Result<Vec<u8>, Memory>
+    ensures { IfOk result (λ text. text.items ≡ text_of (load_sheet reply.now)) }
+{
     let mut out = Vec::new(alloc);
     head(&mut out, b"load ", reply.number)?;
     head(&mut out, b"lines ", reply.lines)?;
@@ -46,13 +51,16 @@ fn rule_cells(out: &mut Vec<u8>, rule: Rule, count: u32) -> Result<(), Memory> {
     Ok(())
 }
 
-/// The text of a day's windows. No hour is excluded yet, so the net average and the full one agree.
+/// The text of a day's windows, of which the first starts at 07:00.
 pub(crate) fn windows_text(
     alloc: Global,
     site: SiteId,
     day: Day,
     rows: &[WindowRow],
-) -> Result<Vec<u8>, Memory> {
+) -> Result<Vec<u8>, Memory>
+    requires { length rows.now ≤ 17 }
+    ensures { IfOk result (λ text. text.items ≡ text_of (windows_sheet site day (map row_view rows.now))) }
+{
     let mut out = Vec::new(alloc);
     out.extend_from_slice(b"site ")?;
     out.extend_from_slice(&site_text(site))?;
@@ -67,19 +75,19 @@ pub(crate) fn windows_text(
 
 fn window_row(out: &mut Vec<u8>, i: usize, row: &WindowRow) -> Result<(), Memory> {
     out.extend_from_slice(&hour_text(i))?;
-    window_cells(out, row)?;
-    window_cells(out, row)?;
+    window_cells(out, row.net, row.net_hours)?;
+    window_cells(out, row.full, row.full_hours)?;
     out.push(b'\n')?;
     Ok(())
 }
 
 /// An average in ppm with three decimals, and its hours.
-fn window_cells(out: &mut Vec<u8>, row: &WindowRow) -> Result<(), Memory> {
+fn window_cells(out: &mut Vec<u8>, average: Option<i32>, hours: u8) -> Result<(), Memory> {
     out.push(b' ')?;
-    match row.average {
+    match average {
         Some(average) => write_fixed(out, i64::from(average), 3)?,
         None => out.push(b'-')?,
     }
     out.push(b' ')?;
-    write_fixed(out, i64::from(row.hours), 0)
+    write_fixed(out, i64::from(hours), 0)
 }

@@ -1,8 +1,13 @@
 //! The 8-hour averages of a day (40 CFR Part 50, Appendix U, 3).
-ghost use Rattle.std.specs.Prelude.{◌≡◌, ◌≤◌, ◌+◌, ◌*◌, ℕ};
+ghost use Rattle.std.specs.Prelude.{◌≡◌, ◌≤◌, ◌+◌, ◌*◌, IsTrue, map, unsigned_abs};
+ghost use Rattle.aq_base.specs.declared.monitor.Pollutant.TheVariants.{Ozone};
+ghost use Rattle.aq_profile.specs.Office.{has_monitor};
+ghost use Rattle.aq_profile.specs.EightHour as book;
+ghost use Rattle.aq_profile.specs.OzoneDay.{windows};
+ghost use Rattle.aq_desk.specs.WindowView.{row_view};
 
 use crate::office::Office;
-use aq_base::{Day, Hour, LAST_HOUR, Steps};
+use aq_base::{Day, Hour, LAST_HOUR, SiteId, Steps};
 use std::sync::ledger::Ledger;
 
 /// A day has the averages that start at 07:00 to 23:00.
@@ -15,15 +20,22 @@ const FEW_HOURS: u8 = 6;
 
 const GREAT_SUM: i32 = 568;
 
-/// An 8-hour average, and of how many hours it is. In thousandths of a ppm.
+/// An 8-hour average in thousandths of a ppm and the number of its hours: net of the hours that are
+/// excluded, and full.
 #[derive(Clone, Copy, Debug, PartialEq, Eq)]
 pub(crate) struct WindowRow {
-    pub(crate) average: Option<i32>,
-    pub(crate) hours: u8,
+    pub(crate) net: Option<i32>,
+    pub(crate) net_hours: u8,
+    pub(crate) full: Option<i32>,
+    pub(crate) full_hours: u8,
 }
 
 /// The average of so many hours with this sum.
-fn average(count: u8, sum: i32) -> Option<i32> {
+fn average(count: u8, sum: i32) -> Option<i32>
+    requires count { count ≤ 8 }
+    requires sum { unsigned_abs sum ≤ 9999 * count }
+    ensures { result ≡ book.average count sum }
+{
     if count >= FEW_HOURS {
         Some(sum / i32::from(count))
     } else if sum >= GREAT_SUM {
@@ -33,40 +45,51 @@ fn average(count: u8, sum: i32) -> Option<i32> {
     }
 }
 
-/// The average of the eight hours from a start.
-fn window<L: Ledger>(office: &Office, start: u32, steps: &mut Steps<L>) -> WindowRow
-    requires { start ≤ LAST_HOUR }
+/// The average of the eight hours from a start. No hour is excluded yet.
+fn window<L: Ledger>(office: &Office, site: SiteId, start: u32, steps: &mut Steps<L>) -> WindowRow
+    requires start { start ≤ LAST_HOUR }
+    requires site { IsTrue (has_monitor office.now site Ozone) }
+    ensures { row_view result ≡ book.window office.now site start }
 {
     let mut count = 0u8;
     let mut sum = 0i32;
     for hour in start..start + 8 {
         if hour <= LAST_HOUR {
-            if let Some(value) = office.value_at(Hour::new(hour), steps) {
-                count = count.saturating_add(1);
-                sum = sum.saturating_add(value);
+            if let Some(value) = office.value_at(site, Hour::new(hour), steps) {
+                count += 1;
+                sum += value;
             }
         }
     }
+    let average = average(count, sum);
     WindowRow {
-        average: average(count, sum),
-        hours: count,
+        net: average,
+        net_hours: count,
+        full: average,
+        full_hours: count,
     }
 }
 
-/// The averages of a day, in the order of their starts.
+/// The averages of a day of a registered site, in the order of their starts.
 pub(crate) fn day_windows<L: Ledger>(
     office: &Office,
+    site: SiteId,
     day: Day,
     steps: &mut Steps<L>,
-) -> [WindowRow; WINDOWS] {
+) -> [WindowRow; WINDOWS]
+    requires { IsTrue (has_monitor office.now site Ozone) }
+    ensures { map row_view result ≡ windows office.now site day }
+{
     let empty = WindowRow {
-        average: None,
-        hours: 0,
+        net: None,
+        net_hours: 0,
+        full: None,
+        full_hours: 0,
     };
     let mut rows = [empty; WINDOWS];
     let first = 24 * u32::from(day.number()) + FIRST_START;
     for i in 0..WINDOWS {
-        rows[i] = window(office, first + i as u32, steps);
+        rows[i] = window(office, site, first + i as u32, steps);
     }
     rows
 }

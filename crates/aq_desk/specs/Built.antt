@@ -1,0 +1,74 @@
+-- What a load's lines make of an office, as far as the forms of lines are built: RD lines whole, and of the office's own lines the plain one of an ozone monitor, once (own).
+use Rattle.std.specs.Prelude.{ℕ, Bool, true, false, ◌&&◌, if◌then◌else◌, Option, Some, None, List, [], ◌∷◌, ◌++◌, length, codes}
+use Rattle.aq_base.specs.declared.monitor.MonitorId.{MonitorId}
+use Rattle.aq_base.specs.declared.monitor.Duration.TheVariants.{Hour}
+use Rattle.aq_base.specs.declared.office.OfficeRecord.{OfficeRecord}
+use Rattle.aq_base.specs.declared.office.OfficeRecord.TheVariants.{Monitor}
+use Rattle.aq_base.specs.declared.reply.LoadReply.{LoadReply}
+use Rattle.aq_base.specs.declared.reply.ListedLine.{ListedLine}
+use Rattle.aq_base.specs.declared.rule.Rule.{Rule}
+use Rattle.aq_base.specs.declared.rule.Rule.TheVariants.{NotBuilt}
+use Rattle.aq_profile.specs.Lines.{NumberedLine, line_count, body_lines}
+use Rattle.aq_profile.specs.Load.{after, listed_for, refusal, reply_for}
+use Rattle.aq_profile.specs.Office.{Office}
+use Rattle.aq_profile.specs.Reading.{is_plain, tag_of}
+use Rattle.aq_profile.specs.Spellings.{Tag, Rd}
+use Rattle.aq_rd.specs.Front.{◌>>=◌, after as behind, whole}
+use Rattle.aq_rd.specs.PlainForm.{ozone_monitor_at}
+
+-- XM|I|SS|CCC|NNNN|44201|P|1|Y, with no spaces
+unfoldable pub plain_monitor : List ℕ → Option MonitorId
+plain_monitor text = do
+  first ← behind (codes "XM|I|") text
+  monitor ← ozone_monitor_at first
+  rest ← behind (codes "Y") monitor.1
+  whole monitor.0 rest
+
+-- an eligible monitor of hours
+abbrev pub registered : MonitorId → OfficeRecord
+registered id = Monitor id Hour true
+
+-- the monitor that a line registers: the first one
+abbrev pub monitor_for : List OfficeRecord → List ℕ → Option MonitorId
+monitor_for [] text = plain_monitor text
+monitor_for (_ ∷ _) text = None
+
+abbrev pub is_office_tag : Option Tag → Bool
+is_office_tag None = false
+is_office_tag (Some Rd) = false
+is_office_tag (Some _) = true
+
+-- a line of printed ASCII with a tag of the office
+abbrev pub is_office_line : List ℕ → Bool
+is_office_line text = is_plain text && is_office_tag (tag_of text)
+
+abbrev pub refusal_beside : Option MonitorId → Office → List ℕ → Option Rule
+refusal_beside (Some id) office text = None
+refusal_beside None office text = if is_office_line text then Some NotBuilt else refusal office text
+
+-- the rule under which a line is refused
+abbrev pub built_refusal : Office → List ℕ → Option Rule
+built_refusal office text = refusal_beside (monitor_for office.records text) office text
+
+abbrev pub after_beside : Option MonitorId → Office → List ℕ → Office
+after_beside (Some id) office text = record office { records = registered id ∷ [] }
+after_beside None office text = if is_office_line text then office else after office text
+
+-- the office after a line, which is the same after a refused one
+abbrev pub built_after : Office → List ℕ → Office
+built_after office text = after_beside (monitor_for office.records text) office text
+
+-- the office after lines
+abbrev pub built_after_all : Office → List NumberedLine → Office
+built_after_all office [] = office
+built_after_all office (line ∷ lines) = built_after_all (built_after office line.text) lines
+
+-- the refused lines, each against the office as the lines before it left it
+abbrev pub built_refusals : Office → List NumberedLine → List ListedLine
+built_refusals office [] = []
+built_refusals office (line ∷ lines) =
+    listed_for line.number (built_refusal office line.text) ++ built_refusals (built_after office line.text) lines
+
+abbrev pub built_reply : Office → ℕ → List ℕ → LoadReply
+built_reply office number body =
+    reply_for number (line_count body) (length (body_lines body)) (built_refusals office (body_lines body))

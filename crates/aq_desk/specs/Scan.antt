@@ -1,0 +1,46 @@
+-- The command `scan SITE DAY`: the input is taken as load 0 over an office of which nothing stands; its sheet is printed, and then the sheet of the day's windows (own).
+use Rattle.std.specs.Prelude.{ℕ, ◌&&◌, nat_le, if◌then◌else◌, Option, Some, None, List, [], ◌++◌, length}
+use Rattle.aq_base.specs.Site.{Site}
+use Rattle.aq_base.specs.declared.monitor.Pollutant.TheVariants.{Ozone}
+use Rattle.aq_profile.specs.Limits.{MOST_BYTES, MOST_LINES}
+use Rattle.aq_profile.specs.Lines.{line_count, body_lines}
+use Rattle.aq_profile.specs.Office.{Office, nothing, has_monitor}
+use Rattle.aq_profile.specs.Sheet.{text_of}
+use Rattle.aq_profile.specs.Sheets.{load_sheet, windows_answer}
+use Rattle.aq_desk.specs.Built.{built_after_all, built_reply}
+use Rattle.aq_desk.specs.Words.{command_of}
+use Rattle.aq_desk.specs.declared.words.Command.{Command}
+use Rattle.aq_desk.specs.declared.words.Command.TheVariants.{Scan}
+
+-- what a command answers and writes, with no fault
+pub record Outcome : Type 0 where
+  pub status : ℕ
+  pub output : List ℕ
+
+-- the office after the body
+unfoldable pub scanned : List ℕ → Office
+scanned body = built_after_all nothing (body_lines body)
+
+unfoldable pub reply_text : List ℕ → List ℕ
+reply_text body = text_of (load_sheet (built_reply nothing 0 body))
+
+unfoldable pub windows_text : List ℕ → Site → ℕ → List ℕ
+windows_text body site day = text_of (windows_answer (scanned body) site day)
+
+-- 10 for a body of too many bytes or lines, and 12 for a site that is not registered, after the reply
+abbrev pub scan_outcome : List ℕ → Site → ℕ → Outcome
+scan_outcome body site day =
+    if nat_le (length body) MOST_BYTES && nat_le (line_count body) MOST_LINES
+    then (if has_monitor (scanned body) site Ozone
+    then record { status = 0; output = reply_text body ++ windows_text body site day }
+    else record { status = 12; output = reply_text body })
+    else record { status = 10; output = [] }
+
+-- the outcome of a command over an input
+abbrev pub outcome_of : Command → List ℕ → Outcome
+outcome_of (Scan site day) body = scan_outcome body site day
+
+-- 2 for words that are no command
+abbrev pub outcome_for : Option Command → List ℕ → Outcome
+outcome_for None body = record { status = 2; output = [] }
+outcome_for (Some command) body = outcome_of command body
