@@ -1,12 +1,11 @@
 -- The definitions of a body's lines, as the code computes them.
-use Rattle.std.proofs.Common.{◌≡◌, ℕ, ◌+◌, ◌-◌, ◌<◌, Bool, true, false, not, cond, ◌&&◌, ◌==◌, List, [], ◌∷◌, length, get_or, take, drop, refl, ap, sym, ◌∙◌, arith, sub-one, add-one, one-add, count_by, map, Option, Some, None}
+use Rattle.std.proofs.Common.{◌≡◌, ℕ, ◌+◌, ◌-◌, ◌<◌, Bool, true, false, not, cond, ◌&&◌, ◌==◌, List, [], ◌∷◌, length, get_or, take, drop, refl, ap, ◌∙◌, arith, sub-one, add-one, one-add, count_by, map, filter, suc, Option, Some, None}
 use Rattle.std.proofs.lemmas.List.Sums.{sum_by-cons}
-use Rattle.std.proofs.lemmas.List.{at_drop_more, at_drop_all, take_all, drop_all, length-map}
-use Rattle.std.proofs.lemmas.Grind.{common_steps}
+use Rattle.std.proofs.lemmas.List.{at_drop_more, at_drop_all, take_all, drop_all, length-map, length-drop}
 use Rattle.std.proofs.lemmas.Bool.{ltb-false}
-use Rattle.std.specs.Prelude.{bytes_eq, slice_get, position, MatchOption, nat_lt, ◌≤◌}
+use Rattle.std.specs.Prelude.{bytes_eq, slice_get, position, nat_lt, ◌≤◌}
 use Rattle.std.specs.List.{onto_first, position_or_len}
-use Rattle.aq_profile.specs.Lines.{cut_at_ends, without_return, is_skipped, texts, without_mark}
+use Rattle.aq_profile.specs.Lines.{NumberedLine, cut_at_ends, without_return, is_skipped, texts, numbered, body_lines, line_count, without_mark, BYTE_ORDER_MARK}
 
 abbrev pub is_end : ℕ → Bool
 is_end byte = byte == 10
@@ -111,3 +110,42 @@ count_from byte (next ∷ bytes) =
 pub lines_are_counted : (bytes : List ℕ) → length (map without_return (cut_at_ends bytes)) ≡ count_by is_end bytes + unended (slice_get bytes (length bytes - 1))
 lines_are_counted [] = refl
 lines_are_counted (byte ∷ bytes) = length-map (cut_at_ends (byte ∷ bytes)) without_return ∙ rw sub-one (count_from byte bytes)
+
+kept_step : (keeps : Bool) (line : NumberedLine) (kept : List NumberedLine) (most : ℕ) → length kept ≤ most → length (cond keeps (line ∷ kept) kept) ≤ suc most
+kept_step true line kept most few = omega arith
+kept_step false line kept most few = omega arith
+
+length-numbered : (number : ℕ) (lines : List (List ℕ)) → length (numbered number lines) ≡ length lines
+length-numbered number [] = refl
+length-numbered number (line ∷ lines) = ap suc (length-numbered (number + 1) lines)
+
+length-kept : (lines : List NumberedLine) → length (filter (λ line. not (is_skipped line.text)) lines) ≤ length lines
+length-kept [] = omega arith
+length-kept (line ∷ lines) = kept_step (not (is_skipped line.text)) line (filter (λ line. not (is_skipped line.text)) lines) (length lines) (length-kept lines)
+
+-- no more lines are kept than there are
+pub kept_lines : (body : List ℕ) → length (body_lines body) ≤ line_count body
+kept_lines body = rw (← length-numbered 1 (texts body)) (length-kept (numbered 1 (texts body)))
+
+within_step : (ends : Bool) (byte : ℕ) (lines : List (List ℕ)) (most : ℕ) → length lines ≤ most → length (cond ends ([] ∷ lines) (onto_first byte lines)) ≤ suc most
+within_step true byte lines most few = omega arith
+within_step false byte [] most few = omega arith
+within_step false byte (line ∷ lines) most few = omega arith
+
+lines_within : (bytes : List ℕ) → length (cut_at_ends bytes) ≤ length bytes
+lines_within [] = omega arith
+lines_within (byte ∷ bytes) = within_step (byte == 10) byte (cut_at_ends bytes) (length bytes) (lines_within bytes)
+
+mark_within : (marked : Bool) (body : List ℕ) → length (cond marked (drop 3 body) body) ≤ length body
+mark_within true body = omega (arith, length-drop 3 body)
+mark_within false body = omega arith
+
+-- each line has a byte
+pub few_lines : (body : List ℕ) → line_count body ≤ length body
+few_lines body =
+    omega (
+      arith,
+      length-map (cut_at_ends (without_mark body)) without_return,
+      lines_within (without_mark body),
+      mark_within (bytes_eq (take 3 body) BYTE_ORDER_MARK) body,
+    )

@@ -67,9 +67,12 @@ impl<'a> Iterator for Lines<'a> {
 
 /// The lines of a load's body that are not skipped. A byte order mark before them is dropped, and
 /// one CR at the end of each line.
+#[tactic(auto, using(crate::proofs::Cuts::kept_lines, crate::proofs::Cuts::few_lines))]
 pub fn lines_of(body: &[u8]) -> Lines<'_>
     requires { length body.now ≤ MOST_BYTES }
-    ensures { result ≡ body_lines body.now }
+    ensures lines { result ≡ body_lines body.now }
+    ensures kept { length result ≤ line_count body.now }
+    ensures few { length result ≤ length body.now }
 {
     Lines {
         rest: without_mark(body),
