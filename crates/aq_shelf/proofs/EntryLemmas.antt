@@ -160,6 +160,10 @@ IfSome-observation_at key (e ∷ es) h =
     in
     at (same_key key e.0) refl
 
+pub HasValueInRange-found : (key : ObsKey) (content : Observation) (es : List (ObsKey × Observation)) → IsShelf es → observation_at key es ≡ Some content → HasValueInRange key.monitor.pollutant content
+HasValueInRange-found key content es shelf found =
+    rw found at (IfSome-observation_at key es shelf.standing)
+
 -- ---- a monitor's hours
 
 filter_agree_where : (p q : ObsKey × Observation → Bool) → ((e : ObsKey × Observation) → IsStanding e → p e ≡ q e) → (es : List (ObsKey × Observation)) → AllByRecursion IsStanding es → filter p es ≡ filter q es

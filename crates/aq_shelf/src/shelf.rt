@@ -87,6 +87,7 @@ impl Shelf {
     pub fn update(&mut self, key: ObsKey, content: Observation) -> Result<Observation, NotThere>
         requires { HasValueInRange key.monitor.pollutant content }
         ensures before { IfOk result (λ before. observation_at key self.old ≡ Some before) }
+        ensures range { IfOk result (HasValueInRange key.monitor.pollutant) }
         ensures ok { OnOk result (self.new ≡ with_content key content self.old) }
         ensures not_there { OnErr result (observation_at key self.old ≡ None) }
         ensures unchanged { OnErr result (self.new ≡ self.old) }
@@ -101,6 +102,7 @@ impl Shelf {
     /// none stands there, and the shelf is then as before.
     pub fn remove(&mut self, key: ObsKey) -> Result<Observation, NotThere>
         ensures before { IfOk result (λ before. observation_at key self.old ≡ Some before) }
+        ensures range { IfOk result (HasValueInRange key.monitor.pollutant) }
         ensures ok { OnOk result (self.new ≡ without_key key self.old) }
         ensures not_there { OnErr result (observation_at key self.old ≡ None) }
         ensures unchanged { OnErr result (self.new ≡ self.old) }

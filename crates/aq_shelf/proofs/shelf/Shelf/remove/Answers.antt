@@ -1,6 +1,6 @@
 use Rattle.std.proofs.Common.{◌≡◌, ◌∙◌, ap, sym}
 use Rattle.aq_shelf.specs.Entries.{observation_at, without_key}
-use Rattle.aq_shelf.proofs.EntryLemmas.{IsShelf-remove, lookup-derived, remove_entry-derived}
+use Rattle.aq_shelf.proofs.EntryLemmas.{HasValueInRange-found, IsShelf-remove, lookup-derived, remove_entry-derived}
 use Rattle.aq_shelf.proofs.shelf.Shelf.remove.Goals as goal
 use Rattle.aq_shelf.proofs.shelf.Shelf.remove.Goals.{in-Some, in-None}
 
@@ -35,3 +35,12 @@ returns-clause-ok c =
     ∙ ap (without_key c.args.key) c.self.view_is
     in
     elim c.match-remove.branch [ in-Some w ↦ rw w.result-is new | in-None w ↦ rw w.result-is tt ]
+
+pub returns-clause-range : goal.returns-clause-range
+returns-clause-range c =
+    let stood = c.remove.ensures.value ∙ lookup-derived c.args.key c.self.inside.entries.entries in
+    elim c.match-remove.branch [
+    in-Some w ↦
+    rw w.result-is (HasValueInRange-found c.args.key w.in-Some.before c.self.inside.entries.entries c.self.invariant (sym stood ∙ w.in-Some.is))
+    | in-None w ↦ rw w.result-is tt
+    ]

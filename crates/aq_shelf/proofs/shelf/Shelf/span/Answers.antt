@@ -1,4 +1,4 @@
-use Rattle.std.proofs.Common.{◌≡◌, ◌∙◌, ap, sym, length, arith}
+use Rattle.std.proofs.Common.{◌≡◌, ◌∙◌, ap, refl, length, arith}
 use Rattle.std.specs.Map.Iter.{deref_pair}
 use Rattle.std.proofs.lemmas.Map.Iter.{iter_end}
 use Rattle.std.proofs.lemmas.List.{length-map}
@@ -13,7 +13,7 @@ returns-clause-steps g c =
     in
     let given : length c.new.result ≡ length c.entries_in-items.result =
     ap length c.new.ensures ∙ length-map c.entries_in.result hour_content
-    ∙ ap length (c.entries_in.ensures ∙ sym c.entries_in-items.ensures)
+    ∙ (rw (c.entries_in.ensures, c.entries_in-items.ensures) refl)
     in
     let turns = c.loop.invariant in
     let first = c.tick.ensures in

@@ -5,7 +5,7 @@ use Rattle.aq_base.specs.declared.observation.Observation.{Observation}
 use Rattle.aq_shelf.specs.declared.shelf.Shelf.TheInside.{Inside}
 use Rattle.aq_shelf.specs.Entries.{observation_at, with_content, IsShelf}
 use Rattle.aq_shelf.proofs.Order.{derived_cmp}
-use Rattle.aq_shelf.proofs.EntryLemmas.{IsShelf-update, lookup-derived, set_value-derived}
+use Rattle.aq_shelf.proofs.EntryLemmas.{HasValueInRange-found, IsShelf-update, lookup-derived, set_value-derived}
 use Rattle.aq_shelf.proofs.shelf.Shelf.update.Goals as goal
 use Rattle.aq_shelf.proofs.shelf.Shelf.update.Goals.{in-Some, in-None}
 
@@ -54,4 +54,13 @@ returns-clause-not_there c =
     elim c.match-get_mut.branch [
     in-Some w ↦ rw w.result-is tt
     | in-None w ↦ rw w.result-is (sym stood ∙ sym w.in-None.ensures.value)
+    ]
+
+pub returns-clause-range : goal.returns-clause-range
+returns-clause-range c =
+    let stood = lookup-derived c.args.key c.self.inside.entries.entries in
+    elim c.match-get_mut.branch [
+    in-Some w ↦
+    rw w.result-is (HasValueInRange-found c.args.key w.replace.result c.self.inside.entries.entries c.self.invariant (sym stood ∙ sym w.in-Some.ensures.value ∙ ap (λ (o : Observation). Some o) (sym w.replace.ensures.value)))
+    | in-None w ↦ rw w.result-is tt
     ]
