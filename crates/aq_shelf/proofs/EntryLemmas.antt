@@ -85,9 +85,9 @@ all-insert_entry key content [] new h = (new, h)
 all-insert_entry key content (e ∷ es) new h =
     let at : (o : Ordering) → key_cmp key e.0 ≡ o → AllByRecursion IsStanding (match_ordering o ((key, content) ∷ e ∷ es) ((e.0, content) ∷ es) (e ∷ insert_entry key_cmp es key content)) =
     elim [
-    Less ↦ λ _. (new, h)
-    | Equal ↦ λ same. (IsStanding-same_key key content e new.1 (sym (is_eq-key_cmp key e.0) ∙ ap is_eq same) h.0, h.1)
-    | Greater ↦ λ _. (h.0, all-insert_entry key content es new h.1)
+      | Less ↦ λ _. (new, h)
+      | Equal ↦ λ same. (IsStanding-same_key key content e new.1 (sym (is_eq-key_cmp key e.0) ∙ ap is_eq same) h.0, h.1)
+      | Greater ↦ λ _. (h.0, all-insert_entry key content es new h.1)
     ]
     in
     at (key_cmp key e.0) refl
@@ -97,9 +97,9 @@ length-insert_entry-le key content [] = omega arith
 length-insert_entry-le key content (e ∷ es) =
     let h = length-insert_entry-le key content es in
     elim (key_cmp key e.0) as (λ o. length (match_ordering o ((key, content) ∷ e ∷ es) ((e.0, content) ∷ es) (e ∷ insert_entry key_cmp es key content)) ≤ length (e ∷ es) + 1) [
-    Less ↦ omega arith
-    | Equal ↦ omega arith
-    | Greater ↦ omega arith
+      | Less ↦ omega arith
+      | Equal ↦ omega arith
+      | Greater ↦ omega arith
     ]
 
 -- ---- the shelf's facts after a change
@@ -153,9 +153,9 @@ IfSome-observation_at key [] h = tt
 IfSome-observation_at key (e ∷ es) h =
     let at : (b : Bool) → same_key key e.0 ≡ b → IfSome (cond b (Some e.1) (observation_at key es)) (HasValueInRange key.monitor.pollutant) =
     elim [
-    true ↦ λ same.
-    subst (λ p. HasValueInRange p e.1) (sym (pollutant_from_monitor key.monitor e.0.monitor (first_of_both (same_monitor key.monitor e.0.monitor) (nat_eq key.hour e.0.hour) same))) h.0.1
-    | false ↦ λ _. IfSome-observation_at key es h.1
+      | true ↦ λ same.
+          subst (λ p. HasValueInRange p e.1) (sym (pollutant_from_monitor key.monitor e.0.monitor (first_of_both (same_monitor key.monitor e.0.monitor) (nat_eq key.hour e.0.hour) same))) h.0.1
+      | false ↦ λ _. IfSome-observation_at key es h.1
     ]
     in
     at (same_key key e.0) refl
@@ -196,11 +196,11 @@ all-observations_in m from hours (e ∷ es) h =
     let rest = all-observations_in m from hours es h.1 in
     let at : (b : Bool) → in_span m from hours e ≡ b → AllByRecursion (λ (item : ℕ × Observation). HasValueInRange m.pollutant item.1) (map hour_content (cond b (e ∷ filter (in_span m from hours) es) (filter (in_span m from hours) es))) =
     elim [
-    true ↦ λ inside.
-    let monitor = same_monitor m e.0.monitor in
-    let same = first_of_both monitor (nat_le from e.0.hour) (first_of_both (monitor && nat_le from e.0.hour) (nat_lt e.0.hour (from + hours)) inside) in
-    (subst (λ p. HasValueInRange p e.1) (sym (pollutant_from_monitor m e.0.monitor same)) h.0.1, rest)
-    | false ↦ λ _. rest
+      | true ↦ λ inside.
+          let monitor = same_monitor m e.0.monitor in
+          let same = first_of_both monitor (nat_le from e.0.hour) (first_of_both (monitor && nat_le from e.0.hour) (nat_lt e.0.hour (from + hours)) inside) in
+          (subst (λ p. HasValueInRange p e.1) (sym (pollutant_from_monitor m e.0.monitor same)) h.0.1, rest)
+      | false ↦ λ _. rest
     ]
     in
     at (in_span m from hours e) refl

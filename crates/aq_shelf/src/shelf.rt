@@ -141,11 +141,18 @@ impl Shelf {
     {
         let entries = &self.entries;
         let monitor = &monitor;
-        steps.tick();
-        for _ in entries_in(entries, monitor, from, hours) {
-            steps.tick();
-        }
+        count_steps(entries_in(entries, monitor, from, hours), steps);
         Span::new(entries_in(entries, monitor, from, hours))
+    }
+}
+
+/// Counts one step, and one for each entry.
+fn count_steps<L: Ledger>(entries: Range<'_, ObsKey, Observation>, counter: &mut Steps<L>)
+    ensures { counter.new ≡ counter.old + 1 + length entries.entry }
+{
+    counter.tick();
+    for _ in entries {
+        counter.tick();
     }
 }
 
@@ -160,22 +167,23 @@ fn entries_in<'a>(
     requires standing { IsShelf entries.now.entries }
     ensures { result ≡ filter (in_span monitor.now from hours) entries.now.entries }
 {
-    let first = ObsKey {
-        monitor: *monitor,
-        hour: from,
-    };
+    let first = key_at(monitor, from);
     let end = from.number() + hours;
     if end <= LAST_HOUR {
-        let last = ObsKey {
-            monitor: *monitor,
-            hour: Hour::new(end),
-        };
+        let last = key_at(monitor, Hour::new(end));
         entries.range(first..last)
     } else {
-        let last = ObsKey {
-            monitor: *monitor,
-            hour: Hour::new(LAST_HOUR),
-        };
+        let last = key_at(monitor, Hour::new(LAST_HOUR));
         entries.range(first..=last)
+    }
+}
+
+/// The key of a monitor's hour.
+fn key_at(monitor: &MonitorId, hour: Hour) -> ObsKey
+    ensures { result ≡ record { monitor = monitor.now; hour = hour } }
+{
+    ObsKey {
+        monitor: *monitor,
+        hour,
     }
 }

@@ -140,8 +140,22 @@ fn compare_changes<L: Ledger>(rt: &impl Abort, alloc: Global, blank: Blank) -> R
         let key = &key;
         assert_eq!(rt; shelf.at(*key, &mut steps), plain_at(plain.as_slice(), key));
         assert_eq!(rt; shelf.count() as usize, plain.len());
-        compare_span(rt, &shelf, plain.as_slice(), &key.monitor, (100, 5), &mut steps);
-        compare_span(rt, &shelf, plain.as_slice(), &key.monitor, (101, 2), &mut steps);
+        compare_span(
+            rt,
+            &shelf,
+            plain.as_slice(),
+            &key.monitor,
+            (100, 5),
+            &mut steps,
+        );
+        compare_span(
+            rt,
+            &shelf,
+            plain.as_slice(),
+            &key.monitor,
+            (101, 2),
+            &mut steps,
+        );
     }
     Ok(())
 }

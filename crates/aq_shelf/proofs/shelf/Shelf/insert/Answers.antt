@@ -37,10 +37,10 @@ absent c =
 pub invariant_of-self : goal.invariant_of-self
 invariant_of-self c =
     elim c.match-insert.branch [
-    in-Ok w ↦
-    IsShelf-insert c.args.key c.args.content c.self.inside.entries.entries c.insert.new.self.entries
-    (rw c.number.ensures.value at c.number.ensures.range, c.requires) (room c) c.self.invariant w.in-Ok.ensures.entries c.insert.ensures.ordered
-    | in-Err w ↦ subst IsShelf (sym w.in-Err.ensures.err) c.self.invariant
+      | in-Ok w ↦
+          IsShelf-insert c.args.key c.args.content c.self.inside.entries.entries c.insert.new.self.entries
+          (rw c.number.ensures.value at c.number.ensures.range, c.requires) (room c) c.self.invariant w.in-Ok.ensures.entries c.insert.ensures.ordered
+      | in-Err w ↦ subst IsShelf (sym w.in-Err.ensures.err) c.self.invariant
     ]
 
 pub returns-clause-absent : goal.returns-clause-absent
@@ -50,15 +50,15 @@ returns-clause-absent c =
 pub returns-clause-refused : goal.returns-clause-refused
 returns-clause-refused c =
     elim c.match-insert.branch [
-    in-Ok w ↦ rw w.result-is tt
-    | in-Err w ↦ rw w.result-is (absent c, rw (← c.self.view_is) (room c))
+      | in-Ok w ↦ rw w.result-is tt
+      | in-Err w ↦ rw w.result-is (absent c, rw (← c.self.view_is) (room c))
     ]
 
 pub returns-clause-ok : goal.returns-clause-ok
 returns-clause-ok c =
     elim c.match-insert.branch [
-    in-Ok w ↦
-    rw w.result-is (w.in-Ok.ensures.entries ∙ insert_entry-derived c.args.key c.args.content c.self.inside.entries.entries
-    ∙ ap (with_entry c.args.key c.args.content) c.self.view_is)
-    | in-Err w ↦ rw w.result-is tt
+      | in-Ok w ↦
+          rw w.result-is (w.in-Ok.ensures.entries ∙ insert_entry-derived c.args.key c.args.content c.self.inside.entries.entries
+          ∙ ap (with_entry c.args.key c.args.content) c.self.view_is)
+      | in-Err w ↦ rw w.result-is tt
     ]

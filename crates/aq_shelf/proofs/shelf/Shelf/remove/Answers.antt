@@ -17,15 +17,15 @@ answer c =
 pub returns-clause-before : goal.returns-clause-before
 returns-clause-before c =
     elim c.match-remove.branch [
-    in-Some w ↦ rw w.result-is (sym (answer c) ∙ w.in-Some.is)
-    | in-None w ↦ rw w.result-is tt
+      | in-Some w ↦ rw w.result-is (sym (answer c) ∙ w.in-Some.is)
+      | in-None w ↦ rw w.result-is tt
     ]
 
 pub returns-clause-not_there : goal.returns-clause-not_there
 returns-clause-not_there c =
     elim c.match-remove.branch [
-    in-Some w ↦ rw w.result-is tt
-    | in-None w ↦ rw w.result-is (sym (answer c) ∙ w.in-None.is)
+      | in-Some w ↦ rw w.result-is tt
+      | in-None w ↦ rw w.result-is (sym (answer c) ∙ w.in-None.is)
     ]
 
 pub returns-clause-ok : goal.returns-clause-ok
@@ -40,7 +40,7 @@ pub returns-clause-range : goal.returns-clause-range
 returns-clause-range c =
     let stood = c.remove.ensures.value ∙ lookup-derived c.args.key c.self.inside.entries.entries in
     elim c.match-remove.branch [
-    in-Some w ↦
-    rw w.result-is (HasValueInRange-found c.args.key w.in-Some.before c.self.inside.entries.entries c.self.invariant (sym stood ∙ w.in-Some.is))
-    | in-None w ↦ rw w.result-is tt
+      | in-Some w ↦
+          rw w.result-is (HasValueInRange-found c.args.key w.in-Some.before c.self.inside.entries.entries c.self.invariant (sym stood ∙ w.in-Some.is))
+      | in-None w ↦ rw w.result-is tt
     ]
