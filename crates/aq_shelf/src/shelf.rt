@@ -92,10 +92,10 @@ impl Shelf {
         ensures not_there { OnErr result (observation_at key self.old ≡ None) }
         ensures unchanged { OnErr result (self.new ≡ self.old) }
     {
-        match self.entries.get_mut(&key) {
-            Some(place) => Ok(mem::replace(place, content)),
-            None => Err(NotThere),
-        }
+        let Some(place) = self.entries.get_mut(&key) else {
+            return Err(NotThere);
+        };
+        Ok(mem::replace(place, content))
     }
 
     /// Takes the observation at a key away, and answers it. It takes no memory. It is refused where

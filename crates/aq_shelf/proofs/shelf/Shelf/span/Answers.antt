@@ -1,4 +1,4 @@
-use Rattle.std.proofs.Common.{◌≡◌, ◌∙◌, ap, sym, length}
+use Rattle.std.proofs.Common.{◌≡◌, ◌∙◌, ap, length}
 use Rattle.std.proofs.lemmas.List.{length-map}
 use Rattle.aq_shelf.specs.Entries.{hour_content}
 use Rattle.aq_shelf.proofs.EntryLemmas.{all-observations_in}
@@ -13,6 +13,5 @@ returns-clause-steps g c =
     let given : length c.new.result ≡ length c.entries_in-2.result =
     ap length c.new.ensures ∙ length-map c.entries_in-2.result hour_content
     in
-    let same : c.entries_in.result ≡ c.entries_in-2.result = c.entries_in.ensures ∙ sym c.entries_in-2.ensures in
     let counted = c.count_steps.ensures in
-    rw (given, ← same) counted
+    rw (given, c.entries_in-2.ensures) (rw c.entries_in.ensures at counted)
