@@ -1,5 +1,5 @@
 -- What holds of the entries after each change.
-use Rattle.std.proofs.Common.{◌≡◌, ℕ, ◌+◌, ◌<◌, ◌≤◌, Bool, true, false, ◌&&◌, nat_eq, List, [], ◌∷◌, length, map, cond, Some, refl, ap, sym, subst, ◌∙◌, arith}
+use Rattle.std.proofs.Common.{Option, ◌≡◌, ℕ, ◌+◌, ◌<◌, ◌≤◌, Bool, true, false, ◌&&◌, nat_eq, List, [], ◌∷◌, length, map, cond, Some, refl, ap, sym, subst, ◌∙◌, arith}
 use Rattle.std.specs.Prelude.{nat_le, nat_lt, filter, IfSome}
 use Rattle.std.specs.declared.cmp.Ordering.{Ordering}
 use Rattle.std.specs.declared.cmp.Ordering.TheVariants.{Less, Equal, Greater}
@@ -147,6 +147,13 @@ IsShelf-insert key content es fs entry room old new sorted =
 
 pub lookup-derived : (key : ObsKey) (es : List (ObsKey × Observation)) → lookup (is_at (derived_cmp key)) es ≡ observation_at key es
 lookup-derived key es = ap (λ (t : ObsKey → Bool). lookup t es) (same_test key)
+
+-- what the map says of its keys, by the order that the code derives
+pub observation_at-changed : (key other : ObsKey) (content : Option Observation) (es fs : List (ObsKey × Observation)) → lookup (is_at (derived_cmp other)) fs ≡ cond (is_at (derived_cmp key) other) content (lookup (is_at (derived_cmp other)) es) → observation_at other fs ≡ cond (same_key key other) content (observation_at other es)
+observation_at-changed key other content es fs changed =
+    sym (lookup-derived other fs) ∙ changed
+    ∙ ap (λ (t : ObsKey → Bool). cond (t other) content (lookup (is_at (derived_cmp other)) es)) (same_test key)
+    ∙ ap (cond (same_key key other) content) (lookup-derived other es)
 
 pub IfSome-observation_at : (key : ObsKey) (es : List (ObsKey × Observation)) → AllByRecursion IsStanding es → IfSome (observation_at key es) (HasValueInRange key.monitor.pollutant)
 IfSome-observation_at key [] h = tt

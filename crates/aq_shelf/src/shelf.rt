@@ -2,7 +2,7 @@
 ghost use Rattle.std.specs.Prelude.{◌≡◌, ◌+◌, ◌<◌, ◌≤◌, Some, None, [], length, filter, IfSome, IfOk, IfErr, OnOk, OnErr};
 ghost use Rattle.std.specs.List.{AllByRecursion};
 ghost use Rattle.aq_shelf.specs.Values.{HasValueInRange};
-ghost use Rattle.aq_shelf.specs.Entries.{observation_at, with_entry, with_content, without_key, in_span, observations_in, IsShelf, IsInsertFault};
+ghost use Rattle.aq_shelf.specs.Entries.{ChangesOnly, observation_at, with_entry, with_content, without_key, in_span, observations_in, IsShelf, IsInsertFault};
 
 use crate::fault::{NotThere, ShelfFault};
 use crate::span::Span;
@@ -62,6 +62,7 @@ impl Shelf {
     pub fn insert(&mut self, key: ObsKey, content: Observation) -> Result<(), ShelfFault>
         requires { HasValueInRange key.monitor.pollutant content }
         ensures ok { OnOk result (self.new ≡ with_entry key content self.old) }
+        ensures keys { OnOk result (ChangesOnly key (Some content) self.old self.new) }
         ensures absent { OnOk result (observation_at key self.old ≡ None) }
         ensures room { OnOk result (length self.old < MOST_OBSERVATIONS) }
         ensures refused { IfErr result (λ fault. IsInsertFault fault key self.old) }
@@ -89,6 +90,7 @@ impl Shelf {
         ensures before { IfOk result (λ before. observation_at key self.old ≡ Some before) }
         ensures range { IfOk result (HasValueInRange key.monitor.pollutant) }
         ensures ok { OnOk result (self.new ≡ with_content key content self.old) }
+        ensures keys { OnOk result (ChangesOnly key (Some content) self.old self.new) }
         ensures not_there { OnErr result (observation_at key self.old ≡ None) }
         ensures unchanged { OnErr result (self.new ≡ self.old) }
     {
@@ -104,6 +106,7 @@ impl Shelf {
         ensures before { IfOk result (λ before. observation_at key self.old ≡ Some before) }
         ensures range { IfOk result (HasValueInRange key.monitor.pollutant) }
         ensures ok { OnOk result (self.new ≡ without_key key self.old) }
+        ensures keys { OnOk result (ChangesOnly key None self.old self.new) }
         ensures not_there { OnErr result (observation_at key self.old ≡ None) }
         ensures unchanged { OnErr result (self.new ≡ self.old) }
     {

@@ -3,7 +3,7 @@ use Rattle.std.proofs.lemmas.Bool.{false≢true}
 use Rattle.aq_base.specs.declared.observation.Observation.{Observation}
 use Rattle.aq_shelf.specs.declared.shelf.TheConstants.{MOST_OBSERVATIONS}
 use Rattle.aq_shelf.specs.Entries.{observation_at, with_entry, IsShelf}
-use Rattle.aq_shelf.proofs.EntryLemmas.{IsShelf-insert, lookup-derived, insert_entry-derived}
+use Rattle.aq_shelf.proofs.EntryLemmas.{observation_at-changed, IsShelf-insert, lookup-derived, insert_entry-derived}
 use Rattle.aq_shelf.proofs.shelf.Shelf.insert.Goals as goal
 use Rattle.aq_shelf.proofs.shelf.Shelf.insert.Goals.{in-Ok, in-Err}
 
@@ -60,5 +60,13 @@ returns-clause-ok c =
       | in-Ok w ↦
           rw w.result-is (w.in-Ok.ensures.entries ∙ insert_entry-derived c.args.key c.args.content c.self.inside.entries.entries
           ∙ ap (with_entry c.args.key c.args.content) c.self.view_is)
+      | in-Err w ↦ rw w.result-is tt
+    ]
+
+pub returns-clause-keys : goal.returns-clause-keys
+returns-clause-keys c =
+    elim c.match-insert.branch [
+      | in-Ok w ↦
+          rw (w.result-is, ← c.self.view_is) (λ other. observation_at-changed c.args.key other (Some c.args.content) c.self.inside.entries.entries c.insert.new.self.entries (w.in-Ok.ensures.updates.0 other))
       | in-Err w ↦ rw w.result-is tt
     ]

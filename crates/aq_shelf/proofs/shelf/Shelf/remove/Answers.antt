@@ -1,6 +1,6 @@
-use Rattle.std.proofs.Common.{◌≡◌, ◌∙◌, ap, sym}
+use Rattle.std.proofs.Common.{None, ◌≡◌, ◌∙◌, ap, sym}
 use Rattle.aq_shelf.specs.Entries.{observation_at, without_key}
-use Rattle.aq_shelf.proofs.EntryLemmas.{HasValueInRange-found, IsShelf-remove, lookup-derived, remove_entry-derived}
+use Rattle.aq_shelf.proofs.EntryLemmas.{observation_at-changed, HasValueInRange-found, IsShelf-remove, lookup-derived, remove_entry-derived}
 use Rattle.aq_shelf.proofs.shelf.Shelf.remove.Goals as goal
 use Rattle.aq_shelf.proofs.shelf.Shelf.remove.Goals.{in-Some, in-None}
 
@@ -42,5 +42,13 @@ returns-clause-range c =
     elim c.match-remove.branch [
       | in-Some w ↦
           rw w.result-is (HasValueInRange-found c.args.key w.in-Some.before c.self.inside.entries.entries c.self.invariant (sym stood ∙ w.in-Some.is))
+      | in-None w ↦ rw w.result-is tt
+    ]
+
+pub returns-clause-keys : goal.returns-clause-keys
+returns-clause-keys c =
+    elim c.match-remove.branch [
+      | in-Some w ↦
+          rw (w.result-is, ← c.self.view_is) (λ other. observation_at-changed c.args.key other None c.self.inside.entries.entries c.remove.new.self.entries (c.remove.ensures.updates.0 other))
       | in-None w ↦ rw w.result-is tt
     ]
