@@ -22,7 +22,7 @@ use Rattle.aq_base.specs.declared.observation.ObsKey.{ObsKey}
 use Rattle.aq_base.specs.declared.observation.Observation.{Observation}
 use Rattle.aq_shelf.specs.declared.shelf.TheConstants.{MOST_OBSERVATIONS}
 use Rattle.aq_shelf.specs.Keys.{key_cmp, same_key, same_monitor, same_site, pollutant_place}
-use Rattle.aq_shelf.specs.Values.{HasValueInRange}
+use Rattle.aq_base.specs.Values.{HasValueInRange}
 use Rattle.aq_shelf.specs.Entries.{IsStanding, IsShelf, in_span, hour_content, observations_in, observation_at, with_entry, with_content, without_key}
 use Rattle.aq_shelf.proofs.Order.{derived_cmp, same_order, same_test, is_eq-key_cmp, half_open, closed}
 

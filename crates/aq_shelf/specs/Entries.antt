@@ -12,7 +12,7 @@ use Rattle.aq_shelf.specs.declared.shelf.TheConstants.{MOST_OBSERVATIONS}
 use Rattle.aq_shelf.specs.declared.fault.ShelfFault.{ShelfFault}
 use Rattle.aq_shelf.specs.declared.fault.ShelfFault.TheVariants.{AlreadyThere, Full, Memory}
 use Rattle.aq_shelf.specs.Keys.{key_cmp, same_key, same_monitor}
-use Rattle.aq_shelf.specs.Values.{HasValueInRange}
+use Rattle.aq_base.specs.Values.{HasValueInRange}
 
 -- what stands at a key
 abbrev pub observation_at : ObsKey → List (ObsKey × Observation) → Option Observation

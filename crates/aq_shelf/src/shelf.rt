@@ -1,7 +1,7 @@
 //! The standing observations.
 ghost use Rattle.std.specs.Prelude.{◌≡◌, ◌+◌, ◌<◌, ◌≤◌, Some, None, [], length, filter, IfSome, IfOk, IfErr, OnOk, OnErr};
 ghost use Rattle.std.specs.List.{AllByRecursion};
-ghost use Rattle.aq_shelf.specs.Values.{HasValueInRange};
+ghost use Rattle.aq_base.specs.Values.{HasValueInRange};
 ghost use Rattle.aq_shelf.specs.Entries.{ChangesOnly, observation_at, with_entry, with_content, without_key, in_span, observations_in, IsShelf, IsInsertFault};
 
 use crate::fault::{NotThere, ShelfFault};

@@ -2,7 +2,7 @@
 ghost use Rattle.std.specs.Prelude.{◌≡◌, ◌+◌, ◌<◌, ◌≤◌};
 ghost use Rattle.aq_base.specs.declared.monitor.Pollutant.{Pollutant};
 ghost use Rattle.aq_base.specs.declared.day.TheConstants.{LAST_HOUR};
-ghost use Rattle.aq_shelf.specs.Values.{HasValueInRange};
+ghost use Rattle.aq_base.specs.Values.{HasValueInRange};
 
 use crate::*;
 use aq_base::{Hour, LAST_HOUR, MonitorId, ObsKey, Observation, Pollutant, Quals, SiteId, Steps};
