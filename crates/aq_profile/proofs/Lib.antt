@@ -1,2 +1,4 @@
 pub mod Least
 pub mod Agree
+pub mod Rising
+pub mod Loads

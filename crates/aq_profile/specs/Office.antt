@@ -325,15 +325,19 @@ is_load load =
     nat_le 1 load.number && nat_le load.number LAST_LOAD_NUMBER && (load.reply.number == load.number)
     && (length load.digest == 32) && list_all (λ byte. nat_lt byte 256) load.digest && is_reply load.reply
 
+-- the keys of each list rise, so none stands twice
+pub record KeysRise (office : Office) : Type 0 where
+  pub records : IsTrue (rises record_rank office.records)
+  pub observations : IsTrue (rises observation_rank office.observations)
+  pub loads : IsTrue (rises load_rank office.loads)
+
 -- a valid office
 pub record IsOffice (office : Office) : Type 0 where
-  pub records_rise : IsTrue (rises record_rank office.records)
+  pub keys_rise : KeysRise office
   pub records_fit : IsTrue (list_all (fits_records office) office.records)
   pub makeup_days_differ : IsTrue (list_all (has_own_makeup_day office) office.records)
   pub few_sites : length (sites_of office.records) ≤ MOST_SITES
-  pub observations_rise : IsTrue (rises observation_rank office.observations)
   pub observations_fit : IsTrue (list_all (fits_monitors office) office.observations)
   pub few_observations : length office.observations ≤ MOST_OBSERVATIONS
-  pub loads_rise : IsTrue (rises load_rank office.loads)
   pub loads_fit : IsTrue (list_all is_load office.loads)
   pub few_loads : length office.loads ≤ MOST_LOADS

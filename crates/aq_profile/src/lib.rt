@@ -13,7 +13,10 @@ pub use canonical::{
     values_are_cut,
 };
 pub use lines::{fields_without_spaces_round_them, lines_of_a_body};
-pub use load::an_hour_sent_twice;
+pub use load::{
+    a_known_number_changes_nothing, a_refused_line_changes_nothing, an_hour_sent_twice,
+    keys_stay_in_order, many_refused_lines, rows_that_change,
+};
 pub use reading::{
     a_value_or_a_rule, rules_of_office_lines, rules_of_samples, the_least_rule_is_named,
 };
