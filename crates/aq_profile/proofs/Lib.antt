@@ -2,3 +2,4 @@ pub mod Least
 pub mod Agree
 pub mod Rising
 pub mod Loads
+pub mod Days
