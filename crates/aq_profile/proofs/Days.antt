@@ -191,3 +191,53 @@ date_parts d k j in_y in_m is_month is_day =
       within = omega arith;
       before = rw at in_y.before;
     }
+
+month_opened : (d : ℕ) → month_of d ≡ 1 + months_count (year_of d) (day_of_year d)
+unfolding month_of months_count at_most
+month_opened d = refl
+
+month_is : (d y day : ℕ) → year_of d ≡ y → day_of_year d ≡ day → month_of d ≡ months_count y day + 1
+month_is d y day same_year same_day =
+    let opened : month_of d ≡ 1 + months_count y day =
+    month_opened d ∙ ap (λ t. 1 + months_count t (day_of_year d)) same_year ∙ ap (λ t. 1 + months_count y t) same_day
+    in
+    omega arith
+
+pub date_of : (d : ℕ) → d ≤ 18262
+    → IsDate d (2000 + years_count d) (months_count (2000 + years_count d) (d - days_of_years (years_count d)))
+date_of d small =
+    let in_y = in_year d small in
+    let k = years_count d in
+    let first : year_first (year_of d) ≡ days_of_years k =
+    ap (λ y. days_of_years (y - 2000)) in_y.year ∙ ap days_of_years (omega arith)
+    in
+    let day : day_of_year d ≡ d - days_of_years k = ap (λ f. d - f) first in
+    let next = years_next k in
+    let low = in_y.from in
+    let high = in_y.before in
+    let short : d - days_of_years k < days_in_year (2000 + k) = omega arith in
+    let in_m = in_month (2000 + k) (d - days_of_years k) short in
+    let month = month_is d (2000 + k) (d - days_of_years k) in_y.year day in
+    let j = months_count (2000 + k) (d - days_of_years k) in
+    let before_month : days_of_months (year_of d) (month_of d - 1) ≡ days_of_months (2000 + k) j =
+    ap (λ y. days_of_months y (month_of d - 1)) in_y.year ∙ ap (days_of_months (2000 + k)) (omega arith)
+    in
+    date_parts d k j in_y in_m month (ap (λ f. d - f - days_of_months (year_of d) (month_of d - 1) + 1) first ∙ ap (λ f. d - days_of_years k - f + 1) before_month)
+
+pub day_of_date-parts : (d y j : ℕ) → IsDate d y j → day_of_date (year_of d) (month_of d) (day_of_month d) ≡ Some d
+day_of_date-parts d y j is =
+    let day = is.day in
+    let from = is.from in
+    let valid : is_date y (j + 1) (day_of_month d) ≡ true =
+    grind (arith, nat_tests, is.in_profile.0, is.in_profile.1, is.few, is.within, day)
+    in
+    let month : j + 1 - 1 ≡ j = omega arith in
+    let number : day_number y (j + 1) (day_of_month d) ≡ d = rw month (omega arith) in
+    ap (λ a. day_of_date a (month_of d) (day_of_month d)) is.year
+    ∙ ap (λ m. day_of_date y m (day_of_month d)) is.month
+    ∙ ap (λ b. if b then Some (day_number y (j + 1) (day_of_month d)) else None) valid
+    ∙ ap Some number
+
+-- a day is the day of its date
+pub day_of_date-date : (d : ℕ) → d ≤ 18262 → day_of_date (year_of d) (month_of d) (day_of_month d) ≡ Some d
+day_of_date-date d small = day_of_date-parts d _ _ (date_of d small)
