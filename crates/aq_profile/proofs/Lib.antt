@@ -3,3 +3,4 @@ pub mod Agree
 pub mod Rising
 pub mod Loads
 pub mod Days
+pub mod Digits

@@ -1,0 +1,40 @@
+-- Digits of a fixed width are read as the number of which they were written.
+use Rattle.std.proofs.Common.{◌≡◌, ℕ, suc, zero, ◌+◌, ◌<◌, ◌≤◌, Bool, true, false, cond, ◌&&◌, List, [], ◌∷◌, ◌++◌, length, Some, None, Option, refl, sym, ap, ◌∙◌, arith, subst}
+use Rattle.std.specs.Prelude.{nat_lt, nat_le, ◌==◌}
+use Rattle.std.specs.List.{range_with_len, list_all}
+use Rattle.std.proofs.lemmas.Bool.{false≢true}
+use Rattle.std.proofs.lemmas.Bool.Decides.{nat_tests}
+use Rattle.aq_base.specs.Decimal.{last_digits, are_digits}
+use Rattle.aq_profile.specs.Spellings.{digits_in}
+use Rattle.aq_profile.proofs.Least.{both}
+
+pub in_range : (p : ℕ → Bool) (start many n : ℕ) → list_all p (range_with_len start many) ≡ true → n < many → p (start + n) ≡ true
+in_range p start zero n all small = absurd (omega arith)
+in_range p start (suc many) zero all small =
+    subst (λ k. p k ≡ true) (omega arith) (both (p start) (list_all p (range_with_len (start + 1) many)) all).0
+in_range p start (suc many) (suc n) all small =
+    subst (λ k. p k ≡ true) (omega arith)
+    (in_range p (start + 1) many n (both (p start) (list_all p (range_with_len (start + 1) many)) all).1 (omega arith))
+
+is_number : ℕ → Option ℕ → Bool
+is_number n None = false
+is_number n (Some m) = m == n
+
+number_is : (n : ℕ) (o : Option ℕ) → is_number n o ≡ true → o ≡ Some n
+unfolding is_number
+number_is n None h = absurd (false≢true h)
+number_is n (Some m) h =
+    let same : m ≡ n = grind (arith, nat_tests) in
+    ap Some same
+
+all_two : list_all (λ n. is_number n (digits_in 2 (last_digits 2 n))) (range_with_len 0 100) ≡ true
+unfolding is_number last_digits
+all_two = refl
+
+all_three : list_all (λ n. is_number n (digits_in 3 (last_digits 3 n))) (range_with_len 0 1000) ≡ true
+unfolding is_number last_digits
+all_three = refl
+
+all_four : list_all (λ n. is_number n (digits_in 4 (last_digits 4 n))) (range_with_len 0 10000) ≡ true
+unfolding is_number last_digits
+all_four = refl
