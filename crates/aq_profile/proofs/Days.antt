@@ -71,7 +71,7 @@ years_next : (n : ℕ) → days_of_years (n + 1) ≡ days_of_years n + days_in_y
 unfolding days_of_years
 years_next n = rw add-one refl
 
-years_rise : (n : ℕ) → days_of_years n ≤ days_of_years (n + 1)
+pub years_rise : (n : ℕ) → days_of_years n ≤ days_of_years (n + 1)
 years_rise n = omega (arith, years_next n)
 
 -- the number of a day's year from the first, and the days round it
@@ -114,11 +114,11 @@ in_year d small =
 
 -- ---- months
 
-months_next : (y n : ℕ) → days_of_months y (n + 1) ≡ days_of_months y n + days_in_month y (n + 1)
+pub months_next : (y n : ℕ) → days_of_months y (n + 1) ≡ days_of_months y n + days_in_month y (n + 1)
 unfolding days_of_months
 months_next y n = rw add-one refl
 
-months_rise : (y n : ℕ) → days_of_months y n ≤ days_of_months y (n + 1)
+pub months_rise : (y n : ℕ) → days_of_months y n ≤ days_of_months y (n + 1)
 months_rise y n = omega (arith, months_next y n)
 
 twelve_months : (y : ℕ) → days_of_months y 12 ≡ days_in_year y

@@ -4,3 +4,4 @@ pub mod Rising
 pub mod Loads
 pub mod Days
 pub mod Digits
+pub mod Order
