@@ -1,11 +1,10 @@
 -- A day of the profile is the day of its year, month and day of the month.
-use Rattle.std.proofs.Common.{◌≡◌, ℕ, suc, zero, ◌+◌, ◌-◌, ◌*◌, ◌%◌, ◌<◌, ◌≤◌, ◌⊎◌, Bool, true, false, cond, not, ◌&&◌, ◌||◌, List, [], ◌∷◌, Some, None, Option, refl, sym, ap, ◌∙◌, arith, inl, inr, subst, add-one}
+use Rattle.std.proofs.Common.{◌≡◌, ℕ, suc, zero, ◌+◌, ◌-◌, ◌%◌, ◌<◌, ◌≤◌, true, false, cond, Some, None, refl, sym, ap, ◌∙◌, arith, inl, inr, subst, add-one}
 use Rattle.std.specs.Prelude.{nat_lt, nat_le, ◌==◌, count_by, if◌then◌else◌}
 use Rattle.std.specs.List.{range_with_len}
 use Rattle.std.proofs.lemmas.List.Sums.{sum_by-cons}
-use Rattle.std.proofs.lemmas.Bool.{false≢true}
 use Rattle.std.proofs.lemmas.Bool.Decides.{nat_tests}
-use Rattle.aq_base.specs.Calendar.{days_of_years, days_of_months, days_in_year, days_in_month, year_of, month_of, day_of_month, day_of_year, year_first, day_number, day_of_date, is_date, is_year}
+use Rattle.aq_base.specs.Calendar.{days_of_years, days_of_months, days_in_year, days_in_month, year_of, month_of, day_of_month, day_of_year, year_first, day_number, day_of_date, is_date}
 use Rattle.aq_profile.proofs.Least.{true_or_false}
 
 -- how many of a rising row of numbers are at most d
@@ -50,12 +49,12 @@ counted h rising start zero d =
     record { low = λ j e. absurd (omega arith); high = λ l. absurd (omega arith); most = omega arith }
 counted h rising start (suc len) d =
     elim (true_or_false (nat_le (h start) d)) [
-      inl here ↦
+      | inl here ↦
           let below : h start ≤ d = grind (arith, nat_tests) in
           subst (λ k. Counted h start (suc len) d k)
           (sym (next_test h d start len ∙ ap (λ b. cond b 1 0 + at_most h d (start + 1) len) here))
           (counted_more h start len d (at_most h d (start + 1) len) below (counted h rising (start + 1) len d))
-    | inr past ↦
+      | inr past ↦
           let above : d < h start = grind (arith, nat_tests) in
           let none = none_left h rising d start (suc len) above in
           record {
@@ -88,8 +87,8 @@ year_few : (d k : ℕ) → d ≤ 18262 → Counted (λ n. days_of_years (n + 1))
 unfolding days_of_years
 year_few d k small c =
     elim (true_or_false (nat_lt k 50)) [
-      inl less ↦ grind (arith, nat_tests)
-    | inr not_less ↦
+      | inl less ↦ grind (arith, nat_tests)
+      | inr not_less ↦
           let most = c.most in
           let full : 50 ≤ k = grind (arith, nat_tests) in
           let past : 18263 ≤ d = c.low 49 (omega arith) in
@@ -137,8 +136,8 @@ months_count y day = at_most (days_of_months y) day 1 12
 month_few : (y day k : ℕ) → day < days_in_year y → Counted (days_of_months y) 1 12 day k → k < 12
 month_few y day k small c =
     elim (true_or_false (nat_lt k 12)) [
-      inl less ↦ grind (arith, nat_tests)
-    | inr not_less ↦
+      | inl less ↦ grind (arith, nat_tests)
+      | inr not_less ↦
           let most = c.most in
           let full : 12 ≤ k = grind (arith, nat_tests) in
           let past : days_of_months y 12 ≤ day = c.low 11 (omega arith) in

@@ -1,10 +1,10 @@
 -- Digits of a fixed width are read as the number of which they were written.
-use Rattle.std.proofs.Common.{◌≡◌, ℕ, suc, zero, ◌+◌, ◌<◌, ◌≤◌, Bool, true, false, cond, ◌&&◌, List, [], ◌∷◌, ◌++◌, length, Some, None, Option, refl, sym, ap, ◌∙◌, arith, subst}
-use Rattle.std.specs.Prelude.{nat_lt, nat_le, ◌==◌}
+use Rattle.std.proofs.Common.{◌≡◌, ℕ, suc, zero, ◌+◌, ◌<◌, Bool, true, false, Some, None, Option, refl, ap, arith, subst}
+use Rattle.std.specs.Prelude.{◌==◌}
 use Rattle.std.specs.List.{range_with_len, list_all}
 use Rattle.std.proofs.lemmas.Bool.{false≢true}
 use Rattle.std.proofs.lemmas.Bool.Decides.{nat_tests}
-use Rattle.aq_base.specs.Decimal.{last_digits, are_digits}
+use Rattle.aq_base.specs.Decimal.{last_digits}
 use Rattle.aq_profile.specs.Spellings.{digits_in}
 use Rattle.aq_profile.proofs.Least.{both}
 

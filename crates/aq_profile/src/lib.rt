@@ -5,6 +5,7 @@
 mod canonical;
 mod lines;
 mod load;
+mod office;
 mod reading;
 mod refusal;
 
@@ -17,6 +18,7 @@ pub use load::{
     a_known_number_changes_nothing, a_refused_line_changes_nothing, an_hour_sent_twice,
     keys_stay_in_order, many_refused_lines, rows_that_change,
 };
+pub use office::keys_are_ordered_as_printed;
 pub use reading::{
     a_value_or_a_rule, rules_of_office_lines, rules_of_samples, the_least_rule_is_named,
 };
