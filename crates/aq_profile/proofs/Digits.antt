@@ -16,11 +16,14 @@ in_range p start (suc many) (suc n) all small =
     subst (λ k. p k ≡ true) (omega arith)
     (in_range p (start + 1) many n (both (p start) (list_all p (range_with_len (start + 1) many)) all).1 (omega arith))
 
-is_number : ℕ → Option ℕ → Bool
+pub from_none : (p : ℕ → Bool) (many n : ℕ) → list_all p (range_with_len 0 many) ≡ true → n < many → p n ≡ true
+from_none p many n all small = subst (λ k. p k ≡ true) {x = 0 + n} (omega arith) (in_range p 0 many n all small)
+
+unfoldable pub is_number : ℕ → Option ℕ → Bool
 is_number n None = false
 is_number n (Some m) = m == n
 
-number_is : (n : ℕ) (o : Option ℕ) → is_number n o ≡ true → o ≡ Some n
+pub number_is : (n : ℕ) (o : Option ℕ) → is_number n o ≡ true → o ≡ Some n
 unfolding is_number
 number_is n None h = absurd (false≢true h)
 number_is n (Some m) h =
@@ -38,3 +41,12 @@ all_three = refl
 all_four : list_all (λ n. is_number n (digits_in 4 (last_digits 4 n))) (range_with_len 0 10000) ≡ true
 unfolding is_number last_digits
 all_four = refl
+
+pub digits_two : (n : ℕ) → n < 100 → digits_in 2 (last_digits 2 n) ≡ Some n
+digits_two n small = number_is n _ (from_none (λ n. is_number n (digits_in 2 (last_digits 2 n))) 100 n all_two small)
+
+pub digits_three : (n : ℕ) → n < 1000 → digits_in 3 (last_digits 3 n) ≡ Some n
+digits_three n small = number_is n _ (from_none (λ n. is_number n (digits_in 3 (last_digits 3 n))) 1000 n all_three small)
+
+pub digits_four : (n : ℕ) → n < 10000 → digits_in 4 (last_digits 4 n) ≡ Some n
+digits_four n small = number_is n _ (from_none (λ n. is_number n (digits_in 4 (last_digits 4 n))) 10000 n all_four small)

@@ -5,3 +5,4 @@ pub mod Loads
 pub mod Days
 pub mod Digits
 pub mod Order
+pub mod Spelled

@@ -165,7 +165,7 @@ same-two : (xs ys : List ℕ) (m n : ℕ) (us vs : List ℕ) (r : Bool) → Orde
 same-two xs ys m n us vs r o rest =
     same-append xs ys us vs o.len ∙ ap (λ b. b && bytes_eq us vs) o.same ∙ ap (λ b. (m == n) && b) rest
 
-site_bounds : (s : Site) → is_site s ≡ true → (s.state < 10 ^ 2) × (s.county < 10 ^ 3) × (s.number < 10 ^ 4)
+pub site_bounds : (s : Site) → is_site s ≡ true → (s.state < 10 ^ 2) × (s.county < 10 ^ 3) × (s.number < 10 ^ 4)
 site_bounds s p =
     let one = both (nat_le s.state 99 && nat_le s.county 999) (nat_le s.number 9999) p in
     let two = both (nat_le s.state 99) (nat_le s.county 999) one.0 in
@@ -174,7 +174,7 @@ site_bounds s p =
     less : (n m : ℕ) → nat_le n m ≡ true → n < m + 1
     less n m h = grind (arith, nat_tests)
 
-month_short : (y m : ℕ) → days_in_month y m ≤ 31
+pub month_short : (y m : ℕ) → days_in_month y m ≤ 31
 month_short y m = grind (arith, nat_tests)
 
 ordered-date_parts : (d e y z j i : ℕ) → IsDate d y j → IsDate e z i → Ordered (date_text d) (date_text e) d e
@@ -282,7 +282,7 @@ series_parts s t p q us vs m n is_s is_t o =
     (part (parameter_text p) (parameter_text q) us vs (parameter_number p) (parameter_number q) (m ∷ []) (n ∷ []) (ordered-parameter p q)
     (last_part us vs m n o))))
 
-less_or : (n m k : ℕ) → nat_le n m ≡ true → m < k → n < k
+pub less_or : (n m k : ℕ) → nat_le n m ≡ true → m < k → n < k
 less_or n m k h l = grind (arith, nat_tests)
 
 at_most_day : (d : ℕ) → is_day d ≡ true → d ≤ 18262
