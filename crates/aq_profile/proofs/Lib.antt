@@ -6,3 +6,4 @@ pub mod Days
 pub mod Digits
 pub mod Order
 pub mod Spelled
+pub mod Joined
