@@ -55,7 +55,7 @@ split-last (b ∷ text) h =
     ap (λ s. cond s ([] ∷ slice_split is_bar text) (onto_first b (slice_split is_bar text))) (no_bar b parts.0)
     ∙ ap (onto_first b) (split-last text parts.1)
 
-fields-some : (text : List ℕ) (texts : List (List ℕ)) → list_all is_clean (text ∷ texts) ≡ true → fields (joined (text ∷ texts)) ≡ text ∷ texts
+pub fields-some : (text : List ℕ) (texts : List (List ℕ)) → list_all is_clean (text ∷ texts) ≡ true → fields (joined (text ∷ texts)) ≡ text ∷ texts
 fields-some text [] h =
     let parts = both (is_clean text) true h in
     ap (map trimmed) (split-last text parts.0) ∙ ap (λ t. t ∷ []) (trimmed-clean text parts.0)
@@ -77,7 +77,7 @@ plain-append (x ∷ xs) ys p q =
     let parts = both (is_plain_byte x) (is_plain xs) p in
     and_true (is_plain_byte x) (is_plain (xs ++ ys)) parts.0 (plain-append xs ys parts.1 q)
 
-plain-some : (text : List ℕ) (texts : List (List ℕ)) → list_all is_clean (text ∷ texts) ≡ true → is_plain (joined (text ∷ texts)) ≡ true
+pub plain-some : (text : List ℕ) (texts : List (List ℕ)) → list_all is_clean (text ∷ texts) ≡ true → is_plain (joined (text ∷ texts)) ≡ true
 plain-some text [] h = plain-clean text (both (is_clean text) true h).0
 plain-some text (next ∷ texts) h =
     let parts = both (is_clean text) (list_all is_clean (next ∷ texts)) h in

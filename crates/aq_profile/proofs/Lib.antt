@@ -7,3 +7,4 @@ pub mod Digits
 pub mod Order
 pub mod Spelled
 pub mod Joined
+pub mod RoundTrip

@@ -285,7 +285,7 @@ series_parts s t p q us vs m n is_s is_t o =
 pub less_or : (n m k : ℕ) → nat_le n m ≡ true → m < k → n < k
 less_or n m k h l = grind (arith, nat_tests)
 
-at_most_day : (d : ℕ) → is_day d ≡ true → d ≤ 18262
+pub at_most_day : (d : ℕ) → is_day d ≡ true → d ≤ 18262
 at_most_day d h = grind (arith, nat_tests)
 
 same_kind : (a b : OfficeKey) → is_key a ≡ true → is_key b ≡ true → kind_of a ≡ kind_of b
