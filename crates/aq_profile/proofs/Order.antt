@@ -11,6 +11,7 @@ use Rattle.aq_base.specs.declared.office.OfficeKey.TheVariants.{Monitor as Monit
 use Rattle.aq_base.specs.Site.{Site}
 use Rattle.aq_base.specs.declared.monitor.Pollutant.{Pollutant}
 use Rattle.aq_base.specs.declared.monitor.Pollutant.TheVariants.{Ozone, Pm25, Pm10}
+use Rattle.aq_profile.specs.Spellings.{has_parameter, Xs}
 use Rattle.aq_profile.specs.Office.{is_same, comes_before, parameter_number, site_numbers, series_numbers, part_numbers, key_numbers, kind_of, is_site, is_day, is_poc, is_key}
 use Rattle.aq_profile.specs.Canonical.{parameter_text, date_text, site_texts, joined, key_texts, printed_key}
 use Rattle.aq_profile.proofs.Rising.{before-total}
@@ -303,9 +304,11 @@ same_kind (PrimaryKey s p d) (PrimaryKey t q f) h i e =
     let y = both (is_site t) (is_day f) i in
     series_parts s t p q _ _ d f x.0 y.0 (ordered-date d f (at_most_day d x.1) (at_most_day f y.1))
 same_kind (ScheduleKey s p d) (ScheduleKey t q f) h i e =
-    let x = both (is_site s) (is_day d) h in
-    let y = both (is_site t) (is_day f) i in
-    series_parts s t p q _ _ d f x.0 y.0 (ordered-date d f (at_most_day d x.1) (at_most_day f y.1))
+    let x = both (is_site s && has_parameter Xs p) (is_day d) h in
+    let y = both (is_site t && has_parameter Xs q) (is_day f) i in
+    let a = both (is_site s) (has_parameter Xs p) x.0 in
+    let b = both (is_site t) (has_parameter Xs q) y.0 in
+    series_parts s t p q _ _ d f a.0 b.0 (ordered-date d f (at_most_day d x.1) (at_most_day f y.1))
 same_kind (SeasonKey s m) (SeasonKey t n) h i e =
     let x = both (is_site s) (is_year m) h in
     let y = both (is_site t) (is_year n) i in

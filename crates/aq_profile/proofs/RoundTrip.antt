@@ -23,7 +23,7 @@ use Rattle.aq_base.specs.declared.office.OfficeKey.TheVariants.{Monitor as Monit
 use Rattle.aq_base.specs.declared.office.OfficeLine.{OfficeLine}
 use Rattle.aq_base.specs.declared.office.OfficeLine.TheVariants.{Put, Change, Drop}
 use Rattle.aq_profile.specs.Fields.{field, fields}
-use Rattle.aq_profile.specs.Spellings.{◌>>=◌, tag_in, Xs, Xp, Xu, Xe, is_interval, is_event_number, is_event_code, event_number_in, event_code_in, has_parameter, has_duration}
+use Rattle.aq_profile.specs.Spellings.{◌>>=◌, tag_in, Xs, Xp, Xu, Xe, is_interval, is_event_number, is_event_code, event_number_in, event_code_in, is_code_byte, has_parameter, has_duration}
 use Rattle.aq_profile.specs.RdForm.{monitor_in}
 use Rattle.aq_profile.specs.OfficeForms.{is_season, is_makeup, is_span, xm_record, xp_record, xp_key, xs_record, xs_key, xo_record, xo_key, xu_record, xu_key, xe_record, xe_key, xc_record, xa_record, xa_key}
 use Rattle.aq_profile.specs.Reading.{LineValue, OfRd, OfOffice, line_value, form_value, is_plain}
@@ -286,3 +286,153 @@ read-xa_key s d h i =
     round (Drop (ApprovedKey s d)) (codes "XA") (codes "D" ∷ site_with s (date_text d ∷ [])) refl
     (clean-site s (date_text d ∷ []) (one (date_text d) (clean-date d)))
     (drop_is _ _ (xa_key_read (codes "XA") (codes "D") s d h i))
+
+-- monitors
+poc_short : (p : ℕ) → is_poc p ≡ true → p < 2 ^ 64
+poc_short p h = small_poc p (both (nat_le 1 p) (nat_le p 99) h).1
+
+monitor_read : (tag action : List ℕ) (s : Site) (p : Pollutant) (poc : ℕ) (rest : List (List ℕ)) → is_site s ≡ true → is_poc poc ≡ true
+    → monitor_in (tag ∷ action ∷ site_with s (parameter_text p ∷ decimal poc ∷ rest)) ≡ Some (record { site = s; pollutant = p; poc = poc })
+unfolding monitor_in
+monitor_read tag action s p poc rest h i = bind-is _ (site_is s h) ∙ bind-is _ (parameter_is p) ∙ bind-is _ (poc_is poc i)
+
+xm_read : (tag action : List ℕ) (id : MonitorId) (d : Duration) (eligible : Bool) → is_site id.site ≡ true → is_poc id.poc ≡ true
+    → has_duration id.pollutant d ≡ true
+    → xm_record (tag ∷ action ∷ site_with id.site (parameter_text id.pollutant ∷ decimal id.poc ∷ duration_text d ∷ truth_text eligible ∷ []))
+    ≡ Some (Monitor id d eligible)
+unfolding xm_record
+xm_read tag action id d eligible h i j =
+    bind-is _ (monitor_read tag action id.site id.pollutant id.poc (duration_text d ∷ truth_text eligible ∷ []) h i)
+    ∙ bind-is _ (duration_is id.pollutant d j) ∙ bind-is _ (truth_is eligible)
+
+clean-xm : (id : MonitorId) (d : Duration) (eligible : Bool) → is_poc id.poc ≡ true
+    → list_all is_clean (site_with id.site (parameter_text id.pollutant ∷ decimal id.poc ∷ duration_text d ∷ truth_text eligible ∷ [])) ≡ true
+clean-xm id d eligible i =
+    clean-site id.site (parameter_text id.pollutant ∷ decimal id.poc ∷ duration_text d ∷ truth_text eligible ∷ [])
+    (also (parameter_text id.pollutant) (decimal id.poc ∷ duration_text d ∷ truth_text eligible ∷ []) (clean-parameter id.pollutant)
+      (also (decimal id.poc) (duration_text d ∷ truth_text eligible ∷ []) (clean-decimal id.poc (poc_short id.poc i))
+        (also (duration_text d) (truth_text eligible ∷ []) (clean-duration d) (one (truth_text eligible) (clean-truth eligible)))))
+
+read-xm : (id : MonitorId) (d : Duration) (eligible : Bool) → is_site id.site ≡ true → is_poc id.poc ≡ true → has_duration id.pollutant d ≡ true
+    → line_value (canonical_office (Put (Monitor id d eligible))) ≡ Some (OfOffice (Put (Monitor id d eligible)))
+unfolding office_texts
+read-xm id d eligible h i j =
+    round (Put (Monitor id d eligible)) (codes "XM")
+    (codes "I" ∷ site_with id.site (parameter_text id.pollutant ∷ decimal id.poc ∷ duration_text d ∷ truth_text eligible ∷ [])) refl
+    (clean-xm id d eligible i) (put_is _ _ (xm_read (codes "XM") (codes "I") id d eligible h i j))
+
+read-xm_change : (id : MonitorId) (d : Duration) (eligible : Bool) → is_site id.site ≡ true → is_poc id.poc ≡ true → has_duration id.pollutant d ≡ true
+    → line_value (canonical_office (Change (Monitor id d eligible))) ≡ Some (OfOffice (Change (Monitor id d eligible)))
+unfolding office_texts
+read-xm_change id d eligible h i j =
+    round (Change (Monitor id d eligible)) (codes "XM")
+    (codes "U" ∷ site_with id.site (parameter_text id.pollutant ∷ decimal id.poc ∷ duration_text d ∷ truth_text eligible ∷ [])) refl
+    (clean-xm id d eligible i) (change_is _ _ (xm_read (codes "XM") (codes "U") id d eligible h i j))
+
+-- events
+digit : (c : ℕ) → digit_value c < 10 → is_ascii_digit c ≡ true
+digit c h = grind (arith, nat_tests)
+
+digits-all : (ds : List ℕ) → AllDigits 10 ds → are_digits ds ≡ true
+digits-all [] h = refl
+digits-all (c ∷ ds) h = and_true (is_ascii_digit c) (are_digits ds) (digit c h.0) (digits-all ds h.1)
+
+number_short : (n : ℕ) → is_event_number n ≡ true → (0 < n) × (n < 2 ^ 64)
+number_short n h =
+    let parts = both (nat_le 1 n) (nat_le n 999999) h in
+    (grind (arith, nat_tests), grind (arith, nat_tests))
+
+at_least_one : (c : ℕ) → 48 < c → nat_le 49 c ≡ true
+at_least_one c h = grind (arith, nat_tests)
+
+event_number_is : (n : ℕ) → is_event_number n ≡ true → event_number_in (decimal n) ≡ Some n
+unfolding event_number_in
+event_number_is n h =
+    let short = number_short n h in
+    let numeral = decimal_is_IsNumeral n short.1 in
+    ap (λ b. if b then Some (digits_value 10 (decimal n)) else None)
+    (and_true (are_digits (decimal n) && nat_le 49 (get_or (decimal n) 0 0)) (is_event_number (digits_value 10 (decimal n)))
+      (and_true (are_digits (decimal n)) (nat_le 49 (get_or (decimal n) 0 0)) (digits-all (decimal n) numeral.0.1)
+        (at_least_one (get_or (decimal n) 0 0) (first_decimal n short.0 short.1)))
+      (ap is_event_number numeral.1 ∙ h))
+    ∙ ap Some numeral.1
+
+record EventBytes (c : Code) : Type 0 where
+  not_zero : (c.second == 0) ≡ false
+  first : is_code_byte c.first ≡ true
+  second : is_code_byte c.second ≡ true
+  first_clean : is_clean_byte c.first ≡ true
+  second_clean : is_clean_byte c.second ≡ true
+
+event_bytes : (c : Code) → is_event_code c ≡ true → EventBytes c
+event_bytes c h = record {
+  not_zero = grind (arith, nat_tests);
+  first = grind (arith, nat_tests);
+  second = grind (arith, nat_tests);
+  first_clean = grind (arith, nat_tests);
+  second_clean = grind (arith, nat_tests);
+}
+
+event_code_is : (c : Code) → is_event_code c ≡ true → event_code_in (code_text c) ≡ Some c
+unfolding event_code_in
+event_code_is c h =
+    let bytes = event_bytes c h in
+    ap (λ b. event_code_in (if b then c.first ∷ [] else c.first ∷ c.second ∷ [])) bytes.not_zero
+    ∙ bind-is _ (ap (λ b. if b then Some c else None) (and_true (is_code_byte c.first) (is_code_byte c.second) bytes.first bytes.second))
+    ∙ ap (λ b. if b then Some c else None) h
+
+clean-event_code : (c : Code) → is_event_code c ≡ true → is_clean (code_text c) ≡ true
+clean-event_code c h =
+    let bytes = event_bytes c h in
+    ap (λ b. is_clean (if b then c.first ∷ [] else c.first ∷ c.second ∷ [])) bytes.not_zero
+    ∙ and_true (is_clean_byte c.first) (is_clean_byte c.second && true) bytes.first_clean (and_true (is_clean_byte c.second) true bytes.second_clean refl)
+
+abbrev event_texts : Site → Pollutant → ℕ → ℕ → Code → List (List ℕ)
+event_texts s p first last code =
+    site_with s (parameter_text p ∷ date_text (day_of_hour first) ∷ time_text first ∷ date_text (day_of_hour last) ∷ time_text last ∷ code_text code ∷ [])
+
+xe_read : (tag action : List ℕ) (n : ℕ) (s : Site) (p : Pollutant) (first last : ℕ) (code : Code) → is_event_number n ≡ true → is_site s ≡ true
+    → first ≤ 438311 → last ≤ 438311 → is_span first last ≡ true → is_event_code code ≡ true
+    → xe_record (tag ∷ action ∷ decimal n ∷ event_texts s p first last code) ≡ Some (Event n s p first last code)
+unfolding xe_record
+xe_read tag action n s p first last code g h i j k l =
+    bind-is _ (site_is s h) ∙ bind-is _ (parameter_of-is Xe p refl) ∙ bind-is _ (hour_is first i) ∙ bind-is _ (hour_is last j)
+    ∙ bind-is _ (event_number_is n g) ∙ bind-is _ (event_code_is code l) ∙ ap (λ b. if b then Some (Event n s p first last code) else None) k
+
+read-xe : (n : ℕ) (s : Site) (p : Pollutant) (first last : ℕ) (code : Code) → is_event_number n ≡ true → is_site s ≡ true
+    → first ≤ 438311 → last ≤ 438311 → is_span first last ≡ true → is_event_code code ≡ true
+    → line_value (canonical_office (Put (Event n s p first last code))) ≡ Some (OfOffice (Put (Event n s p first last code)))
+unfolding office_texts
+read-xe n s p first last code g h i j k l =
+    round (Put (Event n s p first last code)) (codes "XE") (codes "I" ∷ decimal n ∷ event_texts s p first last code) refl
+    (also (decimal n) (event_texts s p first last code) (clean-decimal n (number_short n g).1)
+      (clean-site s (parameter_text p ∷ date_text (day_of_hour first) ∷ time_text first ∷ date_text (day_of_hour last) ∷ time_text last ∷ code_text code ∷ [])
+        (also (parameter_text p) (date_text (day_of_hour first) ∷ time_text first ∷ date_text (day_of_hour last) ∷ time_text last ∷ code_text code ∷ []) (clean-parameter p)
+        (also (date_text (day_of_hour first)) (time_text first ∷ date_text (day_of_hour last) ∷ time_text last ∷ code_text code ∷ []) (clean-date (day_of_hour first))
+        (also (time_text first) (date_text (day_of_hour last) ∷ time_text last ∷ code_text code ∷ []) (clean-time first)
+        (also (date_text (day_of_hour last)) (time_text last ∷ code_text code ∷ []) (clean-date (day_of_hour last))
+        (also (time_text last) (code_text code ∷ []) (clean-time last) (one (code_text code) (clean-event_code code l)))))))))
+    (put_is _ _ (xe_read (codes "XE") (codes "I") n s p first last code g h i j k l))
+
+xe_key_read : (tag action : List ℕ) (n : ℕ) → is_event_number n ≡ true → xe_key (tag ∷ action ∷ decimal n ∷ []) ≡ Some (EventKey n)
+unfolding xe_key
+xe_key_read tag action n h = bind-is _ (event_number_is n h)
+
+read-xe_key : (n : ℕ) → is_event_number n ≡ true → line_value (canonical_office (Drop (EventKey n))) ≡ Some (OfOffice (Drop (EventKey n)))
+unfolding office_texts
+read-xe_key n h =
+    round (Drop (EventKey n)) (codes "XE") (codes "D" ∷ decimal n ∷ []) refl (one (decimal n) (clean-decimal n (number_short n h).1))
+    (drop_is _ _ (xe_key_read (codes "XE") (codes "D") n h))
+
+xc_read : (tag action : List ℕ) (n : ℕ) (agreed : Bool) → is_event_number n ≡ true
+    → xc_record (tag ∷ action ∷ decimal n ∷ truth_text agreed ∷ []) ≡ Some (Concurrence n agreed)
+unfolding xc_record
+xc_read tag action n agreed h = bind-is _ (event_number_is n h) ∙ bind-is _ (truth_is agreed)
+
+read-xc : (n : ℕ) (agreed : Bool) → is_event_number n ≡ true
+    → line_value (canonical_office (Change (Concurrence n agreed))) ≡ Some (OfOffice (Change (Concurrence n agreed)))
+unfolding office_texts
+read-xc n agreed h =
+    round (Change (Concurrence n agreed)) (codes "XC") (codes "U" ∷ decimal n ∷ truth_text agreed ∷ []) refl
+    (also (decimal n) (truth_text agreed ∷ []) (clean-decimal n (number_short n h).1) (one (truth_text agreed) (clean-truth agreed)))
+    (change_is _ _ (xc_read (codes "XC") (codes "U") n agreed h))

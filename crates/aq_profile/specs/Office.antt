@@ -248,7 +248,7 @@ is_day day = nat_le day LAST_DAY
 abbrev pub is_key : OfficeKey → Bool
 is_key (MonitorKey id) = is_site id.site && is_poc id.poc
 is_key (PrimaryKey site pollutant from) = is_site site && is_day from
-is_key (ScheduleKey site pollutant from) = is_site site && is_day from
+is_key (ScheduleKey site pollutant from) = is_site site && has_parameter Xs pollutant && is_day from
 is_key (SeasonKey site year) = is_site site && is_year year
 is_key (MakeupKey site missed) = is_site site && is_day missed
 is_key (EventKey number) = is_event_number number
@@ -259,8 +259,7 @@ is_key (ApprovedKey site day) = is_site site && is_day day
 abbrev pub is_content_of : OfficeRecord → Bool
 is_content_of (Monitor id duration eligible) = has_duration id.pollutant duration
 is_content_of (Primary site pollutant from poc) = nat_le poc 99
-is_content_of (Schedule site pollutant from interval anchor) =
-    has_parameter Xs pollutant && is_interval interval && is_day anchor
+is_content_of (Schedule site pollutant from interval anchor) = is_interval interval && is_day anchor
 is_content_of (Season site year first last) = is_day first && is_day last && is_season year first last
 is_content_of (Makeup site missed makeup) = is_day makeup && is_makeup missed makeup
 is_content_of (Event number site pollutant first last code) =
