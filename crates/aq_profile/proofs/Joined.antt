@@ -1,14 +1,13 @@
 -- Texts joined by bars are the fields of their line.
-use Rattle.std.proofs.Common.{◌≡◌, ℕ, suc, zero, ◌+◌, ◌-◌, ◌*◌, ◌/◌, ◌%◌, ◌<◌, ◌≤◌, Bool, true, false, cond, not, ◌&&◌, ◌||◌, List, [], ◌∷◌, ◌++◌, Some, None, Option, refl, sym, ap, ◌∙◌, arith, inl, inr, subst}
-use Rattle.std.specs.Prelude.{nat_lt, nat_le, ◌==◌, map}
-use Rattle.std.specs.List.{list_all, slice_split, onto_first, join_with_byte}
+use Rattle.std.proofs.Common.{◌≡◌, ℕ, Bool, true, false, cond, ◌&&◌, List, [], ◌∷◌, ◌++◌, refl, ap, ◌∙◌, arith}
+use Rattle.std.specs.Prelude.{nat_lt, map}
+use Rattle.std.specs.List.{list_all, slice_split, onto_first}
 use Rattle.std.proofs.lemmas.Bool.{false≢true}
 use Rattle.std.proofs.lemmas.Bool.Decides.{nat_tests}
-use Rattle.aq_base.specs.Decimal.{last_digits}
 use Rattle.aq_profile.specs.Fields.{fields, trimmed, without_front, without_back, onto_text, is_bar, is_space}
 use Rattle.aq_profile.specs.Reading.{is_plain, is_plain_byte}
 use Rattle.aq_profile.specs.Canonical.{joined}
-use Rattle.aq_profile.proofs.Least.{both, true_or_false}
+use Rattle.aq_profile.proofs.Least.{both}
 
 -- printed bytes below the bar
 abbrev pub is_clean_byte : ℕ → Bool

@@ -1,8 +1,8 @@
 -- The canonical line of a value is read as that value.
-use Rattle.std.proofs.Common.{◌≡◌, ℕ, suc, zero, ◌+◌, ◌-◌, ◌*◌, ◌/◌, ◌%◌, ◌^◌, ◌<◌, ◌≤◌, Bool, true, false, cond, not, ◌&&◌, ◌||◌, List, [], ◌∷◌, ◌++◌, Some, None, Option, refl, sym, ap, ◌∙◌, arith, inl, inr, subst, get_or}
+use Rattle.std.proofs.Common.{◌≡◌, ℕ, suc, zero, ◌+◌, ◌/◌, ◌%◌, ◌^◌, ◌<◌, ◌≤◌, Bool, true, false, ◌&&◌, List, [], ◌∷◌, ◌++◌, Some, None, Option, refl, ap, ◌∙◌, arith, get_or}
 use Rattle.std.specs.Prelude.{nat_lt, nat_le, ◌==◌, codes, decimal, if◌then◌else◌}
 use Rattle.std.specs.List.{list_all}
-use Rattle.std.specs.Char.{digit_value, is_ascii_digit, is_ascii_uppercase}
+use Rattle.std.specs.Char.{digit_value, is_ascii_digit}
 use Rattle.std.specs.Str.Parse.{AllDigits, digits_value}
 use Rattle.std.proofs.lemmas.Fmt.{decimal_is_IsNumeral, first_decimal}
 use Rattle.std.proofs.lemmas.Bool.{false≢true}
@@ -26,10 +26,10 @@ use Rattle.aq_profile.specs.Fields.{field, fields}
 use Rattle.aq_profile.specs.Spellings.{◌>>=◌, tag_in, Xs, Xp, Xu, Xe, is_interval, is_event_number, is_event_code, event_number_in, event_code_in, is_code_byte, has_parameter, has_duration}
 use Rattle.aq_profile.specs.RdForm.{monitor_in}
 use Rattle.aq_profile.specs.OfficeForms.{is_season, is_makeup, is_span, xm_record, xp_record, xp_key, xs_record, xs_key, xo_record, xo_key, xu_record, xu_key, xe_record, xe_key, xc_record, xa_record, xa_key}
-use Rattle.aq_profile.specs.Reading.{LineValue, OfRd, OfOffice, line_value, form_value, is_plain}
-use Rattle.aq_profile.specs.Canonical.{parameter_text, duration_text, date_text, time_text, truth_text, code_text, joined, office_texts, canonical_office, record_line}
-use Rattle.aq_profile.specs.Office.{is_site, is_poc, is_day, is_key, is_record, is_content_of, key_of}
-use Rattle.aq_profile.proofs.Least.{both, true_or_false}
+use Rattle.aq_profile.specs.Reading.{OfOffice, line_value, form_value}
+use Rattle.aq_profile.specs.Canonical.{is_office_line, parameter_text, duration_text, date_text, time_text, truth_text, code_text, joined, office_texts, canonical_office}
+use Rattle.aq_profile.specs.Office.{is_site, is_poc, is_day}
+use Rattle.aq_profile.proofs.Least.{both}
 use Rattle.aq_profile.proofs.Order.{at_most_day}
 use Rattle.aq_profile.proofs.Joined.{is_clean, is_clean_byte, and_true, fields-some, plain-some}
 use Rattle.aq_profile.proofs.Spelled.{bind-is, site_is, parameter_is, parameter_of-is, duration_is, truth_is, year_is, date_is, hour_is, poc_is, primary_is, interval_is}
@@ -195,7 +195,7 @@ unfolding office_texts
 read-xs s p d interval anchor h i j k l =
     round (Put (Schedule s p d interval anchor)) (codes "XS") (codes "I" ∷ series_with s p d (decimal interval ∷ date_text anchor ∷ [])) refl
     (clean-series s p d (decimal interval ∷ date_text anchor ∷ [])
-      (also (decimal interval) (date_text anchor ∷ []) (clean-decimal interval (small_interval interval k)) (one (date_text anchor) (clean-date anchor))))
+    (also (decimal interval) (date_text anchor ∷ []) (clean-decimal interval (small_interval interval k)) (one (date_text anchor) (clean-date anchor))))
     (put_is _ _ (xs_read (codes "XS") (codes "I") s p d interval anchor h i j k l))
 
 -- seasons
@@ -214,8 +214,8 @@ unfolding office_texts
 read-xo s year first last h i j k l =
     round (Put (Season s year first last)) (codes "XO") (codes "I" ∷ site_with s (last_digits 4 year ∷ date_text first ∷ date_text last ∷ [])) refl
     (clean-site s (last_digits 4 year ∷ date_text first ∷ date_text last ∷ [])
-      (also (last_digits 4 year) (date_text first ∷ date_text last ∷ []) (clean-digits 4 year)
-        (also (date_text first) (date_text last ∷ []) (clean-date first) (one (date_text last) (clean-date last)))))
+    (also (last_digits 4 year) (date_text first ∷ date_text last ∷ []) (clean-digits 4 year)
+    (also (date_text first) (date_text last ∷ []) (clean-date first) (one (date_text last) (clean-date last)))))
     (put_is _ _ (xo_read (codes "XO") (codes "I") s year first last h i j k l))
 
 xo_key_read : (tag action : List ℕ) (s : Site) (year : ℕ) → is_site s ≡ true → is_year year ≡ true
@@ -310,8 +310,8 @@ clean-xm : (id : MonitorId) (d : Duration) (eligible : Bool) → is_poc id.poc �
 clean-xm id d eligible i =
     clean-site id.site (parameter_text id.pollutant ∷ decimal id.poc ∷ duration_text d ∷ truth_text eligible ∷ [])
     (also (parameter_text id.pollutant) (decimal id.poc ∷ duration_text d ∷ truth_text eligible ∷ []) (clean-parameter id.pollutant)
-      (also (decimal id.poc) (duration_text d ∷ truth_text eligible ∷ []) (clean-decimal id.poc (poc_short id.poc i))
-        (also (duration_text d) (truth_text eligible ∷ []) (clean-duration d) (one (truth_text eligible) (clean-truth eligible)))))
+    (also (decimal id.poc) (duration_text d ∷ truth_text eligible ∷ []) (clean-decimal id.poc (poc_short id.poc i))
+    (also (duration_text d) (truth_text eligible ∷ []) (clean-duration d) (one (truth_text eligible) (clean-truth eligible)))))
 
 read-xm : (id : MonitorId) (d : Duration) (eligible : Bool) → is_site id.site ≡ true → is_poc id.poc ≡ true → has_duration id.pollutant d ≡ true
     → line_value (canonical_office (Put (Monitor id d eligible))) ≡ Some (OfOffice (Put (Monitor id d eligible)))
@@ -352,9 +352,9 @@ event_number_is n h =
     let numeral = decimal_is_IsNumeral n short.1 in
     ap (λ b. if b then Some (digits_value 10 (decimal n)) else None)
     (and_true (are_digits (decimal n) && nat_le 49 (get_or (decimal n) 0 0)) (is_event_number (digits_value 10 (decimal n)))
-      (and_true (are_digits (decimal n)) (nat_le 49 (get_or (decimal n) 0 0)) (digits-all (decimal n) numeral.0.1)
-        (at_least_one (get_or (decimal n) 0 0) (first_decimal n short.0 short.1)))
-      (ap is_event_number numeral.1 ∙ h))
+    (and_true (are_digits (decimal n)) (nat_le 49 (get_or (decimal n) 0 0)) (digits-all (decimal n) numeral.0.1)
+    (at_least_one (get_or (decimal n) 0 0) (first_decimal n short.0 short.1)))
+    (ap is_event_number numeral.1 ∙ h))
     ∙ ap Some numeral.1
 
 record EventBytes (c : Code) : Type 0 where
@@ -406,12 +406,12 @@ unfolding office_texts
 read-xe n s p first last code g h i j k l =
     round (Put (Event n s p first last code)) (codes "XE") (codes "I" ∷ decimal n ∷ event_texts s p first last code) refl
     (also (decimal n) (event_texts s p first last code) (clean-decimal n (number_short n g).1)
-      (clean-site s (parameter_text p ∷ date_text (day_of_hour first) ∷ time_text first ∷ date_text (day_of_hour last) ∷ time_text last ∷ code_text code ∷ [])
-        (also (parameter_text p) (date_text (day_of_hour first) ∷ time_text first ∷ date_text (day_of_hour last) ∷ time_text last ∷ code_text code ∷ []) (clean-parameter p)
-        (also (date_text (day_of_hour first)) (time_text first ∷ date_text (day_of_hour last) ∷ time_text last ∷ code_text code ∷ []) (clean-date (day_of_hour first))
-        (also (time_text first) (date_text (day_of_hour last) ∷ time_text last ∷ code_text code ∷ []) (clean-time first)
-        (also (date_text (day_of_hour last)) (time_text last ∷ code_text code ∷ []) (clean-date (day_of_hour last))
-        (also (time_text last) (code_text code ∷ []) (clean-time last) (one (code_text code) (clean-event_code code l)))))))))
+    (clean-site s (parameter_text p ∷ date_text (day_of_hour first) ∷ time_text first ∷ date_text (day_of_hour last) ∷ time_text last ∷ code_text code ∷ [])
+    (also (parameter_text p) (date_text (day_of_hour first) ∷ time_text first ∷ date_text (day_of_hour last) ∷ time_text last ∷ code_text code ∷ []) (clean-parameter p)
+    (also (date_text (day_of_hour first)) (time_text first ∷ date_text (day_of_hour last) ∷ time_text last ∷ code_text code ∷ []) (clean-date (day_of_hour first))
+    (also (time_text first) (date_text (day_of_hour last) ∷ time_text last ∷ code_text code ∷ []) (clean-time first)
+    (also (date_text (day_of_hour last)) (time_text last ∷ code_text code ∷ []) (clean-date (day_of_hour last))
+    (also (time_text last) (code_text code ∷ []) (clean-time last) (one (code_text code) (clean-event_code code l)))))))))
     (put_is _ _ (xe_read (codes "XE") (codes "I") n s p first last code g h i j k l))
 
 xe_key_read : (tag action : List ℕ) (n : ℕ) → is_event_number n ≡ true → xe_key (tag ∷ action ∷ decimal n ∷ []) ≡ Some (EventKey n)
@@ -436,3 +436,81 @@ read-xc n agreed h =
     round (Change (Concurrence n agreed)) (codes "XC") (codes "U" ∷ decimal n ∷ truth_text agreed ∷ []) refl
     (also (decimal n) (truth_text agreed ∷ []) (clean-decimal n (number_short n h).1) (one (truth_text agreed) (clean-truth agreed)))
     (change_is _ _ (xc_read (codes "XC") (codes "U") n agreed h))
+
+-- ---- all office lines
+
+at_most_hour : (h : ℕ) → nat_le h 438311 ≡ true → h ≤ 438311
+at_most_hour h p = grind (arith, nat_tests)
+
+span_first : (a b : ℕ) → is_span a b ≡ true → a ≤ b
+span_first a b h =
+    let parts = both (nat_le a b) (nat_lt b (a + 8784)) h in
+    grind (arith, nat_tests)
+
+round-put : (r : OfficeRecord) → is_office_line (Put r) ≡ true → line_value (canonical_office (Put r)) ≡ Some (OfOffice (Put r))
+round-put (Monitor id d eligible) h =
+    let x = both (is_site id.site && is_poc id.poc) (has_duration id.pollutant d) h in
+    let y = both (is_site id.site) (is_poc id.poc) x.0 in
+    read-xm id d eligible y.0 y.1 x.1
+round-put (Primary s p d poc) h =
+    let x = both (is_site s && is_day d) (nat_le poc 99) h in
+    let y = both (is_site s) (is_day d) x.0 in
+    read-xp s p d poc y.0 y.1 x.1
+round-put (Schedule s p d interval anchor) h =
+    let x = both (is_site s && has_parameter Xs p && is_day d) (is_interval interval && is_day anchor) h in
+    let y = both (is_site s && has_parameter Xs p) (is_day d) x.0 in
+    let z = both (is_site s) (has_parameter Xs p) y.0 in
+    let w = both (is_interval interval) (is_day anchor) x.1 in
+    read-xs s p d interval anchor z.0 z.1 y.1 w.0 w.1
+round-put (Season s year first last) h =
+    let x = both (is_site s && is_year year) (is_day first && is_day last && is_season year first last) h in
+    let y = both (is_site s) (is_year year) x.0 in
+    let z = both (is_day first && is_day last) (is_season year first last) x.1 in
+    let w = both (is_day first) (is_day last) z.0 in
+    read-xo s year first last y.0 y.1 w.0 w.1 z.1
+round-put (Makeup s missed makeup) h =
+    let x = both (is_site s && is_day missed) (is_day makeup && is_makeup missed makeup) h in
+    let y = both (is_site s) (is_day missed) x.0 in
+    let z = both (is_day makeup) (is_makeup missed makeup) x.1 in
+    read-xu s missed makeup y.0 y.1 z.0 z.1
+round-put (Event n s p first last code) h =
+    let x = both (is_event_number n) (is_site s && nat_le last 438311 && is_span first last && is_event_code code) h in
+    let y = both (is_site s && nat_le last 438311 && is_span first last) (is_event_code code) x.1 in
+    let z = both (is_site s && nat_le last 438311) (is_span first last) y.0 in
+    let w = both (is_site s) (nat_le last 438311) z.0 in
+    let top = at_most_hour last w.1 in
+    let low = span_first first last z.1 in
+    read-xe n s p first last code x.0 w.0 (omega arith) top z.1 y.1
+round-put (Concurrence n agreed) h = absurd (false≢true h)
+round-put (Approved s d) h =
+    let x = both (is_site s && is_day d) true h in
+    let y = both (is_site s) (is_day d) x.0 in
+    read-xa s d y.0 y.1
+
+pub round-office : (line : OfficeLine) → is_office_line line ≡ true → line_value (canonical_office line) ≡ Some (OfOffice line)
+round-office (Put r) h = round-put r h
+round-office (Change (Monitor id d eligible)) h =
+    let x = both (is_site id.site && is_poc id.poc) (has_duration id.pollutant d) h in
+    let y = both (is_site id.site) (is_poc id.poc) x.0 in
+    read-xm_change id d eligible y.0 y.1 x.1
+round-office (Change (Concurrence n agreed)) h = read-xc n agreed (both (is_event_number n) true h).0
+round-office (Change r) h = absurd (false≢true h)
+round-office (Drop (MonitorKey id)) h = absurd (false≢true h)
+round-office (Drop (PrimaryKey s p d)) h =
+    let x = both (is_site s) (is_day d) h in
+    read-xp_key s p d x.0 x.1
+round-office (Drop (ScheduleKey s p d)) h =
+    let y = both (is_site s && has_parameter Xs p) (is_day d) h in
+    let z = both (is_site s) (has_parameter Xs p) y.0 in
+    read-xs_key s p d z.0 z.1 y.1
+round-office (Drop (SeasonKey s year)) h =
+    let x = both (is_site s) (is_year year) h in
+    read-xo_key s year x.0 x.1
+round-office (Drop (MakeupKey s missed)) h =
+    let x = both (is_site s) (is_day missed) h in
+    read-xu_key s missed x.0 x.1
+round-office (Drop (EventKey n)) h = read-xe_key n h
+round-office (Drop (ConcurrenceKey n)) h = absurd (false≢true h)
+round-office (Drop (ApprovedKey s d)) h =
+    let x = both (is_site s) (is_day d) h in
+    read-xa_key s d x.0 x.1

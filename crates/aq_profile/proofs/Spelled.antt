@@ -1,6 +1,6 @@
 -- The text of each part of a value is read as that part.
-use Rattle.std.proofs.Common.{◌≡◌, ℕ, suc, zero, ◌+◌, ◌-◌, ◌*◌, ◌/◌, ◌%◌, ◌^◌, ◌<◌, ◌≤◌, Bool, true, false, cond, not, ◌&&◌, ◌||◌, List, [], ◌∷◌, ◌++◌, length, Some, None, Option, refl, sym, ap, ◌∙◌, arith, inl, inr, subst}
-use Rattle.std.specs.Prelude.{nat_lt, nat_le, ◌==◌, bytes_eq, codes, decimal, if◌then◌else◌}
+use Rattle.std.proofs.Common.{◌≡◌, ℕ, ◌+◌, ◌-◌, ◌<◌, ◌≤◌, Bool, true, false, not, ◌||◌, ◌++◌, Some, None, Option, refl, ap, ◌∙◌, arith, subst}
+use Rattle.std.specs.Prelude.{nat_le, codes, decimal, if◌then◌else◌}
 use Rattle.std.specs.Fmt.{digits}
 use Rattle.std.specs.List.{range_with_len, list_all}
 use Rattle.std.proofs.lemmas.Bool.{false≢true}
@@ -8,16 +8,15 @@ use Rattle.std.proofs.lemmas.Bool.Decides.{nat_tests}
 use Rattle.aq_base.specs.Calendar.{day_of_date, year_of, month_of, day_of_month, day_of_hour, hour_of_day, is_year}
 use Rattle.aq_base.specs.Decimal.{last_digits}
 use Rattle.aq_base.specs.Site.{Site}
-use Rattle.aq_base.specs.declared.code.Code.{Code}
 use Rattle.aq_base.specs.declared.monitor.Pollutant.{Pollutant}
 use Rattle.aq_base.specs.declared.monitor.Pollutant.TheVariants.{Ozone, Pm25, Pm10}
 use Rattle.aq_base.specs.declared.monitor.Duration.{Duration}
 use Rattle.aq_base.specs.declared.monitor.Duration.TheVariants.{Hour, Day}
-use Rattle.aq_profile.specs.Spellings.{◌>>=◌, digits_in, site_in, parameter_in, parameter_of, has_parameter, Tag, Xs, Xp, Xu, Xe, duration_in, has_duration, date_in, year_in, time_in, poc_in, primary_in, interval_in, is_interval, truth_in}
+use Rattle.aq_profile.specs.Spellings.{◌>>=◌, site_in, parameter_in, parameter_of, has_parameter, Tag, duration_in, has_duration, date_in, year_in, time_in, poc_in, primary_in, interval_in, is_interval, truth_in}
 use Rattle.aq_profile.specs.OfficeForms.{hour_in}
 use Rattle.aq_profile.specs.Canonical.{parameter_text, duration_text, date_text, time_text, truth_text}
 use Rattle.aq_profile.specs.Office.{is_site, is_poc}
-use Rattle.aq_profile.proofs.Least.{both, true_or_false}
+use Rattle.aq_profile.proofs.Least.{both}
 use Rattle.aq_profile.proofs.Digits.{in_range, from_none, is_number, number_is, digits_two, digits_three, digits_four}
 use Rattle.aq_profile.proofs.Order.{site_bounds, less_or, month_short}
 use Rattle.aq_profile.proofs.Days.{IsDate, date_of, day_of_date-date}
