@@ -8,3 +8,4 @@ pub mod Order
 pub mod Spelled
 pub mod Joined
 pub mod RoundTrip
+pub mod Values

@@ -49,11 +49,11 @@ same-append (x ∷ xs) [] us vs len = absurd (omega arith)
 same-append (x ∷ xs) (y ∷ ys) us vs len =
     ap (λ t. (x == y) && t) (same-append xs ys us vs (omega arith)) ∙ same_regroup (x == y) (bytes_eq xs ys) (bytes_eq us vs)
 
-digits_next : (w n : ℕ) → last_digits (suc w) n ≡ last_digits w (n / 10) ++ (48 + n % 10) ∷ []
+pub digits_next : (w n : ℕ) → last_digits (suc w) n ≡ last_digits w (n / 10) ++ (48 + n % 10) ∷ []
 unfolding last_digits
 digits_next w n = refl
 
-length-digits : (w n : ℕ) → length (last_digits w n) ≡ w
+pub length-digits : (w n : ℕ) → length (last_digits w n) ≡ w
 length-digits zero n = unfold last_digits in refl
 length-digits (suc w) n =
     ap length (digits_next w n)
