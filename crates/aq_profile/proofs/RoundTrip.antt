@@ -34,7 +34,7 @@ use Rattle.aq_profile.proofs.Order.{at_most_day}
 use Rattle.aq_profile.proofs.Joined.{is_clean, is_clean_byte, and_true, fields-some, plain-some}
 use Rattle.aq_profile.proofs.Spelled.{bind-is, site_is, parameter_is, parameter_of-is, duration_is, truth_is, year_is, date_is, hour_is, poc_is, primary_is, interval_is}
 
-from_texts : (text : List ℕ) (texts : List (List ℕ)) → list_all is_clean (text ∷ texts) ≡ true
+pub from_texts : (text : List ℕ) (texts : List (List ℕ)) → list_all is_clean (text ∷ texts) ≡ true
     → line_value (joined (text ∷ texts)) ≡ (tag_in text >>= λ tag. form_value tag (text ∷ texts))
 from_texts text texts clean =
     ap (λ b. if b then (tag_in (field 1 (fields (joined (text ∷ texts)))) >>= λ tag. form_value tag (fields (joined (text ∷ texts)))) else None)
@@ -43,7 +43,7 @@ from_texts text texts clean =
 
 -- ---- clean texts
 
-clean-append : (xs ys : List ℕ) → is_clean xs ≡ true → is_clean ys ≡ true → is_clean (xs ++ ys) ≡ true
+pub clean-append : (xs ys : List ℕ) → is_clean xs ≡ true → is_clean ys ≡ true → is_clean (xs ++ ys) ≡ true
 clean-append [] ys p q = q
 clean-append (x ∷ xs) ys p q =
     let parts = both (is_clean_byte x) (is_clean xs) p in
@@ -52,7 +52,7 @@ clean-append (x ∷ xs) ys p q =
 clean_digit : (n : ℕ) → is_clean_byte (48 + n % 10) ≡ true
 clean_digit n = grind (arith, nat_tests)
 
-clean-digits : (w n : ℕ) → is_clean (last_digits w n) ≡ true
+pub clean-digits : (w n : ℕ) → is_clean (last_digits w n) ≡ true
 unfolding last_digits
 clean-digits zero n = refl
 clean-digits (suc w) n =
@@ -65,15 +65,15 @@ clean-all : (ds : List ℕ) → AllDigits 10 ds → is_clean ds ≡ true
 clean-all [] h = refl
 clean-all (c ∷ ds) h = and_true (is_clean_byte c) (is_clean ds) (clean_value c h.0) (clean-all ds h.1)
 
-clean-decimal : (n : ℕ) → n < 2 ^ 64 → is_clean (decimal n) ≡ true
+pub clean-decimal : (n : ℕ) → n < 2 ^ 64 → is_clean (decimal n) ≡ true
 clean-decimal n h = clean-all (decimal n) (decimal_is_IsNumeral n h).0.1
 
-clean-parameter : (p : Pollutant) → is_clean (parameter_text p) ≡ true
+pub clean-parameter : (p : Pollutant) → is_clean (parameter_text p) ≡ true
 clean-parameter Ozone = refl
 clean-parameter Pm25 = refl
 clean-parameter Pm10 = refl
 
-clean-duration : (d : Duration) → is_clean (duration_text d) ≡ true
+pub clean-duration : (d : Duration) → is_clean (duration_text d) ≡ true
 clean-duration Hour = refl
 clean-duration Day = refl
 
@@ -81,13 +81,13 @@ clean-truth : (b : Bool) → is_clean (truth_text b) ≡ true
 clean-truth true = refl
 clean-truth false = refl
 
-clean-date : (d : ℕ) → is_clean (date_text d) ≡ true
+pub clean-date : (d : ℕ) → is_clean (date_text d) ≡ true
 clean-date d =
     clean-append (last_digits 4 (year_of d) ++ last_digits 2 (month_of d)) (last_digits 2 (day_of_month d))
     (clean-append (last_digits 4 (year_of d)) (last_digits 2 (month_of d)) (clean-digits 4 (year_of d)) (clean-digits 2 (month_of d)))
     (clean-digits 2 (day_of_month d))
 
-clean-time : (h : ℕ) → is_clean (time_text h) ≡ true
+pub clean-time : (h : ℕ) → is_clean (time_text h) ≡ true
 clean-time h = clean-append (last_digits 2 (hour_of_day h)) (codes ":00") (clean-digits 2 (hour_of_day h)) refl
 
 -- ---- records
@@ -119,16 +119,16 @@ drop_is : (part : Option OfficeKey) (key : OfficeKey) → part ≡ Some key
     → ((part >>= λ x. Some (Drop x)) >>= λ line. Some (OfOffice line)) ≡ Some (OfOffice (Drop key))
 drop_is part key is = ap (λ q. (q >>= λ x. Some (Drop x)) >>= λ line. Some (OfOffice line)) is
 
-abbrev site_with : Site → List (List ℕ) → List (List ℕ)
+abbrev pub site_with : Site → List (List ℕ) → List (List ℕ)
 site_with s rest = last_digits 2 s.state ∷ last_digits 3 s.county ∷ last_digits 4 s.number ∷ rest
 
 abbrev series_with : Site → Pollutant → ℕ → List (List ℕ) → List (List ℕ)
 series_with s p d rest = site_with s (parameter_text p ∷ date_text d ∷ rest)
 
-also : (text : List ℕ) (texts : List (List ℕ)) → is_clean text ≡ true → list_all is_clean texts ≡ true → list_all is_clean (text ∷ texts) ≡ true
+pub also : (text : List ℕ) (texts : List (List ℕ)) → is_clean text ≡ true → list_all is_clean texts ≡ true → list_all is_clean (text ∷ texts) ≡ true
 also text texts p q = and_true (is_clean text) (list_all is_clean texts) p q
 
-clean-site : (s : Site) (rest : List (List ℕ)) → list_all is_clean rest ≡ true → list_all is_clean (site_with s rest) ≡ true
+pub clean-site : (s : Site) (rest : List (List ℕ)) → list_all is_clean rest ≡ true → list_all is_clean (site_with s rest) ≡ true
 clean-site s rest h =
     also (last_digits 2 s.state) (last_digits 3 s.county ∷ last_digits 4 s.number ∷ rest) (clean-digits 2 s.state)
     (also (last_digits 3 s.county) (last_digits 4 s.number ∷ rest) (clean-digits 3 s.county) (also (last_digits 4 s.number) rest (clean-digits 4 s.number) h))
@@ -137,7 +137,7 @@ clean-series : (s : Site) (p : Pollutant) (d : ℕ) (rest : List (List ℕ)) →
 clean-series s p d rest h =
     clean-site s (parameter_text p ∷ date_text d ∷ rest) (also (parameter_text p) (date_text d ∷ rest) (clean-parameter p) (also (date_text d) rest (clean-date d) h))
 
-one : (text : List ℕ) → is_clean text ≡ true → list_all is_clean (text ∷ []) ≡ true
+pub one : (text : List ℕ) → is_clean text ≡ true → list_all is_clean (text ∷ []) ≡ true
 one text h = also text [] h refl
 
 read-xp : (s : Site) (p : Pollutant) (d poc : ℕ) → is_site s ≡ true → is_day d ≡ true → nat_le poc 99 ≡ true
@@ -288,10 +288,10 @@ read-xa_key s d h i =
     (drop_is _ _ (xa_key_read (codes "XA") (codes "D") s d h i))
 
 -- monitors
-poc_short : (p : ℕ) → is_poc p ≡ true → p < 2 ^ 64
+pub poc_short : (p : ℕ) → is_poc p ≡ true → p < 2 ^ 64
 poc_short p h = small_poc p (both (nat_le 1 p) (nat_le p 99) h).1
 
-monitor_read : (tag action : List ℕ) (s : Site) (p : Pollutant) (poc : ℕ) (rest : List (List ℕ)) → is_site s ≡ true → is_poc poc ≡ true
+pub monitor_read : (tag action : List ℕ) (s : Site) (p : Pollutant) (poc : ℕ) (rest : List (List ℕ)) → is_site s ≡ true → is_poc poc ≡ true
     → monitor_in (tag ∷ action ∷ site_with s (parameter_text p ∷ decimal poc ∷ rest)) ≡ Some (record { site = s; pollutant = p; poc = poc })
 unfolding monitor_in
 monitor_read tag action s p poc rest h i = bind-is _ (site_is s h) ∙ bind-is _ (parameter_is p) ∙ bind-is _ (poc_is poc i)
@@ -439,7 +439,7 @@ read-xc n agreed h =
 
 -- ---- all office lines
 
-at_most_hour : (h : ℕ) → nat_le h 438311 ≡ true → h ≤ 438311
+pub at_most_hour : (h : ℕ) → nat_le h 438311 ≡ true → h ≤ 438311
 at_most_hour h p = grind (arith, nat_tests)
 
 span_first : (a b : ℕ) → is_span a b ≡ true → a ≤ b
