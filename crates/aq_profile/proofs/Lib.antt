@@ -9,3 +9,4 @@ pub mod Spelled
 pub mod Joined
 pub mod RoundTrip
 pub mod Values
+pub mod Samples
