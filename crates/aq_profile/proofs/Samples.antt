@@ -263,3 +263,86 @@ read_put true id d method hour content rest p behind clean count reads =
     ∙ from_texts (codes "RD") (drop 1 (put_texts (codes "U") id d method hour rest)) (clean-put (codes "U") id d method hour rest refl p.poc_ok clean)
     ∙ second_branch (has_wrong_count Rd false (put_texts (codes "U") id d method hour rest)) _ _ (count (codes "U"))
     ∙ bind-is (λ value. Some (OfRd value)) (put_read true (codes "U") id d method hour rest content p (reads (codes "U")))
+
+long_count : (action : List ℕ) (id : MonitorId) (d : Duration) (method hour : ℕ) (a b c e : List ℕ) (tail : List (List ℕ)) → length tail ≤ 10
+    → has_wrong_count Rd false (put_texts action id d method hour (a ∷ b ∷ c ∷ e ∷ tail)) ≡ false
+long_count action id d method hour a b c e tail few =
+    or_both (nat_lt (length (put_texts action id d method hour (a ∷ b ∷ c ∷ e ∷ tail))) 13) (list_any (λ text. not (is_empty text)) (drop 12 tail))
+    (many (length (put_texts action id d method hour (a ∷ b ∷ c ∷ e ∷ tail))) (omega arith))
+    (ap (list_any (λ text. not (is_empty text))) (drop_all 12 tail (omega arith)))
+
+few_texts : (qs : List Code) → length qs ≤ 10 → length (map code_text qs) ≤ 10
+few_texts qs h = omega (arith, length_map qs)
+
+round_content : (update : Bool) (id : MonitorId) (d : Duration) (method hour : ℕ) (value : Option ℤ) (null : Option Code) (qs : List Code) → PutParts id d method hour
+    → is_measured id.pollutant value null ≡ true → list_all is_qualifier qs ≡ true → all_distinct qs ≡ true → length qs ≤ 10
+    → line_value (canonical_rd (Put update id d method hour (record { value = value; null = null; quals = qs })))
+    ≡ Some (OfRd (Put update id d method hour (record { value = value; null = null; quals = qs })))
+round_content update id d method hour None None qs p m h dist few = absurd (false≢true m)
+round_content update id d method hour (Some v) (Some n) qs p m h dist few = absurd (false≢true m)
+round_content update id d method hour (Some v) None [] p m h dist few =
+    let t = value_text_is id.pollutant v m in
+    read_put update id d method hour _ (value_text id.pollutant (Some v) ∷ []) p refl (one (value_text id.pollutant (Some v)) t.clean) (λ action. refl)
+    (λ action. value_alone action id d method hour (value_text id.pollutant (Some v)) v t)
+round_content update id d method hour (Some v) None (q ∷ qs) p m h dist few =
+    let t = value_text_is id.pollutant v m in
+    read_put update id d method hour _ (value_text id.pollutant (Some v) ∷ [] ∷ [] ∷ [] ∷ map code_text (q ∷ qs)) p refl
+    (also (value_text id.pollutant (Some v)) ([] ∷ [] ∷ [] ∷ map code_text (q ∷ qs)) t.clean (clean-codes (q ∷ qs) h))
+    (λ action. long_count action id d method hour (value_text id.pollutant (Some v)) [] [] [] (map code_text (q ∷ qs)) (few_texts (q ∷ qs) few))
+    (λ action. value_and_codes action id d method hour (value_text id.pollutant (Some v)) v (q ∷ qs) t (qualifiers_are (q ∷ qs) h dist few))
+round_content update id d method hour None (Some n) [] p m h dist few =
+    read_put update id d method hour _ ([] ∷ code_text n ∷ []) p refl (one (code_text n) (clean-code n (null_qualifies n m))) (λ action. refl)
+    (λ action. null_alone action id d method hour n m)
+round_content update id d method hour None (Some n) (q ∷ qs) p m h dist few =
+    read_put update id d method hour _ ([] ∷ code_text n ∷ [] ∷ [] ∷ map code_text (q ∷ qs)) p refl
+    (also (code_text n) ([] ∷ [] ∷ map code_text (q ∷ qs)) (clean-code n (null_qualifies n m)) (clean-codes (q ∷ qs) h))
+    (λ action. long_count action id d method hour [] (code_text n) [] [] (map code_text (q ∷ qs)) (few_texts (q ∷ qs) few))
+    (λ action. null_and_codes action id d method hour n (q ∷ qs) m (qualifiers_are (q ∷ qs) h dist few))
+
+delete_read : (action : List ℕ) (id : MonitorId) (hour : ℕ) → is_site id.site ≡ true → is_poc id.poc ≡ true → hour ≤ 438311
+    → delete_in (codes "RD" ∷ action ∷ site_with id.site (parameter_text id.pollutant ∷ decimal id.poc ∷ [] ∷ [] ∷ [] ∷ date_text (day_of_hour hour) ∷ time_text hour ∷ []))
+    ≡ Some (Delete id hour)
+unfolding delete_in start_in
+delete_read action id hour s p h =
+    bind-is _ (monitor_read (codes "RD") action id.site id.pollutant id.poc ([] ∷ [] ∷ [] ∷ date_text (day_of_hour hour) ∷ time_text hour ∷ []) s p)
+    ∙ bind-is _ (hour_is hour h)
+
+round_delete : (id : MonitorId) (hour : ℕ) → is_site id.site ≡ true → is_poc id.poc ≡ true → hour ≤ 438311
+    → line_value (canonical_rd (Delete id hour)) ≡ Some (OfRd (Delete id hour))
+unfolding rd_texts
+round_delete id hour s p h =
+    let times : list_all is_clean ([] ∷ [] ∷ [] ∷ date_text (day_of_hour hour) ∷ time_text hour ∷ []) ≡ true =
+    also (date_text (day_of_hour hour)) (time_text hour ∷ []) (clean-date (day_of_hour hour)) (one (time_text hour) (clean-time hour))
+    in
+    from_texts (codes "RD") (codes "D" ∷ site_with id.site (parameter_text id.pollutant ∷ decimal id.poc ∷ [] ∷ [] ∷ [] ∷ date_text (day_of_hour hour) ∷ time_text hour ∷ []))
+    (clean-site id.site (parameter_text id.pollutant ∷ decimal id.poc ∷ [] ∷ [] ∷ [] ∷ date_text (day_of_hour hour) ∷ time_text hour ∷ [])
+      (also (parameter_text id.pollutant) (decimal id.poc ∷ [] ∷ [] ∷ [] ∷ date_text (day_of_hour hour) ∷ time_text hour ∷ []) (clean-parameter id.pollutant)
+        (also (decimal id.poc) ([] ∷ [] ∷ [] ∷ date_text (day_of_hour hour) ∷ time_text hour ∷ []) (clean-decimal id.poc (poc_short id.poc p)) times)))
+    ∙ bind-is (λ value. Some (OfRd value)) (delete_read (codes "D") id hour s p h)
+
+at_most_ten : (n : ℕ) → nat_le n 10 ≡ true → n ≤ 10
+at_most_ten n h = grind (arith, nat_tests)
+
+pub round-rd : (value : RdValue) → is_rd_value value ≡ true → line_value (canonical_rd value) ≡ Some (OfRd value)
+round-rd (Put update id d method hour content) h =
+    let a = both (is_site id.site && is_poc id.poc && has_duration id.pollutant d && nat_le method 999 && nat_le hour 438311) (is_content id.pollutant content) h in
+    let b = both (is_site id.site && is_poc id.poc && has_duration id.pollutant d && nat_le method 999) (nat_le hour 438311) a.0 in
+    let c = both (is_site id.site && is_poc id.poc && has_duration id.pollutant d) (nat_le method 999) b.0 in
+    let e = both (is_site id.site && is_poc id.poc) (has_duration id.pollutant d) c.0 in
+    let f = both (is_site id.site) (is_poc id.poc) e.0 in
+    let x = both (is_measured id.pollutant content.value content.null && list_all is_qualifier content.quals && all_distinct content.quals) (nat_le (length content.quals) 10) a.1 in
+    let y = both (is_measured id.pollutant content.value content.null && list_all is_qualifier content.quals) (all_distinct content.quals) x.0 in
+    let z = both (is_measured id.pollutant content.value content.null) (list_all is_qualifier content.quals) y.0 in
+    round_content update id d method hour content.value content.null content.quals
+    (record {
+      site_ok = f.0;
+      poc_ok = f.1;
+      duration_ok = e.1;
+      method_ok = less_or method 999 1000 c.1 (omega arith);
+      hour_ok = at_most_hour hour b.1;
+    })
+    z.0 z.1 y.1 (at_most_ten (length content.quals) x.1)
+round-rd (Delete id hour) h =
+    let a = both (is_site id.site && is_poc id.poc) (nat_le hour 438311) h in
+    let b = both (is_site id.site) (is_poc id.poc) a.0 in
+    round_delete id hour b.0 b.1 (at_most_hour hour a.1)

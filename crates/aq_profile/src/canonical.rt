@@ -9,9 +9,9 @@ ghost use Rattle.aq_base.specs.declared.office.OfficeLine.{OfficeLine};
 ghost use Rattle.aq_base.specs.declared.office.OfficeLine.TheVariants.{Put as PutRecord, Change as ChangeRecord, Drop as DropKey};
 ghost use Rattle.aq_profile.specs.LineExamples.{home, ozone_monitor, particle_monitor, new_year, noon, code_rt};
 ghost use Rattle.aq_profile.specs.Spellings.{unit_in, value_in};
-ghost use Rattle.aq_profile.specs.RdForm.{Put, Delete};
+ghost use Rattle.aq_profile.specs.RdForm.{Put, Delete, RdValue};
 ghost use Rattle.aq_profile.specs.Reading.{OfRd, OfOffice, line_value};
-ghost use Rattle.aq_profile.specs.Canonical.{canonical_rd, canonical_office, is_office_line, printed_key};
+ghost use Rattle.aq_profile.specs.Canonical.{canonical_rd, canonical_office, is_office_line, is_rd_value, printed_key};
 
 /// Digits beyond thousandths of a ppm, or tenths of a µg/m3, are dropped, toward zero for negative
 /// values too; a value in ppb is cut to whole ppb.
@@ -83,4 +83,9 @@ pub fn office_lines_are_written()
 /// The canonical line of an office line is read as that line, for each that a body's line can spell.
 pub fn canonical_office_lines_are_read_back()
     ensures { (line : OfficeLine) → IsTrue (is_office_line line) → line_value (canonical_office line) ≡ Some (OfOffice line) }
+{}
+
+/// The canonical line of a sample is read as that sample, for each that a body's line can spell.
+pub fn canonical_samples_are_read_back()
+    ensures { (value : RdValue) → IsTrue (is_rd_value value) → line_value (canonical_rd value) ≡ Some (OfRd value) }
 {}
