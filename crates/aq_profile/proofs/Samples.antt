@@ -1,5 +1,5 @@
 -- The canonical line of a sample is read as that sample.
-use Rattle.std.proofs.Common.{◌≡◌, ℕ, suc, zero, ◌+◌, ◌-◌, ◌*◌, ◌/◌, ◌%◌, ◌^◌, ◌<◌, ◌≤◌, Bool, true, false, cond, not, ◌&&◌, ◌||◌, List, [], ◌∷◌, ◌++◌, length, take, drop, Some, None, Option, refl, sym, ap, ◌∙◌, arith, inl, inr, subst, append_assoc}
+use Rattle.std.proofs.Common.{◌≡◌, ℕ, suc, zero, ◌<◌, ◌≤◌, Bool, true, false, not, ◌&&◌, ◌||◌, List, [], ◌∷◌, ◌++◌, length, take, drop, Some, None, Option, refl, sym, ap, ◌∙◌, arith, inl, inr, subst}
 use Rattle.std.specs.Prelude.{nat_lt, nat_le, ◌==◌, codes, decimal, if◌then◌else◌, ℤ, map}
 use Rattle.std.specs.List.{list_all, list_any}
 use Rattle.std.proofs.lemmas.Bool.{false≢true}
@@ -7,7 +7,6 @@ use Rattle.std.proofs.lemmas.Bool.Decides.{nat_tests}
 use Rattle.aq_base.specs.Calendar.{day_of_hour}
 use Rattle.aq_base.specs.Decimal.{last_digits}
 use Rattle.aq_base.specs.Quals.{with_code, has_code, all_distinct, is_same_code}
-use Rattle.aq_base.specs.Site.{Site}
 use Rattle.aq_base.specs.declared.code.Code.{Code}
 use Rattle.aq_base.specs.declared.monitor.Pollutant.{Pollutant}
 use Rattle.aq_base.specs.declared.monitor.Pollutant.TheVariants.{Ozone, Pm25, Pm10}
@@ -15,8 +14,8 @@ use Rattle.aq_base.specs.declared.monitor.Duration.{Duration}
 use Rattle.aq_base.specs.declared.monitor.MonitorId.{MonitorId}
 use Rattle.aq_base.specs.declared.observation.Observation.{Observation}
 use Rattle.aq_profile.specs.Fields.{is_empty}
-use Rattle.aq_profile.specs.Spellings.{◌>>=◌, Rd, Insert, Update, is_code_byte, is_in_range, has_duration, unit_in, value_in, null_in, qualifier_in, qualifiers_onto, qualifiers_in}
-use Rattle.aq_profile.specs.RdForm.{RdValue, Put, Delete, monitor_in, start_in, content_in, put_in, delete_in, qualifier_fields}
+use Rattle.aq_profile.specs.Spellings.{Rd, is_code_byte, has_duration, unit_in, null_in, qualifiers_onto, qualifiers_in}
+use Rattle.aq_profile.specs.RdForm.{RdValue, Put, Delete, start_in, content_in, put_in, delete_in}
 use Rattle.aq_profile.specs.Reading.{OfRd, line_value, has_wrong_count}
 use Rattle.aq_profile.specs.Canonical.{parameter_text, duration_text, unit_text, value_places, value_text, date_text, time_text, code_text, texts_behind, rd_texts, canonical_rd, is_rd_value, joined}
 use Rattle.aq_profile.specs.Office.{is_site, is_poc, is_qualifier, is_null_code, is_measured, is_content}
@@ -45,14 +44,14 @@ onto_step : (before : List Code) (c : Code) (texts : List (List ℕ)) → is_qua
 onto_step before c texts h =
     let parts = both (is_code_byte c.first) ((c.second == 0) || is_code_byte c.second) h in
     elim (true_or_false (c.second == 0)) [
-      inl none ↦
+      | inl none ↦
           ap (λ b. qualifiers_onto before ((if b then c.first ∷ [] else c.first ∷ c.second ∷ []) ∷ texts)) none
           ∙ bind-is (λ code. qualifiers_onto (with_code before code) texts)
-            (ap (λ b. if b then Some (short c.first 0) else None) parts.0 ∙ ap (λ s. Some (short c.first s)) (sym (zero_is c.second none)))
-    | inr some_second ↦
+          (ap (λ b. if b then Some (short c.first 0) else None) parts.0 ∙ ap (λ s. Some (short c.first s)) (sym (zero_is c.second none)))
+      | inr some_second ↦
           ap (λ b. qualifiers_onto before ((if b then c.first ∷ [] else c.first ∷ c.second ∷ []) ∷ texts)) some_second
           ∙ bind-is (λ code. qualifiers_onto (with_code before code) texts)
-            (ap (λ b. if b then Some c else None) (second_cases (is_code_byte c.first) (c.second == 0) (is_code_byte c.second) h some_second))
+          (ap (λ b. if b then Some c else None) (second_cases (is_code_byte c.first) (c.second == 0) (is_code_byte c.second) h some_second))
     ]
 
 same_code_comm : (a b : Code) → is_same_code a b ≡ is_same_code b a
@@ -132,14 +131,14 @@ clean-code : (c : Code) → is_qualifier c ≡ true → is_clean (code_text c) �
 clean-code c h =
     let parts = both (is_code_byte c.first) ((c.second == 0) || is_code_byte c.second) h in
     elim (true_or_false (c.second == 0)) [
-      inl none ↦
+      | inl none ↦
           ap (λ b. is_clean (if b then c.first ∷ [] else c.first ∷ c.second ∷ [])) none
           ∙ and_true (is_clean_byte c.first) true (code_byte c.first parts.0) refl
-    | inr some_second ↦
+      | inr some_second ↦
           let second = both (is_code_byte c.first) (is_code_byte c.second) (second_cases (is_code_byte c.first) (c.second == 0) (is_code_byte c.second) h some_second) in
           ap (λ b. is_clean (if b then c.first ∷ [] else c.first ∷ c.second ∷ [])) some_second
           ∙ and_true (is_clean_byte c.first) (is_clean_byte c.second && true) (code_byte c.first parts.0)
-            (and_true (is_clean_byte c.second) true (code_byte c.second second.1) refl)
+          (and_true (is_clean_byte c.second) true (code_byte c.second second.1) refl)
     ]
 
 clean-codes : (qs : List Code) → list_all is_qualifier qs ≡ true → list_all is_clean (map code_text qs) ≡ true
@@ -316,8 +315,8 @@ round_delete id hour s p h =
     in
     from_texts (codes "RD") (codes "D" ∷ site_with id.site (parameter_text id.pollutant ∷ decimal id.poc ∷ [] ∷ [] ∷ [] ∷ date_text (day_of_hour hour) ∷ time_text hour ∷ []))
     (clean-site id.site (parameter_text id.pollutant ∷ decimal id.poc ∷ [] ∷ [] ∷ [] ∷ date_text (day_of_hour hour) ∷ time_text hour ∷ [])
-      (also (parameter_text id.pollutant) (decimal id.poc ∷ [] ∷ [] ∷ [] ∷ date_text (day_of_hour hour) ∷ time_text hour ∷ []) (clean-parameter id.pollutant)
-        (also (decimal id.poc) ([] ∷ [] ∷ [] ∷ date_text (day_of_hour hour) ∷ time_text hour ∷ []) (clean-decimal id.poc (poc_short id.poc p)) times)))
+    (also (parameter_text id.pollutant) (decimal id.poc ∷ [] ∷ [] ∷ [] ∷ date_text (day_of_hour hour) ∷ time_text hour ∷ []) (clean-parameter id.pollutant)
+    (also (decimal id.poc) ([] ∷ [] ∷ [] ∷ date_text (day_of_hour hour) ∷ time_text hour ∷ []) (clean-decimal id.poc (poc_short id.poc p)) times)))
     ∙ bind-is (λ value. Some (OfRd value)) (delete_read (codes "D") id hour s p h)
 
 at_most_ten : (n : ℕ) → nat_le n 10 ≡ true → n ≤ 10

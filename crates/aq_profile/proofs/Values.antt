@@ -1,24 +1,23 @@
 -- The text of a value is read as the value.
-use Rattle.std.proofs.Common.{◌≡◌, ℕ, suc, zero, ◌+◌, ◌-◌, ◌*◌, ◌/◌, ◌%◌, ◌^◌, ◌<◌, ◌≤◌, Bool, true, false, cond, not, ◌&&◌, ◌||◌, List, [], ◌∷◌, ◌++◌, length, take, drop, Some, None, Option, refl, sym, ap, ◌∙◌, arith, inl, inr, subst, get_or, length-append}
-use Rattle.std.specs.Prelude.{nat_lt, nat_le, ◌==◌, codes, decimal, if◌then◌else◌, ℤ, pos, negsuc, neg_ℤ}
-use Rattle.std.specs.List.{list_all, before_first, after_first, position_or_len}
+use Rattle.std.proofs.Common.{◌≡◌, ℕ, suc, zero, ◌+◌, ◌*◌, ◌/◌, ◌%◌, ◌^◌, ◌<◌, ◌≤◌, true, false, cond, not, ◌&&◌, ◌||◌, List, [], ◌∷◌, ◌++◌, length, take, drop, Some, None, refl, sym, ap, ◌∙◌, arith, subst, length-append}
+use Rattle.std.specs.Prelude.{nat_lt, ◌==◌, decimal, if◌then◌else◌, ℤ, pos, negsuc, neg_ℤ}
+use Rattle.std.specs.List.{before_first, after_first, position_or_len}
 use Rattle.std.specs.Char.{digit_value, is_ascii_digit}
 use Rattle.std.specs.Str.Parse.{AllDigits, digits_value, digits_value_after}
-use Rattle.std.proofs.lemmas.Fmt.{decimal_is_IsNumeral, first_decimal}
+use Rattle.std.proofs.lemmas.Fmt.{decimal_is_IsNumeral}
 use Rattle.std.proofs.Math.Seq.{take-append_seam}
 use Rattle.std.proofs.Math.Nat.{mul-div_cancel}
-use Rattle.std.proofs.lemmas.Bool.{false≢true}
 use Rattle.std.proofs.lemmas.Bool.Decides.{nat_tests}
-use Rattle.aq_base.specs.Decimal.{last_digits, are_digits, is_point, is_minus, cut, fixed, unsigned_part, whole_part, fraction_part, is_decimal, digits_number, cut_magnitude}
+use Rattle.aq_base.specs.Decimal.{last_digits, are_digits, is_point, is_minus, cut, fixed, unsigned_part, whole_part, fraction_part, is_decimal, cut_magnitude}
 use Rattle.aq_base.specs.declared.monitor.Pollutant.{Pollutant}
 use Rattle.aq_base.specs.declared.monitor.Pollutant.TheVariants.{Ozone, Pm25, Pm10}
-use Rattle.aq_profile.specs.Spellings.{value_in, is_in_range, unit_in}
-use Rattle.aq_profile.proofs.Least.{both, true_or_false}
+use Rattle.aq_profile.specs.Spellings.{value_in, is_in_range}
+use Rattle.aq_profile.proofs.Least.{both}
 use Rattle.aq_profile.proofs.Joined.{and_true, is_clean}
 use Rattle.aq_profile.proofs.RoundTrip.{clean-append, clean-decimal, clean-digits}
 use Rattle.aq_profile.specs.Fields.{is_empty}
 use Rattle.aq_profile.specs.Canonical.{value_text, value_places}
-use Rattle.aq_profile.proofs.Order.{digits_next, length-digits}
+use Rattle.aq_profile.proofs.Order.{length-digits}
 
 not_point : (c : ℕ) → digit_value c < 10 → is_point c ≡ false
 not_point c h = grind (arith, nat_tests)
@@ -97,8 +96,8 @@ decimal_text text whole frac places k p =
     ap (λ w. are_digits w && are_digits (fraction_part text) && nat_lt 0 (length (w ++ fraction_part text))) (whole_is text whole frac places k p)
     ∙ ap (λ f. are_digits whole && are_digits f && nat_lt 0 (length (whole ++ f))) (frac_is text whole frac places k p)
     ∙ and_true (are_digits whole && are_digits frac) (nat_lt 0 (length (whole ++ frac)))
-      (and_true (are_digits whole) (are_digits frac) (digits-all whole p.whole_digits) p.frac_digits)
-      (positive (length (whole ++ frac)) p.some_digit)
+    (and_true (are_digits whole) (are_digits frac) (digits-all whole p.whole_digits) p.frac_digits)
+    (positive (length (whole ++ frac)) p.some_digit)
 
 signless : (c : ℕ) → digit_value c < 10 → ((c == 43) || (c == 45)) ≡ false
 signless c h = grind (arith, nat_tests)

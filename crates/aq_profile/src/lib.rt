@@ -10,8 +10,8 @@ mod reading;
 mod refusal;
 
 pub use canonical::{
-    canonical_office_lines_are_read_back, canonical_samples_are_read_back, office_lines_are_read, office_lines_are_written,
-    samples_are_read, samples_are_written, values_are_cut,
+    canonical_office_lines_are_read_back, canonical_samples_are_read_back, office_lines_are_read,
+    office_lines_are_written, samples_are_read, samples_are_written, values_are_cut,
 };
 pub use lines::{fields_without_spaces_round_them, lines_of_a_body};
 pub use load::{
