@@ -66,7 +66,7 @@ counted h rising start (suc len) d =
 
 -- ---- years
 
-years_next : (n : ℕ) → days_of_years (n + 1) ≡ days_of_years n + days_in_year (2000 + n)
+pub years_next : (n : ℕ) → days_of_years (n + 1) ≡ days_of_years n + days_in_year (2000 + n)
 unfolding days_of_years
 years_next n = rw add-one refl
 
@@ -120,7 +120,7 @@ months_next y n = rw add-one refl
 pub months_rise : (y n : ℕ) → days_of_months y n ≤ days_of_months y (n + 1)
 months_rise y n = omega (arith, months_next y n)
 
-twelve_months : (y : ℕ) → days_of_months y 12 ≡ days_in_year y
+pub twelve_months : (y : ℕ) → days_of_months y 12 ≡ days_in_year y
 unfolding days_of_months
 twelve_months y = elim (true_or_false (y % 4 == 0)) [ inl leap ↦ rw leap refl | inr plain ↦ rw plain refl ]
 

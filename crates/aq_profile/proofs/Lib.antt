@@ -4,9 +4,10 @@ pub mod Rising
 pub mod Loads
 pub mod Days
 pub mod Digits
-pub mod Order
+pub mod KeyOrder
 pub mod Spelled
-pub mod Joined
+pub mod JoinedFields
 pub mod RoundTrip
 pub mod Values
 pub mod Samples
+pub mod Valid

@@ -30,8 +30,8 @@ use Rattle.aq_profile.specs.Reading.{OfOffice, line_value, form_value}
 use Rattle.aq_profile.specs.Canonical.{is_office_line, parameter_text, duration_text, date_text, time_text, truth_text, code_text, joined, office_texts, canonical_office}
 use Rattle.aq_profile.specs.Office.{is_site, is_poc, is_day}
 use Rattle.aq_profile.proofs.Least.{both}
-use Rattle.aq_profile.proofs.Order.{at_most_day}
-use Rattle.aq_profile.proofs.Joined.{is_clean, is_clean_byte, and_true, fields-some, plain-some}
+use Rattle.aq_profile.proofs.KeyOrder.{at_most_day}
+use Rattle.aq_profile.proofs.JoinedFields.{is_clean, is_clean_byte, and_true, fields-some, plain-some}
 use Rattle.aq_profile.proofs.Spelled.{bind-is, site_is, parameter_is, parameter_of-is, duration_is, truth_is, year_is, date_is, hour_is, poc_is, primary_is, interval_is}
 
 pub from_texts : (text : List ℕ) (texts : List (List ℕ)) → list_all is_clean (text ∷ texts) ≡ true

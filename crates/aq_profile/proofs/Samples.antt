@@ -21,8 +21,8 @@ use Rattle.aq_profile.specs.Canonical.{parameter_text, duration_text, unit_text,
 use Rattle.aq_profile.specs.Office.{is_site, is_poc, is_qualifier, is_null_code, is_measured, is_content}
 use Rattle.aq_profile.proofs.Least.{both, true_or_false}
 use Rattle.aq_profile.proofs.Digits.{digits_three}
-use Rattle.aq_profile.proofs.Order.{less_or}
-use Rattle.aq_profile.proofs.Joined.{is_clean, is_clean_byte, and_true}
+use Rattle.aq_profile.proofs.KeyOrder.{less_or}
+use Rattle.aq_profile.proofs.JoinedFields.{is_clean, is_clean_byte, and_true}
 use Rattle.aq_profile.proofs.Spelled.{bind-is, duration_is, hour_is}
 use Rattle.aq_profile.proofs.Values.{ValueText, value_text_is}
 use Rattle.aq_profile.proofs.RoundTrip.{from_texts, also, one, site_with, clean-site, clean-parameter, clean-decimal, clean-duration, clean-digits, clean-date, clean-time, poc_short, monitor_read, at_most_hour}

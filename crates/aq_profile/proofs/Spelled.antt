@@ -18,7 +18,7 @@ use Rattle.aq_profile.specs.Canonical.{parameter_text, duration_text, date_text,
 use Rattle.aq_profile.specs.Office.{is_site, is_poc}
 use Rattle.aq_profile.proofs.Least.{both}
 use Rattle.aq_profile.proofs.Digits.{in_range, from_none, is_number, number_is, digits_two, digits_three, digits_four}
-use Rattle.aq_profile.proofs.Order.{site_bounds, less_or, month_short}
+use Rattle.aq_profile.proofs.KeyOrder.{site_bounds, less_or, month_short}
 use Rattle.aq_profile.proofs.Days.{IsDate, date_of, day_of_date-date}
 
 pub bind-is : {A B : Type 0} {part : Option A} {x : A} (f : A → Option B) → part ≡ Some x → (part >>= f) ≡ f x

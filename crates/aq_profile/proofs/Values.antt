@@ -13,11 +13,11 @@ use Rattle.aq_base.specs.declared.monitor.Pollutant.{Pollutant}
 use Rattle.aq_base.specs.declared.monitor.Pollutant.TheVariants.{Ozone, Pm25, Pm10}
 use Rattle.aq_profile.specs.Spellings.{value_in, is_in_range}
 use Rattle.aq_profile.proofs.Least.{both}
-use Rattle.aq_profile.proofs.Joined.{and_true, is_clean}
+use Rattle.aq_profile.proofs.JoinedFields.{and_true, is_clean}
 use Rattle.aq_profile.proofs.RoundTrip.{clean-append, clean-decimal, clean-digits}
 use Rattle.aq_profile.specs.Fields.{is_empty}
 use Rattle.aq_profile.specs.Canonical.{value_text, value_places}
-use Rattle.aq_profile.proofs.Order.{length-digits}
+use Rattle.aq_profile.proofs.KeyOrder.{length-digits}
 
 not_point : (c : ℕ) → digit_value c < 10 → is_point c ≡ false
 not_point c h = grind (arith, nat_tests)

@@ -1,4 +1,4 @@
-use Rattle.aq_profile.proofs.Order.{printed_order, printed_same}
+use Rattle.aq_profile.proofs.KeyOrder.{printed_order, printed_same}
 use Rattle.aq_profile.proofs.office.keys_are_ordered_as_printed.Goals as goal
 
 pub returns-clause-order : goal.returns-clause-order

@@ -107,10 +107,10 @@ months_apart y k (suc n) =
     let same : k + suc n ≡ k + n + 1 = omega arith in
     rw same (le_both (months_apart y k n) (months_rise y (k + n)))
 
-years_in_order : (k m : ℕ) → k ≤ m → days_of_years k ≤ days_of_years m
+pub years_in_order : (k m : ℕ) → k ≤ m → days_of_years k ≤ days_of_years m
 years_in_order k m h = subst (λ t. days_of_years k ≤ days_of_years t) {x = k + (m - k)} (omega arith) (years_apart k (m - k))
 
-months_in_order : (y k m : ℕ) → k ≤ m → days_of_months y k ≤ days_of_months y m
+pub months_in_order : (y k m : ℕ) → k ≤ m → days_of_months y k ≤ days_of_months y m
 months_in_order y k m h = subst (λ t. days_of_months y k ≤ days_of_months y t) {x = k + (m - k)} (omega arith) (months_apart y k (m - k))
 
 -- an earlier year, and an earlier month of a year, has the earlier days
