@@ -11,3 +11,4 @@ pub mod RoundTrip
 pub mod Values
 pub mod Samples
 pub mod Valid
+pub mod ValidLines

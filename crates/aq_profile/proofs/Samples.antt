@@ -165,7 +165,7 @@ or_right true true c h = refl
 or_right true false c h = h
 or_right false b c h = h
 
-null_qualifies : (c : Code) → is_null_code c ≡ true → is_qualifier c ≡ true
+pub null_qualifies : (c : Code) → is_null_code c ≡ true → is_qualifier c ≡ true
 null_qualifies c h = or_right (is_code_byte c.first) (c.second == 0) (is_code_byte c.second) h
 
 unit_is : (p : Pollutant) → unit_in p (unit_text p) ≡ Some (value_places p)

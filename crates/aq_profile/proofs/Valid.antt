@@ -60,7 +60,7 @@ site_valid a b c =
     valid (λ n. n < 10000) (λ (s : Site). is_site s ≡ true) (digits_in 4 c) _ (digits_valid 4 c) λ z r.
     and_true (nat_le x 99 && nat_le y 999) (nat_le z 9999) (and_true (nat_le x 99) (nat_le y 999) (at_most x 99 p) (at_most y 999 q)) (at_most z 9999 r)
 
-anything : {A : Type 0} (part : Option A) → IfSome part (λ x. x ≡ x)
+pub anything : {A : Type 0} (part : Option A) → IfSome part (λ x. x ≡ x)
 anything None = tt
 anything (Some x) = refl
 

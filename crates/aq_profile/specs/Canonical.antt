@@ -19,6 +19,7 @@ use Rattle.aq_base.specs.declared.office.OfficeLine.TheVariants.{Put, Change, Dr
 use Rattle.aq_profile.specs.Office.{key_of, is_key, is_record, is_site, is_poc, is_content}
 use Rattle.aq_profile.specs.Spellings.{has_duration}
 use Rattle.aq_base.specs.declared.day.TheConstants.{LAST_HOUR}
+use Rattle.aq_profile.specs.Reading.{LineValue, OfRd, OfOffice}
 use Rattle.aq_profile.specs.RdForm.{RdValue, Put as PutSample, Delete as DeleteSample}
 
 -- ---- texts of the parts
@@ -160,6 +161,11 @@ is_office_line (Change r) = false
 is_office_line (Drop (MonitorKey id)) = false
 is_office_line (Drop (ConcurrenceKey number)) = false
 is_office_line (Drop key) = is_key key
+
+-- a value that a body's line can spell
+abbrev pub is_line_value : LineValue → Bool
+is_line_value (OfRd value) = is_rd_value value
+is_line_value (OfOffice line) = is_office_line line
 
 -- the line by which a record is kept: an insertion, and for a concurrence the update that makes it
 abbrev pub record_line : OfficeRecord → OfficeLine
