@@ -19,10 +19,10 @@ use Rattle.aq_base.specs.declared.office.OfficeKey.{OfficeKey}
 use Rattle.aq_base.specs.declared.office.OfficeKey.TheVariants.{Primary as PrimaryKey, Schedule as ScheduleKey, Season as SeasonKey, Makeup as MakeupKey, Event as EventKey, Approved as ApprovedKey}
 use Rattle.aq_base.specs.declared.office.OfficeLine.TheVariants.{Put, Change, Drop}
 use Rattle.aq_profile.specs.Fields.{field, fields, is_empty}
-use Rattle.aq_profile.specs.Spellings.{◌>>=◌, Tag, Rd, Xm, Xp, Xs, Xo, Xu, Xe, Xc, Xa, Action, Insert, Update, Delete, parameter_in, parameter_of, poc_in, primary_in, duration_in, unit_in, method_in, date_in, year_in, interval_in, truth_in, value_in, is_in_range, null_in, qualifier_in, qualifiers_onto, qualifiers_in, event_number_in, event_code_in, has_parameter, has_duration, is_interval, is_event_number, is_event_code, is_code_byte}
+use Rattle.aq_profile.specs.Spellings.{◌>>=◌, Tag, Rd, Xm, Xp, Xs, Xo, Xu, Xe, Xc, Xa, Action, Insert, Update, Delete, action_in, parameter_in, parameter_of, poc_in, primary_in, duration_in, unit_in, method_in, date_in, year_in, interval_in, truth_in, value_in, is_in_range, null_in, qualifier_in, qualifiers_onto, qualifiers_in, event_number_in, event_code_in, has_parameter, has_duration, is_interval, is_event_number, is_event_code, is_code_byte}
 use Rattle.aq_profile.specs.RdForm.{RdValue, Put as PutSample, Delete as DeleteSample, monitor_in, start_in, content_in, put_in, delete_in, qualifier_fields}
 use Rattle.aq_profile.specs.OfficeForms.{site_at, hour_in, is_season, is_makeup, is_span, xm_record, xp_record, xp_key, xs_record, xs_key, xo_record, xo_key, xu_record, xu_key, xe_record, xe_key, xc_record, xa_record, xa_key}
-use Rattle.aq_profile.specs.Reading.{LineValue, OfRd, OfOffice, line_value}
+use Rattle.aq_profile.specs.Reading.{LineValue, OfRd, OfOffice, line_value, value_for, form_value, acts, action_for, has_wrong_count, is_deletion, is_plain, tag_of}
 use Rattle.aq_profile.specs.Canonical.{is_rd_value, is_office_line, is_line_value}
 use Rattle.aq_profile.specs.Office.{is_site, is_poc, is_day, is_key, is_record, is_qualifier, is_null_code, is_measured, is_content}
 use Rattle.aq_profile.proofs.Least.{both, true_or_false}
@@ -159,119 +159,211 @@ delete_valid texts =
 
 -- ---- office lines
 
-xm_record-valid : (texts : List (List ℕ)) → IfSome (xm_record texts) (λ (r : OfficeRecord). is_record r ≡ true)
+xm_record-valid : (texts : List (List ℕ)) → IfSome (xm_record texts) (λ (r : OfficeRecord). is_office_line (Put r) ≡ true)
 unfolding xm_record
 xm_record-valid texts =
-    valid (λ (id : MonitorId). (is_site id.site && is_poc id.poc) ≡ true) (λ (r : OfficeRecord). is_record r ≡ true) (monitor_in texts) _ (monitor_valid texts) λ id h.
-    valid (λ d. has_duration id.pollutant d ≡ true) (λ (r : OfficeRecord). is_record r ≡ true) (duration_in id.pollutant (field 8 texts)) _ (duration_valid id.pollutant (field 8 texts)) λ d i.
-    valid (λ b. b ≡ b) (λ (r : OfficeRecord). is_record r ≡ true) (truth_in (field 9 texts)) _ (anything (truth_in (field 9 texts))) λ b j.
+    valid (λ (id : MonitorId). (is_site id.site && is_poc id.poc) ≡ true) (λ (r : OfficeRecord). is_office_line (Put r) ≡ true) (monitor_in texts) _ (monitor_valid texts) λ id h.
+    valid (λ d. has_duration id.pollutant d ≡ true) (λ (r : OfficeRecord). is_office_line (Put r) ≡ true) (duration_in id.pollutant (field 8 texts)) _ (duration_valid id.pollutant (field 8 texts)) λ d i.
+    valid (λ b. b ≡ b) (λ (r : OfficeRecord). is_office_line (Put r) ≡ true) (truth_in (field 9 texts)) _ (anything (truth_in (field 9 texts))) λ b j.
     and_true (is_site id.site && is_poc id.poc) (has_duration id.pollutant d) h i
 
-xp_record-valid : (texts : List (List ℕ)) → IfSome (xp_record texts) (λ (r : OfficeRecord). is_record r ≡ true)
+xm_record-change : (texts : List (List ℕ)) → IfSome (xm_record texts) (λ (r : OfficeRecord). is_office_line (Change r) ≡ true)
+unfolding xm_record
+xm_record-change texts =
+    valid (λ (id : MonitorId). (is_site id.site && is_poc id.poc) ≡ true) (λ (r : OfficeRecord). is_office_line (Change r) ≡ true) (monitor_in texts) _ (monitor_valid texts) λ id h.
+    valid (λ d. has_duration id.pollutant d ≡ true) (λ (r : OfficeRecord). is_office_line (Change r) ≡ true) (duration_in id.pollutant (field 8 texts)) _ (duration_valid id.pollutant (field 8 texts)) λ d i.
+    valid (λ b. b ≡ b) (λ (r : OfficeRecord). is_office_line (Change r) ≡ true) (truth_in (field 9 texts)) _ (anything (truth_in (field 9 texts))) λ b j.
+    and_true (is_site id.site && is_poc id.poc) (has_duration id.pollutant d) h i
+
+xp_record-valid : (texts : List (List ℕ)) → IfSome (xp_record texts) (λ (r : OfficeRecord). is_office_line (Put r) ≡ true)
 unfolding xp_record
 xp_record-valid texts =
-    valid (λ s. is_site s ≡ true) (λ (r : OfficeRecord). is_record r ≡ true) (site_at 3 texts) _ (site_valid (field 3 texts) (field 4 texts) (field 5 texts)) λ s h.
-    valid (λ p. has_parameter Xp p ≡ true) (λ (r : OfficeRecord). is_record r ≡ true) (parameter_of Xp (field 6 texts)) _ (parameter_valid Xp (field 6 texts)) λ p e.
-    valid (λ c. nat_le c 99 ≡ true) (λ (r : OfficeRecord). is_record r ≡ true) (primary_in (field 8 texts)) _ (primary_valid (field 8 texts)) λ c i.
-    valid (λ d. is_day d ≡ true) (λ (r : OfficeRecord). is_record r ≡ true) (date_in (field 7 texts)) _ (date_valid (field 7 texts)) λ d j.
+    valid (λ s. is_site s ≡ true) (λ (r : OfficeRecord). is_office_line (Put r) ≡ true) (site_at 3 texts) _ (site_valid (field 3 texts) (field 4 texts) (field 5 texts)) λ s h.
+    valid (λ p. has_parameter Xp p ≡ true) (λ (r : OfficeRecord). is_office_line (Put r) ≡ true) (parameter_of Xp (field 6 texts)) _ (parameter_valid Xp (field 6 texts)) λ p e.
+    valid (λ c. nat_le c 99 ≡ true) (λ (r : OfficeRecord). is_office_line (Put r) ≡ true) (primary_in (field 8 texts)) _ (primary_valid (field 8 texts)) λ c i.
+    valid (λ d. is_day d ≡ true) (λ (r : OfficeRecord). is_office_line (Put r) ≡ true) (date_in (field 7 texts)) _ (date_valid (field 7 texts)) λ d j.
     and_true (is_site s && is_day d) (nat_le c 99) (and_true (is_site s) (is_day d) h j) i
 
-xp_key-valid : (texts : List (List ℕ)) → IfSome (xp_key texts) (λ (k : OfficeKey). is_key k ≡ true)
+xp_key-valid : (texts : List (List ℕ)) → IfSome (xp_key texts) (λ (k : OfficeKey). is_office_line (Drop k) ≡ true)
 unfolding xp_key
 xp_key-valid texts =
-    valid (λ s. is_site s ≡ true) (λ (k : OfficeKey). is_key k ≡ true) (site_at 3 texts) _ (site_valid (field 3 texts) (field 4 texts) (field 5 texts)) λ s h.
-    valid (λ p. has_parameter Xp p ≡ true) (λ (k : OfficeKey). is_key k ≡ true) (parameter_of Xp (field 6 texts)) _ (parameter_valid Xp (field 6 texts)) λ p e.
-    valid (λ d. is_day d ≡ true) (λ (k : OfficeKey). is_key k ≡ true) (date_in (field 7 texts)) _ (date_valid (field 7 texts)) λ d j.
+    valid (λ s. is_site s ≡ true) (λ (k : OfficeKey). is_office_line (Drop k) ≡ true) (site_at 3 texts) _ (site_valid (field 3 texts) (field 4 texts) (field 5 texts)) λ s h.
+    valid (λ p. has_parameter Xp p ≡ true) (λ (k : OfficeKey). is_office_line (Drop k) ≡ true) (parameter_of Xp (field 6 texts)) _ (parameter_valid Xp (field 6 texts)) λ p e.
+    valid (λ d. is_day d ≡ true) (λ (k : OfficeKey). is_office_line (Drop k) ≡ true) (date_in (field 7 texts)) _ (date_valid (field 7 texts)) λ d j.
     and_true (is_site s) (is_day d) h j
 
-xs_record-valid : (texts : List (List ℕ)) → IfSome (xs_record texts) (λ (r : OfficeRecord). is_record r ≡ true)
+xs_record-valid : (texts : List (List ℕ)) → IfSome (xs_record texts) (λ (r : OfficeRecord). is_office_line (Put r) ≡ true)
 unfolding xs_record
 xs_record-valid texts =
-    valid (λ s. is_site s ≡ true) (λ (r : OfficeRecord). is_record r ≡ true) (site_at 3 texts) _ (site_valid (field 3 texts) (field 4 texts) (field 5 texts)) λ s h.
-    valid (λ p. has_parameter Xs p ≡ true) (λ (r : OfficeRecord). is_record r ≡ true) (parameter_of Xs (field 6 texts)) _ (parameter_valid Xs (field 6 texts)) λ p e.
-    valid (λ d. is_day d ≡ true) (λ (r : OfficeRecord). is_record r ≡ true) (date_in (field 7 texts)) _ (date_valid (field 7 texts)) λ d j.
-    valid (λ d. is_day d ≡ true) (λ (r : OfficeRecord). is_record r ≡ true) (date_in (field 9 texts)) _ (date_valid (field 9 texts)) λ a k.
-    valid (λ n. is_interval n ≡ true) (λ (r : OfficeRecord). is_record r ≡ true) (interval_in (field 8 texts)) _ (interval_valid (field 8 texts)) λ n l.
+    valid (λ s. is_site s ≡ true) (λ (r : OfficeRecord). is_office_line (Put r) ≡ true) (site_at 3 texts) _ (site_valid (field 3 texts) (field 4 texts) (field 5 texts)) λ s h.
+    valid (λ p. has_parameter Xs p ≡ true) (λ (r : OfficeRecord). is_office_line (Put r) ≡ true) (parameter_of Xs (field 6 texts)) _ (parameter_valid Xs (field 6 texts)) λ p e.
+    valid (λ d. is_day d ≡ true) (λ (r : OfficeRecord). is_office_line (Put r) ≡ true) (date_in (field 7 texts)) _ (date_valid (field 7 texts)) λ d j.
+    valid (λ d. is_day d ≡ true) (λ (r : OfficeRecord). is_office_line (Put r) ≡ true) (date_in (field 9 texts)) _ (date_valid (field 9 texts)) λ a k.
+    valid (λ n. is_interval n ≡ true) (λ (r : OfficeRecord). is_office_line (Put r) ≡ true) (interval_in (field 8 texts)) _ (interval_valid (field 8 texts)) λ n l.
     and_true (is_site s && has_parameter Xs p && is_day d) (is_interval n && is_day a) (and_true (is_site s && has_parameter Xs p) (is_day d) (and_true (is_site s) (has_parameter Xs p) h e) j) (and_true (is_interval n) (is_day a) l k)
 
-xs_key-valid : (texts : List (List ℕ)) → IfSome (xs_key texts) (λ (k : OfficeKey). is_key k ≡ true)
+xs_key-valid : (texts : List (List ℕ)) → IfSome (xs_key texts) (λ (k : OfficeKey). is_office_line (Drop k) ≡ true)
 unfolding xs_key
 xs_key-valid texts =
-    valid (λ s. is_site s ≡ true) (λ (k : OfficeKey). is_key k ≡ true) (site_at 3 texts) _ (site_valid (field 3 texts) (field 4 texts) (field 5 texts)) λ s h.
-    valid (λ p. has_parameter Xs p ≡ true) (λ (k : OfficeKey). is_key k ≡ true) (parameter_of Xs (field 6 texts)) _ (parameter_valid Xs (field 6 texts)) λ p e.
-    valid (λ d. is_day d ≡ true) (λ (k : OfficeKey). is_key k ≡ true) (date_in (field 7 texts)) _ (date_valid (field 7 texts)) λ d j.
+    valid (λ s. is_site s ≡ true) (λ (k : OfficeKey). is_office_line (Drop k) ≡ true) (site_at 3 texts) _ (site_valid (field 3 texts) (field 4 texts) (field 5 texts)) λ s h.
+    valid (λ p. has_parameter Xs p ≡ true) (λ (k : OfficeKey). is_office_line (Drop k) ≡ true) (parameter_of Xs (field 6 texts)) _ (parameter_valid Xs (field 6 texts)) λ p e.
+    valid (λ d. is_day d ≡ true) (λ (k : OfficeKey). is_office_line (Drop k) ≡ true) (date_in (field 7 texts)) _ (date_valid (field 7 texts)) λ d j.
     and_true (is_site s && has_parameter Xs p) (is_day d) (and_true (is_site s) (has_parameter Xs p) h e) j
 
-xo_record-valid : (texts : List (List ℕ)) → IfSome (xo_record texts) (λ (r : OfficeRecord). is_record r ≡ true)
+xo_record-valid : (texts : List (List ℕ)) → IfSome (xo_record texts) (λ (r : OfficeRecord). is_office_line (Put r) ≡ true)
 unfolding xo_record
 xo_record-valid texts =
-    valid (λ s. is_site s ≡ true) (λ (r : OfficeRecord). is_record r ≡ true) (site_at 3 texts) _ (site_valid (field 3 texts) (field 4 texts) (field 5 texts)) λ s h.
-    valid (λ y. is_year y ≡ true) (λ (r : OfficeRecord). is_record r ≡ true) (year_in (field 6 texts)) _ (year_valid (field 6 texts)) λ y i.
-    valid (λ d. is_day d ≡ true) (λ (r : OfficeRecord). is_record r ≡ true) (date_in (field 7 texts)) _ (date_valid (field 7 texts)) λ a j.
-    valid (λ d. is_day d ≡ true) (λ (r : OfficeRecord). is_record r ≡ true) (date_in (field 8 texts)) _ (date_valid (field 8 texts)) λ b k.
-    valid_if (λ (r : OfficeRecord). is_record r ≡ true) (is_season y a b) (Season s y a b)
+    valid (λ s. is_site s ≡ true) (λ (r : OfficeRecord). is_office_line (Put r) ≡ true) (site_at 3 texts) _ (site_valid (field 3 texts) (field 4 texts) (field 5 texts)) λ s h.
+    valid (λ y. is_year y ≡ true) (λ (r : OfficeRecord). is_office_line (Put r) ≡ true) (year_in (field 6 texts)) _ (year_valid (field 6 texts)) λ y i.
+    valid (λ d. is_day d ≡ true) (λ (r : OfficeRecord). is_office_line (Put r) ≡ true) (date_in (field 7 texts)) _ (date_valid (field 7 texts)) λ a j.
+    valid (λ d. is_day d ≡ true) (λ (r : OfficeRecord). is_office_line (Put r) ≡ true) (date_in (field 8 texts)) _ (date_valid (field 8 texts)) λ b k.
+    valid_if (λ (r : OfficeRecord). is_office_line (Put r) ≡ true) (is_season y a b) (Season s y a b)
     (λ l. and_true (is_site s && is_year y) (is_day a && is_day b && is_season y a b) (and_true (is_site s) (is_year y) h i) (and_true (is_day a && is_day b) (is_season y a b) (and_true (is_day a) (is_day b) j k) l))
 
-xo_key-valid : (texts : List (List ℕ)) → IfSome (xo_key texts) (λ (k : OfficeKey). is_key k ≡ true)
+xo_key-valid : (texts : List (List ℕ)) → IfSome (xo_key texts) (λ (k : OfficeKey). is_office_line (Drop k) ≡ true)
 unfolding xo_key
 xo_key-valid texts =
-    valid (λ s. is_site s ≡ true) (λ (k : OfficeKey). is_key k ≡ true) (site_at 3 texts) _ (site_valid (field 3 texts) (field 4 texts) (field 5 texts)) λ s h.
-    valid (λ y. is_year y ≡ true) (λ (k : OfficeKey). is_key k ≡ true) (year_in (field 6 texts)) _ (year_valid (field 6 texts)) λ y i.
+    valid (λ s. is_site s ≡ true) (λ (k : OfficeKey). is_office_line (Drop k) ≡ true) (site_at 3 texts) _ (site_valid (field 3 texts) (field 4 texts) (field 5 texts)) λ s h.
+    valid (λ y. is_year y ≡ true) (λ (k : OfficeKey). is_office_line (Drop k) ≡ true) (year_in (field 6 texts)) _ (year_valid (field 6 texts)) λ y i.
     and_true (is_site s) (is_year y) h i
 
-xu_record-valid : (texts : List (List ℕ)) → IfSome (xu_record texts) (λ (r : OfficeRecord). is_record r ≡ true)
+xu_record-valid : (texts : List (List ℕ)) → IfSome (xu_record texts) (λ (r : OfficeRecord). is_office_line (Put r) ≡ true)
 unfolding xu_record
 xu_record-valid texts =
-    valid (λ s. is_site s ≡ true) (λ (r : OfficeRecord). is_record r ≡ true) (site_at 3 texts) _ (site_valid (field 3 texts) (field 4 texts) (field 5 texts)) λ s h.
-    valid (λ p. has_parameter Xu p ≡ true) (λ (r : OfficeRecord). is_record r ≡ true) (parameter_of Xu (field 6 texts)) _ (parameter_valid Xu (field 6 texts)) λ p e.
-    valid (λ d. is_day d ≡ true) (λ (r : OfficeRecord). is_record r ≡ true) (date_in (field 7 texts)) _ (date_valid (field 7 texts)) λ a j.
-    valid (λ d. is_day d ≡ true) (λ (r : OfficeRecord). is_record r ≡ true) (date_in (field 8 texts)) _ (date_valid (field 8 texts)) λ b k.
-    valid_if (λ (r : OfficeRecord). is_record r ≡ true) (is_makeup a b) (Makeup s a b)
+    valid (λ s. is_site s ≡ true) (λ (r : OfficeRecord). is_office_line (Put r) ≡ true) (site_at 3 texts) _ (site_valid (field 3 texts) (field 4 texts) (field 5 texts)) λ s h.
+    valid (λ p. has_parameter Xu p ≡ true) (λ (r : OfficeRecord). is_office_line (Put r) ≡ true) (parameter_of Xu (field 6 texts)) _ (parameter_valid Xu (field 6 texts)) λ p e.
+    valid (λ d. is_day d ≡ true) (λ (r : OfficeRecord). is_office_line (Put r) ≡ true) (date_in (field 7 texts)) _ (date_valid (field 7 texts)) λ a j.
+    valid (λ d. is_day d ≡ true) (λ (r : OfficeRecord). is_office_line (Put r) ≡ true) (date_in (field 8 texts)) _ (date_valid (field 8 texts)) λ b k.
+    valid_if (λ (r : OfficeRecord). is_office_line (Put r) ≡ true) (is_makeup a b) (Makeup s a b)
     (λ l. and_true (is_site s && is_day a) (is_day b && is_makeup a b) (and_true (is_site s) (is_day a) h j) (and_true (is_day b) (is_makeup a b) k l))
 
-xu_key-valid : (texts : List (List ℕ)) → IfSome (xu_key texts) (λ (k : OfficeKey). is_key k ≡ true)
+xu_key-valid : (texts : List (List ℕ)) → IfSome (xu_key texts) (λ (k : OfficeKey). is_office_line (Drop k) ≡ true)
 unfolding xu_key
 xu_key-valid texts =
-    valid (λ s. is_site s ≡ true) (λ (k : OfficeKey). is_key k ≡ true) (site_at 3 texts) _ (site_valid (field 3 texts) (field 4 texts) (field 5 texts)) λ s h.
-    valid (λ p. has_parameter Xu p ≡ true) (λ (k : OfficeKey). is_key k ≡ true) (parameter_of Xu (field 6 texts)) _ (parameter_valid Xu (field 6 texts)) λ p e.
-    valid (λ d. is_day d ≡ true) (λ (k : OfficeKey). is_key k ≡ true) (date_in (field 7 texts)) _ (date_valid (field 7 texts)) λ a j.
+    valid (λ s. is_site s ≡ true) (λ (k : OfficeKey). is_office_line (Drop k) ≡ true) (site_at 3 texts) _ (site_valid (field 3 texts) (field 4 texts) (field 5 texts)) λ s h.
+    valid (λ p. has_parameter Xu p ≡ true) (λ (k : OfficeKey). is_office_line (Drop k) ≡ true) (parameter_of Xu (field 6 texts)) _ (parameter_valid Xu (field 6 texts)) λ p e.
+    valid (λ d. is_day d ≡ true) (λ (k : OfficeKey). is_office_line (Drop k) ≡ true) (date_in (field 7 texts)) _ (date_valid (field 7 texts)) λ a j.
     and_true (is_site s) (is_day a) h j
 
-xe_record-valid : (texts : List (List ℕ)) → IfSome (xe_record texts) (λ (r : OfficeRecord). is_record r ≡ true)
+xe_record-valid : (texts : List (List ℕ)) → IfSome (xe_record texts) (λ (r : OfficeRecord). is_office_line (Put r) ≡ true)
 unfolding xe_record
 xe_record-valid texts =
-    valid (λ s. is_site s ≡ true) (λ (r : OfficeRecord). is_record r ≡ true) (site_at 4 texts) _ (site_valid (field 4 texts) (field 5 texts) (field 6 texts)) λ s h.
-    valid (λ p. has_parameter Xe p ≡ true) (λ (r : OfficeRecord). is_record r ≡ true) (parameter_of Xe (field 7 texts)) _ (parameter_valid Xe (field 7 texts)) λ p e.
-    valid (λ h. nat_le h 438311 ≡ true) (λ (r : OfficeRecord). is_record r ≡ true) (hour_in (field 8 texts) (field 9 texts)) _ (hour_valid (field 8 texts) (field 9 texts)) λ a j.
-    valid (λ h. nat_le h 438311 ≡ true) (λ (r : OfficeRecord). is_record r ≡ true) (hour_in (field 10 texts) (field 11 texts)) _ (hour_valid (field 10 texts) (field 11 texts)) λ b k.
-    valid (λ n. is_event_number n ≡ true) (λ (r : OfficeRecord). is_record r ≡ true) (event_number_in (field 3 texts)) _ (number_valid (field 3 texts)) λ n g.
-    valid (λ c. is_event_code c ≡ true) (λ (r : OfficeRecord). is_record r ≡ true) (event_code_in (field 12 texts)) _ (code_valid (field 12 texts)) λ c l.
-    valid_if (λ (r : OfficeRecord). is_record r ≡ true) (is_span a b) (Event n s p a b c)
+    valid (λ s. is_site s ≡ true) (λ (r : OfficeRecord). is_office_line (Put r) ≡ true) (site_at 4 texts) _ (site_valid (field 4 texts) (field 5 texts) (field 6 texts)) λ s h.
+    valid (λ p. has_parameter Xe p ≡ true) (λ (r : OfficeRecord). is_office_line (Put r) ≡ true) (parameter_of Xe (field 7 texts)) _ (parameter_valid Xe (field 7 texts)) λ p e.
+    valid (λ h. nat_le h 438311 ≡ true) (λ (r : OfficeRecord). is_office_line (Put r) ≡ true) (hour_in (field 8 texts) (field 9 texts)) _ (hour_valid (field 8 texts) (field 9 texts)) λ a j.
+    valid (λ h. nat_le h 438311 ≡ true) (λ (r : OfficeRecord). is_office_line (Put r) ≡ true) (hour_in (field 10 texts) (field 11 texts)) _ (hour_valid (field 10 texts) (field 11 texts)) λ b k.
+    valid (λ n. is_event_number n ≡ true) (λ (r : OfficeRecord). is_office_line (Put r) ≡ true) (event_number_in (field 3 texts)) _ (number_valid (field 3 texts)) λ n g.
+    valid (λ c. is_event_code c ≡ true) (λ (r : OfficeRecord). is_office_line (Put r) ≡ true) (event_code_in (field 12 texts)) _ (code_valid (field 12 texts)) λ c l.
+    valid_if (λ (r : OfficeRecord). is_office_line (Put r) ≡ true) (is_span a b) (Event n s p a b c)
     (λ m. and_true (is_event_number n) (is_site s && nat_le b 438311 && is_span a b && is_event_code c) g (and_true (is_site s && nat_le b 438311 && is_span a b) (is_event_code c) (and_true (is_site s && nat_le b 438311) (is_span a b) (and_true (is_site s) (nat_le b 438311) h k) m) l))
 
-xe_key-valid : (texts : List (List ℕ)) → IfSome (xe_key texts) (λ (k : OfficeKey). is_key k ≡ true)
+xe_key-valid : (texts : List (List ℕ)) → IfSome (xe_key texts) (λ (k : OfficeKey). is_office_line (Drop k) ≡ true)
 unfolding xe_key
 xe_key-valid texts =
-    valid (λ n. is_event_number n ≡ true) (λ (k : OfficeKey). is_key k ≡ true) (event_number_in (field 3 texts)) _ (number_valid (field 3 texts)) λ n g.
+    valid (λ n. is_event_number n ≡ true) (λ (k : OfficeKey). is_office_line (Drop k) ≡ true) (event_number_in (field 3 texts)) _ (number_valid (field 3 texts)) λ n g.
     g
 
-xc_record-valid : (texts : List (List ℕ)) → IfSome (xc_record texts) (λ (r : OfficeRecord). is_record r ≡ true)
+xc_record-valid : (texts : List (List ℕ)) → IfSome (xc_record texts) (λ (r : OfficeRecord). is_office_line (Change r) ≡ true)
 unfolding xc_record
 xc_record-valid texts =
-    valid (λ n. is_event_number n ≡ true) (λ (r : OfficeRecord). is_record r ≡ true) (event_number_in (field 3 texts)) _ (number_valid (field 3 texts)) λ n g.
-    valid (λ b. b ≡ b) (λ (r : OfficeRecord). is_record r ≡ true) (truth_in (field 4 texts)) _ (anything (truth_in (field 4 texts))) λ b j.
+    valid (λ n. is_event_number n ≡ true) (λ (r : OfficeRecord). is_office_line (Change r) ≡ true) (event_number_in (field 3 texts)) _ (number_valid (field 3 texts)) λ n g.
+    valid (λ b. b ≡ b) (λ (r : OfficeRecord). is_office_line (Change r) ≡ true) (truth_in (field 4 texts)) _ (anything (truth_in (field 4 texts))) λ b j.
     and_true (is_event_number n) true g refl
 
-xa_record-valid : (texts : List (List ℕ)) → IfSome (xa_record texts) (λ (r : OfficeRecord). is_record r ≡ true)
+xa_record-valid : (texts : List (List ℕ)) → IfSome (xa_record texts) (λ (r : OfficeRecord). is_office_line (Put r) ≡ true)
 unfolding xa_record
 xa_record-valid texts =
-    valid (λ s. is_site s ≡ true) (λ (r : OfficeRecord). is_record r ≡ true) (site_at 3 texts) _ (site_valid (field 3 texts) (field 4 texts) (field 5 texts)) λ s h.
-    valid (λ d. is_day d ≡ true) (λ (r : OfficeRecord). is_record r ≡ true) (date_in (field 6 texts)) _ (date_valid (field 6 texts)) λ d j.
+    valid (λ s. is_site s ≡ true) (λ (r : OfficeRecord). is_office_line (Put r) ≡ true) (site_at 3 texts) _ (site_valid (field 3 texts) (field 4 texts) (field 5 texts)) λ s h.
+    valid (λ d. is_day d ≡ true) (λ (r : OfficeRecord). is_office_line (Put r) ≡ true) (date_in (field 6 texts)) _ (date_valid (field 6 texts)) λ d j.
     and_true (is_site s && is_day d) true (and_true (is_site s) (is_day d) h j) refl
 
-xa_key-valid : (texts : List (List ℕ)) → IfSome (xa_key texts) (λ (k : OfficeKey). is_key k ≡ true)
+xa_key-valid : (texts : List (List ℕ)) → IfSome (xa_key texts) (λ (k : OfficeKey). is_office_line (Drop k) ≡ true)
 unfolding xa_key
 xa_key-valid texts =
-    valid (λ s. is_site s ≡ true) (λ (k : OfficeKey). is_key k ≡ true) (site_at 3 texts) _ (site_valid (field 3 texts) (field 4 texts) (field 5 texts)) λ s h.
-    valid (λ d. is_day d ≡ true) (λ (k : OfficeKey). is_key k ≡ true) (date_in (field 6 texts)) _ (date_valid (field 6 texts)) λ d j.
+    valid (λ s. is_site s ≡ true) (λ (k : OfficeKey). is_office_line (Drop k) ≡ true) (site_at 3 texts) _ (site_valid (field 3 texts) (field 4 texts) (field 5 texts)) λ s h.
+    valid (λ d. is_day d ≡ true) (λ (k : OfficeKey). is_office_line (Drop k) ≡ true) (date_in (field 6 texts)) _ (date_valid (field 6 texts)) λ d j.
     and_true (is_site s) (is_day d) h j
+
+-- ---- the whole line
+
+handed : {A : Type 0} (Q : LineValue → Type 0) (P : A → Type 0) (part : Option A) (f : A → LineValue) → IfSome part P → ((x : A) → P x → Q (f x))
+    → IfSome (part >>= λ x. Some (f x)) Q
+handed Q P None f h go = tt
+handed Q P (Some x) f h go = go x h
+
+handed_twice : {A B : Type 0} (Q : LineValue → Type 0) (P : A → Type 0) (part : Option A) (g : A → B) (f : B → LineValue) → IfSome part P → ((x : A) → P x → Q (f (g x)))
+    → IfSome ((part >>= λ x. Some (g x)) >>= λ y. Some (f y)) Q
+handed_twice Q P None g f h go = tt
+handed_twice Q P (Some x) g f h go = go x h
+
+Spelled : LineValue → Type 0
+Spelled v = is_line_value v ≡ true
+
+put : (part : Option OfficeRecord) → IfSome part (λ r. is_office_line (Put r) ≡ true) → IfSome ((part >>= λ r. Some (Put r)) >>= λ l. Some (OfOffice l)) Spelled
+unfolding Spelled
+put part h = handed_twice Spelled (λ r. is_office_line (Put r) ≡ true) part (λ r. Put r) (λ l. OfOffice l) h (λ r q. q)
+
+change : (part : Option OfficeRecord) → IfSome part (λ r. is_office_line (Change r) ≡ true) → IfSome ((part >>= λ r. Some (Change r)) >>= λ l. Some (OfOffice l)) Spelled
+unfolding Spelled
+change part h = handed_twice Spelled (λ r. is_office_line (Change r) ≡ true) part (λ r. Change r) (λ l. OfOffice l) h (λ r q. q)
+
+drops : (part : Option OfficeKey) → IfSome part (λ k. is_office_line (Drop k) ≡ true) → IfSome ((part >>= λ k. Some (Drop k)) >>= λ l. Some (OfOffice l)) Spelled
+unfolding Spelled
+drops part h = handed_twice Spelled (λ k. is_office_line (Drop k) ≡ true) part (λ k. Drop k) (λ l. OfOffice l) h (λ k q. q)
+
+sample : (part : Option RdValue) → IfSome part (λ v. is_rd_value v ≡ true) → IfSome (part >>= λ v. Some (OfRd v)) Spelled
+unfolding Spelled
+sample part h = handed Spelled (λ v. is_rd_value v ≡ true) part (λ v. OfRd v) h (λ v q. q)
+
+value_for-valid : (tag : Tag) (action : Action) (texts : List (List ℕ)) → acts tag action ≡ true → IfSome (value_for tag action texts) Spelled
+value_for-valid Rd Insert texts may = sample (put_in false texts) (put_valid false texts)
+value_for-valid Rd Update texts may = sample (put_in true texts) (put_valid true texts)
+value_for-valid Rd Delete texts may = sample (delete_in texts) (delete_valid texts)
+value_for-valid Xm Insert texts may = put (xm_record texts) (xm_record-valid texts)
+value_for-valid Xm Update texts may = change (xm_record texts) (xm_record-change texts)
+value_for-valid Xm Delete texts may = tt
+value_for-valid Xp Insert texts may = put (xp_record texts) (xp_record-valid texts)
+value_for-valid Xp Update texts may = absurd (false≢true may)
+value_for-valid Xp Delete texts may = drops (xp_key texts) (xp_key-valid texts)
+value_for-valid Xs Insert texts may = put (xs_record texts) (xs_record-valid texts)
+value_for-valid Xs Update texts may = absurd (false≢true may)
+value_for-valid Xs Delete texts may = drops (xs_key texts) (xs_key-valid texts)
+value_for-valid Xo Insert texts may = put (xo_record texts) (xo_record-valid texts)
+value_for-valid Xo Update texts may = absurd (false≢true may)
+value_for-valid Xo Delete texts may = drops (xo_key texts) (xo_key-valid texts)
+value_for-valid Xu Insert texts may = put (xu_record texts) (xu_record-valid texts)
+value_for-valid Xu Update texts may = absurd (false≢true may)
+value_for-valid Xu Delete texts may = drops (xu_key texts) (xu_key-valid texts)
+value_for-valid Xe Insert texts may = put (xe_record texts) (xe_record-valid texts)
+value_for-valid Xe Update texts may = absurd (false≢true may)
+value_for-valid Xe Delete texts may = drops (xe_key texts) (xe_key-valid texts)
+value_for-valid Xc Insert texts may = absurd (false≢true may)
+value_for-valid Xc Update texts may = change (xc_record texts) (xc_record-valid texts)
+value_for-valid Xc Delete texts may = tt
+value_for-valid Xa Insert texts may = put (xa_record texts) (xa_record-valid texts)
+value_for-valid Xa Update texts may = absurd (false≢true may)
+value_for-valid Xa Delete texts may = drops (xa_key texts) (xa_key-valid texts)
+
+action_valid : (tag : Tag) (text : List ℕ) → IfSome (action_for tag text) (λ a. acts tag a ≡ true)
+action_valid tag text =
+    valid (λ a. a ≡ a) (λ a. acts tag a ≡ true) (action_in text) _ (anything (action_in text)) λ a e.
+    valid_if (λ a. acts tag a ≡ true) (acts tag a) a (λ h. h)
+
+form_valid : (tag : Tag) (texts : List (List ℕ)) → IfSome (form_value tag texts) Spelled
+form_valid tag texts =
+    either Spelled (has_wrong_count tag (is_deletion texts) texts) None _ tt
+    (valid (λ a. acts tag a ≡ true) Spelled (action_for tag (field 2 texts)) _ (action_valid tag (field 2 texts)) λ action may. value_for-valid tag action texts may)
+
+parts_valid : (plain : Bool) (tag : Option Tag) (texts : List (List ℕ)) → IfSome (if plain then (tag >>= λ t. form_value t texts) else None) Spelled
+parts_valid plain tag texts =
+    either Spelled plain _ None (valid (λ t. t ≡ t) Spelled tag _ (anything tag) λ t e. form_valid t texts) tt
+
+some_valid : (part : Option LineValue) (v : LineValue) → IfSome part Spelled → part ≡ Some v → is_line_value v ≡ true
+unfolding Spelled
+some_valid None v h e = cc
+some_valid (Some w) v h e =
+    let same : w ≡ v = cc in
+    subst (λ x. is_line_value x ≡ true) same h
+
+pub line_valid : (line : List ℕ) (value : LineValue) → line_value line ≡ Some value → is_line_value value ≡ true
+line_valid line value is = some_valid (line_value line) value (parts_valid (is_plain line) (tag_of line) (fields line)) is

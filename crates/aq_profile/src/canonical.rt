@@ -1,5 +1,5 @@
 //! Lines and their values, both ways.
-ghost use Rattle.std.specs.Prelude.{◌≡◌, ◌∷◌, [], Some, None, codes, true, false, pos, neg_ℤ, option_and_then, IsTrue};
+ghost use Rattle.std.specs.Prelude.{◌≡◌, ℕ, ◌∷◌, [], List, Some, None, codes, true, false, pos, neg_ℤ, option_and_then, IsTrue};
 ghost use Rattle.aq_base.specs.declared.monitor.MonitorId.{MonitorId};
 ghost use Rattle.aq_base.specs.declared.monitor.Pollutant.TheVariants.{Ozone, Pm25, Pm10};
 ghost use Rattle.aq_base.specs.declared.monitor.Duration.TheVariants.{Hour, Day};
@@ -10,8 +10,8 @@ ghost use Rattle.aq_base.specs.declared.office.OfficeLine.TheVariants.{Put as Pu
 ghost use Rattle.aq_profile.specs.LineExamples.{home, ozone_monitor, particle_monitor, new_year, noon, code_rt};
 ghost use Rattle.aq_profile.specs.Spellings.{unit_in, value_in};
 ghost use Rattle.aq_profile.specs.RdForm.{Put, Delete, RdValue};
-ghost use Rattle.aq_profile.specs.Reading.{OfRd, OfOffice, line_value};
-ghost use Rattle.aq_profile.specs.Canonical.{canonical_rd, canonical_office, is_office_line, is_rd_value, printed_key};
+ghost use Rattle.aq_profile.specs.Reading.{LineValue, OfRd, OfOffice, line_value};
+ghost use Rattle.aq_profile.specs.Canonical.{canonical_rd, canonical_office, is_line_value, is_office_line, is_rd_value, printed_key};
 
 /// Digits beyond thousandths of a ppm, or tenths of a µg/m3, are dropped, toward zero for negative
 /// values too; a value in ppb is cut to whole ppb.
@@ -88,4 +88,9 @@ pub fn canonical_office_lines_are_read_back()
 /// The canonical line of a sample is read as that sample, for each that a body's line can spell.
 pub fn canonical_samples_are_read_back()
     ensures { (value : RdValue) → IsTrue (is_rd_value value) → line_value (canonical_rd value) ≡ Some (OfRd value) }
+{}
+
+/// What a line spells is one of the values whose canonical lines are read back.
+pub fn what_a_line_spells_is_in_range()
+    ensures { (line : List ℕ) (value : LineValue) → line_value line ≡ Some value → IsTrue (is_line_value value) }
 {}
