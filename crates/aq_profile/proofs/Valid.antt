@@ -1,12 +1,11 @@
 -- What a line spells is in range.
-use Rattle.std.proofs.Common.{◌≡◌, ℕ, suc, zero, ◌+◌, ◌-◌, ◌*◌, ◌/◌, ◌%◌, ◌^◌, ◌<◌, ◌≤◌, Bool, true, false, cond, not, ◌&&◌, ◌||◌, List, [], ◌∷◌, ◌++◌, length, Some, None, Option, refl, sym, ap, ◌∙◌, arith, inl, inr, subst}
-use Rattle.std.specs.Prelude.{nat_lt, nat_le, ◌==◌, codes, bytes_eq, if◌then◌else◌, IfSome, slice_index, take, drop}
+use Rattle.std.proofs.Common.{◌≡◌, ℕ, suc, zero, ◌+◌, ◌-◌, ◌^◌, ◌<◌, ◌≤◌, Bool, true, false, ◌&&◌, List, [], ◌∷◌, length, Some, None, Option, refl, ap, arith, subst}
+use Rattle.std.specs.Prelude.{nat_le, ◌==◌, codes, bytes_eq, if◌then◌else◌, IfSome, slice_index, take, drop}
 use Rattle.std.specs.Char.{digit_value, is_ascii_digit}
 use Rattle.std.specs.Str.Parse.{AllDigits, digits_value}
 use Rattle.std.proofs.lemmas.Int.Digits.{digits_value-lt}
-use Rattle.std.proofs.lemmas.Bool.{false≢true}
 use Rattle.std.proofs.lemmas.Bool.Decides.{nat_tests}
-use Rattle.aq_base.specs.Calendar.{days_of_years, days_of_months, days_in_year, days_in_month, day_number, day_of_date, is_date, is_year, hour_number}
+use Rattle.aq_base.specs.Calendar.{days_of_years, days_of_months, days_in_year, days_in_month, day_number, is_date, is_year, hour_number}
 use Rattle.aq_base.specs.Decimal.{are_digits}
 use Rattle.aq_base.specs.Site.{Site}
 use Rattle.aq_base.specs.declared.monitor.Pollutant.{Pollutant}
@@ -15,7 +14,7 @@ use Rattle.aq_base.specs.declared.monitor.Duration.TheVariants.{Hour, Day}
 use Rattle.aq_profile.specs.Spellings.{◌>>=◌, Tag, digits_in, site_in, poc_in, primary_in, parameter_in, parameter_of, has_parameter, duration_in, has_duration, date_in, year_in, time_in, interval_in, is_interval, event_number_in, is_event_number, event_code_in, is_event_code, null_in}
 use Rattle.aq_profile.specs.OfficeForms.{hour_in}
 use Rattle.aq_profile.specs.Office.{is_site, is_poc, is_day}
-use Rattle.aq_profile.proofs.Least.{both, true_or_false}
+use Rattle.aq_profile.proofs.Least.{both}
 use Rattle.aq_profile.proofs.JoinedFields.{and_true}
 use Rattle.aq_profile.proofs.Days.{years_next, months_next, twelve_months}
 use Rattle.aq_profile.proofs.KeyOrder.{years_in_order, months_in_order}
@@ -46,8 +45,8 @@ pub digits_valid : (width : ℕ) (text : List ℕ) → IfSome (digits_in width t
 digits_valid width text =
     valid_if (λ n. n < 10 ^ width) ((length text == width) && are_digits text) (digits_value 10 text)
     (λ h.
-      let parts = both (length text == width) (are_digits text) h in
-      subst (λ w. digits_value 10 text < 10 ^ w) (same_length (length text) width parts.0) (digits_value-lt 10 text (digits text parts.1)))
+    let parts = both (length text == width) (are_digits text) h in
+    subst (λ w. digits_value 10 text < 10 ^ w) (same_length (length text) width parts.0) (digits_value-lt 10 text (digits text parts.1)))
 
 pub at_most : (n m : ℕ) → n < m + 1 → nat_le n m ≡ true
 at_most n m h = grind (arith, nat_tests)
@@ -80,11 +79,11 @@ pub poc_valid : (text : List ℕ) → IfSome (poc_in text) (λ p. is_poc p ≡ t
 poc_valid text =
     valid_if (λ p. is_poc p ≡ true) (nat_le (length text) 2 && are_digits text && nat_le 1 (digits_value 10 text)) (digits_value 10 text)
     (λ h.
-      let x = both (nat_le (length text) 2 && are_digits text) (nat_le 1 (digits_value 10 text)) h in
-      let y = both (nat_le (length text) 2) (are_digits text) x.0 in
-      let small = digits_value-lt 10 text (digits text y.1) in
-      let power = power_small (length text) y.0 in
-      and_true (nat_le 1 (digits_value 10 text)) (nat_le (digits_value 10 text) 99) x.1 (at_most (digits_value 10 text) 99 (omega arith)))
+    let x = both (nat_le (length text) 2 && are_digits text) (nat_le 1 (digits_value 10 text)) h in
+    let y = both (nat_le (length text) 2) (are_digits text) x.0 in
+    let small = digits_value-lt 10 text (digits text y.1) in
+    let power = power_small (length text) y.0 in
+    and_true (nat_le 1 (digits_value 10 text)) (nat_le (digits_value 10 text) 99) x.1 (at_most (digits_value 10 text) 99 (omega arith)))
 
 pub year_valid : (text : List ℕ) → IfSome (year_in text) (λ y. is_year y ≡ true)
 unfolding year_in

@@ -1,30 +1,26 @@
 -- What a line spells is one of the values whose canonical lines are read back.
-use Rattle.std.proofs.Common.{◌≡◌, ℕ, suc, zero, ◌+◌, ◌<◌, ◌≤◌, Bool, true, false, cond, not, ◌&&◌, ◌||◌, List, [], ◌∷◌, ◌++◌, length, take, drop, Some, None, Option, refl, sym, ap, ◌∙◌, arith, inl, inr, subst, length-append, length-take}
-use Rattle.std.specs.Prelude.{nat_lt, nat_le, ◌==◌, IfSome, if◌then◌else◌, ℤ}
+use Rattle.std.proofs.Common.{◌≡◌, ℕ, suc, ◌+◌, ◌<◌, ◌≤◌, Bool, true, false, ◌&&◌, List, [], ◌∷◌, ◌++◌, length, take, drop, Some, None, Option, refl, sym, arith, inl, inr, subst, length-append, length-take}
+use Rattle.std.specs.Prelude.{nat_le, IfSome, if◌then◌else◌, ℤ}
 use Rattle.std.specs.List.{list_all}
 use Rattle.std.proofs.lemmas.Bool.{false≢true}
 use Rattle.aq_base.specs.Calendar.{is_year}
 use Rattle.aq_base.specs.Decimal.{is_decimal, cut}
 use Rattle.aq_base.specs.Quals.{with_code, has_code, all_distinct}
 use Rattle.aq_base.specs.Places.{all_distinct-push}
-use Rattle.aq_base.specs.Site.{Site}
 use Rattle.aq_base.specs.declared.code.Code.{Code}
 use Rattle.aq_base.specs.declared.monitor.Pollutant.{Pollutant}
-use Rattle.aq_base.specs.declared.monitor.Pollutant.TheVariants.{Ozone, Pm25, Pm10}
 use Rattle.aq_base.specs.declared.monitor.MonitorId.{MonitorId}
-use Rattle.aq_base.specs.declared.observation.Observation.{Observation}
 use Rattle.aq_base.specs.declared.office.OfficeRecord.{OfficeRecord}
-use Rattle.aq_base.specs.declared.office.OfficeRecord.TheVariants.{Monitor, Primary, Schedule, Season, Makeup, Event, Concurrence, Approved}
+use Rattle.aq_base.specs.declared.office.OfficeRecord.TheVariants.{Season, Makeup, Event}
 use Rattle.aq_base.specs.declared.office.OfficeKey.{OfficeKey}
-use Rattle.aq_base.specs.declared.office.OfficeKey.TheVariants.{Primary as PrimaryKey, Schedule as ScheduleKey, Season as SeasonKey, Makeup as MakeupKey, Event as EventKey, Approved as ApprovedKey}
 use Rattle.aq_base.specs.declared.office.OfficeLine.TheVariants.{Put, Change, Drop}
 use Rattle.aq_profile.specs.Fields.{field, fields, is_empty}
 use Rattle.aq_profile.specs.Spellings.{◌>>=◌, Tag, Rd, Xm, Xp, Xs, Xo, Xu, Xe, Xc, Xa, Action, Insert, Update, Delete, action_in, parameter_in, parameter_of, poc_in, primary_in, duration_in, unit_in, method_in, date_in, year_in, interval_in, truth_in, value_in, is_in_range, null_in, qualifier_in, qualifiers_onto, qualifiers_in, event_number_in, event_code_in, has_parameter, has_duration, is_interval, is_event_number, is_event_code, is_code_byte}
-use Rattle.aq_profile.specs.RdForm.{RdValue, Put as PutSample, Delete as DeleteSample, monitor_in, start_in, content_in, put_in, delete_in, qualifier_fields}
+use Rattle.aq_profile.specs.RdForm.{RdValue, monitor_in, start_in, content_in, put_in, delete_in, qualifier_fields}
 use Rattle.aq_profile.specs.OfficeForms.{site_at, hour_in, is_season, is_makeup, is_span, xm_record, xp_record, xp_key, xs_record, xs_key, xo_record, xo_key, xu_record, xu_key, xe_record, xe_key, xc_record, xa_record, xa_key}
 use Rattle.aq_profile.specs.Reading.{LineValue, OfRd, OfOffice, line_value, value_for, form_value, acts, action_for, has_wrong_count, is_deletion, is_plain, tag_of}
 use Rattle.aq_profile.specs.Canonical.{is_rd_value, is_office_line, is_line_value}
-use Rattle.aq_profile.specs.Office.{is_site, is_poc, is_day, is_key, is_record, is_qualifier, is_null_code, is_measured, is_content}
+use Rattle.aq_profile.specs.Office.{is_site, is_poc, is_day, is_qualifier, is_null_code, is_measured, is_content}
 use Rattle.aq_profile.proofs.Least.{both, true_or_false}
 use Rattle.aq_profile.proofs.JoinedFields.{and_true}
 use Rattle.aq_profile.proofs.Samples.{null_qualifies}
@@ -71,9 +67,9 @@ with_good : (most : ℕ) (before : List Code) (c : Code) → GoodCodes most befo
 with_good most before c good h =
     let few = good.few in
     elim (true_or_false (has_code c before)) [
-      inl there ↦ subst (λ b. GoodCodes (most + 1) (if b then before else before ++ c ∷ [])) (sym there)
+      | inl there ↦ subst (λ b. GoodCodes (most + 1) (if b then before else before ++ c ∷ [])) (sym there)
           (record { spelled = good.spelled; distinct = good.distinct; few = omega arith })
-    | inr absent ↦ subst (λ b. GoodCodes (most + 1) (if b then before else before ++ c ∷ [])) (sym absent)
+      | inr absent ↦ subst (λ b. GoodCodes (most + 1) (if b then before else before ++ c ∷ [])) (sym absent)
           (record {
             spelled = all_append before c good.spelled h;
             distinct = all_distinct-push before c good.distinct absent;
@@ -130,11 +126,11 @@ unfolding content_in
 content_valid p places texts =
     either (λ c. is_content p c ≡ true) (is_empty (field 13 texts)) _ _
     (valid (λ c. is_null_code c ≡ true) (λ c. is_content p c ≡ true) (null_in (field 14 texts)) _ (null_valid (field 14 texts)) λ n h.
-      valid (GoodCodes 10) (λ c. is_content p c ≡ true) (qualifiers_in (qualifier_fields texts)) _ (quals_valid texts) λ qs g. good_content p None (Some n) qs h g)
+    valid (GoodCodes 10) (λ c. is_content p c ≡ true) (qualifiers_in (qualifier_fields texts)) _ (quals_valid texts) λ qs g. good_content p None (Some n) qs h g)
     (either (λ c. is_content p c ≡ true) (is_empty (field 14 texts)) _ None
-      (valid (λ v. is_in_range p v ≡ true) (λ c. is_content p c ≡ true) (value_in p places (field 13 texts)) _ (value_valid p places (field 13 texts)) λ v h.
-        valid (GoodCodes 10) (λ c. is_content p c ≡ true) (qualifiers_in (qualifier_fields texts)) _ (quals_valid texts) λ qs g. good_content p (Some v) None qs h g)
-      tt)
+    (valid (λ v. is_in_range p v ≡ true) (λ c. is_content p c ≡ true) (value_in p places (field 13 texts)) _ (value_valid p places (field 13 texts)) λ v h.
+    valid (GoodCodes 10) (λ c. is_content p c ≡ true) (qualifiers_in (qualifier_fields texts)) _ (quals_valid texts) λ qs g. good_content p (Some v) None qs h g)
+    tt)
 
 put_valid : (update : Bool) (texts : List (List ℕ)) → IfSome (put_in update texts) (λ v. is_rd_value v ≡ true)
 unfolding put_in start_in
@@ -147,8 +143,8 @@ put_valid update texts =
     valid (λ c. is_content id.pollutant c ≡ true) (λ v. is_rd_value v ≡ true) (content_in id.pollutant places texts) _ (content_valid id.pollutant places texts) λ c l.
     and_true (is_site id.site && is_poc id.poc && has_duration id.pollutant d && nat_le m 999 && nat_le hour 438311) (is_content id.pollutant c)
     (and_true (is_site id.site && is_poc id.poc && has_duration id.pollutant d && nat_le m 999) (nat_le hour 438311)
-      (and_true (is_site id.site && is_poc id.poc && has_duration id.pollutant d) (nat_le m 999)
-        (and_true (is_site id.site && is_poc id.poc) (has_duration id.pollutant d) h i) (at_most m 999 j)) k) l
+    (and_true (is_site id.site && is_poc id.poc && has_duration id.pollutant d) (nat_le m 999)
+    (and_true (is_site id.site && is_poc id.poc) (has_duration id.pollutant d) h i) (at_most m 999 j)) k) l
 
 delete_valid : (texts : List (List ℕ)) → IfSome (delete_in texts) (λ v. is_rd_value v ≡ true)
 unfolding delete_in start_in

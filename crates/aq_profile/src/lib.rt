@@ -11,7 +11,8 @@ mod refusal;
 
 pub use canonical::{
     canonical_office_lines_are_read_back, canonical_samples_are_read_back, office_lines_are_read,
-    office_lines_are_written, samples_are_read, samples_are_written, values_are_cut, what_a_line_spells_is_in_range,
+    office_lines_are_written, samples_are_read, samples_are_written, values_are_cut,
+    what_a_line_spells_is_in_range,
 };
 pub use lines::{fields_without_spaces_round_them, lines_of_a_body};
 pub use load::{
