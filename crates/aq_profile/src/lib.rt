@@ -24,5 +24,6 @@ pub use reading::{
     a_value_or_a_rule, rules_of_office_lines, rules_of_samples, the_least_rule_is_named,
 };
 pub use refusal::{
-    full_lists, refused_office_lines, refused_samples, the_least_office_rule_is_named,
+    full_lists, observations_are_full, refused_office_lines, refused_samples,
+    the_least_office_rule_is_named,
 };
