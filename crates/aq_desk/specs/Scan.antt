@@ -1,14 +1,14 @@
 -- The command `scan SITE DAY`: the input is taken as load 0 over an office of which nothing stands; its sheet is printed, and then the sheet of the day's windows (own).
-use Rattle.std.specs.Prelude.{◌≡◌, ◌⊎◌, ℕ, ◌&&◌, nat_le, if◌then◌else◌, Option, Some, None, List, [], ◌++◌, length}
+use Rattle.std.specs.Prelude.{◌≡◌, ◌⊎◌, ℕ, if◌then◌else◌, Option, Some, None, List, [], ◌++◌}
 use Rattle.std.specs.Option.{option_map}
 use Rattle.aq_base.specs.Site.{Site}
 use Rattle.aq_base.specs.declared.monitor.Pollutant.TheVariants.{Ozone}
-use Rattle.aq_profile.specs.Limits.{MOST_BYTES, MOST_LINES}
-use Rattle.aq_profile.specs.Lines.{line_count, body_lines}
+use Rattle.aq_profile.specs.Lines.{body_lines}
 use Rattle.aq_profile.specs.Office.{Office, nothing, has_monitor}
 use Rattle.aq_profile.specs.Sheet.{text_of}
 use Rattle.aq_profile.specs.Sheets.{load_sheet, windows_answer}
 use Rattle.aq_desk.specs.Built.{built_after_all, built_reply}
+use Rattle.aq_desk.specs.Ending.{is_within}
 use Rattle.aq_desk.specs.Writing.{WritesFront}
 use Rattle.aq_desk.specs.declared.words.Command.{Command}
 use Rattle.aq_desk.specs.declared.words.Command.TheVariants.{Scan}
@@ -42,7 +42,7 @@ scan_answer body site day = after_text (reply_text body) (windows_outcome (scann
 -- 10 for a body of too many bytes or lines
 abbrev pub scan_outcome : List ℕ → Site → ℕ → Outcome
 scan_outcome body site day =
-    if nat_le (length body) MOST_BYTES && nat_le (line_count body) MOST_LINES
+    if is_within body
     then scan_answer body site day
     else record { status = 10; output = [] }
 

@@ -1,13 +1,12 @@
 //! The top call.
-ghost use Rattle.std.specs.Prelude.{◌≡◌, ◌<◌, ◌≤◌, ◌↔◌, ◌++◌, length, IsNone, IfErr, IfSome, IsTrue, OnOk, map, string_bytes};
+ghost use Rattle.std.specs.Prelude.{◌≡◌, ◌<◌, ◌≤◌, ◌↔◌, ◌++◌, true, false, length, IsNone, IfErr, IfSome, IsTrue, OnOk, map, string_bytes};
 ghost use Rattle.std.specs.Option.{option_map};
 ghost use Rattle.aq_base.specs.declared.monitor.Pollutant.TheVariants.{Ozone};
 ghost use Rattle.aq_profile.specs.Office.{has_monitor};
 ghost use Rattle.aq_profile.specs.OzoneDay.{windows};
 ghost use Rattle.aq_profile.specs.Sheet.{text_of};
 ghost use Rattle.aq_profile.specs.Sheets.{load_sheet};
-ghost use Rattle.aq_desk.specs.Body.{TellsTooMany};
-ghost use Rattle.aq_desk.specs.Ending.{HasReason, IsSilent, IsStatus, ReadsWhole, TellsFew, WritesNothing, ending_from, status_of};
+ghost use Rattle.aq_desk.specs.Ending.{HasReason, IsSilent, IsStatus, ReadsWhole, TellsFew, TellsMany, WritesNothing, ending_from, is_within, status_of};
 ghost use Rattle.aq_desk.specs.Outside.{HasRisen};
 ghost use Rattle.aq_desk.specs.Scan.{Follows, outcome_for, scan_answer, scan_outcome, windows_outcome};
 ghost use Rattle.aq_desk.specs.WindowView.{row_view};
@@ -54,7 +53,7 @@ pub fn run<S: Source, O: Sink, E: Sink>(
 
     // A body of too many bytes or lines, and no other, ends with 10, unless the input or memory failed
     // first.
-    ensures too_many { result ≡ 10 → TellsTooMany (S.left input.old) }
+    ensures too_many { result ≡ 10 → TellsMany (S.left input.old) }
     ensures whole { ReadsWhole result → TellsFew (S.left input.old) }
 
     ensures silent { WritesNothing result → output.new ≡ output.old }
@@ -73,7 +72,7 @@ fn perform<S: Source, O: Sink>(
 ) -> Ending
     ensures headline { IfSome (S.left input.old) (λ body. Follows (outcome_for (command_of (map string_bytes words.now)) body) (status_of result) (O.written output.old) (O.written output.new)) }
     ensures no_command { IsNone (command_of (map string_bytes words.now)) → result ≡ NoCommand }
-    ensures reason { HasReason (IsNone (command_of (map string_bytes words.now))) (HasRisen (S.faults input.old) (S.faults input.new)) (HasRisen (O.faults output.old) (O.faults output.new)) (TellsTooMany (S.left input.old)) (TellsFew (S.left input.old)) result }
+    ensures reason { HasReason (IsNone (command_of (map string_bytes words.now))) (HasRisen (S.faults input.old) (S.faults input.new)) (HasRisen (O.faults output.old) (O.faults output.new)) (TellsMany (S.left input.old)) (TellsFew (S.left input.old)) result }
     ensures silent { IsSilent (output.new ≡ output.old) result }
     ensures unused { result ≡ NoCommand → input.new ≡ input.old }
 {
@@ -98,7 +97,7 @@ fn scan<S: Source, O: Sink>(
 ) -> Result<(), Ending>
     ensures told { IfSome (S.left input.old) (λ body. Follows (scan_outcome body site day) (status_of (ending_from result)) (O.written output.old) (O.written output.new)) }
     ensures whole { OnOk result (TellsFew (S.left input.old)) }
-    ensures reason { IfErr result (HasReason ⊥ (HasRisen (S.faults input.old) (S.faults input.new)) (HasRisen (O.faults output.old) (O.faults output.new)) (TellsTooMany (S.left input.old)) (TellsFew (S.left input.old))) }
+    ensures reason { IfErr result (HasReason ⊥ (HasRisen (S.faults input.old) (S.faults input.new)) (HasRisen (O.faults output.old) (O.faults output.new)) (TellsMany (S.left input.old)) (TellsFew (S.left input.old))) }
     ensures silent { IfErr result (IsSilent (output.new ≡ output.old)) }
 {
     let body = read_body(alloc, input)?;
@@ -115,8 +114,8 @@ fn answer<O: Sink>(
 ) -> Result<(), Ending>
     requires { length body.now ≤ MOST_BYTES }
     ensures told { Follows (scan_outcome body.now site day) (status_of (ending_from result)) (O.written output.old) (O.written output.new) }
-    ensures reason { IfErr result (HasReason ⊥ ⊥ (HasRisen (O.faults output.old) (O.faults output.new)) (HasTooManyLines body.now) (Unit {0})) }
-    ensures few_lines { OnOk result (HasFewLines body.now) }
+    ensures reason { IfErr result (HasReason ⊥ ⊥ (HasRisen (O.faults output.old) (O.faults output.new)) (is_within body.now ≡ false) (is_within body.now ≡ true)) }
+    ensures few { OnOk result (is_within body.now ≡ true) }
     ensures silent { IfErr result (IsSilent (output.new ≡ output.old)) }
 {
     let lines = count_lines(body);
@@ -143,11 +142,7 @@ fn answer_lines<O: Sink>(
     print_windows(alloc, &taken.office, site, day, output)
 }
 
-fn print_reply<O: Sink>(
-    alloc: Global,
-    reply: &LoadReply,
-    output: &mut O,
-) -> Result<(), Ending>
+fn print_reply<O: Sink>(alloc: Global, reply: &LoadReply, output: &mut O) -> Result<(), Ending>
     ensures whole { OnOk result (O.written output.new ≡ option_map (λ bytes. bytes ++ text_of (load_sheet reply.now)) (O.written output.old)) }
     ensures front { WritesFront (O.written output.old) (O.written output.new) (text_of (load_sheet reply.now)) }
     ensures reason { IfErr result (HasReason ⊥ ⊥ (HasRisen (O.faults output.old) (O.faults output.new)) ⊥ ⊥) }
@@ -176,12 +171,7 @@ fn print_windows<O: Sink>(
 }
 
 /// The day's windows, on a counter of their own.
-fn counted<L: Ledger>(
-    office: &Office,
-    site: SiteId,
-    day: Day,
-    blank: Blank,
-) -> [WindowRow; WINDOWS]
+fn counted<L: Ledger>(office: &Office, site: SiteId, day: Day, blank: Blank) -> [WindowRow; WINDOWS]
     requires site { IsTrue (has_monitor office.now site Ozone) }
     requires name { blank.name ≡ L.name }
     requires parts { blank.parts ≡ L.parts }
