@@ -1,17 +1,20 @@
 -- The hours of an average, one by one.
-use Rattle.std.proofs.Common.{◌≡◌, ℕ, zero, suc, ◌+◌, ◌-◌, ◌≤◌, List, [], ◌∷◌, ◌++◌, length, refl, sym, ap, subst, ◌∙◌, arith}
+use Rattle.std.proofs.Common.{◌≡◌, ℕ, zero, suc, ◌+◌, ◌-◌, ◌*◌, ◌<◌, ◌≤◌, map, get_or, None, List, [], ◌∷◌, ◌++◌, length, refl, sym, ap, subst, ◌∙◌, arith}
 use Rattle.std.specs.Prelude.{Option, ℤ, nat_le}
 use Rattle.std.specs.List.{filter, filter_map, range_with_len}
-use Rattle.std.proofs.lemmas.List.{length-map}
+use Rattle.std.proofs.lemmas.List.{length-map, get_or-map}
+use Rattle.std.proofs.lemmas.List.FromFn.{fill_by_all}
 use Rattle.std.proofs.lemmas.List.Elements.{filter_map-append, filter-append}
 use Rattle.aq_base.specs.Site.{Site}
 use Rattle.aq_base.specs.declared.day.TheConstants.{LAST_HOUR}
 use Rattle.aq_profile.specs.EightHour.{WindowRow, average_of, average, eight_hours, full_values, row_of, window}
 use Rattle.aq_profile.specs.Office.{Office}
+use Rattle.aq_profile.specs.OzoneDay.{windows, starts_of}
 use Rattle.aq_profile.specs.SiteHour.{Cell, site_hour}
 use Rattle.aq_profile.proofs.Exclusions.{row-unexcluded}
-use Rattle.aq_desk.specs.WindowView.{IsTally, cells_at, cells_of}
+use Rattle.aq_desk.specs.WindowView.{IsTally, cells_at, cells_of, row_view}
 use Rattle.aq_desk.specs.declared.windows.Tally.{Tally}
+use Rattle.aq_desk.specs.declared.windows.WindowRow.{WindowRow as Row}
 
 -- one hour more behind n
 range_more : (start n : ℕ) → range_with_len start (suc n) ≡ range_with_len start n ++ (start + n) ∷ []
@@ -69,3 +72,28 @@ row_is office site start n tally value all eight is =
     row_by (cells_at office site (range_with_len start n)) tally value all is
     ∙ ap (λ (k : ℕ). row_of (cells_at office site (range_with_len start k))) eight
     ∙ window_by office site start
+
+-- ---- the averages of a day
+
+shifted : {Y : Type 0} (f : ℕ → Y) (a b n : ℕ) → map (λ k. f (a + k)) (range_with_len b n) ≡ map f (range_with_len (a + b) n)
+shifted f a b zero = refl
+shifted {Y} f a b (suc n) =
+    let e : a + (b + 1) ≡ a + b + 1 = omega arith in
+    ap (λ (l : List Y). f (a + b) ∷ l) (shifted f a (b + 1) n ∙ ap (λ (k : ℕ). map f (range_with_len k n)) e)
+
+rows_by : (f : ℕ → WindowRow) (rows : List Row) (first n : ℕ) → length rows ≡ n → ((d : Row) (k : ℕ) → k < n → row_view (get_or rows k d) ≡ f (first + k))
+    → map row_view rows ≡ map f (range_with_len first n)
+rows_by f rows first n many each =
+    let d : Row = record { net = None; net_hours = 0; full = None; full_hours = 0 } in
+    let e : first + 0 ≡ first = omega arith in
+    fill_by_all (λ k. f (first + k)) (map row_view rows) n (row_view d) (length-map rows row_view ∙ many)
+    (λ k within. get_or-map row_view rows k d (row_view d) (let e : k < length rows = omega (arith, within, many) in e) ∙ each d k within)
+    ∙ shifted f first 0 n
+    ∙ ap (λ (k : ℕ). map f (range_with_len k n)) e
+
+pub rows_are : (office : Office) (site : Site) (day : ℕ) (rows : List Row) (first n : ℕ) → length rows ≡ 17 → n ≡ 17 → first ≡ 24 * day + 7
+    → ((d : Row) (k : ℕ) → k < n → row_view (get_or rows k d) ≡ window office site (first + k)) → map row_view rows ≡ windows office site day
+unfolding windows starts_of
+rows_are office site day rows first n many all from each =
+    rows_by (window office site) rows first n (many ∙ sym all) each
+    ∙ (λ i. map (window office site) (range_with_len (from i) (all i)))

@@ -47,7 +47,7 @@ fn average(count: u8, sum: i32) -> Option<i32>
 }
 
 /// Hours that have a value: how many, and the sum of their values.
-#[derive(Clone, Copy, Debug, PartialEq, Eq)]
+#[derive(Clone, Copy)]
 struct Tally {
     hours: u8,
     sum: i32,
