@@ -1,6 +1,6 @@
 -- An office of one ozone monitor: what the site has for an hour is what stands at the monitor's hour.
 use Rattle.std.proofs.Common.{◌≡◌, ℕ, Bool, true, false, cond, ◌&&◌, List, [], ◌∷◌, refl, sym, ap, subst, ◌∙◌, arith}
-use Rattle.std.specs.Prelude.{◌==◌, ℤ, pos, Option, Some, None, IsTrue, bytes_eq}
+use Rattle.std.specs.Prelude.{◌==◌, ℤ, pos, Option, Some, None, IsTrue}
 use Rattle.std.specs.Option.{option_map}
 use Rattle.std.specs.List.{AllByRecursion, filter_map, cons_option, find}
 use Rattle.std.specs.List.Sorted.{IsStrictlySortedBy}
@@ -20,13 +20,12 @@ use Rattle.aq_base.specs.declared.monitor.Pollutant.{Pollutant}
 use Rattle.aq_base.specs.declared.monitor.Pollutant.TheVariants.{Ozone, Pm25, Pm10}
 use Rattle.aq_base.specs.declared.observation.ObsKey.{ObsKey}
 use Rattle.aq_base.specs.declared.observation.Observation.{Observation}
-use Rattle.aq_base.specs.declared.office.OfficeRecord.{OfficeRecord}
 use Rattle.aq_profile.specs.Designation.{primary_on}
 use Rattle.aq_profile.specs.Exclusion.{excluded}
 use Rattle.aq_profile.specs.Lists.{total}
 use Rattle.aq_profile.specs.Monitors.{is_same_site, is_same_pollutant, is_same_monitor, is_eligible}
 use Rattle.aq_profile.specs.Office.{Office, has_monitor, is_same, series_numbers}
-use Rattle.aq_profile.specs.SiteHour.{Cell, Sample, chosen, is_of_poc, sample_of, samples_at, site_hour}
+use Rattle.aq_profile.specs.SiteHour.{Sample, chosen, is_of_poc, sample_of, site_hour}
 use Rattle.aq_profile.proofs.Exclusions.{excluded-unagreed}
 use Rattle.aq_profile.proofs.Sameness.{site_itself}
 use Rattle.aq_shelf.specs.Keys.{key_cmp, same_key, same_monitor, pollutant_place}

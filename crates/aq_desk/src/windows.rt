@@ -78,7 +78,12 @@ impl Tally {
 }
 
 /// The value of a registered site for an hour, by the hour's number: none past the profile.
-fn value_of<L: Ledger>(office: &Office, site: SiteId, hour: u32, steps: &mut Steps<L>) -> Option<i32>
+fn value_of<L: Ledger>(
+    office: &Office,
+    site: SiteId,
+    hour: u32,
+    steps: &mut Steps<L>,
+) -> Option<i32>
     requires { IsTrue (has_monitor office.now site Ozone) }
     ensures value { cells_at office.now site (hour ∷ []) ≡ cells_of result }
     ensures range { IfSome result IsOzone }
