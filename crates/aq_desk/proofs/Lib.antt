@@ -1,3 +1,5 @@
 pub mod Fronts
 pub mod Bodies
 pub mod BuiltLaws
+pub mod OneMonitor
+pub mod Tallies
