@@ -1,3 +1,4 @@
 pub mod Fronts
 pub mod Bodies
 pub mod Digits
+pub mod SheetTexts

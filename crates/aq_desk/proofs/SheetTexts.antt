@@ -1,0 +1,51 @@
+-- The texts of the sheets, piece by piece.
+use Rattle.std.proofs.Common.{◌≡◌, ℕ, List, [], ◌∷◌, ◌++◌, map, codes, refl, sym, ap, ◌∙◌, append_assoc}
+use Rattle.std.specs.List.{flat_map, enumerate_from}
+use Rattle.std.proofs.lemmas.List.Concat.{flat_map-append}
+use Rattle.aq_base.specs.Site.{Site}
+use Rattle.aq_base.specs.declared.reply.ListedLine.{ListedLine}
+use Rattle.aq_base.specs.declared.reply.LoadReply.{LoadReply}
+use Rattle.aq_base.specs.declared.reply.RestRule.{RestRule}
+use Rattle.aq_cal.specs.DayText as cal
+use Rattle.aq_profile.specs.EightHour.{WindowRow}
+use Rattle.aq_profile.specs.Sheet.{SheetCell, Head, text_of, head_text, head_of, row_text, line_of, count_cell, site_text, day_text}
+use Rattle.aq_profile.specs.Sheet.SheetCell.{Text}
+use Rattle.aq_profile.specs.Sheets.{load_sheet, listed_row, rest_row, windows_sheet, window_cells}
+
+-- pieces that are written one behind the other
+seven : (a b c d e f g : List ℕ) → (((((([] ++ a) ++ b) ++ c) ++ d) ++ e) ++ f) ++ g ≡ (a ++ (b ++ (c ++ (d ++ [])))) ++ (e ++ (f ++ g))
+seven a b c d e f g = simp append_assoc
+
+-- a sheet of four heads, whose rows come in two parts
+four_heads : (a b c d : Head) (column : List ℕ) (columns : List (List ℕ)) (rows more : List (List SheetCell)) (line : List ℕ) → line_of (column ∷ columns) ≡ line → (((((([] ++ head_text a) ++ head_text b) ++ head_text c) ++ head_text d) ++ line) ++ flat_map row_text rows) ++ flat_map row_text more ≡ text_of (record { heads = a ∷ b ∷ c ∷ d ∷ []; columns = column ∷ columns; rows = rows ++ more })
+unfolding text_of
+four_heads a b c d column columns rows more line names =
+    rw (flat_map-append row_text rows more, names)
+    (seven (head_text a) (head_text b) (head_text c) (head_text d) line (flat_map row_text rows) (flat_map row_text more))
+
+-- the same, after each piece
+all_four : (start one two three four five six all a b c d e f g : List ℕ) → start ≡ [] → one ≡ start ++ a → two ≡ one ++ b → three ≡ two ++ c → four ≡ three ++ d → five ≡ four ++ e → six ≡ five ++ f → all ≡ six ++ g → all ≡ (((((([] ++ a) ++ b) ++ c) ++ d) ++ e) ++ f) ++ g
+all_four start one two three four five six all a b c d e f g p q r s t u v w = cc
+
+pub load_text_is : (reply : LoadReply) (listed : List ListedLine) (rest : List RestRule) (start one two three four five six all : List ℕ) → listed ≡ reply.listed → rest ≡ reply.rest → start ≡ []
+    → one ≡ start ++ head_text (head_of (codes "load") (count_cell reply.number))
+    → two ≡ one ++ head_text (head_of (codes "lines") (count_cell reply.lines))
+    → three ≡ two ++ head_text (head_of (codes "accepted") (count_cell reply.accepted))
+    → four ≡ three ++ head_text (head_of (codes "refused") (count_cell reply.refused))
+    → five ≡ four ++ codes "line rule name count\n"
+    → six ≡ five ++ flat_map row_text (map listed_row listed)
+    → all ≡ six ++ flat_map row_text (map rest_row rest)
+    → all ≡ text_of (load_sheet reply)
+unfolding load_sheet
+load_text_is reply listed rest start one two three four five six all same_listed same_rest p q r s t u v w =
+    let rows_listed : six ≡ five ++ flat_map row_text (map listed_row reply.listed) = v ∙ ap (λ lines. five ++ flat_map row_text (map listed_row lines)) same_listed in
+    let rows_rest : all ≡ six ++ flat_map row_text (map rest_row reply.rest) = w ∙ ap (λ rules. six ++ flat_map row_text (map rest_row rules)) same_rest in
+    all_four start one two three four five six all _ _ _ _ _ _ _ p q r s t u rows_listed rows_rest
+    ∙ four_heads (head_of (codes "load") (count_cell reply.number)) (head_of (codes "lines") (count_cell reply.lines)) (head_of (codes "accepted") (count_cell reply.accepted)) (head_of (codes "refused") (count_cell reply.refused))
+    (codes "line") (codes "rule" ∷ codes "name" ∷ codes "count" ∷ [])
+    (map listed_row reply.listed) (map rest_row reply.rest) (codes "line rule name count\n") refl
+
+-- a day's text, its pieces joined in the other way
+day_text_is : (day : ℕ) → cal.day_text day ≡ day_text day
+unfolding day_text
+day_text_is day = simp append_assoc
