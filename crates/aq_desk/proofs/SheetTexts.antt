@@ -24,8 +24,8 @@ four_heads a b c d column columns rows more line names =
     (seven (head_text a) (head_text b) (head_text c) (head_text d) line (flat_map row_text rows) (flat_map row_text more))
 
 -- the same, after each piece
-all_four : (start one two three four five six all a b c d e f g : List ℕ) → start ≡ [] → one ≡ start ++ a → two ≡ one ++ b → three ≡ two ++ c → four ≡ three ++ d → five ≡ four ++ e → six ≡ five ++ f → all ≡ six ++ g → all ≡ (((((([] ++ a) ++ b) ++ c) ++ d) ++ e) ++ f) ++ g
-all_four start one two three four five six all a b c d e f g p q r s t u v w = cc
+all_of_seven : (start one two three four five six all a b c d e f g : List ℕ) → start ≡ [] → one ≡ start ++ a → two ≡ one ++ b → three ≡ two ++ c → four ≡ three ++ d → five ≡ four ++ e → six ≡ five ++ f → all ≡ six ++ g → all ≡ (((((([] ++ a) ++ b) ++ c) ++ d) ++ e) ++ f) ++ g
+all_of_seven start one two three four five six all a b c d e f g p q r s t u v w = cc
 
 pub load_text_is : (reply : LoadReply) (listed : List ListedLine) (rest : List RestRule) (start one two three four five six all : List ℕ) → listed ≡ reply.listed → rest ≡ reply.rest → start ≡ []
     → one ≡ start ++ head_text (head_of (codes "load") (count_cell reply.number))
@@ -40,7 +40,7 @@ unfolding load_sheet
 load_text_is reply listed rest start one two three four five six all same_listed same_rest p q r s t u v w =
     let rows_listed : six ≡ five ++ flat_map row_text (map listed_row reply.listed) = v ∙ ap (λ lines. five ++ flat_map row_text (map listed_row lines)) same_listed in
     let rows_rest : all ≡ six ++ flat_map row_text (map rest_row reply.rest) = w ∙ ap (λ rules. six ++ flat_map row_text (map rest_row rules)) same_rest in
-    all_four start one two three four five six all _ _ _ _ _ _ _ p q r s t u rows_listed rows_rest
+    all_of_seven start one two three four five six all _ _ _ _ _ _ _ p q r s t u rows_listed rows_rest
     ∙ four_heads (head_of (codes "load") (count_cell reply.number)) (head_of (codes "lines") (count_cell reply.lines)) (head_of (codes "accepted") (count_cell reply.accepted)) (head_of (codes "refused") (count_cell reply.refused))
     (codes "line") (codes "rule" ∷ codes "name" ∷ codes "count" ∷ [])
     (map listed_row reply.listed) (map rest_row reply.rest) (codes "line rule name count\n") refl
@@ -49,3 +49,32 @@ load_text_is reply listed rest start one two three four five six all same_listed
 day_text_is : (day : ℕ) → cal.day_text day ≡ day_text day
 unfolding day_text
 day_text_is day = simp append_assoc
+
+-- a sheet of two heads that are texts; the end of a line is written with what follows it
+windows_pieces : (end site_name site day_name day columns rows : List ℕ) → ((((([] ++ (site_name ++ 32 ∷ [])) ++ site) ++ (end ++ (day_name ++ 32 ∷ []))) ++ day) ++ (end ++ columns)) ++ rows ≡ (((site_name ++ 32 ∷ site) ++ end) ++ (((day_name ++ 32 ∷ day) ++ end) ++ [])) ++ (columns ++ rows)
+windows_pieces end site_name site day_name day columns rows = simp append_assoc
+
+two_heads : (site_name site day_name day column : List ℕ) (columns : List (List ℕ)) (rows : List (List SheetCell)) (line : List ℕ) → line_of (column ∷ columns) ≡ line → ((((([] ++ (site_name ++ 32 ∷ [])) ++ site) ++ (codes "\n" ++ (day_name ++ 32 ∷ []))) ++ day) ++ (codes "\n" ++ line)) ++ flat_map row_text rows ≡ text_of (record { heads = head_of site_name (Text site) ∷ head_of day_name (Text day) ∷ []; columns = column ∷ columns; rows = rows })
+unfolding text_of
+two_heads site_name site day_name day column columns rows line names =
+    rw names (windows_pieces (codes "\n") site_name site day_name day line (flat_map row_text rows))
+
+all_of_six : (start one two three four five all a b c d e f : List ℕ) → start ≡ [] → one ≡ start ++ a → two ≡ one ++ b → three ≡ two ++ c → four ≡ three ++ d → five ≡ four ++ e → all ≡ five ++ f → all ≡ ((((([] ++ a) ++ b) ++ c) ++ d) ++ e) ++ f
+all_of_six start one two three four five all a b c d e f p q r s t u v = cc
+
+pub windows_text_is : (site : Site) (day : ℕ) (rows : List WindowRow) (place start one two three four five all : List ℕ) → place ≡ site_text site → start ≡ []
+    → one ≡ start ++ codes "site "
+    → two ≡ one ++ place
+    → three ≡ two ++ codes "\nday "
+    → four ≡ three ++ cal.day_text day
+    → five ≡ four ++ codes "\nhour average hours full full_hours\n"
+    → all ≡ five ++ flat_map row_text (map window_cells (enumerate_from 7 rows))
+    → all ≡ text_of (windows_sheet site day rows)
+unfolding windows_sheet
+windows_text_is site day rows place start one two three four five all named p q r s t u v =
+    let the_site : two ≡ one ++ site_text site = r ∙ ap (λ text. one ++ text) named in
+    let the_day : four ≡ three ++ day_text day = t ∙ ap (λ text. three ++ text) (day_text_is day) in
+    all_of_six start one two three four five all _ _ _ _ _ _ p q the_site s the_day u v
+    ∙ two_heads (codes "site") (site_text site) (codes "day") (day_text day)
+    (codes "hour") (codes "average" ∷ codes "hours" ∷ codes "full" ∷ codes "full_hours" ∷ [])
+    (map window_cells (enumerate_from 7 rows)) (codes "hour average hours full full_hours\n") refl
