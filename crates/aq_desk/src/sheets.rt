@@ -14,6 +14,9 @@ use aq_cal::write_day;
 use aq_num::write_fixed;
 use std::alloc::Global;
 
+/// The hour of a day's first window.
+const FIRST_HOUR: u16 = 7;
+
 /// The text of a load's sheet.
 pub(crate) fn load_text(alloc: Global, reply: &LoadReply) -> Result<Vec<u8>, Memory>
     ensures { IfOk result (λ text. text.items ≡ text_of (load_sheet reply.now)) }
@@ -29,6 +32,7 @@ pub(crate) fn load_text(alloc: Global, reply: &LoadReply) -> Result<Vec<u8>, Mem
     Ok(out)
 }
 
+/// A line of a name and a number.
 fn write_head(out: &mut Vec<u8>, name: &[u8], value: u32) -> Result<(), Memory>
     ensures { OnOk result (out.new.items ≡ out.old.items ++ head_text (head_of name.now (count_cell value))) }
 {
@@ -39,12 +43,14 @@ fn write_head(out: &mut Vec<u8>, name: &[u8], value: u32) -> Result<(), Memory>
     Ok(())
 }
 
+/// A number without leading zeros.
 fn write_count(out: &mut Vec<u8>, value: u32) -> Result<(), Memory>
     ensures { OnOk result (out.new.items ≡ out.old.items ++ decimal value) }
 {
     write_fixed(out, i64::from(value), 0)
 }
 
+/// A row for each refused line that is listed.
 fn write_listed(out: &mut Vec<u8>, lines: &[ListedLine]) -> Result<(), Memory>
     ensures { OnOk result (out.new.items ≡ out.old.items ++ flat_map row_text (map listed_row lines.now)) }
 {
@@ -55,6 +61,7 @@ fn write_listed(out: &mut Vec<u8>, lines: &[ListedLine]) -> Result<(), Memory>
     Ok(())
 }
 
+/// A row for each rule that further lines broke.
 fn write_rest(out: &mut Vec<u8>, rules: &[RestRule]) -> Result<(), Memory>
     ensures { OnOk result (out.new.items ≡ out.old.items ++ flat_map row_text (map rest_row rules.now)) }
 {
@@ -65,7 +72,7 @@ fn write_rest(out: &mut Vec<u8>, rules: &[RestRule]) -> Result<(), Memory>
     Ok(())
 }
 
-/// The cells behind that of the line, and the end of the row.
+/// The cells of a rule and how often it was broken, and the end of the row.
 fn write_rule(out: &mut Vec<u8>, rule: Rule, count: u32) -> Result<(), Memory>
     ensures { OnOk result (out.new.items ≡ out.old.items ++ codes " " ++ row_text (count_cell (rule_number rule) ∷ Text (rule_name rule) ∷ count_cell count ∷ [])) }
 {
@@ -99,11 +106,12 @@ pub(crate) fn windows_text(
     Ok(out)
 }
 
+/// A row for each window, in the order of their starts.
 fn write_windows(out: &mut Vec<u8>, rows: &[WindowRow]) -> Result<(), Memory>
     requires { length rows.now ≤ 17 }
     ensures { OnOk result (out.new.items ≡ out.old.items ++ flat_map row_text (map window_cells (enumerate_from 7 (map row_view rows.now)))) }
 {
-    let mut hour = 7;
+    let mut hour = FIRST_HOUR;
     for row in rows {
         write_window(out, hour, row)?;
         hour += 1;
@@ -111,6 +119,7 @@ fn write_windows(out: &mut Vec<u8>, rows: &[WindowRow]) -> Result<(), Memory>
     Ok(())
 }
 
+/// The row of the window that starts at an hour.
 fn write_window(out: &mut Vec<u8>, hour: u16, row: &WindowRow) -> Result<(), Memory>
     ensures { OnOk result (out.new.items ≡ out.old.items ++ row_text (window_cells (hour, row_view row.now))) }
 {
@@ -121,7 +130,7 @@ fn write_window(out: &mut Vec<u8>, hour: u16, row: &WindowRow) -> Result<(), Mem
     Ok(())
 }
 
-/// An average in ppm with three decimals, and its hours.
+/// The cells of an average, in ppm with three decimals or `-`, and of the number of its hours.
 fn write_average(out: &mut Vec<u8>, average: Option<i32>, hours: u8) -> Result<(), Memory>
     ensures { OnOk result (out.new.items ≡ out.old.items ++ codes " " ++ join_with_byte 32 (map cell_text (ppm_cell average ∷ count_cell hours ∷ []))) }
 {
