@@ -1,6 +1,6 @@
 -- The texts of the sheets, piece by piece.
-use Rattle.std.proofs.Common.{◌≡◌, ℕ, List, [], ◌∷◌, ◌++◌, map, codes, refl, ap, ◌∙◌, append_assoc}
-use Rattle.std.specs.List.{flat_map, enumerate_from}
+use Rattle.std.proofs.Common.{◌≡◌, ℕ, ℤ, Option, List, [], ◌∷◌, ◌++◌, map, codes, refl, ap, ◌∙◌, append_assoc}
+use Rattle.std.specs.List.{flat_map, enumerate_from, join_with_byte}
 use Rattle.std.proofs.lemmas.List.Concat.{flat_map-append}
 use Rattle.aq_base.specs.Site.{Site}
 use Rattle.aq_base.specs.declared.reply.ListedLine.{ListedLine}
@@ -8,7 +8,7 @@ use Rattle.aq_base.specs.declared.reply.LoadReply.{LoadReply}
 use Rattle.aq_base.specs.declared.reply.RestRule.{RestRule}
 use Rattle.aq_cal.specs.DayText as cal
 use Rattle.aq_profile.specs.EightHour.{WindowRow}
-use Rattle.aq_profile.specs.Sheet.{SheetCell, Head, text_of, head_text, head_of, row_text, line_of, count_cell, site_text, day_text}
+use Rattle.aq_profile.specs.Sheet.{SheetCell, Head, text_of, head_text, head_of, row_text, line_of, cell_text, count_cell, ppm_cell, site_text, day_text, hour_text}
 use Rattle.aq_profile.specs.Sheet.SheetCell.{Text}
 use Rattle.aq_profile.specs.Sheets.{load_sheet, listed_row, rest_row, windows_sheet, window_cells}
 
@@ -49,6 +49,24 @@ load_text_is reply listed rest start one two three four five six all same_listed
 day_text_is : (day : ℕ) → cal.day_text day ≡ day_text day
 unfolding day_text
 day_text_is day = simp append_assoc
+
+-- the five cells of a window's row
+five_cells : (before hour net net_hours full full_hours : List ℕ) → (((((before ++ hour) ++ 32 ∷ []) ++ (net ++ 32 ∷ net_hours)) ++ 32 ∷ []) ++ (full ++ 32 ∷ full_hours)) ++ 10 ∷ [] ≡ before ++ ((hour ++ 32 ∷ (net ++ 32 ∷ (net_hours ++ 32 ∷ (full ++ 32 ∷ full_hours)))) ++ 10 ∷ [])
+five_cells before hour net net_hours full full_hours = simp append_assoc
+
+-- the two cells of an average
+abbrev pub average_text : Option ℤ → ℕ → List ℕ
+average_text average hours = join_with_byte 32 (map cell_text (ppm_cell average ∷ count_cell hours ∷ []))
+
+pub window_row_is : (hour : ℕ) (row : WindowRow) (before place one two three all : List ℕ) → place ≡ hour_text hour
+    → one ≡ before ++ place
+    → two ≡ (one ++ 32 ∷ []) ++ average_text row.net row.net_hours
+    → three ≡ (two ++ 32 ∷ []) ++ average_text row.full row.full_hours
+    → all ≡ three ++ 10 ∷ []
+    → all ≡ before ++ row_text (window_cells (hour, row))
+window_row_is hour row before place one two three all named p q r s =
+    s ∙ ap (λ text. text ++ 10 ∷ []) (r ∙ ap (λ text. (text ++ 32 ∷ []) ++ average_text row.full row.full_hours) (q ∙ ap (λ text. (text ++ 32 ∷ []) ++ average_text row.net row.net_hours) (p ∙ ap (λ text. before ++ text) named)))
+    ∙ five_cells before (hour_text hour) (cell_text (ppm_cell row.net)) (cell_text (count_cell row.net_hours)) (cell_text (ppm_cell row.full)) (cell_text (count_cell row.full_hours))
 
 -- a sheet of two heads that are texts; the end of a line is written with what follows it
 windows_pieces : (end site_name site day_name day columns rows : List ℕ) → ((((([] ++ (site_name ++ 32 ∷ [])) ++ site) ++ (end ++ (day_name ++ 32 ∷ []))) ++ day) ++ (end ++ columns)) ++ rows ≡ (((site_name ++ 32 ∷ site) ++ end) ++ (((day_name ++ 32 ∷ day) ++ end) ++ [])) ++ (columns ++ rows)
