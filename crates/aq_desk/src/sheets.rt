@@ -1,5 +1,5 @@
 //! The text of the sheets: a line for each head, and a table of rows below its column names.
-ghost use Rattle.std.specs.Prelude.{◌≡◌, ◌≤◌, ◌+◌, [], ◌∷◌, ◌++◌, length, map, flat_map, codes, decimal, IfOk, OnOk};
+ghost use Rattle.std.specs.Prelude.{◌≡◌, ◌≤◌, [], ◌∷◌, ◌++◌, length, map, flat_map, codes, decimal, IfOk, OnOk};
 ghost use Rattle.std.specs.List.{enumerate_from, join_with_byte};
 ghost use Rattle.aq_base.specs.Rule.{rule_number, rule_name};
 ghost use Rattle.aq_profile.specs.Sheet.{text_of, head_text, head_of, row_text, cell_text, count_cell, ppm_cell};

@@ -1,5 +1,5 @@
 //! Parts of the sheets' text.
-ghost use Rattle.std.specs.Prelude.{◌≡◌, ◌+◌, ◌%◌, ◌≤◌};
+ghost use Rattle.std.specs.Prelude.{◌≡◌, ◌+◌, ◌%◌};
 ghost use Rattle.aq_profile.specs.Sheet as book;
 
 use aq_base::SiteId;
