@@ -3,3 +3,5 @@ pub mod Bodies
 pub mod BuiltLaws
 pub mod OneMonitor
 pub mod Tallies
+pub mod Digits
+pub mod SheetTexts
