@@ -5,3 +5,4 @@ pub mod OneMonitor
 pub mod Tallies
 pub mod Digits
 pub mod SheetTexts
+pub mod Outcomes

@@ -49,6 +49,17 @@ HasReason no_words input_risen output_risen too_long whole TooManyBytes = too_lo
 HasReason no_words input_risen output_risen too_long whole (TooManyLines lines) = too_long
 HasReason no_words input_risen output_risen too_long whole (NoSite site) = whole
 
+-- why a text was not printed
+abbrev pub IsOutputFault : Type 0 → Ending → Type 0
+IsOutputFault output_risen Done = ⊥
+IsOutputFault output_risen NoCommand = ⊥
+IsOutputFault output_risen InputFailed = ⊥
+IsOutputFault output_risen OutputFailed = output_risen
+IsOutputFault output_risen Memory = Unit {0}
+IsOutputFault output_risen TooManyBytes = ⊥
+IsOutputFault output_risen (TooManyLines lines) = ⊥
+IsOutputFault output_risen (NoSite site) = ⊥
+
 -- the endings before which nothing is written
 abbrev pub IsSilent : Type 0 → Ending → Type 0
 IsSilent unwritten Done = Unit {0}

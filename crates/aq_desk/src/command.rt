@@ -6,9 +6,9 @@ ghost use Rattle.aq_profile.specs.Office.{has_monitor};
 ghost use Rattle.aq_profile.specs.OzoneDay.{windows};
 ghost use Rattle.aq_profile.specs.Sheet.{text_of};
 ghost use Rattle.aq_profile.specs.Sheets.{load_sheet};
-ghost use Rattle.aq_desk.specs.Ending.{HasReason, IsSilent, IsStatus, ReadsWhole, TellsFew, TellsMany, WritesNothing, ending_from, is_within, status_of};
+ghost use Rattle.aq_desk.specs.Ending.{HasReason, IsOutputFault, IsSilent, IsStatus, ReadsWhole, TellsFew, TellsMany, WritesNothing, ending_from, is_within, status_of};
 ghost use Rattle.aq_desk.specs.Outside.{HasRisen};
-ghost use Rattle.aq_desk.specs.Scan.{Follows, outcome_for, scan_answer, scan_outcome, windows_outcome};
+ghost use Rattle.aq_desk.specs.Scan.{Follows, outcome_for, outcome_of, scan_answer, scan_outcome, windows_outcome};
 ghost use Rattle.aq_desk.specs.WindowView.{row_view};
 ghost use Rattle.aq_desk.specs.Words.{command_of};
 ghost use Rattle.aq_desk.specs.Writing.{WritesFront};
@@ -79,12 +79,25 @@ fn perform<S: Source, O: Sink>(
     let Some(command) = read_words(words) else {
         return Ending::NoCommand;
     };
-    let outcome = match &command {
-        Command::Scan { site, day } => scan(alloc, *site, *day, input, output),
-    };
-    match outcome {
+    match obey(alloc, &command, input, output) {
         Ok(()) => Ending::Done,
         Err(ending) => ending,
+    }
+}
+
+fn obey<S: Source, O: Sink>(
+    alloc: Global,
+    command: &Command,
+    input: &mut S,
+    output: &mut O,
+) -> Result<(), Ending>
+    ensures told { IfSome (S.left input.old) (λ body. Follows (outcome_of command.now body) (status_of (ending_from result)) (O.written output.old) (O.written output.new)) }
+    ensures whole { OnOk result (TellsFew (S.left input.old)) }
+    ensures reason { IfErr result (HasReason ⊥ (HasRisen (S.faults input.old) (S.faults input.new)) (HasRisen (O.faults output.old) (O.faults output.new)) (TellsMany (S.left input.old)) (TellsFew (S.left input.old))) }
+    ensures silent { IfErr result (IsSilent (output.new ≡ output.old)) }
+{
+    match command {
+        Command::Scan { site, day } => scan(alloc, *site, *day, input, output),
     }
 }
 
@@ -138,14 +151,17 @@ fn answer_lines<O: Sink>(
     ensures reason { IfErr result (HasReason ⊥ ⊥ (HasRisen (O.faults output.old) (O.faults output.new)) ⊥ (Unit {0})) }
 {
     let taken = take_load(alloc, body)?;
-    print_reply(alloc, &taken.reply, output)?;
+    let printed = print_reply(alloc, &taken.reply, output);
+    if printed.is_err() {
+        return printed;
+    }
     print_windows(alloc, &taken.office, site, day, output)
 }
 
 fn print_reply<O: Sink>(alloc: Global, reply: &LoadReply, output: &mut O) -> Result<(), Ending>
     ensures whole { OnOk result (O.written output.new ≡ option_map (λ bytes. bytes ++ text_of (load_sheet reply.now)) (O.written output.old)) }
     ensures front { WritesFront (O.written output.old) (O.written output.new) (text_of (load_sheet reply.now)) }
-    ensures reason { IfErr result (HasReason ⊥ ⊥ (HasRisen (O.faults output.old) (O.faults output.new)) ⊥ ⊥) }
+    ensures fault { IfErr result (IsOutputFault (HasRisen (O.faults output.old) (O.faults output.new))) }
     ensures grows { O.faults output.old ≤ O.faults output.new }
 {
     let text = load_text(alloc, reply)?;
@@ -185,7 +201,7 @@ fn counted<L: Ledger>(office: &Office, site: SiteId, day: Day, blank: Blank) -> 
 fn print<O: Sink>(output: &mut O, text: &[u8]) -> Result<(), Ending>
     ensures whole { OnOk result (O.written output.new ≡ option_map (λ bytes. bytes ++ text.now) (O.written output.old)) }
     ensures front { WritesFront (O.written output.old) (O.written output.new) text.now }
-    ensures reason { IfErr result (HasReason ⊥ ⊥ (HasRisen (O.faults output.old) (O.faults output.new)) ⊥ (Unit {0})) }
+    ensures fault { IfErr result (IsOutputFault (HasRisen (O.faults output.old) (O.faults output.new))) }
     ensures grows { O.faults output.old ≤ O.faults output.new }
 {
     match write_all(output, text) {
