@@ -1,2 +1,4 @@
 pub mod Fronts
 pub mod Bodies
+pub mod ShelfRows
+pub mod LineLemmas
