@@ -9,6 +9,8 @@ use Rattle.std.specs.BTreeMap.{insert_entry}
 use Rattle.std.specs.Ordering.{match_ordering}
 use Rattle.std.proofs.lemmas.Bool.{cond-true, cond-false}
 use Rattle.std.proofs.lemmas.Bool.Decides.{nat_tests}
+use denote.Enum.Bare.{sameb}
+use Rattle.aq_base.specs.contracts.monitor.Duration.{the_type}
 use Rattle.aq_base.specs.declared.monitor.Duration.{Duration}
 use Rattle.aq_base.specs.declared.monitor.Duration.TheVariants.{Hour, Day}
 use Rattle.aq_base.specs.declared.monitor.Pollutant.{Pollutant}
@@ -26,9 +28,11 @@ use Rattle.aq_profile.specs.Reading.{OfRd}
 use Rattle.aq_profile.specs.Refusal.{broken, is_other_duration, kept_at, sample_stands}
 use Rattle.aq_profile.specs.Spellings.{◌>>=◌}
 use Rattle.aq_shelf.specs.Keys.{key_cmp, same_key, same_monitor, same_site, pollutant_place}
-use Rattle.aq_shelf.specs.Entries.{IsShelf, observation_at, with_entry, with_content, without_key}
+use Rattle.aq_shelf.specs.Entries.{IsShelf, IsInsertFault, observation_at, with_entry, with_content, without_key}
+use Rattle.aq_shelf.specs.declared.fault.ShelfFault.{ShelfFault}
+use Rattle.aq_shelf.specs.declared.fault.ShelfFault.TheVariants as fault
 use Rattle.aq_desk.specs.Built.{registered}
-use Rattle.aq_desk.specs.OfficeView.{office_of, IsOwn, IsBuilt}
+use Rattle.aq_desk.specs.OfficeView.{office_of, IsOwn, IsBuilt, IsRefusal, refusal_of}
 use Rattle.aq_desk.proofs.ShelfRows.{key_from_same, same_key-flip, with_row-with_entry, with_row-with_content, without_row-without_key, observation_at-same}
 
 -- ---- the registered monitor
@@ -138,9 +142,18 @@ known-delete office monitor hour known =
 -- ---- a line beside the shelf, where the monitor is the registered one
 
 -- what the answer of `is_registered` says
-pub known_from : (is_registered : Bool) (duration : Option Duration) → duration ≡ (if is_registered then Some Hour else None) → not is_registered ≡ false → duration ≡ Some Hour
-known_from true duration h is = h
-known_from false duration h is = cc
+pub known_from : (is_registered : Bool) (duration : Option Duration) → duration ≡ (if is_registered then Some Hour else None) → is_registered ≡ true → duration ≡ Some Hour
+known_from is_registered duration h is = h ∙ cond-true is_registered _ _ is
+
+-- what a failed `duration != Hour` says
+pub hours_from_eq : (duration : Duration) → false ≡ not (sameb the_type duration Hour) → duration ≡ Hour
+hours_from_eq Hour same = refl
+hours_from_eq Day same = cc
+
+pub broken-same : (office : Office) (monitor : MonitorId) (method hour : ℕ) (content : Observation) (u v : Bool) (d e : Duration) → u ≡ v → d ≡ e → broken office (OfRd (PutSample u monitor d method hour content)) ≡ broken office (OfRd (PutSample v monitor e method hour content))
+broken-same office monitor method hour content u v d e p q =
+    ap (λ b. broken office (OfRd (PutSample b monitor d method hour content))) p
+    ∙ ap (λ x. broken office (OfRd (PutSample v monitor x method hour content))) q
 
 -- the desk's office, seen as the office of the book of rules, has this monitor
 pub record IsAt (office : Office) (monitor : Option MonitorId) (rows : List (ObsKey × Observation)) (line : MonitorId) : Type 0 where
@@ -193,6 +206,12 @@ module _ (office : Office) (registered : Option MonitorId) (rows : List (ObsKey 
       known-delete office monitor hour at.known
       ∙ cond-true _ _ _ (ap (λ (es : List (ObsKey × Observation)). not (is_some (observation_at (key_at monitor hour) es))) rows-are ∙ ap (λ o. not (is_some o)) none)
 
+  -- a fault of the shelf is the rule that the line breaks
+  pub insert-refused : (fault : ShelfFault) (method : ℕ) (content : Observation) → IsInsertFault fault (key_at monitor hour) rows → IsRefusal (broken office (OfRd (PutSample false monitor Hour method hour content))) (refusal_of fault)
+  insert-refused fault.AlreadyThere method content there = insert-there method content there
+  insert-refused fault.Full method content full = insert-full method content full.0 full.1
+  insert-refused fault.Memory method content wanting = tt
+
   -- the office with other rows, where they are what the line makes of these
   changed-put : (update : Bool) (duration : Duration) (method : ℕ) (content : Observation) (fs : List (ObsKey × Observation)) → with_row observation_rank (key_at monitor hour, content) rows ≡ fs → office_of registered fs ≡ changed office (OfRd (PutSample update monitor duration method hour content))
   changed-put update duration method content fs made =
@@ -200,13 +219,13 @@ module _ (office : Office) (registered : Option MonitorId) (rows : List (ObsKey 
       ∙ ap (λ (o : Office). record o { observations = with_row observation_rank (key_at monitor hour, content) o.observations }) at.view
       ∙ ap (λ d. record office { observations = with_row observation_rank (key_at monitor (kept_at d hour), content) office.observations }) (sym at.known)
 
-  pub after-insert : (duration : Duration) (method : ℕ) (content : Observation) (fs : List (ObsKey × Observation)) → fs ≡ with_entry (key_at monitor hour) content rows → office_of registered fs ≡ changed office (OfRd (PutSample false monitor duration method hour content))
-  after-insert duration method content fs is =
-      changed-put false duration method content fs (with_row-with_entry (key_at monitor hour) content rows ∙ sym is)
+  pub after-insert : (update : Bool) (duration : Duration) (method : ℕ) (content : Observation) (fs : List (ObsKey × Observation)) → fs ≡ with_entry (key_at monitor hour) content rows → office_of registered fs ≡ changed office (OfRd (PutSample update monitor duration method hour content))
+  after-insert update duration method content fs is =
+      changed-put update duration method content fs (with_row-with_entry (key_at monitor hour) content rows ∙ sym is)
 
-  pub after-update : (duration : Duration) (method : ℕ) (content old : Observation) (fs : List (ObsKey × Observation)) → IsShelf rows → observation_at (key_at monitor hour) rows ≡ Some old → fs ≡ with_content (key_at monitor hour) content rows → office_of registered fs ≡ changed office (OfRd (PutSample true monitor duration method hour content))
-  after-update duration method content old fs shelf there is =
-      changed-put true duration method content fs (with_row-with_content (key_at monitor hour) content old rows shelf there ∙ sym is)
+  pub after-update : (update : Bool) (duration : Duration) (method : ℕ) (content old : Observation) (fs : List (ObsKey × Observation)) → IsShelf rows → observation_at (key_at monitor hour) rows ≡ Some old → fs ≡ with_content (key_at monitor hour) content rows → office_of registered fs ≡ changed office (OfRd (PutSample update monitor duration method hour content))
+  after-update update duration method content old fs shelf there is =
+      changed-put update duration method content fs (with_row-with_content (key_at monitor hour) content old rows shelf there ∙ sym is)
 
   pub after-delete : (fs : List (ObsKey × Observation)) → IsShelf rows → fs ≡ without_key (key_at monitor hour) rows → office_of registered fs ≡ changed office (OfRd (DeleteSample monitor hour))
   after-delete fs shelf is =
