@@ -282,13 +282,3 @@ IsBuilt-delete monitor rows fs key built is =
 
 pub IsBuilt-same : (monitor : Option MonitorId) (rows fs : List (ObsKey × Observation)) → IsBuilt monitor rows → fs ≡ rows → IsBuilt monitor fs
 IsBuilt-same monitor rows fs built is = subst (IsBuilt monitor) (sym is) built
-
-own-none : (monitor : MonitorId) (es : List (ObsKey × Observation)) → AllByRecursion (IsOwn None) es → AllByRecursion (IsOwn (Some monitor)) es
-own-none monitor [] h = tt
-own-none monitor (e ∷ es) h = absurd h.0
-
--- the first monitor has no observation yet
-pub IsBuilt-first : (old : Option MonitorId) (monitor : MonitorId) (rows : List (ObsKey × Observation)) → old ≡ None → monitor.pollutant ≡ Ozone → IsBuilt old rows → IsBuilt (Some monitor) rows
-IsBuilt-first old monitor rows none ozone built =
-    let own = subst (λ (m : Option MonitorId). AllByRecursion (IsOwn m) rows) none built.own in
-    record { ozone = ozone; own = own-none monitor rows own }
