@@ -1,25 +1,22 @@
 -- The shelf's words and those of the book of rules say the same of the entries of a shelf.
-use Rattle.std.proofs.Common.{◌≡◌, ℕ, Bool, true, false, not, cond, ◌&&◌, ◌||◌, ◌==◌, Option, Some, None, List, [], ◌∷◌, refl, ap, sym, ◌∙◌, arith}
-use Rattle.std.specs.Prelude.{nat_lt, filter, find, option_map}
+use Rattle.std.proofs.Common.{◌≡◌, ℕ, Bool, true, false, not, cond, ◌&&◌, ◌||◌, ◌==◌, Some, None, List, [], ◌∷◌, refl, ap, sym, ◌∙◌, arith}
+use Rattle.std.specs.Prelude.{nat_lt, option_map}
 use Rattle.std.specs.declared.cmp.Ordering.{Ordering}
 use Rattle.std.specs.declared.cmp.Ordering.TheVariants.{Less, Equal, Greater}
-use Rattle.std.specs.Cmp.{IsTotalOrder}
 use Rattle.std.specs.Ordering.{is_eq, is_lt, match_ordering, nat_cmp, ordering_reverse, ordering_then}
 use Rattle.std.specs.List.{AllByRecursion}
 use Rattle.std.specs.List.Sorted.{IsStrictlySortedBy}
-use Rattle.std.specs.Map.{lookup, keys_of, set_value, remove_entry}
-use Rattle.std.specs.BTreeMap.{insert_entry}
+use Rattle.std.specs.Map.{keys_of}
 use Rattle.std.proofs.lemmas.Bool.Decides.{nat_tests}
 use Rattle.std.proofs.lemmas.Map.Keys.{sorted_head, sorted_tail}
 use Rattle.aq_base.specs.declared.monitor.Pollutant.{Pollutant}
 use Rattle.aq_base.specs.declared.monitor.Pollutant.TheVariants.{Ozone, Pm25, Pm10}
-use Rattle.aq_base.specs.declared.monitor.MonitorId.{MonitorId}
 use Rattle.aq_base.specs.declared.observation.ObsKey.{ObsKey}
 use Rattle.aq_base.specs.declared.observation.Observation.{Observation}
-use Rattle.aq_profile.specs.Monitors.{is_same_pollutant, is_same_key}
+use Rattle.aq_profile.specs.Monitors.{is_same_pollutant}
 use Rattle.aq_profile.specs.Office.{Office, observation_numbers, observation_rank, pollutant_number, is_same, comes_before, with_row, without_row, content_of, row_at, observation_at as found_at}
 use Rattle.aq_profile.proofs.Sameness as sameness
-use Rattle.aq_shelf.specs.Keys.{key_cmp, monitor_cmp, site_cmp, same_key, same_monitor, same_site, pollutant_place}
+use Rattle.aq_shelf.specs.Keys.{key_cmp, site_cmp, same_key, same_site, pollutant_place}
 use Rattle.aq_shelf.specs.Entries.{IsShelf, observation_at, with_entry, with_content, without_key}
 use Rattle.aq_shelf.proofs.Order.{is_eq-key_cmp, key_cmp_total}
 
@@ -143,11 +140,11 @@ choice {X} key other before same behind =
     ap (λ t. cond t before (cond (is_same (observation_numbers key) (observation_numbers other)) same behind)) (before_rank key other)
     ∙ ap (λ t. cond (is_lt (key_cmp key other)) before (cond t same behind)) (same_rank key other ∙ sym (is_eq-key_cmp key other))
     ∙ by_order (key_cmp key other) before same behind
-    where
-      by_order : (o : Ordering) (x y z : X) → cond (is_lt o) x (cond (is_eq o) y z) ≡ match_ordering o x y z
-      by_order Less x y z = refl
-      by_order Equal x y z = refl
-      by_order Greater x y z = refl
+  where
+    by_order : (o : Ordering) (x y z : X) → cond (is_lt o) x (cond (is_eq o) y z) ≡ match_ordering o x y z
+    by_order Less x y z = refl
+    by_order Equal x y z = refl
+    by_order Greater x y z = refl
 
 same_from_Equal : (a b : ObsKey) → key_cmp a b ≡ Equal → a ≡ b
 same_from_Equal a b h = key_from_same a b (sym (is_eq-key_cmp a b) ∙ ap is_eq h)

@@ -1,10 +1,3 @@
-use Rattle.std.proofs.Common.{◌≡◌, refl, Some, None, OnOk, IfErr}
-use Rattle.aq_desk.specs.OfficeView.{IsRefusal}
-use Rattle.aq_profile.specs.Load.{changed}
-use Rattle.aq_profile.specs.Office.{duration_at}
-use Rattle.aq_profile.specs.RdForm.{Delete as DeleteSample}
-use Rattle.aq_profile.specs.Reading.{OfRd}
-use Rattle.aq_profile.specs.Refusal.{broken}
 use Rattle.aq_desk.proofs.LineLemmas.{IsAt, known_from, key_at, IsBuilt-delete, IsBuilt-same, delete-unbroken, delete-not_there, after-delete}
 use Rattle.aq_desk.proofs.office.Office.delete.Goals as goal
 use Rattle.aq_desk.proofs.office.Office.delete.Goals.{in-Ok, in-Err}

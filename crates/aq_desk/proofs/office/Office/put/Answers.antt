@@ -1,11 +1,5 @@
-use Rattle.std.proofs.Common.{◌≡◌, Some, sym, ◌∙◌, refl}
+use Rattle.std.proofs.Common.{◌∙◌}
 use Rattle.std.proofs.lemmas.Result.{err_from_is_err_and}
-use Rattle.aq_base.specs.declared.monitor.Duration.TheVariants.{Hour}
-use Rattle.aq_base.specs.declared.rule.Rule.TheVariants.{NotThere}
-use Rattle.aq_profile.specs.RdForm.{Put as PutSample}
-use Rattle.aq_profile.specs.Reading.{OfRd}
-use Rattle.aq_profile.specs.Refusal.{broken}
-use Rattle.aq_desk.specs.OfficeView.{IsRefusal}
 use Rattle.aq_desk.proofs.LineLemmas.{IsAt, known_from, hours_from_eq, key_at, IsBuilt-insert, IsBuilt-update, IsBuilt-same, broken-same, insert-unbroken, insert-refused, update-unbroken, update-not_there, after-insert, after-update}
 use Rattle.aq_desk.proofs.office.Office.put.Goals as goal
 use Rattle.aq_desk.proofs.office.Office.put.Goals.{in-Ok, in-Err}
