@@ -42,6 +42,11 @@ abbrev pub IsRefusal : Option Rule → Refusal → Type 0
 IsRefusal rule (Broken broken) = rule ≡ Some broken
 IsRefusal rule Memory = Unit {0}
 
+-- a rule, and not want of memory
+abbrev pub IsRule : Refusal → Type 0
+IsRule (Broken broken) = Unit {0}
+IsRule Memory = ⊥
+
 abbrev pub refusal_of : ShelfFault → Refusal
 refusal_of fault.AlreadyThere = Broken AlreadyThere
 refusal_of fault.Full = Broken ObservationsFull

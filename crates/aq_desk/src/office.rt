@@ -79,7 +79,7 @@ impl Office {
     ghost use Rattle.aq_desk.specs.declared.office.Refusal.TheVariants.{Broken};
     ghost use Rattle.std.specs.Option.{option_map};
     ghost use Rattle.aq_profile.specs.SiteHour.{site_hour};
-    ghost use Rattle.aq_desk.specs.OfficeView.{IsOzone, IsRefusal, line_value_of, plain_cell};
+    ghost use Rattle.aq_desk.specs.OfficeView.{IsOzone, IsRefusal, IsRule, line_value_of, plain_cell};
 
     /// An office of which nothing stands.
     pub(crate) fn new(alloc: Global) -> Office
@@ -154,7 +154,8 @@ impl Office {
         }
     }
 
-    /// Inserts or updates an observation. The method of its line is not kept.
+    /// Inserts or updates an observation. An update takes no memory. The method of the line is not
+    /// kept.
     fn put(
         &mut self,
         update: bool,
@@ -167,6 +168,7 @@ impl Office {
         ensures unbroken { OnOk result ((method : ℕ) → broken self.old (OfRd (PutSample update monitor.now duration method hour content.now)) ≡ None) }
         ensures after { OnOk result ((method : ℕ) → self.new ≡ changed self.old (OfRd (PutSample update monitor.now duration method hour content.now))) }
         ensures refused { IfErr result (λ refusal. (method : ℕ) → IsRefusal (broken self.old (OfRd (PutSample update monitor.now duration method hour content.now))) refusal) }
+        ensures no_memory { IsTrue update → IfErr result IsRule }
         ensures unchanged { OnErr result (self.new ≡ self.old) }
     {
         if !self.is_registered(monitor) {
@@ -192,11 +194,12 @@ impl Office {
         }
     }
 
-    /// Takes an observation away.
+    /// Takes an observation away. It takes no memory.
     fn delete(&mut self, monitor: &MonitorId, hour: Hour) -> Result<(), Refusal>
         ensures unbroken { OnOk result (broken self.old (OfRd (DeleteSample monitor.now hour)) ≡ None) }
         ensures after { OnOk result (self.new ≡ changed self.old (OfRd (DeleteSample monitor.now hour))) }
         ensures refused { IfErr result (IsRefusal (broken self.old (OfRd (DeleteSample monitor.now hour)))) }
+        ensures no_memory { IfErr result IsRule }
         ensures unchanged { OnErr result (self.new ≡ self.old) }
     {
         if !self.is_registered(monitor) {
