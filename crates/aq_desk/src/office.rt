@@ -165,9 +165,12 @@ impl Office {
         content: &Observation,
     ) -> Result<(), Refusal>
         requires { HasValueInRange monitor.now.pollutant content.now }
-        ensures unbroken { OnOk result ((method : ℕ) → broken self.old (OfRd (PutSample update monitor.now duration method hour content.now)) ≡ None) }
-        ensures after { OnOk result ((method : ℕ) → self.new ≡ changed self.old (OfRd (PutSample update monitor.now duration method hour content.now))) }
-        ensures refused { IfErr result (λ refusal. (method : ℕ) → IsRefusal (broken self.old (OfRd (PutSample update monitor.now duration method hour content.now))) refusal) }
+        ensures unbroken { OnOk result ((method : ℕ) →
+            broken self.old (OfRd (PutSample update monitor.now duration method hour content.now)) ≡ None) }
+        ensures after { OnOk result ((method : ℕ) →
+            self.new ≡ changed self.old (OfRd (PutSample update monitor.now duration method hour content.now))) }
+        ensures refused { IfErr result (λ refusal. (method : ℕ) →
+            IsRefusal (broken self.old (OfRd (PutSample update monitor.now duration method hour content.now))) refusal) }
         ensures no_memory { IsTrue update → IfErr result IsRule }
         ensures unchanged { OnErr result (self.new ≡ self.old) }
     {
@@ -198,7 +201,8 @@ impl Office {
     fn delete(&mut self, monitor: &MonitorId, hour: Hour) -> Result<(), Refusal>
         ensures unbroken { OnOk result (broken self.old (OfRd (DeleteSample monitor.now hour)) ≡ None) }
         ensures after { OnOk result (self.new ≡ changed self.old (OfRd (DeleteSample monitor.now hour))) }
-        ensures refused { IfErr result (IsRefusal (broken self.old (OfRd (DeleteSample monitor.now hour)))) }
+        ensures refused { let value = OfRd (DeleteSample monitor.now hour) in
+            IfErr result (IsRefusal (broken self.old value)) }
         ensures no_memory { IfErr result IsRule }
         ensures unchanged { OnErr result (self.new ≡ self.old) }
     {
