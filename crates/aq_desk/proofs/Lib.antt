@@ -3,3 +3,8 @@ pub mod Bodies
 pub mod ShelfRows
 pub mod LineLemmas
 pub mod MonitorLine
+pub mod BuiltLaws
+pub mod OneMonitor
+pub mod Tallies
+pub mod Digits
+pub mod SheetTexts

@@ -1,5 +1,5 @@
 -- What a load's lines make of an office, as far as the forms of lines are built: RD lines whole, and of the office's own lines the plain one of an ozone monitor, once (own).
-use Rattle.std.specs.Prelude.{ℕ, Bool, true, false, ◌&&◌, if◌then◌else◌, Option, Some, None, List, [], ◌∷◌, ◌++◌, length, codes}
+use Rattle.std.specs.Prelude.{ℕ, Bool, true, false, ◌&&◌, ◌==◌, if◌then◌else◌, Option, Some, None, List, [], ◌∷◌, ◌++◌, ◌-◌, length, take, drop, filter_map, codes}
 use Rattle.aq_base.specs.declared.monitor.MonitorId.{MonitorId}
 use Rattle.aq_base.specs.declared.monitor.Duration.TheVariants.{Hour}
 use Rattle.aq_base.specs.declared.office.OfficeRecord.{OfficeRecord}
@@ -8,8 +8,10 @@ use Rattle.aq_base.specs.declared.reply.LoadReply.{LoadReply}
 use Rattle.aq_base.specs.declared.reply.ListedLine.{ListedLine}
 use Rattle.aq_base.specs.declared.rule.Rule.{Rule}
 use Rattle.aq_base.specs.declared.rule.Rule.TheVariants.{NotBuilt}
+use Rattle.aq_base.specs.declared.reply.RestRule.{RestRule}
+use Rattle.aq_profile.specs.Limits.{MOST_LISTED}
 use Rattle.aq_profile.specs.Lines.{NumberedLine, line_count, body_lines}
-use Rattle.aq_profile.specs.Load.{after, listed_for, refusal, reply_for}
+use Rattle.aq_profile.specs.Load.{after, all_rules, listed_for, refusal, rest_for}
 use Rattle.aq_profile.specs.Office.{Office}
 use Rattle.aq_profile.specs.Reading.{is_plain, tag_of}
 use Rattle.aq_profile.specs.Spellings.{Tag, Rd}
@@ -69,6 +71,28 @@ built_refusals office [] = []
 built_refusals office (line ∷ lines) =
     listed_for line.number (built_refusal office line.text) ++ built_refusals (built_after office line.text) lines
 
+-- what a line adds to the refused ones
+abbrev pub listed_for_line : Office → ℕ → List ℕ → List ListedLine
+listed_for_line office number text = listed_for number (built_refusal office text)
+
+-- the refused lines beyond those that are listed, by rule in rising number; NotBuilt is the last
+abbrev pub built_rest_of : List ListedLine → List RestRule
+built_rest_of refused = filter_map (rest_for refused) (all_rules ++ NotBuilt ∷ [])
+
+-- so many lines under a rule, where there are any
+abbrev pub counted : Rule → ℕ → Option RestRule
+counted rule count = if count == 0 then None else Some (record { rule = rule; count = count })
+
+abbrev pub built_reply_for : ℕ → ℕ → ℕ → List ListedLine → LoadReply
+built_reply_for number lines taken refused = record {
+  number = number;
+  lines = lines;
+  accepted = taken - length refused;
+  refused = length refused;
+  listed = take MOST_LISTED refused;
+  rest = built_rest_of (drop MOST_LISTED refused);
+}
+
 abbrev pub built_reply : Office → ℕ → List ℕ → LoadReply
 built_reply office number body =
-    reply_for number (line_count body) (length (body_lines body)) (built_refusals office (body_lines body))
+    built_reply_for number (line_count body) (length (body_lines body)) (built_refusals office (body_lines body))

@@ -1,13 +1,17 @@
 //! The top call.
-ghost use Rattle.std.specs.Prelude.{◌≡◌, ◌<◌, ◌≤◌, ◌↔◌, length, IsNone, IfErr, IsTrue, OnOk, map, string_bytes};
+ghost use Rattle.std.specs.Prelude.{◌≡◌, ◌<◌, ◌≤◌, ◌↔◌, ◌++◌, true, false, length, IsNone, IfErr, IfSome, IsTrue, OnOk, map, string_bytes};
+ghost use Rattle.std.specs.Option.{option_map};
 ghost use Rattle.aq_base.specs.declared.monitor.Pollutant.TheVariants.{Ozone};
 ghost use Rattle.aq_profile.specs.Office.{has_monitor};
 ghost use Rattle.aq_profile.specs.OzoneDay.{windows};
-ghost use Rattle.aq_desk.specs.WindowView.{row_view};
+ghost use Rattle.aq_profile.specs.Sheet.{text_of};
+ghost use Rattle.aq_profile.specs.Sheets.{load_sheet};
+ghost use Rattle.aq_desk.specs.Ending.{HasReason, IsSilent, IsStatus, ReadsWhole, TellsFew, TellsMany, WritesNothing, ending_from, is_within, status_of};
 ghost use Rattle.aq_desk.specs.Outside.{HasRisen};
-ghost use Rattle.aq_desk.specs.Body.{TellsTooMany};
-ghost use Rattle.aq_desk.specs.Ending.{HasReason, IsSilent, IsStatus, ReadsWhole, TellsFew, WritesNothing};
+ghost use Rattle.aq_desk.specs.Scan.{Follows, outcome_for, scan_answer, scan_outcome, windows_outcome};
+ghost use Rattle.aq_desk.specs.WindowView.{row_view};
 ghost use Rattle.aq_desk.specs.Words.{command_of};
+ghost use Rattle.aq_desk.specs.Writing.{WritesFront};
 ghost use Rattle.aq_desk.specs.declared.body.TheConstants.{MOST_BYTES};
 ghost use Rattle.aq_desk.specs.declared.ending.Ending.TheVariants.{NoCommand};
 
@@ -20,10 +24,14 @@ use crate::sheets::{load_text, windows_text};
 use crate::windows::{WINDOWS, WindowRow, day_windows};
 use crate::words::{Command, read_words};
 use crate::writing::write_all;
-use aq_base::{Day, SiteId, Steps};
+use aq_base::{Day, LoadReply, SiteId, Steps};
+use aq_forms::count_lines;
 use std::alloc::Global;
 use std::marker::Brand;
 use std::sync::ledger::{Blank, Ledger};
+
+/// A load has at most this many lines.
+const MOST_LINES: u32 = 120_000;
 
 /// Does what the words ask for, and answers the exit status. Messages go to `errors`, whose failures
 /// change nothing.
@@ -34,13 +42,18 @@ pub fn run<S: Source, O: Sink, E: Sink>(
     output: &mut O,
     errors: &mut E,
 ) -> u8
+    // The headline: what is answered and written is what the command's definition gives for the words
+    // and the input, all of it or, where a count rose or memory ran out, a front of its output.
+    ensures headline { IfSome (S.left input.old) (λ body. Follows (outcome_for (command_of (map string_bytes words.now)) body) result (O.written output.old) (O.written output.new)) }
+
     ensures statuses { IsStatus result }
     ensures no_command { (result ≡ 2) ↔ IsNone (command_of (map string_bytes words.now)) }
     ensures input_failed { result ≡ 3 → HasRisen (S.faults input.old) (S.faults input.new) }
     ensures output_failed { result ≡ 4 → HasRisen (O.faults output.old) (O.faults output.new) }
 
-    // A body of too many bytes, and no other, ends with 10, unless the input or memory failed first.
-    ensures too_many { result ≡ 10 → TellsTooMany (S.left input.old) }
+    // A body of too many bytes or lines, and no other, ends with 10, unless the input or memory failed
+    // first.
+    ensures too_many { result ≡ 10 → TellsMany (S.left input.old) }
     ensures whole { ReadsWhole result → TellsFew (S.left input.old) }
 
     ensures silent { WritesNothing result → output.new ≡ output.old }
@@ -57,8 +70,9 @@ fn perform<S: Source, O: Sink>(
     input: &mut S,
     output: &mut O,
 ) -> Ending
+    ensures headline { IfSome (S.left input.old) (λ body. Follows (outcome_for (command_of (map string_bytes words.now)) body) (status_of result) (O.written output.old) (O.written output.new)) }
     ensures no_command { IsNone (command_of (map string_bytes words.now)) → result ≡ NoCommand }
-    ensures reason { HasReason (IsNone (command_of (map string_bytes words.now))) (HasRisen (S.faults input.old) (S.faults input.new)) (HasRisen (O.faults output.old) (O.faults output.new)) (TellsTooMany (S.left input.old)) (TellsFew (S.left input.old)) result }
+    ensures reason { HasReason (IsNone (command_of (map string_bytes words.now))) (HasRisen (S.faults input.old) (S.faults input.new)) (HasRisen (O.faults output.old) (O.faults output.new)) (TellsMany (S.left input.old)) (TellsFew (S.left input.old)) result }
     ensures silent { IsSilent (output.new ≡ output.old) result }
     ensures unused { result ≡ NoCommand → input.new ≡ input.old }
 {
@@ -81,15 +95,16 @@ fn scan<S: Source, O: Sink>(
     input: &mut S,
     output: &mut O,
 ) -> Result<(), Ending>
+    ensures told { IfSome (S.left input.old) (λ body. Follows (scan_outcome body site day) (status_of (ending_from result)) (O.written output.old) (O.written output.new)) }
     ensures whole { OnOk result (TellsFew (S.left input.old)) }
-    ensures reason { IfErr result (HasReason ⊥ (HasRisen (S.faults input.old) (S.faults input.new)) (HasRisen (O.faults output.old) (O.faults output.new)) (TellsTooMany (S.left input.old)) (TellsFew (S.left input.old))) }
+    ensures reason { IfErr result (HasReason ⊥ (HasRisen (S.faults input.old) (S.faults input.new)) (HasRisen (O.faults output.old) (O.faults output.new)) (TellsMany (S.left input.old)) (TellsFew (S.left input.old))) }
     ensures silent { IfErr result (IsSilent (output.new ≡ output.old)) }
 {
     let body = read_body(alloc, input)?;
     answer(alloc, site, day, &body, output)
 }
 
-/// Prints the reply to the body as a load, and the windows.
+/// Answers to a body within the limit of bytes.
 fn answer<O: Sink>(
     alloc: Global,
     site: SiteId,
@@ -98,15 +113,59 @@ fn answer<O: Sink>(
     output: &mut O,
 ) -> Result<(), Ending>
     requires { length body.now ≤ MOST_BYTES }
+    ensures told { Follows (scan_outcome body.now site day) (status_of (ending_from result)) (O.written output.old) (O.written output.new) }
+    ensures reason { IfErr result (HasReason ⊥ ⊥ (HasRisen (O.faults output.old) (O.faults output.new)) (is_within body.now ≡ false) (is_within body.now ≡ true)) }
+    ensures few { OnOk result (is_within body.now ≡ true) }
+    ensures silent { IfErr result (IsSilent (output.new ≡ output.old)) }
+{
+    let lines = count_lines(body);
+    if lines > MOST_LINES {
+        return Err(Ending::TooManyLines(lines));
+    }
+    answer_lines(alloc, site, day, body, output)
+}
+
+/// Takes the body as a load, and prints the reply and then the windows.
+fn answer_lines<O: Sink>(
+    alloc: Global,
+    site: SiteId,
+    day: Day,
+    body: &[u8],
+    output: &mut O,
+) -> Result<(), Ending>
+    requires { length body.now ≤ MOST_BYTES }
+    ensures told { Follows (scan_answer body.now site day) (status_of (ending_from result)) (O.written output.old) (O.written output.new) }
     ensures reason { IfErr result (HasReason ⊥ ⊥ (HasRisen (O.faults output.old) (O.faults output.new)) ⊥ (Unit {0})) }
 {
     let taken = take_load(alloc, body)?;
-    let text = load_text(alloc, &taken.reply)?;
-    print(output, &text)?;
-    if !taken.office.has_site(site) {
+    print_reply(alloc, &taken.reply, output)?;
+    print_windows(alloc, &taken.office, site, day, output)
+}
+
+fn print_reply<O: Sink>(alloc: Global, reply: &LoadReply, output: &mut O) -> Result<(), Ending>
+    ensures whole { OnOk result (O.written output.new ≡ option_map (λ bytes. bytes ++ text_of (load_sheet reply.now)) (O.written output.old)) }
+    ensures front { WritesFront (O.written output.old) (O.written output.new) (text_of (load_sheet reply.now)) }
+    ensures reason { IfErr result (HasReason ⊥ ⊥ (HasRisen (O.faults output.old) (O.faults output.new)) ⊥ ⊥) }
+    ensures grows { O.faults output.old ≤ O.faults output.new }
+{
+    let text = load_text(alloc, reply)?;
+    print(output, &text)
+}
+
+fn print_windows<O: Sink>(
+    alloc: Global,
+    office: &Office,
+    site: SiteId,
+    day: Day,
+    output: &mut O,
+) -> Result<(), Ending>
+    ensures told { Follows (windows_outcome office.now site day) (status_of (ending_from result)) (O.written output.old) (O.written output.new) }
+    ensures reason { IfErr result (HasReason ⊥ ⊥ (HasRisen (O.faults output.old) (O.faults output.new)) ⊥ (Unit {0})) }
+{
+    if !office.has_site(site) {
         return Err(Ending::NoSite(site));
     }
-    let rows = counted::<Brand>(&taken.office, site, day, Blank::new(1));
+    let rows = counted::<Brand>(office, site, day, Blank::new(1));
     let text = windows_text(alloc, site, day, &rows)?;
     print(output, &text)
 }
@@ -124,6 +183,8 @@ fn counted<L: Ledger>(office: &Office, site: SiteId, day: Day, blank: Blank) -> 
 }
 
 fn print<O: Sink>(output: &mut O, text: &[u8]) -> Result<(), Ending>
+    ensures whole { OnOk result (O.written output.new ≡ option_map (λ bytes. bytes ++ text.now) (O.written output.old)) }
+    ensures front { WritesFront (O.written output.old) (O.written output.new) text.now }
     ensures reason { IfErr result (HasReason ⊥ ⊥ (HasRisen (O.faults output.old) (O.faults output.new)) ⊥ (Unit {0})) }
     ensures grows { O.faults output.old ≤ O.faults output.new }
 {

@@ -17,6 +17,8 @@ pub(crate) enum Ending {
     OutputFailed,
     Memory,
     TooManyBytes,
+    /// With the number of lines.
+    TooManyLines(u32),
     NoSite(SiteId),
 }
 
@@ -31,7 +33,7 @@ impl Ending {
             Ending::InputFailed => 3,
             Ending::OutputFailed => 4,
             Ending::Memory => 7,
-            Ending::TooManyBytes => 10,
+            Ending::TooManyBytes | Ending::TooManyLines(_) => 10,
             Ending::NoSite(_) => 12,
         }
     }
@@ -45,9 +47,24 @@ impl Ending {
             Ending::OutputFailed => write_all(errors, b"airdv: 4 output failed\n"),
             Ending::Memory => write_all(errors, b"airdv: 7 memory\n"),
             Ending::TooManyBytes => write_all(errors, b"airdv: 10 more than 8388608 bytes\n"),
+            Ending::TooManyLines(lines) => tell_lines(*lines, errors),
             Ending::NoSite(site) => tell_no_site(*site, errors),
         };
     }
+}
+
+fn tell_lines<E: Sink>(lines: u32, errors: &mut E) -> Result<(), Failed> {
+    write_all(errors, b"airdv: 10 ")?;
+    tell_number(lines, errors)?;
+    write_all(errors, b" lines\n")
+}
+
+/// Writes a number without taking memory.
+fn tell_number<E: Sink>(number: u32, errors: &mut E) -> Result<(), Failed> {
+    if number >= 10 {
+        tell_number(number / 10, errors)?;
+    }
+    write_all(errors, &[b'0' + (number % 10) as u8])
 }
 
 fn tell_no_site<E: Sink>(site: SiteId, errors: &mut E) -> Result<(), Failed> {

@@ -1,58 +1,59 @@
 //! A load's lines, taken in their order, and the reply.
-ghost use Rattle.std.specs.Prelude.{◌≡◌, ◌<◌, ◌≤◌, ◌+◌, length, vec_len, IfOk};
+ghost use Rattle.std.specs.Prelude.{◌≡◌, ◌<◌, ◌≤◌, ◌++◌, ◌^◌, [], ◌∷◌, length, count_by, ◌==◌, filter_map, IfOk, OnOk};
+ghost use Rattle.std.specs.Option.{option_to_list};
+ghost use Rattle.aq_base.specs.Rule.{rule_number};
 ghost use Rattle.aq_profile.specs.Lines.{body_lines};
+ghost use Rattle.aq_profile.specs.Load.{refused_under, rest_for};
 ghost use Rattle.aq_profile.specs.Office.{nothing};
-ghost use Rattle.aq_desk.specs.Built.{built_after_all, built_reply};
+ghost use Rattle.aq_desk.specs.Built.{built_after, built_after_all, built_reply, built_reply_for, counted, listed_for_line};
 ghost use Rattle.aq_desk.specs.declared.body.TheConstants.{MOST_BYTES};
 
 use crate::office::{Office, Refusal};
 use aq_base::{Listed, ListedLine, LoadReply, Memory, Rest, RestRule, Rule};
+use aq_forms::{count_lines, lines_of};
 use std::alloc::Global;
 
 /// At most this many refused lines are listed in a reply; the others are counted by rule.
 const MOST_LISTED: usize = 500;
 
-/// The refused lines so far.
-#[derive(Drop)]
-struct Refused {
-    count: u32,
-    listed: Listed,
-    rest: Vec<RestRule>,
-}
-
-impl Refused {
-    fn new(alloc: Global) -> Refused {
-        Refused {
-            count: 0,
-            listed: Listed::new(alloc),
-            rest: Vec::new(alloc),
-        }
-    }
-
-    fn add(&mut self, line: u32, rule: Rule) -> Result<(), Memory> {
-        if self.listed.as_slice().len() < MOST_LISTED {
-            self.listed.push(ListedLine { line, rule })?;
-        } else {
-            count_rule(&mut self.rest, rule)?;
-        }
-        self.count = self.count.saturating_add(1);
-        Ok(())
-    }
-}
-
-/// Counts one more line under a rule; the rules stay in rising number.
-fn count_rule(rest: &mut Vec<RestRule>, rule: Rule) -> Result<(), Memory> {
-    let at = rest
-        .iter()
-        .take_while(|other| other.rule.number() < rule.number())
-        .count();
-    if at < rest.len() && rest[at].rule == rule {
-        rest[at].count = rest[at].count.saturating_add(1);
-    } else {
-        rest.insert(at, RestRule { rule, count: 1 })?;
-    }
-    Ok(())
-}
+/// All rules, in rising number.
+const RULES: [Rule; 35] = [
+    Rule::BadBytes,
+    Rule::BadTag,
+    Rule::FieldCount,
+    Rule::BadAction,
+    Rule::BadSite,
+    Rule::ParameterOutOfProfile,
+    Rule::BadPoc,
+    Rule::BadDuration,
+    Rule::BadUnit,
+    Rule::BadMethod,
+    Rule::BadDate,
+    Rule::BadTime,
+    Rule::ValueAndNull,
+    Rule::NeitherValueNorNull,
+    Rule::BadValue,
+    Rule::ValueOutOfRange,
+    Rule::BadNull,
+    Rule::BadQualifier,
+    Rule::UnknownMonitor,
+    Rule::WrongDuration,
+    Rule::AlreadyThere,
+    Rule::NotThere,
+    Rule::ObservationsFull,
+    Rule::SitesFull,
+    Rule::MonitorsFull,
+    Rule::BadSpan,
+    Rule::BadInterval,
+    Rule::BadSeason,
+    Rule::BadMakeup,
+    Rule::MakeupsFull,
+    Rule::UnknownEvent,
+    Rule::EventsFull,
+    Rule::BadCode,
+    Rule::ListFull,
+    Rule::NotBuilt,
+];
 
 /// What became of a load: the office after it, and the reply.
 #[derive(Drop)]
@@ -61,61 +62,105 @@ pub(crate) struct Taken {
     pub(crate) reply: LoadReply,
 }
 
-/// Takes the lines of a body over an office of which nothing stands. A line of no bytes is skipped.
+/// Takes the lines of a body over an office of which nothing stands.
 pub(crate) fn take_load(alloc: Global, body: &[u8]) -> Result<Taken, Memory>
     requires { length body.now ≤ MOST_BYTES }
     ensures office { IfOk result (λ taken. taken.office ≡ built_after_all nothing (body_lines body.now)) }
     ensures reply { IfOk result (λ taken. taken.reply ≡ built_reply nothing 0 body.now) }
 {
     let mut office = Office::new(alloc);
-    let mut refused = Refused::new(alloc);
-    let mut lines = 0u32;
-    let mut accepted = 0u32;
-    let mut rest = body;
-    while !rest.is_empty() {
-        let (line, after) = cut_line(rest);
-        rest = after;
-        lines = lines.saturating_add(1);
-        if line.is_empty() {
-            continue;
-        }
-        match office.take(line) {
-            Ok(()) => accepted = accepted.saturating_add(1),
-            Err(Refusal::Broken(rule)) => refused.add(lines, rule)?,
-            Err(Refusal::Memory) => return Err(Memory),
-        }
+    let mut refused = Vec::new(alloc);
+    let mut taken = 0;
+    for line in lines_of(body) {
+        take_line(&mut office, &mut refused, line.number, line.text)?;
+        taken += 1;
     }
-    let reply = reply_of(alloc, lines, accepted, refused)?;
+    let reply = reply_of(alloc, count_lines(body), taken, &refused)?;
     Ok(Taken { office, reply })
 }
 
-/// A line without its end, and what follows it.
-fn cut_line(text: &[u8]) -> (&[u8], &[u8])
-    requires { 0 < length text.now }
-    ensures { length result.1.now < length text.now }
+/// Takes one line, and puts it behind the refused ones where it is refused.
+fn take_line(
+    office: &mut Office,
+    refused: &mut Vec<ListedLine>,
+    number: u32,
+    text: &[u8],
+) -> Result<(), Memory>
+    ensures office { OnOk result (office.new ≡ built_after office.old text.now) }
+    ensures refused { OnOk result (refused.new.items ≡ refused.old.items ++ listed_for_line office.old number text.now) }
 {
-    match text.iter().position(|byte| *byte == b'\n') {
-        Some(end) => (&text[..end], &text[end + 1..]),
-        None => (text, &text[text.len()..]),
+    match office.take(text) {
+        Ok(()) => Ok(()),
+        Err(Refusal::Broken(rule)) => {
+            let line = ListedLine { line: number, rule };
+            refused.push(line)?;
+            Ok(())
+        }
+        Err(Refusal::Memory) => Err(Memory),
     }
 }
 
+/// How many of the lines are refused under a rule.
+fn count_under(refused: &[ListedLine], rule: Rule) -> u32
+    requires { length refused.now < 2 ^ 32 }
+    ensures { result ≡ refused_under rule refused.now }
+{
+    let number = rule.number();
+    refused
+        .iter()
+        .filter(|line| line.rule.number() == number)
+        .count() as u32
+}
+
+/// The lines by rule, in the order of the rules.
+fn rest_of(alloc: Global, rules: &[Rule], refused: &[ListedLine]) -> Result<Rest, Memory>
+    requires { length refused.now < 2 ^ 32 }
+    ensures { IfOk result (λ rest. rest ≡ filter_map (rest_for refused.now) rules.now) }
+{
+    let mut rest = Rest::new(alloc);
+    for rule in rules {
+        add_count(&mut rest, *rule, count_under(refused, *rule))?;
+    }
+    Ok(rest)
+}
+
+/// Adds how many lines are refused under a rule, unless none is.
+fn add_count(rest: &mut Rest, rule: Rule, count: u32) -> Result<(), Memory>
+    ensures { OnOk result (rest.new ≡ rest.old ++ option_to_list (counted rule count)) }
+{
+    if count > 0 {
+        rest.push(RestRule { rule, count })?;
+    }
+    Ok(())
+}
+
+fn listed_of(alloc: Global, refused: &[ListedLine]) -> Result<Listed, Memory>
+    ensures { IfOk result (λ listed. listed ≡ refused.now) }
+{
+    let mut listed = Listed::new(alloc);
+    for line in refused {
+        listed.push(*line)?;
+    }
+    Ok(listed)
+}
+
+/// The reply to a load with the number 0.
 fn reply_of(
     alloc: Global,
     lines: u32,
-    accepted: u32,
-    refused: Refused,
-) -> Result<LoadReply, Memory> {
-    let mut rest = Rest::new(alloc);
-    for counted in &refused.rest {
-        rest.push(*counted)?;
-    }
+    taken: u32,
+    refused: &[ListedLine],
+) -> Result<LoadReply, Memory>
+    requires { length refused.now ≤ taken }
+    ensures { IfOk result (λ reply. reply ≡ built_reply_for 0 lines taken refused.now) }
+{
+    let cut = refused.len().min(MOST_LISTED);
     Ok(LoadReply {
         number: 0,
         lines,
-        accepted,
-        refused: refused.count,
-        listed: refused.listed,
-        rest,
+        accepted: taken - refused.len() as u32,
+        refused: refused.len() as u32,
+        listed: listed_of(alloc, &refused[..cut])?,
+        rest: rest_of(alloc, &RULES, &refused[cut..])?,
     })
 }

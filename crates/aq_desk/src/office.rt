@@ -166,11 +166,14 @@ impl Office {
     ) -> Result<(), Refusal>
         requires { HasValueInRange monitor.now.pollutant content.now }
         ensures unbroken { OnOk result ((method : ℕ) →
-            broken self.old (OfRd (PutSample update monitor.now duration method hour content.now)) ≡ None) }
+            let value = OfRd (PutSample update monitor.now duration method hour content.now) in
+            broken self.old value ≡ None) }
         ensures after { OnOk result ((method : ℕ) →
-            self.new ≡ changed self.old (OfRd (PutSample update monitor.now duration method hour content.now))) }
+            let value = OfRd (PutSample update monitor.now duration method hour content.now) in
+            self.new ≡ changed self.old value) }
         ensures refused { IfErr result (λ refusal. (method : ℕ) →
-            IsRefusal (broken self.old (OfRd (PutSample update monitor.now duration method hour content.now))) refusal) }
+            let value = OfRd (PutSample update monitor.now duration method hour content.now) in
+            IsRefusal (broken self.old value) refusal) }
         ensures no_memory { IsTrue update → IfErr result IsRule }
         ensures unchanged { OnErr result (self.new ≡ self.old) }
     {

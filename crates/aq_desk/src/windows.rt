@@ -1,10 +1,11 @@
 //! The 8-hour averages of a day (40 CFR Part 50, Appendix U, 3).
-ghost use Rattle.std.specs.Prelude.{◌≡◌, ◌≤◌, ◌+◌, ◌*◌, IsTrue, map, unsigned_abs};
+ghost use Rattle.std.specs.Prelude.{◌≡◌, ◌≤◌, ◌*◌, [], ◌∷◌, IfSome, IsTrue, map, unsigned_abs};
 ghost use Rattle.aq_base.specs.declared.monitor.Pollutant.TheVariants.{Ozone};
 ghost use Rattle.aq_profile.specs.Office.{has_monitor};
 ghost use Rattle.aq_profile.specs.EightHour as book;
 ghost use Rattle.aq_profile.specs.OzoneDay.{windows};
-ghost use Rattle.aq_desk.specs.WindowView.{row_view};
+ghost use Rattle.aq_desk.specs.OfficeView.{IsOzone};
+ghost use Rattle.aq_desk.specs.WindowView.{cells_at, cells_of, row_view};
 
 use crate::office::Office;
 use aq_base::{Day, Hour, LAST_HOUR, SiteId, Steps};
@@ -45,28 +46,71 @@ fn average(count: u8, sum: i32) -> Option<i32>
     }
 }
 
+/// Hours that have a value: how many, and the sum of their values.
+#[derive(Clone, Copy)]
+struct Tally {
+    hours: u8,
+    sum: i32,
+}
+
+impl Tally {
+    ghost use Rattle.std.specs.Prelude.{◌≤◌, ◌+◌, ◌*◌, ◌++◌, List, IfSome, unsigned_abs};
+    ghost use Rattle.aq_profile.specs.SiteHour.{Cell};
+    ghost use Rattle.aq_desk.specs.OfficeView.{IsOzone};
+    ghost use Rattle.aq_desk.specs.WindowView.{IsTally, cells_of};
+
+    /// With one more hour, which may have no value.
+    fn with(self, value: Option<i32>) -> Tally
+        requires hours { self.hours ≤ 7 }
+        requires sum { unsigned_abs self.sum ≤ 9999 * self.hours }
+        requires value { IfSome value IsOzone }
+        ensures tally { (cells : List Cell) → IsTally cells self → IsTally (cells ++ cells_of value) result }
+        ensures hours { result.hours ≤ self.hours + 1 }
+    {
+        match value {
+            Some(value) => Tally {
+                hours: self.hours + 1,
+                sum: self.sum + value,
+            },
+            None => self,
+        }
+    }
+}
+
+/// The value of a registered site for an hour, by the hour's number: none past the profile.
+fn value_of<L: Ledger>(
+    office: &Office,
+    site: SiteId,
+    hour: u32,
+    steps: &mut Steps<L>,
+) -> Option<i32>
+    requires { IsTrue (has_monitor office.now site Ozone) }
+    ensures value { cells_at office.now site (hour ∷ []) ≡ cells_of result }
+    ensures range { IfSome result IsOzone }
+{
+    if hour <= LAST_HOUR {
+        office.value_at(site, Hour::new(hour), steps)
+    } else {
+        None
+    }
+}
+
 /// The average of the eight hours from a start. No hour is excluded yet.
 fn window<L: Ledger>(office: &Office, site: SiteId, start: u32, steps: &mut Steps<L>) -> WindowRow
     requires start { start ≤ LAST_HOUR }
     requires site { IsTrue (has_monitor office.now site Ozone) }
     ensures { row_view result ≡ book.window office.now site start }
 {
-    let mut count = 0u8;
-    let mut sum = 0i32;
+    let mut tally = Tally { hours: 0, sum: 0 };
     for hour in start..start + 8 {
-        if hour <= LAST_HOUR {
-            if let Some(value) = office.value_at(site, Hour::new(hour), steps) {
-                count += 1;
-                sum += value;
-            }
-        }
+        tally = tally.with(value_of(office, site, hour, steps));
     }
-    let average = average(count, sum);
+    let average = average(tally.hours, tally.sum);
     WindowRow {
         net: average,
-        net_hours: count,
+        net_hours: tally.hours,
         full: average,
-        full_hours: count,
+        full_hours: tally.hours,
     }
 }
 

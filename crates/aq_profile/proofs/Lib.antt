@@ -12,3 +12,15 @@ pub mod Agree
 pub mod OtherHours
 pub mod Thirds
 pub mod Joined
+pub mod Rising
+pub mod Loads
+pub mod Days
+pub mod Digits
+pub mod KeyOrder
+pub mod Spelled
+pub mod JoinedFields
+pub mod RoundTrip
+pub mod Values
+pub mod Samples
+pub mod Valid
+pub mod ValidLines

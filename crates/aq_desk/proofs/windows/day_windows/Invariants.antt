@@ -1,0 +1,11 @@
+use Rattle.std.proofs.Common.{◌≡◌, ℕ, ◌+◌, ◌<◌, length, get_or}
+use Rattle.aq_profile.specs.EightHour.{window}
+use Rattle.aq_desk.specs.WindowView.{row_view}
+use Rattle.aq_desk.specs.declared.windows.WindowRow.{WindowRow}
+use Rattle.aq_desk.proofs.windows.day_windows.Given as goal
+
+abbrev pub invariant-loop-i : goal.invariant-loop-i
+invariant-loop-i g l = record {
+  many : length l.rows ≡ 17;
+  so_far : (d : WindowRow) (k : ℕ) → k < l.i → row_view (get_or l.rows k d) ≡ window l.office l.site (l.first + k);
+}

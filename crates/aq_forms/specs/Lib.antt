@@ -1,0 +1,2 @@
+-- The lines of a load's body, as contracts see them.
+pub mod BodyLines
