@@ -111,7 +111,8 @@ impl Office {
     fn register(&mut self, monitor: MonitorId) -> Result<(), Refusal>
         requires { monitor.pollutant ≡ Ozone }
         ensures first { OnOk result (self.old.records ≡ []) }
-        ensures after { OnOk result (self.new ≡ record self.old { records = registered monitor ∷ [] }) }
+        ensures after { OnOk result
+            (self.new ≡ record self.old { records = registered monitor ∷ [] }) }
         ensures second { OnErr result (0 < length self.old.records) }
         ensures refused { IfErr result (λ refusal. refusal ≡ Broken NotBuilt) }
         ensures unchanged { OnErr result (self.new ≡ self.old) }
@@ -138,7 +139,8 @@ impl Office {
         requires { HasLineRange line.now }
         ensures unbroken { OnOk result (broken self.old (OfRd (line_value_of line.now)) ≡ None) }
         ensures after { OnOk result (self.new ≡ changed self.old (OfRd (line_value_of line.now))) }
-        ensures refused { IfErr result (IsRefusal (broken self.old (OfRd (line_value_of line.now)))) }
+        ensures refused { let value = OfRd (line_value_of line.now) in
+            IfErr result (IsRefusal (broken self.old value)) }
         ensures unchanged { OnErr result (self.new ≡ self.old) }
     {
         match line {
@@ -202,8 +204,10 @@ impl Office {
 
     /// Takes an observation away. It takes no memory.
     fn delete(&mut self, monitor: &MonitorId, hour: Hour) -> Result<(), Refusal>
-        ensures unbroken { OnOk result (broken self.old (OfRd (DeleteSample monitor.now hour)) ≡ None) }
-        ensures after { OnOk result (self.new ≡ changed self.old (OfRd (DeleteSample monitor.now hour))) }
+        ensures unbroken { let value = OfRd (DeleteSample monitor.now hour) in
+            OnOk result (broken self.old value ≡ None) }
+        ensures after { let value = OfRd (DeleteSample monitor.now hour) in
+            OnOk result (self.new ≡ changed self.old value) }
         ensures refused { let value = OfRd (DeleteSample monitor.now hour) in
             IfErr result (IsRefusal (broken self.old value)) }
         ensures no_memory { IfErr result IsRule }
