@@ -1,10 +1,11 @@
 //! What stands while a load is taken: one ozone monitor at most, and its observations.
-ghost use Rattle.std.specs.Prelude.{◌≡◌};
+ghost use Rattle.std.specs.Prelude.{◌≡◌, IfSome};
+ghost use Rattle.aq_base.specs.declared.monitor.Pollutant.TheVariants.{Ozone};
 ghost use Rattle.aq_base.specs.Values.{HasValueInRange};
 ghost use Rattle.aq_rd.specs.Ranges.{HasLineRange};
 ghost use Rattle.aq_desk.specs.Built.{plain_monitor};
 
-use aq_base::{Hour, MonitorId, ObsKey, Observation, Rule, SiteId, Steps};
+use aq_base::{Duration, Hour, MonitorId, ObsKey, Observation, Rule, SiteId, Steps};
 use aq_rd::{Cursor, RdLine, ozone_monitor, read_rd};
 use aq_shelf::{Shelf, ShelfFault};
 use std::alloc::Global;
@@ -43,7 +44,8 @@ impl From<ShelfFault> for Refusal {
 /// Reads the plain line of an ozone monitor, `XM|I|SS|CCC|NNNN|44201|P|1|Y`.
 #[tactic(auto, unfolding(crate::specs::Built::plain_monitor))]
 fn read_monitor(line: &[u8]) -> Option<MonitorId>
-    ensures { result ≡ plain_monitor line.now }
+    ensures value { result ≡ plain_monitor line.now }
+    ensures ozone { IfSome result (λ id. id.pollutant ≡ Ozone) }
 {
     let mut text = Cursor::new(line);
     text.skip(b"XM|I|")?;
@@ -64,13 +66,20 @@ impl Model for Office {
 }
 
 impl Office {
-    ghost use Rattle.std.specs.Prelude.{◌≡◌, None, IfErr, IfSome, IsTrue, OnErr, OnOk};
+    ghost use Rattle.std.specs.Prelude.{◌≡◌, ℕ, ◌<◌, Some, None, [], ◌∷◌, length, if◌then◌else◌, IfErr, IfSome, IsTrue, OnErr, OnOk};
+    ghost use Rattle.aq_base.specs.declared.monitor.Duration.TheVariants.{Hour as ForHour};
     ghost use Rattle.aq_base.specs.declared.monitor.Pollutant.TheVariants.{Ozone};
-    ghost use Rattle.aq_profile.specs.Office.{nothing, has_monitor};
-    ghost use Rattle.aq_desk.specs.Built.{built_after, built_refusal};
+    ghost use Rattle.aq_base.specs.declared.rule.Rule.TheVariants.{NotBuilt};
+    ghost use Rattle.aq_profile.specs.Load.{changed};
+    ghost use Rattle.aq_profile.specs.Office.{nothing, duration_at, has_monitor};
+    ghost use Rattle.aq_profile.specs.RdForm.{Put as PutSample, Delete as DeleteSample};
+    ghost use Rattle.aq_profile.specs.Reading.{OfRd};
+    ghost use Rattle.aq_profile.specs.Refusal.{broken};
+    ghost use Rattle.aq_desk.specs.Built.{built_after, built_refusal, registered};
+    ghost use Rattle.aq_desk.specs.declared.office.Refusal.TheVariants.{Broken};
     ghost use Rattle.std.specs.Option.{option_map};
     ghost use Rattle.aq_profile.specs.SiteHour.{site_hour};
-    ghost use Rattle.aq_desk.specs.OfficeView.{IsOzone, IsRefusal, plain_cell};
+    ghost use Rattle.aq_desk.specs.OfficeView.{IsOzone, IsRefusal, IsRule, line_value_of, plain_cell};
 
     /// An office of which nothing stands.
     pub(crate) fn new(alloc: Global) -> Office
@@ -98,7 +107,16 @@ impl Office {
         }
     }
 
-    fn register(&mut self, monitor: MonitorId) -> Result<(), Refusal> {
+    /// Registers the first monitor.
+    fn register(&mut self, monitor: MonitorId) -> Result<(), Refusal>
+        requires { monitor.pollutant ≡ Ozone }
+        ensures first { OnOk result (self.old.records ≡ []) }
+        ensures after { OnOk result
+            (self.new ≡ record self.old { records = registered monitor ∷ [] }) }
+        ensures second { OnErr result (0 < length self.old.records) }
+        ensures refused { IfErr result (λ refusal. refusal ≡ Broken NotBuilt) }
+        ensures unchanged { OnErr result (self.new ≡ self.old) }
+    {
         if self.monitor.is_some() {
             return Err(Refusal::Broken(Rule::NotBuilt));
         }
@@ -106,45 +124,74 @@ impl Office {
         Ok(())
     }
 
-    fn is_registered(&self, monitor: &MonitorId) -> bool {
+    /// Whether the monitor is the registered one, which is one of hours.
+    fn is_registered(&self, monitor: &MonitorId) -> bool
+        ensures { duration_at self.now monitor.now ≡ (if result then Some ForHour else None) }
+    {
         match &self.monitor {
             Some(registered) => registered == monitor,
             None => false,
         }
     }
 
+    /// Takes an RD line. After a refusal the office is as before.
     fn apply(&mut self, line: &RdLine) -> Result<(), Refusal>
         requires { HasLineRange line.now }
+        ensures unbroken { OnOk result (broken self.old (OfRd (line_value_of line.now)) ≡ None) }
+        ensures after { OnOk result (self.new ≡ changed self.old (OfRd (line_value_of line.now))) }
+        ensures refused { let value = OfRd (line_value_of line.now) in
+            IfErr result (IsRefusal (broken self.old value)) }
+        ensures unchanged { OnErr result (self.new ≡ self.old) }
     {
         match line {
             RdLine::Put {
                 update,
                 monitor,
+                duration,
                 hour,
                 content,
                 ..
-            } => self.put(*update, monitor, *hour, content),
+            } => self.put(*update, monitor, *duration, *hour, content),
             RdLine::Delete { monitor, hour } => self.delete(monitor, *hour),
         }
     }
 
+    /// Inserts or updates an observation. An update takes no memory. The method of the line is not
+    /// kept.
     fn put(
         &mut self,
         update: bool,
         monitor: &MonitorId,
+        duration: Duration,
         hour: Hour,
         content: &Observation,
     ) -> Result<(), Refusal>
         requires { HasValueInRange monitor.now.pollutant content.now }
+        ensures unbroken { OnOk result ((method : ℕ) →
+            let value = OfRd (PutSample update monitor.now duration method hour content.now) in
+            broken self.old value ≡ None) }
+        ensures after { OnOk result ((method : ℕ) →
+            let value = OfRd (PutSample update monitor.now duration method hour content.now) in
+            self.new ≡ changed self.old value) }
+        ensures refused { IfErr result (λ refusal. (method : ℕ) →
+            let value = OfRd (PutSample update monitor.now duration method hour content.now) in
+            IsRefusal (broken self.old value) refusal) }
+        ensures no_memory { IsTrue update → IfErr result IsRule }
+        ensures unchanged { OnErr result (self.new ≡ self.old) }
     {
         if !self.is_registered(monitor) {
             return Err(Refusal::Broken(Rule::UnknownMonitor));
+        }
+        if duration != Duration::Hour {
+            return Err(Refusal::Broken(Rule::WrongDuration));
         }
         let key = ObsKey {
             monitor: *monitor,
             hour,
         };
         if update {
+            // The proof learns that the shelf is in order.
+            let _ = self.shelf.count();
             match self.shelf.update(key, *content) {
                 Ok(_) => Ok(()),
                 Err(_) => Err(Refusal::Broken(Rule::NotThere)),
@@ -155,7 +202,17 @@ impl Office {
         }
     }
 
-    fn delete(&mut self, monitor: &MonitorId, hour: Hour) -> Result<(), Refusal> {
+    /// Takes an observation away. It takes no memory.
+    fn delete(&mut self, monitor: &MonitorId, hour: Hour) -> Result<(), Refusal>
+        ensures unbroken { let value = OfRd (DeleteSample monitor.now hour) in
+            OnOk result (broken self.old value ≡ None) }
+        ensures after { let value = OfRd (DeleteSample monitor.now hour) in
+            OnOk result (self.new ≡ changed self.old value) }
+        ensures refused { let value = OfRd (DeleteSample monitor.now hour) in
+            IfErr result (IsRefusal (broken self.old value)) }
+        ensures no_memory { IfErr result IsRule }
+        ensures unchanged { OnErr result (self.new ≡ self.old) }
+    {
         if !self.is_registered(monitor) {
             return Err(Refusal::Broken(Rule::UnknownMonitor));
         }
@@ -163,6 +220,8 @@ impl Office {
             monitor: *monitor,
             hour,
         };
+        // The proof learns that the shelf is in order.
+        let _ = self.shelf.count();
         match self.shelf.remove(key) {
             Ok(_) => Ok(()),
             Err(_) => Err(Refusal::Broken(Rule::NotThere)),
