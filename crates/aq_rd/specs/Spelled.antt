@@ -29,9 +29,9 @@ IsReported pollutant None (Some code) = is_null_code code ≡ true
 IsReported pollutant value null = ⊥
 
 pub record IsSpelledSample (monitor : MonitorId) (duration : Duration) (method : ℕ) (content : Observation) : Type 0 where
-  pub poc : HasPoc monitor
-  pub duration : has_duration monitor.pollutant duration ≡ true
-  pub method : method ≤ 999
+  pub has_poc : HasPoc monitor
+  pub fits : has_duration monitor.pollutant duration ≡ true
+  pub small : method ≤ 999
   pub reported : IsReported monitor.pollutant content.value content.null
   pub quals : list_all is_qualifier content.quals ≡ true
 

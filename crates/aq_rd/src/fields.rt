@@ -20,6 +20,7 @@ pub(crate) struct FieldList<'a> {
 
 impl<'a> Model for FieldList<'a> {
     ghost use Rattle.std.specs.Prelude.{List, ℕ};
+    ghost use Rattle.aq_profile.specs.Fields.{fields};
     ghost use Rattle.aq_rd.specs.FieldPlaces.{HoldsFields};
 
     ghost Value = { List (List ℕ) };
@@ -30,9 +31,9 @@ impl<'a> Model for FieldList<'a> {
 }
 
 impl<'a> FieldList<'a> {
-    ghost use Rattle.std.specs.Prelude.{◌≡◌, ◌≤◌, length, not, drop};
-    ghost use Rattle.std.specs.List.{list_any};
-    ghost use Rattle.aq_profile.specs.Fields.{is_empty, fields, field};
+    ghost use Rattle.std.specs.Prelude.{◌≡◌, ◌≤◌, length, drop};
+    ghost use Rattle.aq_profile.specs.Fields.{fields, field};
+    ghost use Rattle.aq_rd.specs.FieldPlaces.{has_text};
 
     /// The fields of a line.
     pub(crate) fn new(line: &'a [u8]) -> FieldList<'a>
@@ -69,7 +70,7 @@ impl<'a> FieldList<'a> {
 
     /// Whether a field behind the first `MOST_FIELDS` is not empty.
     pub(crate) fn has_text_behind(&self) -> bool
-        ensures { result ≡ list_any (λ text. not (is_empty text)) (drop MOST_FIELDS self.now) }
+        ensures { result ≡ has_text (drop MOST_FIELDS self.now) }
     {
         self.has_text_behind
     }

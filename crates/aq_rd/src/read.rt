@@ -36,6 +36,7 @@ pub fn read_rd(line: &[u8]) -> Result<RdLine, Rule>
     read_form(&texts)
 }
 
+#[tactic(auto, unfolding(crate::specs::RdReading::form_reading))]
 fn read_form(texts: &FieldList<'_>) -> Result<RdLine, Rule>
     ensures { result ≡ form_reading texts.now }
 {
@@ -62,6 +63,7 @@ fn has_wrong_count(texts: &FieldList<'_>) -> bool
     texts.count() < fewest || texts.has_text_behind()
 }
 
+#[tactic(auto, unfolding(crate::specs::RdReading::put_reading))]
 fn read_put(update: bool, texts: &FieldList<'_>) -> Result<RdLine, Rule>
     ensures { result ≡ put_reading update texts.now }
 {
@@ -83,6 +85,7 @@ fn read_put(update: bool, texts: &FieldList<'_>) -> Result<RdLine, Rule>
 }
 
 // Of a deletion, only the monitor and the start are read.
+#[tactic(auto, unfolding(crate::specs::RdReading::delete_reading))]
 fn read_delete(texts: &FieldList<'_>) -> Result<RdLine, Rule>
     ensures { result ≡ delete_reading texts.now }
 {
@@ -91,6 +94,7 @@ fn read_delete(texts: &FieldList<'_>) -> Result<RdLine, Rule>
     Ok(RdLine::Delete { monitor, hour })
 }
 
+#[tactic(auto, unfolding(crate::specs::RdReading::monitor_reading))]
 fn read_monitor(texts: &FieldList<'_>) -> Result<MonitorId, Rule>
     ensures { result ≡ monitor_reading texts.now }
 {
@@ -104,6 +108,7 @@ fn read_monitor(texts: &FieldList<'_>) -> Result<MonitorId, Rule>
     })
 }
 
+#[tactic(auto, unfolding(crate::specs::RdReading::start_reading))]
 fn read_start(texts: &FieldList<'_>) -> Result<Hour, Rule>
     ensures { result ≡ start_reading texts.now }
 {
@@ -112,6 +117,7 @@ fn read_start(texts: &FieldList<'_>) -> Result<Hour, Rule>
     Ok(hour_of(day, hour))
 }
 
+#[tactic(auto, unfolding(crate::specs::RdReading::content_reading))]
 fn read_content(
     pollutant: Pollutant,
     places: u8,
@@ -130,6 +136,7 @@ fn read_content(
     }
 }
 
+#[tactic(auto, unfolding(crate::specs::RdReading::valued_reading))]
 fn read_valued(pollutant: Pollutant, places: u8, texts: &FieldList<'_>) -> Result<Observation, Rule>
     requires { places ≤ 6 }
     ensures { result ≡ valued_reading pollutant places texts.now }
@@ -143,6 +150,7 @@ fn read_valued(pollutant: Pollutant, places: u8, texts: &FieldList<'_>) -> Resul
     })
 }
 
+#[tactic(auto, unfolding(crate::specs::RdReading::null_reading))]
 fn read_null(texts: &FieldList<'_>) -> Result<Observation, Rule>
     ensures { result ≡ null_reading texts.now }
 {

@@ -28,6 +28,7 @@ pub(crate) fn digits(width: usize, text: &[u8]) -> Option<u32>
 }
 
 /// A site: state, county and site number in two, three and four digits.
+#[tactic(auto, unfolding(aq_profile::specs::Spellings::site_in))]
 pub(crate) fn site(state: &[u8], county: &[u8], number: &[u8]) -> Option<SiteId>
     ensures { result ≡ site_in state.now county.now number.now }
 {
@@ -101,6 +102,7 @@ pub(crate) fn method(text: &[u8]) -> Option<u16>
 }
 
 /// A date of the profile as YYYYMMDD.
+#[tactic(auto, unfolding(aq_profile::specs::Spellings::date_in))]
 pub(crate) fn date(text: &[u8]) -> Option<Day>
     ensures { result ≡ date_in text.now }
 {
@@ -113,6 +115,7 @@ pub(crate) fn date(text: &[u8]) -> Option<Day>
 }
 
 /// A full hour as HH:00.
+#[tactic(auto, unfolding(aq_profile::specs::Spellings::time_in))]
 pub(crate) fn time(text: &[u8]) -> Option<u8>
     ensures value { result ≡ time_in text.now }
     ensures most { IfSome result (λ hour. hour ≤ 23) }
@@ -128,6 +131,7 @@ pub(crate) fn time(text: &[u8]) -> Option<u8>
 
 /// A sample value, cut at so many places. `BadValue` where the text is no decimal number, else
 /// `ValueOutOfRange` where the cut value is out of the pollutant's range.
+#[tactic(auto, unfolding(aq_profile::specs::Spellings::value_in, crate::specs::RdReading::value_reading))]
 pub(crate) fn value(pollutant: Pollutant, places: u8, text: &[u8]) -> Result<i32, Rule>
     requires { places ≤ 6 }
     ensures value { result ≡ value_reading pollutant places text.now }

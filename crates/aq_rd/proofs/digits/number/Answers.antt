@@ -2,7 +2,7 @@ use Rattle.std.proofs.Common.{◌≤◌, ◌<◌, ◌+◌, ◌*◌, ◌^◌, ◌
 use Rattle.std.proofs.lemmas.Grind.{common_steps}
 use Rattle.std.proofs.lemmas.List.Folds.{list_all_more}
 use Rattle.std.specs.Char.{is_ascii_digit}
-use Rattle.aq_rd.proofs.Digits.{next_fits, next_value, next_below}
+use Rattle.aq_rd.proofs.DigitSteps.{next_fits, next_value, next_below}
 use Rattle.aq_rd.proofs.digits.number.Goals as goal
 
 pub overflow_mul-number : goal.overflow_mul-number
