@@ -117,9 +117,9 @@ fn trim_front(text: &[u8]) -> &[u8]
 fn trim_back(text: &[u8]) -> &[u8]
     ensures { result.now ≡ without_back text.now }
 {
-    let mut rest = text;
-    while let [before @ .., b' '] = rest {
-        rest = before;
+    let mut end = text.len();
+    while end > 0 && text[end - 1] == b' ' {
+        end -= 1;
     }
-    rest
+    &text[..end]
 }

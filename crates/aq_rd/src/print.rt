@@ -1,9 +1,9 @@
 //! Writing RD lines.
-ghost use Rattle.std.specs.Prelude.{◌≡◌, ◌+◌, ◌%◌, ◌++◌, ◌∷◌, IfOk, OnOk, Some};
+ghost use Rattle.std.specs.Prelude.{◌≡◌, ◌+◌, ◌%◌, ◌++◌, ◌∷◌, map, IfOk, OnOk, Some};
 ghost use Rattle.aq_base.specs.Decimal.{last_digits};
 ghost use Rattle.aq_profile.specs.Reading.{line_value, OfRd};
 ghost use Rattle.aq_profile.specs.Canonical.{canonical_rd, monitor_texts, start_texts, date_text, code_text, value_text, texts_behind, parameter_text, duration_text, unit_text, value_places};
-ghost use Rattle.aq_rd.specs.Printing.{behind_bars};
+ghost use Rattle.aq_rd.specs.Printing.{behind_bars, null_text};
 ghost use Rattle.aq_rd.specs.Spelled.{IsSpelled};
 ghost use Rattle.aq_rd.specs.RdReading.{value_of};
 
@@ -100,13 +100,27 @@ fn write_codes(out: &mut Vec<u8>, content: &Observation) -> Result<(), Memory>
         return Ok(());
     }
     out.push(b'|')?;
-    if let Some(null) = &content.null {
-        write_code(out, null)?;
-    }
+    write_null(out, &content.null)?;
     if quals.is_empty() {
         return Ok(());
     }
     out.extend_from_slice(b"||")?;
+    write_quals(out, quals)?;
+    Ok(())
+}
+
+fn write_null(out: &mut Vec<u8>, null: &Option<Code>) -> Result<(), Memory>
+    ensures { OnOk result (out.new.items ≡ out.old.items ++ null_text null.now) }
+{
+    if let Some(code) = null {
+        write_code(out, code)?;
+    }
+    Ok(())
+}
+
+fn write_quals(out: &mut Vec<u8>, quals: &[Code]) -> Result<(), Memory>
+    ensures { OnOk result (out.new.items ≡ out.old.items ++ behind_bars (map code_text quals.now)) }
+{
     for code in quals {
         out.push(b'|')?;
         write_code(out, code)?;
