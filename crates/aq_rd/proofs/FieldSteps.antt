@@ -1,5 +1,5 @@
 -- The fields of a line, byte by byte.
-use Rattle.std.proofs.Common.{◌≡◌, ◌≢◌, ℕ, suc, ◌+◌, ◌-◌, ◌<◌, ◌≤◌, Bool, true, false, cond, not, ◌&&◌, ◌||◌, List, [], ◌∷◌, ◌++◌, length, take, drop, set, get_or, map, refl, sym, ap, ◌∙◌, arith, subst}
+use Rattle.std.proofs.Common.{◌≡◌, ◌≢◌, ℕ, zero, suc, ◌+◌, ◌-◌, ◌<◌, ◌≤◌, Bool, true, false, cond, not, ◌&&◌, ◌||◌, List, [], ◌∷◌, ◌++◌, length, take, drop, set, get_or, map, refl, sym, ap, ◌∙◌, arith, subst}
 use Rattle.std.specs.List.{slice_split, onto_first, list_all}
 use Rattle.std.proofs.lemmas.Bool.{false≢true}
 use Rattle.std.proofs.lemmas.Bool.Decides.{nat_tests}
@@ -97,7 +97,7 @@ part-whole (byte ∷ text) none =
 
 pub part-at : (text : List ℕ) (place : ℕ) → place < length text → list_all (λ byte. not (is_bar byte)) (take place text) ≡ true → is_bar (get_or text place 0) ≡ true → get_or (slice_split is_bar text) 0 [] ≡ take place text
 part-at [] place within none bar = absurd (omega arith)
-part-at (byte ∷ text) 0 within none bar = ap (λ parts. get_or parts 0 []) (slice_split-cons_yes is_bar byte text bar)
+part-at (byte ∷ text) zero within none bar = ap (λ parts. get_or parts 0 []) (slice_split-cons_yes is_bar byte text bar)
 part-at (byte ∷ text) (suc place) within none bar =
     let parts = both (not (is_bar byte)) (list_all (λ b. not (is_bar b)) (take place text)) none in
     part-cons byte text (not-true (is_bar byte) parts.0) ∙ ap (λ t. byte ∷ t) (part-at text place (omega arith) parts.1 bar)

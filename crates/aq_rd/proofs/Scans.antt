@@ -30,13 +30,13 @@ start-at : (k n : ℕ) → get_or (set (replicate 28 n) 0 0) k 0 ≤ n
 start-at zero n = omega arith
 start-at (suc k) n =
     elim (cases_lt k 27) [
-      | inl less ↦ let e : get_or (replicate 27 n) k 0 ≡ n = get_or-replicate 27 n k 0 less in omega (arith, e)
+      | inl less ↦ let e : get_or (replicate 27 n) k 0 ≡ n = get_or-replicate 27 k n 0 less in omega (arith, e)
       | inr more ↦ let e : get_or (replicate 27 n) k 0 ≡ 0 = get_or_past (replicate 27 n) k 0 more in omega (arith, e)
     ]
 
 start-missing : (k n : ℕ) → k < 28 → 1 ≤ k → get_or (set (replicate 28 n) 0 0) k 0 ≡ n
 start-missing zero n h some = absurd (omega arith)
-start-missing (suc k) n h some = get_or-replicate 27 n k 0 (omega arith)
+start-missing (suc k) n h some = get_or-replicate 27 k n 0 (omega arith)
 
 start-begun : (line : List ℕ) (k : ℕ) → k < 1 → field 1 (fields (drop (get_or (set (replicate 28 (length line)) 0 0) k 0) line)) ≡ field (k + 1) (fields line)
 start-begun line zero h = refl
@@ -242,3 +242,6 @@ scanned-end line i c starts is_longer s over =
           sym (s.behind ∙ ap (λ text. is_longer || has_text (drop (29 - c) (fields text))) nothing
           ∙ ap (λ b. is_longer || b) (has_text-none (29 - c)) ∙ or_false is_longer);
     }
+
+pub scanned-same : {line : List ℕ} {i c c' : ℕ} {starts starts' : List ℕ} {is_longer is_longer' : Bool} → c' ≡ c → starts' ≡ starts → is_longer' ≡ is_longer → Scanned line i c starts is_longer → Scanned line i c' starts' is_longer'
+scanned-same {line} {i} {c} {c'} {starts} {starts'} {is_longer} {is_longer'} e f g s = rw (e, f, g) s
