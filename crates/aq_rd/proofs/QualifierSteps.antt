@@ -1,8 +1,11 @@
 -- Qualifier fields, one after another.
-use Rattle.std.proofs.Common.{◌≡◌, ℕ, zero, suc, ◌+◌, ◌-◌, ◌<◌, ◌≤◌, Bool, true, false, cond, List, [], ◌∷◌, ◌++◌, Some, None, Option, length, take, drop, get_or, refl, sym, ap, ◌∙◌, arith, inl, inr, add-one}
+use Rattle.std.proofs.Common.{◌≡◌, ℕ, zero, suc, ◌+◌, ◌-◌, ◌<◌, ◌≤◌, Bool, true, false, cond, ◌&&◌, ◌==◌, List, [], ◌∷◌, ◌++◌, Some, None, Option, length, take, drop, get_or, refl, sym, ap, ◌∙◌, arith, inl, inr, add-one}
 use Rattle.std.proofs.lemmas.Bool.{false≢true, cases_lt}
 use Rattle.std.proofs.lemmas.List.{drop_all, get_or_past, length-append}
 use Rattle.std.proofs.Math.Seq.{drop-cons}
+use Rattle.std.specs.List.{list_all}
+use Rattle.std.proofs.lemmas.List.Folds.{list_all-append}
+use Rattle.aq_rd.specs.Spelled.{is_qualifier}
 use Rattle.aq_base.specs.declared.code.Code.{Code}
 use Rattle.aq_base.specs.Quals.{with_code, has_code}
 use Rattle.aq_profile.specs.Fields.{field, is_empty}
@@ -24,12 +27,12 @@ next n texts low high within =
     ap (λ k. take k (drop (n - 1) texts)) more ∙ ap (take (suc (26 - n))) (drop-cons texts (n - 1) [] within)
     ∙ ap (λ k. field n texts ∷ take (26 - n) (drop k texts)) after
 
-take-nil : (n : ℕ) → take n ([] {A = List ℕ}) ≡ []
-take-nil zero = refl
-take-nil (suc n) = refl
+take-nil : (n : ℕ) (texts : List (List ℕ)) → texts ≡ [] → take n texts ≡ []
+take-nil zero texts e = ap (take 0) e
+take-nil (suc n) texts e = ap (take (suc n)) e
 
 none-left : (n k : ℕ) (texts : List (List ℕ)) → length texts ≤ n → take k (drop n texts) ≡ []
-none-left n k texts over = ap (take k) (drop_all n texts over) ∙ take-nil k
+none-left n k texts over = take-nil k (drop n texts) (drop_all n texts over)
 
 past : (n : ℕ) (texts : List (List ℕ)) → length texts ≤ n - 1 → is_empty (field n texts) ≡ true
 past n texts over = ap is_empty (get_or_past texts (n - 1) [] over)
@@ -58,3 +61,41 @@ with-cond false codes code = omega (arith, length-append codes (code ∷ []))
 
 pub length-with_code : (codes : List Code) (code : Code) → length (with_code codes code) ≤ length codes + 1
 length-with_code codes code = with-cond (has_code code codes) codes code
+
+empty-test : (text : List ℕ) → (length text == 0) ≡ is_empty text
+empty-test [] = refl
+empty-test (byte ∷ text) = refl
+
+abbrev Left : List Code → ℕ → List (List ℕ) → Option (List Code)
+Left codes n texts = qualifiers_onto codes (take (27 - n) (drop (n - 1) texts))
+
+left-next : (codes : List Code) (n : ℕ) (texts : List (List ℕ)) → qualifiers_onto codes (take (26 - n) (drop n texts)) ≡ Left codes (n + 1) texts
+left-next codes n texts =
+    let one : 26 - n ≡ 27 - (n + 1) = omega arith in
+    let other : n ≡ n + 1 - 1 = omega arith in
+    ap (λ k. qualifiers_onto codes (take k (drop n texts))) one ∙ ap (λ k. qualifiers_onto codes (take (27 - (n + 1)) (drop k texts))) other
+
+bind-same : {A B : Type 0} (part : Option A) {f g : A → Option B} → ((x : A) → f x ≡ g x) → (part >>= f) ≡ (part >>= g)
+bind-same None same = refl
+bind-same (Some x) same = same x
+
+-- one field more, by whether it is empty
+pub step-none : (codes : List Code) (n : ℕ) (texts : List (List ℕ)) (text : List ℕ) (test : Bool) → 17 ≤ n → n < 27 → text ≡ field n texts → test ≡ (length text == 0) → test ≡ true
+    → qualifiers_onto codes (take (27 - n) (drop (n - 1) texts)) ≡ qualifiers_onto codes (take (27 - (n + 1)) (drop (n + 1 - 1) texts))
+step-none codes n texts text test low high is by yes =
+    step-empty codes n texts (omega arith) (omega arith) (sym (ap is_empty is) ∙ sym (empty-test text) ∙ sym by ∙ yes) ∙ left-next codes n texts
+
+pub step-some : (codes : List Code) (n : ℕ) (texts : List (List ℕ)) (text : List ℕ) (test : Bool) → 17 ≤ n → n < 27 → text ≡ field n texts → test ≡ (length text == 0) → test ≡ false
+    → qualifiers_onto codes (take (27 - n) (drop (n - 1) texts)) ≡ (qualifier_in text >>= λ code. qualifiers_onto (with_code codes code) (take (27 - (n + 1)) (drop (n + 1 - 1) texts)))
+step-some codes n texts text test low high is by no =
+    step-text codes n texts (omega arith) (omega arith) (sym (ap is_empty is) ∙ sym (empty-test text) ∙ sym by ∙ no)
+    ∙ ap (λ t. qualifier_in t >>= λ code. qualifiers_onto (with_code codes code) (take (26 - n) (drop n texts))) (sym is)
+    ∙ bind-same (qualifier_in text) (λ code. left-next (with_code codes code) n texts)
+
+all-cond : (b : Bool) (codes : List Code) (code : Code) → list_all is_qualifier codes ≡ true → is_qualifier code ≡ true → list_all is_qualifier (cond b codes (codes ++ code ∷ [])) ≡ true
+all-cond true codes code all one = all
+all-cond false codes code all one =
+    list_all-append is_qualifier codes (code ∷ []) ∙ ap (λ b. b && (is_qualifier code && true)) all ∙ ap (λ b. b && true) one
+
+pub qualifiers-with_code : (codes : List Code) (code : Code) → list_all is_qualifier codes ≡ true → is_qualifier code ≡ true → list_all is_qualifier (with_code codes code) ≡ true
+qualifiers-with_code codes code all one = all-cond (has_code code codes) codes code all one

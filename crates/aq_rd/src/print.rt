@@ -16,10 +16,17 @@ use std::alloc::Global;
 /// Writes the canonical line of a sample or of its deletion.
 pub fn print_rd(alloc: Global, line: &RdLine) -> Result<Vec<u8>, Memory>
     ensures canonical { IfOk result (λ text. text.items ≡ canonical_rd (value_of line.now)) }
-    // read again it is the same
-    ensures back { IsSpelled line.now → line_value (canonical_rd (value_of line.now)) ≡ Some (OfRd (value_of line.now)) }
+    // what a line can spell is read again as it was
+    ensures back { IfOk result (λ text. IsSpelled line.now → line_value text.items ≡ Some (OfRd (value_of line.now))) }
 {
     let mut out = Vec::new(alloc);
+    write_line(&mut out, line)?;
+    Ok(out)
+}
+
+fn write_line(out: &mut Vec<u8>, line: &RdLine) -> Result<(), Memory>
+    ensures { OnOk result (out.new.items ≡ out.old.items ++ canonical_rd (value_of line.now)) }
+{
     match line {
         RdLine::Put {
             update,
@@ -30,22 +37,23 @@ pub fn print_rd(alloc: Global, line: &RdLine) -> Result<Vec<u8>, Memory>
             content,
         } => {
             out.extend_from_slice(if *update { b"RD|U" } else { b"RD|I" })?;
-            write_monitor(&mut out, monitor)?;
-            write_field(&mut out, duration_name(*duration))?;
-            write_field(&mut out, unit_name(monitor.pollutant))?;
-            write_field(&mut out, &three_digits(*method))?;
-            write_start(&mut out, *hour)?;
-            write_value(&mut out, monitor.pollutant, content.value)?;
-            write_codes(&mut out, content)?;
+            write_monitor(out, monitor)?;
+            write_field(out, duration_name(*duration))?;
+            write_field(out, unit_name(monitor.pollutant))?;
+            write_field(out, &three_digits(*method))?;
+            write_start(out, *hour)?;
+            write_value(out, monitor.pollutant, content.value)?;
+            write_codes(out, content)?;
+            Ok(())
         }
         RdLine::Delete { monitor, hour } => {
             out.extend_from_slice(b"RD|D")?;
-            write_monitor(&mut out, monitor)?;
+            write_monitor(out, monitor)?;
             out.extend_from_slice(b"|||")?;
-            write_start(&mut out, *hour)?;
+            write_start(out, *hour)?;
+            Ok(())
         }
     }
-    Ok(out)
 }
 
 /// Appends a field behind a bar.

@@ -1,10 +1,12 @@
 //! Reading RD lines.
-ghost use Rattle.std.specs.Prelude.{◌≡◌, ◌≤◌, false, IfOk, IfErr, OnOk, OnErr, Some, None};
+ghost use Rattle.std.specs.Prelude.{◌≡◌, ◌≤◌, true, false, IfOk, IfErr, OnOk, OnErr, Some, None};
+ghost use Rattle.std.specs.List.{list_all};
+ghost use Rattle.aq_base.specs.declared.monitor.Pollutant.{Pollutant};
 ghost use Rattle.aq_profile.specs.Reading.{reading_rule, line_value, has_wrong_count, is_deletion, OfRd};
 ghost use Rattle.aq_profile.specs.Spellings.{Rd};
 ghost use Rattle.aq_rd.specs.Ranges.{HasLineRange};
-ghost use Rattle.aq_rd.specs.RdReading.{monitor_reading, start_reading, content_reading, valued_reading, null_reading, put_reading, delete_reading, form_reading, value_of};
-ghost use Rattle.aq_rd.specs.Spelled.{IsSpelled};
+ghost use Rattle.aq_rd.specs.RdReading.{monitor_reading, start_reading, content_reading, valued_reading, null_reading, put_reading, delete_reading, form_reading, rd_reading, value_of};
+ghost use Rattle.aq_rd.specs.Spelled.{IsSpelled, HasPoc, IsReported, is_qualifier};
 ghost use Rattle.aq_rd.specs.Tags.{has_office_tag};
 
 use crate::fields::FieldList;
@@ -26,6 +28,15 @@ pub fn read_rd(line: &[u8]) -> Result<RdLine, Rule>
     ensures range { IfOk result HasLineRange }
     ensures spelled { IfOk result IsSpelled }
 {
+    read_line(line)
+}
+
+// In the order of the rules.
+#[tactic(auto, unfolding(crate::specs::RdReading::rd_reading))]
+fn read_line(line: &[u8]) -> Result<RdLine, Rule>
+    ensures value { result ≡ rd_reading line.now }
+    ensures spelled { IfOk result IsSpelled }
+{
     if !is_plain(line) {
         return Err(Rule::BadBytes);
     }
@@ -38,7 +49,8 @@ pub fn read_rd(line: &[u8]) -> Result<RdLine, Rule>
 
 #[tactic(auto, unfolding(crate::specs::RdReading::form_reading))]
 fn read_form(texts: &FieldList<'_>) -> Result<RdLine, Rule>
-    ensures { result ≡ form_reading texts.now }
+    ensures spelled { IfOk result IsSpelled }
+    ensures value { result ≡ form_reading texts.now }
 {
     if has_wrong_count(texts) {
         return Err(Rule::FieldCount);
@@ -65,7 +77,8 @@ fn has_wrong_count(texts: &FieldList<'_>) -> bool
 
 #[tactic(auto, unfolding(crate::specs::RdReading::put_reading))]
 fn read_put(update: bool, texts: &FieldList<'_>) -> Result<RdLine, Rule>
-    ensures { result ≡ put_reading update texts.now }
+    ensures spelled { IfOk result IsSpelled }
+    ensures value { result ≡ put_reading update texts.now }
 {
     let monitor = read_monitor(texts)?;
     let pollutant = monitor.pollutant;
@@ -87,7 +100,8 @@ fn read_put(update: bool, texts: &FieldList<'_>) -> Result<RdLine, Rule>
 // Of a deletion, only the monitor and the start are read.
 #[tactic(auto, unfolding(crate::specs::RdReading::delete_reading))]
 fn read_delete(texts: &FieldList<'_>) -> Result<RdLine, Rule>
-    ensures { result ≡ delete_reading texts.now }
+    ensures spelled { IfOk result IsSpelled }
+    ensures value { result ≡ delete_reading texts.now }
 {
     let monitor = read_monitor(texts)?;
     let hour = read_start(texts)?;
@@ -96,7 +110,8 @@ fn read_delete(texts: &FieldList<'_>) -> Result<RdLine, Rule>
 
 #[tactic(auto, unfolding(crate::specs::RdReading::monitor_reading))]
 fn read_monitor(texts: &FieldList<'_>) -> Result<MonitorId, Rule>
-    ensures { result ≡ monitor_reading texts.now }
+    ensures poc { IfOk result HasPoc }
+    ensures value { result ≡ monitor_reading texts.now }
 {
     let site = site(texts.field(3), texts.field(4), texts.field(5)).ok_or(Rule::BadSite)?;
     let pollutant = parameter(texts.field(6)).ok_or(Rule::ParameterOutOfProfile)?;
@@ -124,7 +139,9 @@ fn read_content(
     texts: &FieldList<'_>,
 ) -> Result<Observation, Rule>
     requires { places ≤ 6 }
-    ensures { result ≡ content_reading pollutant places texts.now }
+    ensures reported { IfOk result (λ content. IsReported pollutant content.value content.null) }
+    ensures quals { IfOk result (λ content. list_all is_qualifier content.quals ≡ true) }
+    ensures value { result ≡ content_reading pollutant places texts.now }
 {
     let has_value = !texts.field(13).is_empty();
     let has_null = !texts.field(14).is_empty();
@@ -139,7 +156,9 @@ fn read_content(
 #[tactic(auto, unfolding(crate::specs::RdReading::valued_reading))]
 fn read_valued(pollutant: Pollutant, places: u8, texts: &FieldList<'_>) -> Result<Observation, Rule>
     requires { places ≤ 6 }
-    ensures { result ≡ valued_reading pollutant places texts.now }
+    ensures reported { IfOk result (λ content. IsReported pollutant content.value content.null) }
+    ensures quals { IfOk result (λ content. list_all is_qualifier content.quals ≡ true) }
+    ensures value { result ≡ valued_reading pollutant places texts.now }
 {
     let value = value(pollutant, places, texts.field(13))?;
     let quals = qualifiers(texts).ok_or(Rule::BadQualifier)?;
@@ -152,7 +171,9 @@ fn read_valued(pollutant: Pollutant, places: u8, texts: &FieldList<'_>) -> Resul
 
 #[tactic(auto, unfolding(crate::specs::RdReading::null_reading))]
 fn read_null(texts: &FieldList<'_>) -> Result<Observation, Rule>
-    ensures { result ≡ null_reading texts.now }
+    ensures reported { (pollutant : Pollutant) → IfOk result (λ content. IsReported pollutant content.value content.null) }
+    ensures quals { IfOk result (λ content. list_all is_qualifier content.quals ≡ true) }
+    ensures value { result ≡ null_reading texts.now }
 {
     let null = null_code(texts.field(14)).ok_or(Rule::BadNull)?;
     let quals = qualifiers(texts).ok_or(Rule::BadQualifier)?;

@@ -1,9 +1,11 @@
 //! The spelling of each field of an RD line.
-ghost use Rattle.std.specs.Prelude.{◌≡◌, ℕ, ◌≤◌, ◌<◌, ◌^◌, length, IfSome, IfOk, Some, ◌≤ℤ◌};
+ghost use Rattle.std.specs.Prelude.{◌≡◌, true, ℕ, ◌≤◌, ◌<◌, ◌^◌, length, IfSome, IfOk, Some, ◌≤ℤ◌};
+ghost use Rattle.std.specs.List.{list_all};
 ghost use Rattle.aq_base.specs.Values.{least_value, greatest_value};
-ghost use Rattle.aq_profile.specs.Spellings.{site_in, parameter_in, poc_in, duration_in, unit_in, method_in, date_in, time_in, null_in, qualifier_in, qualifiers_in, digits_in, is_code_byte};
+ghost use Rattle.aq_profile.specs.Spellings.{has_duration, site_in, parameter_in, poc_in, duration_in, unit_in, method_in, date_in, time_in, null_in, qualifier_in, qualifiers_in, digits_in, is_code_byte};
 ghost use Rattle.aq_profile.specs.RdForm.{qualifier_fields};
 ghost use Rattle.aq_rd.specs.RdReading.{value_reading};
+ghost use Rattle.aq_rd.specs.Spelled.{is_null_code, is_qualifier};
 
 use crate::digits::number;
 use crate::fields::FieldList;
@@ -69,7 +71,8 @@ pub(crate) fn poc(text: &[u8]) -> Option<u8>
 
 /// A sample duration: `1` for an hour, and `7` for 24 hours, which ozone does not have.
 pub(crate) fn duration(pollutant: Pollutant, text: &[u8]) -> Option<Duration>
-    ensures { result ≡ duration_in pollutant text.now }
+    ensures value { result ≡ duration_in pollutant text.now }
+    ensures fits { IfSome result (λ duration. has_duration pollutant duration ≡ true) }
 {
     match text {
         b"1" => Some(Duration::Hour),
@@ -156,7 +159,8 @@ fn greatest(pollutant: Pollutant) -> i32
 
 /// A null data code, of two characters.
 pub(crate) fn null_code(text: &[u8]) -> Option<Code>
-    ensures { result ≡ null_in text.now }
+    ensures value { result ≡ null_in text.now }
+    ensures characters { IfSome result (λ code. is_null_code code ≡ true) }
 {
     match text {
         &[first, second] if is_code_byte(first) && is_code_byte(second) => {
@@ -168,7 +172,8 @@ pub(crate) fn null_code(text: &[u8]) -> Option<Code>
 
 /// A qualifier code, of one character or two.
 fn qualifier(text: &[u8]) -> Option<Code>
-    ensures { result ≡ qualifier_in text.now }
+    ensures value { result ≡ qualifier_in text.now }
+    ensures characters { IfSome result (λ code. is_qualifier code ≡ true) }
 {
     match text {
         &[first] if is_code_byte(first) => Some(Code { first, second: 0 }),
@@ -185,7 +190,8 @@ fn is_code_byte(byte: u8) -> bool
 /// The codes of the qualifier fields. An empty field is passed over, and a code that came before is
 /// dropped.
 pub(crate) fn qualifiers(texts: &FieldList<'_>) -> Option<Quals>
-    ensures { result ≡ qualifiers_in (qualifier_fields texts.now) }
+    ensures value { result ≡ qualifiers_in (qualifier_fields texts.now) }
+    ensures characters { IfSome result (λ codes. list_all is_qualifier codes ≡ true) }
 {
     let mut quals = Quals::new();
     for number in 17..27 {
