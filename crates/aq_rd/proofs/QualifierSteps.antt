@@ -1,6 +1,7 @@
 -- Qualifier fields, one after another.
 use Rattle.std.proofs.Common.{◌≡◌, ℕ, zero, suc, ◌+◌, ◌-◌, ◌<◌, ◌≤◌, Bool, true, false, cond, ◌&&◌, ◌==◌, List, [], ◌∷◌, ◌++◌, Some, None, Option, length, take, drop, get_or, refl, sym, ap, ◌∙◌, arith, inl, inr, add-one}
 use Rattle.std.proofs.lemmas.Bool.{false≢true, cases_lt}
+use Rattle.std.proofs.lemmas.Bool.Decides.{nat_tests}
 use Rattle.std.proofs.lemmas.List.{drop_all, get_or_past, length-append}
 use Rattle.std.proofs.Math.Seq.{drop-cons}
 use Rattle.std.specs.List.{list_all}
@@ -62,9 +63,12 @@ with-cond false codes code = omega (arith, length-append codes (code ∷ []))
 pub length-with_code : (codes : List Code) (code : Code) → length (with_code codes code) ≤ length codes + 1
 length-with_code codes code = with-cond (has_code code codes) codes code
 
+some-test : (n : ℕ) → (suc n == 0) ≡ false
+some-test n = grind (arith, nat_tests)
+
 empty-test : (text : List ℕ) → (length text == 0) ≡ is_empty text
 empty-test [] = refl
-empty-test (byte ∷ text) = refl
+empty-test (byte ∷ text) = some-test (length text)
 
 abbrev Left : List Code → ℕ → List (List ℕ) → Option (List Code)
 Left codes n texts = qualifiers_onto codes (take (27 - n) (drop (n - 1) texts))
@@ -82,13 +86,13 @@ bind-same (Some x) same = same x
 -- one field more, by whether it is empty
 pub step-none : (codes : List Code) (n : ℕ) (texts : List (List ℕ)) (text : List ℕ) (test : Bool) → 17 ≤ n → n < 27 → text ≡ field n texts → test ≡ (length text == 0) → test ≡ true
     → qualifiers_onto codes (take (27 - n) (drop (n - 1) texts)) ≡ qualifiers_onto codes (take (27 - (n + 1)) (drop (n + 1 - 1) texts))
-step-none codes n texts text test low high is by yes =
-    step-empty codes n texts (omega arith) (omega arith) (sym (ap is_empty is) ∙ sym (empty-test text) ∙ sym by ∙ yes) ∙ left-next codes n texts
+step-none codes n texts text test low high is by truth =
+    step-empty codes n texts (omega arith) (omega arith) (sym (ap is_empty is) ∙ sym (empty-test text) ∙ sym by ∙ truth) ∙ left-next codes n texts
 
 pub step-some : (codes : List Code) (n : ℕ) (texts : List (List ℕ)) (text : List ℕ) (test : Bool) → 17 ≤ n → n < 27 → text ≡ field n texts → test ≡ (length text == 0) → test ≡ false
     → qualifiers_onto codes (take (27 - n) (drop (n - 1) texts)) ≡ (qualifier_in text >>= λ code. qualifiers_onto (with_code codes code) (take (27 - (n + 1)) (drop (n + 1 - 1) texts)))
-step-some codes n texts text test low high is by no =
-    step-text codes n texts (omega arith) (omega arith) (sym (ap is_empty is) ∙ sym (empty-test text) ∙ sym by ∙ no)
+step-some codes n texts text test low high is by truth =
+    step-text codes n texts (omega arith) (omega arith) (sym (ap is_empty is) ∙ sym (empty-test text) ∙ sym by ∙ truth)
     ∙ ap (λ t. qualifier_in t >>= λ code. qualifiers_onto (with_code codes code) (take (26 - n) (drop n texts))) (sym is)
     ∙ bind-same (qualifier_in text) (λ code. left-next (with_code codes code) n texts)
 

@@ -1,5 +1,5 @@
 //! Writing RD lines.
-ghost use Rattle.std.specs.Prelude.{◌≡◌, ◌+◌, ◌%◌, ◌++◌, ◌∷◌, map, IfOk, OnOk, Some};
+ghost use Rattle.std.specs.Prelude.{◌≡◌, ◌+◌, ◌%◌, ◌++◌, ◌∷◌, map, if◌then◌else◌, codes, IfOk, OnOk, Some};
 ghost use Rattle.aq_base.specs.Decimal.{last_digits};
 ghost use Rattle.aq_profile.specs.Reading.{line_value, OfRd};
 ghost use Rattle.aq_profile.specs.Canonical.{canonical_rd, monitor_texts, start_texts, date_text, code_text, value_text, texts_behind, parameter_text, duration_text, unit_text, value_places};
@@ -36,7 +36,8 @@ fn write_line(out: &mut Vec<u8>, line: &RdLine) -> Result<(), Memory>
             hour,
             content,
         } => {
-            out.extend_from_slice(if *update { b"RD|U" } else { b"RD|I" })?;
+            out.extend_from_slice(b"RD")?;
+            write_field(out, action_name(*update))?;
             write_monitor(out, monitor)?;
             write_field(out, duration_name(*duration))?;
             write_field(out, unit_name(monitor.pollutant))?;
@@ -47,7 +48,8 @@ fn write_line(out: &mut Vec<u8>, line: &RdLine) -> Result<(), Memory>
             Ok(())
         }
         RdLine::Delete { monitor, hour } => {
-            out.extend_from_slice(b"RD|D")?;
+            out.extend_from_slice(b"RD")?;
+            write_field(out, b"D")?;
             write_monitor(out, monitor)?;
             out.extend_from_slice(b"|||")?;
             write_start(out, *hour)?;
@@ -144,6 +146,12 @@ fn write_code(out: &mut Vec<u8>, code: &Code) -> Result<(), Memory>
         out.push(code.second)?;
     }
     Ok(())
+}
+
+fn action_name(update: bool) -> &'static [u8]
+    ensures { result.now ≡ (if update then codes "U" else codes "I") }
+{
+    if update { b"U" } else { b"I" }
 }
 
 fn parameter_name(pollutant: Pollutant) -> &'static [u8]
