@@ -34,24 +34,29 @@ behind-quals (Some null) code quals = refl
 pub bar-step : (start before pushed after bars text more : List ℕ) → before ≡ start ++ bars → pushed ≡ before ++ 124 ∷ [] → after ≡ pushed ++ text → more ≡ bars ++ 124 ∷ text → after ≡ start ++ more
 bar-step start before pushed after bars text more e f g h = rw (g, f, e, h) (simp append_assoc)
 
+regrouped : (o t a m d u k s v b : List ℕ) → ((((((((o ++ t) ++ a) ++ m) ++ d) ++ u) ++ k) ++ s) ++ v) ++ b ≡ o ++ (t ++ (a ++ ((m ++ (d ++ (u ++ (k ++ s)))) ++ (v ++ b))))
+regrouped o t a m d u k s v b = simp append_assoc
+
 pub put-written : (o0 o1 o2 o3 o4 o5 o6 o7 o8 o9 tag action duration unit method value : List ℕ) (monitor start behind : List (List ℕ))
     → o1 ≡ o0 ++ tag → o2 ≡ o1 ++ 124 ∷ action → o3 ≡ o2 ++ behind_bars monitor → o4 ≡ o3 ++ 124 ∷ duration → o5 ≡ o4 ++ 124 ∷ unit → o6 ≡ o5 ++ 124 ∷ method
     → o7 ≡ o6 ++ behind_bars start → o8 ≡ o7 ++ 124 ∷ value → o9 ≡ o8 ++ behind_bars behind
     → o9 ≡ o0 ++ joined (tag ∷ action ∷ monitor ++ duration ∷ unit ∷ method ∷ start ++ value ∷ behind)
 put-written o0 o1 o2 o3 o4 o5 o6 o7 o8 o9 tag action duration unit method value monitor start behind e1 e2 e3 e4 e5 e6 e7 e8 e9 =
-    let flat : o9 ≡ o0 ++ (tag ++ 124 ∷ action ++ behind_bars monitor ++ 124 ∷ duration ++ 124 ∷ unit ++ 124 ∷ method ++ behind_bars start ++ 124 ∷ value ++ behind_bars behind) =
-    rw (e9, e8, e7, e6, e5, e4, e3, e2, e1) (simp append_assoc)
+    let line : joined (tag ∷ action ∷ ((monitor ++ (duration ∷ unit ∷ method ∷ start)) ++ (value ∷ behind))) ≡ tag ++ (124 ∷ (action ++ ((behind_bars monitor ++ behind_bars (duration ∷ unit ∷ method ∷ start)) ++ behind_bars (value ∷ behind)))) =
+    joined-cons tag (action ∷ ((monitor ++ (duration ∷ unit ∷ method ∷ start)) ++ (value ∷ behind)))
+    ∙ ap (λ r. tag ++ (124 ∷ (action ++ r)))
+      (behind_bars-append (monitor ++ (duration ∷ unit ∷ method ∷ start)) (value ∷ behind)
+      ∙ ap (λ r. r ++ behind_bars (value ∷ behind)) (behind_bars-append monitor (duration ∷ unit ∷ method ∷ start)))
     in
-    let inner : behind_bars (monitor ++ duration ∷ unit ∷ method ∷ start ++ value ∷ behind) ≡ behind_bars monitor ++ 124 ∷ duration ++ 124 ∷ unit ++ 124 ∷ method ++ behind_bars start ++ 124 ∷ value ++ behind_bars behind =
-    behind_bars-append monitor (duration ∷ unit ∷ method ∷ start ++ value ∷ behind)
-    ∙ ap (λ r. behind_bars monitor ++ 124 ∷ duration ++ 124 ∷ unit ++ 124 ∷ method ++ r) (behind_bars-append start (value ∷ behind))
-    in
-    flat ∙ sym (ap (λ r. o0 ++ r) (joined-cons tag (action ∷ monitor ++ duration ∷ unit ∷ method ∷ start ++ value ∷ behind) ∙ ap (λ r. tag ++ 124 ∷ action ++ r) inner))
+    rw (e9, e8, e7, e6, e5, e4, e3, e2, e1, line)
+      (regrouped o0 tag (124 ∷ action) (behind_bars monitor) (124 ∷ duration) (124 ∷ unit) (124 ∷ method) (behind_bars start) (124 ∷ value) (behind_bars behind))
 
 pub delete-written : (o0 o1 o2 o3 o4 o5 tag action : List ℕ) (monitor start : List (List ℕ))
     → o1 ≡ o0 ++ tag → o2 ≡ o1 ++ 124 ∷ action → o3 ≡ o2 ++ behind_bars monitor → o4 ≡ o3 ++ 124 ∷ 124 ∷ 124 ∷ [] → o5 ≡ o4 ++ behind_bars start
     → o5 ≡ o0 ++ joined (tag ∷ action ∷ monitor ++ [] ∷ [] ∷ [] ∷ start)
 delete-written o0 o1 o2 o3 o4 o5 tag action monitor start e1 e2 e3 e4 e5 =
-    let flat : o5 ≡ o0 ++ (tag ++ 124 ∷ action ++ behind_bars monitor ++ 124 ∷ 124 ∷ 124 ∷ behind_bars start) = rw (e5, e4, e3, e2, e1) (simp append_assoc) in
-    flat
-    ∙ sym (ap (λ r. o0 ++ r) (joined-cons tag (action ∷ monitor ++ [] ∷ [] ∷ [] ∷ start) ∙ ap (λ r. tag ++ 124 ∷ action ++ r) (behind_bars-append monitor ([] ∷ [] ∷ [] ∷ start))))
+    let line : joined (tag ∷ action ∷ (monitor ++ ([] ∷ [] ∷ [] ∷ start))) ≡ tag ++ (124 ∷ (action ++ (behind_bars monitor ++ behind_bars ([] ∷ [] ∷ [] ∷ start)))) =
+    joined-cons tag (action ∷ (monitor ++ ([] ∷ [] ∷ [] ∷ start)))
+    ∙ ap (λ r. tag ++ (124 ∷ (action ++ r))) (behind_bars-append monitor ([] ∷ [] ∷ [] ∷ start))
+    in
+    rw (e5, e4, e3, e2, e1, line) (simp append_assoc)

@@ -16,8 +16,6 @@ use std::alloc::Global;
 /// Writes the canonical line of a sample or of its deletion.
 pub fn print_rd(alloc: Global, line: &RdLine) -> Result<Vec<u8>, Memory>
     ensures canonical { IfOk result (λ text. text.items ≡ canonical_rd (value_of line.now)) }
-    // what a line can spell is read again as it was
-    ensures back { IfOk result (λ text. IsSpelled line.now → line_value text.items ≡ Some (OfRd (value_of line.now))) }
 {
     let mut out = Vec::new(alloc);
     write_line(&mut out, line)?;
