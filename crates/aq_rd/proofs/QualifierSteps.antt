@@ -16,7 +16,7 @@ onto-empty : (codes : List Code) (text : List ℕ) (texts : List (List ℕ)) →
 onto-empty codes [] texts e = refl
 onto-empty codes (byte ∷ text) texts e = absurd (false≢true e)
 
-onto-text : (codes : List Code) (text : List ℕ) (texts : List (List ℕ)) → is_empty text ≡ false → qualifiers_onto codes (text ∷ texts) ≡ (qualifier_in text >>= λ code. qualifiers_onto (with_code codes code) texts)
+pub onto-text : (codes : List Code) (text : List ℕ) (texts : List (List ℕ)) → is_empty text ≡ false → qualifiers_onto codes (text ∷ texts) ≡ (qualifier_in text >>= λ code. qualifiers_onto (with_code codes code) texts)
 onto-text codes [] texts e = absurd (false≢true (sym e))
 onto-text codes (byte ∷ text) texts e = refl
 
