@@ -128,10 +128,13 @@ units Pm10 m n h = ap (λ k. m * 10 / 10 ^ k) h ∙ omega arith
 
 -- ---- a value's text
 
+none_below : (m : ℕ) → nat_lt m 0 ≡ false
+none_below m = grind (arith, nat_tests)
+
 fixed-plus : (p : Pollutant) (m : ℕ) → fixed (pos m) (value_places p) ≡ decimal (m / 10 ^ value_places p) ++ (46 ∷ last_digits (value_places p) m)
-fixed-plus Ozone m = refl
-fixed-plus Pm25 m = refl
-fixed-plus Pm10 m = refl
+fixed-plus Ozone m = ap (λ b. (cond b (45 ∷ []) [] ++ decimal (m / 1000)) ++ (46 ∷ last_digits 3 m)) (none_below m)
+fixed-plus Pm25 m = ap (λ b. (cond b (45 ∷ []) [] ++ decimal (m / 10)) ++ (46 ∷ last_digits 1 m)) (none_below m)
+fixed-plus Pm10 m = ap (λ b. (cond b (45 ∷ []) [] ++ decimal (m / 10)) ++ (46 ∷ last_digits 1 m)) (none_below m)
 
 fixed-minus : (p : Pollutant) (m : ℕ) → fixed (negsuc m) (value_places p) ≡ 45 ∷ (decimal (suc m / 10 ^ value_places p) ++ (46 ∷ last_digits (value_places p) (suc m)))
 fixed-minus Ozone m = refl
@@ -147,8 +150,8 @@ shape-plus : (p : Pollutant) (m : ℕ) → m < 2 ^ 64 → Shape (fixed (pos m) (
 shape-plus p m h =
     let digits = digits-decimal (m / 10 ^ value_places p) (small p m h) in
     record {
-      body = ap unsigned_part (fixed-plus p m) ∙ no_sign _ (last_digits (value_places p) m) digits;
-      sign = ap is_minus (fixed-plus p m) ∙ no_minus _ (last_digits (value_places p) m) digits;
+      body = ap unsigned_part (fixed-plus p m) ∙ no_sign (decimal (m / 10 ^ value_places p)) (last_digits (value_places p) m) digits;
+      sign = ap is_minus (fixed-plus p m) ∙ no_minus (decimal (m / 10 ^ value_places p)) (last_digits (value_places p) m) digits;
       wholes = digits;
       fractions = digits-last_digits (value_places p) m;
       some = nonempty-decimal (m / 10 ^ value_places p) (small p m h);
@@ -215,10 +218,10 @@ clean-body whole fraction w f =
 pub clean-value : (p : Pollutant) (v : ℤ) → least_value ≤ℤ v → v ≤ℤ greatest_value p → are_clean (fixed v (value_places p)) ≡ true
 clean-value p (pos m) low high =
     let s = shape-plus p m (most p (pos m) low high) in
-    ap are_clean (fixed-plus p m) ∙ clean-body _ _ s.wholes s.fractions
+    ap are_clean (fixed-plus p m) ∙ clean-body (decimal (m / 10 ^ value_places p)) (last_digits (value_places p) m) s.wholes s.fractions
 clean-value p (negsuc m) low high =
     let s = shape-minus p m (most p (negsuc m) low high) in
-    ap are_clean (fixed-minus p m) ∙ clean-body _ _ s.wholes s.fractions
+    ap are_clean (fixed-minus p m) ∙ clean-body (decimal (suc m / 10 ^ value_places p)) (last_digits (value_places p) (suc m)) s.wholes s.fractions
 
 is_empty-append : (whole rest : List ℕ) → length (whole ++ (46 ∷ rest)) ≡ suc (length whole + length rest)
 is_empty-append whole rest = omega (arith, length-append whole (46 ∷ rest))

@@ -1,6 +1,10 @@
 -- The samples that a line can spell.
-use Rattle.std.specs.Prelude.{◌≡◌, ℕ, ◌≤◌, ◌≤ℤ◌, ℤ, Bool, true, ◌&&◌, ◌||◌, ◌==◌, Option, Some, None, List}
+use Rattle.std.specs.Prelude.{◌≡◌, ℕ, ◌≤◌, ◌≤ℤ◌, ℤ, Bool, true, ◌&&◌, ◌||◌, ◌==◌, Option, Some, None, List, length}
 use Rattle.std.specs.List.{list_all}
+use Rattle.aq_base.specs.Quals.{all_distinct}
+use Rattle.aq_base.specs.Site.{IsSite}
+use Rattle.aq_base.specs.declared.day.TheConstants.{LAST_HOUR}
+use Rattle.aq_base.specs.declared.quals.TheConstants.{MOST_QUALIFIERS}
 use Rattle.aq_base.specs.Values.{least_value, greatest_value}
 use Rattle.aq_base.specs.declared.code.Code.{Code}
 use Rattle.aq_base.specs.declared.monitor.Pollutant.{Pollutant}
@@ -38,3 +42,9 @@ pub record IsSpelledSample (monitor : MonitorId) (duration : Duration) (method :
 abbrev pub IsSpelled : RdLine → Type 0
 IsSpelled (Put update monitor duration method hour content) = IsSpelledSample monitor duration method content
 IsSpelled (Delete monitor hour) = HasPoc monitor
+
+-- what the types of a sample's parts give
+abbrev pub HasTypeRanges : RdLine → Type 0
+HasTypeRanges (Put update monitor duration method hour content) =
+    IsSite monitor.site × (hour ≤ LAST_HOUR) × (length content.quals ≤ MOST_QUALIFIERS) × (all_distinct content.quals ≡ true)
+HasTypeRanges (Delete monitor hour) = IsSite monitor.site × (hour ≤ LAST_HOUR)

@@ -1,10 +1,14 @@
 //! Writing RD lines.
-ghost use Rattle.std.specs.Prelude.{◌≡◌, ◌+◌, ◌%◌, ◌++◌, ◌∷◌, map, if◌then◌else◌, codes, IfOk, OnOk, Some};
+ghost use Rattle.std.specs.Prelude.{◌≡◌, ◌≤◌, true, length, ◌+◌, ◌%◌, ◌++◌, ◌∷◌, map, if◌then◌else◌, codes, IfOk, OnOk, Some};
 ghost use Rattle.aq_base.specs.Decimal.{last_digits};
+ghost use Rattle.aq_base.specs.Quals.{all_distinct};
+ghost use Rattle.aq_base.specs.Site.{IsSite};
+ghost use Rattle.aq_base.specs.declared.day.TheConstants.{LAST_HOUR};
+ghost use Rattle.aq_base.specs.declared.quals.TheConstants.{MOST_QUALIFIERS};
 ghost use Rattle.aq_profile.specs.Reading.{line_value, OfRd};
 ghost use Rattle.aq_profile.specs.Canonical.{canonical_rd, monitor_texts, start_texts, date_text, code_text, value_text, texts_behind, parameter_text, duration_text, unit_text, value_places};
 ghost use Rattle.aq_rd.specs.Printing.{behind_bars, null_text};
-ghost use Rattle.aq_rd.specs.Spelled.{IsSpelled};
+ghost use Rattle.aq_rd.specs.Spelled.{IsSpelled, HasTypeRanges};
 ghost use Rattle.aq_rd.specs.RdReading.{value_of};
 
 use crate::line::RdLine;
@@ -16,6 +20,8 @@ use std::alloc::Global;
 /// Writes the canonical line of a sample or of its deletion.
 pub fn print_rd(alloc: Global, line: &RdLine) -> Result<Vec<u8>, Memory>
     ensures canonical { IfOk result (λ text. text.items ≡ canonical_rd (value_of line.now)) }
+    // what a line can spell is read again as it was
+    ensures back { IfOk result (λ text. IsSpelled line.now → line_value text.items ≡ Some (OfRd (value_of line.now))) }
 {
     let mut out = Vec::new(alloc);
     write_line(&mut out, line)?;
@@ -23,7 +29,8 @@ pub fn print_rd(alloc: Global, line: &RdLine) -> Result<Vec<u8>, Memory>
 }
 
 fn write_line(out: &mut Vec<u8>, line: &RdLine) -> Result<(), Memory>
-    ensures { OnOk result (out.new.items ≡ out.old.items ++ canonical_rd (value_of line.now)) }
+    ensures text { OnOk result (out.new.items ≡ out.old.items ++ canonical_rd (value_of line.now)) }
+    ensures ranges { OnOk result (HasTypeRanges line.now) }
 {
     match line {
         RdLine::Put {
@@ -66,7 +73,8 @@ fn write_field(out: &mut Vec<u8>, text: &[u8]) -> Result<(), Memory>
 }
 
 fn write_monitor(out: &mut Vec<u8>, monitor: &MonitorId) -> Result<(), Memory>
-    ensures { OnOk result (out.new.items ≡ out.old.items ++ behind_bars (monitor_texts monitor.now)) }
+    ensures text { OnOk result (out.new.items ≡ out.old.items ++ behind_bars (monitor_texts monitor.now)) }
+    ensures range { OnOk result (IsSite monitor.now.site) }
 {
     let site = &monitor.site;
     write_field(out, &two_digits(u16::from(site.state())))?;
@@ -79,7 +87,8 @@ fn write_monitor(out: &mut Vec<u8>, monitor: &MonitorId) -> Result<(), Memory>
 }
 
 fn write_start(out: &mut Vec<u8>, hour: Hour) -> Result<(), Memory>
-    ensures { OnOk result (out.new.items ≡ out.old.items ++ behind_bars (start_texts hour)) }
+    ensures text { OnOk result (out.new.items ≡ out.old.items ++ behind_bars (start_texts hour)) }
+    ensures range { OnOk result (hour ≤ LAST_HOUR) }
 {
     let number = hour.number();
     let day = Day::new((number / 24) as u16);
@@ -101,7 +110,9 @@ fn write_value(out: &mut Vec<u8>, pollutant: Pollutant, value: Option<i32>) -> R
 
 // What follows the value, without empty fields at the end.
 fn write_codes(out: &mut Vec<u8>, content: &Observation) -> Result<(), Memory>
-    ensures { OnOk result (out.new.items ≡ out.old.items ++ behind_bars (texts_behind content.now.null content.now.quals)) }
+    ensures text { OnOk result (out.new.items ≡ out.old.items ++ behind_bars (texts_behind content.now.null content.now.quals)) }
+    ensures few { OnOk result (length content.now.quals ≤ MOST_QUALIFIERS) }
+    ensures distinct { OnOk result (all_distinct content.now.quals ≡ true) }
 {
     let quals = content.quals.codes();
     if quals.is_empty() && content.null.is_none() {
