@@ -1,7 +1,6 @@
 -- Codes as they are written, read again.
-use Rattle.std.proofs.Common.{◌≡◌, ℕ, zero, suc, ◌+◌, ◌-◌, ◌<◌, ◌≤◌, Bool, true, false, cond, not, ◌&&◌, ◌||◌, ◌==◌, List, [], ◌∷◌, ◌++◌, map, length, take, drop, Some, None, Option, refl, sym, ap, ◌∙◌, append_assoc, arith, subst, inl, inr}
-use Rattle.std.specs.Prelude.{if◌then◌else◌}
-use Rattle.std.specs.List.{list_all, list_any}
+use Rattle.std.proofs.Common.{◌≡◌, ℕ, Bool, true, false, cond, not, ◌&&◌, ◌||◌, ◌==◌, List, [], ◌∷◌, ◌++◌, map, Some, None, refl, sym, ap, ◌∙◌, append_assoc, arith}
+use Rattle.std.specs.List.{list_all}
 use Rattle.std.proofs.lemmas.Bool.{and_parts, false≢true}
 use Rattle.std.proofs.lemmas.Bool.Decides.{nat_tests}
 use Rattle.std.proofs.lemmas.List.{append-nil}
@@ -54,12 +53,14 @@ some-code code = some-cond (code.second == 0) code.first code.second
 by-second : (b : Bool) (code : Code) → (code.second == 0) ≡ b → is_code_byte code.first ≡ true → (b || is_code_byte code.second) ≡ true
     → (qualifier_in (cond b (code.first ∷ []) (code.first ∷ code.second ∷ [])) ≡ Some code) × (are_clean (cond b (code.first ∷ []) (code.first ∷ code.second ∷ [])) ≡ true)
 by-second true code test first second =
-    let none : code.second ≡ 0 = zero-test code.second test in
-    (ap (λ b. cond b (Some (record { first = code.first; second = 0 })) None) first ∙ ap (λ n. Some (record { first = code.first; second = n })) (sym none),
-     ap (λ c. c && true) (code-clean code.first first))
-by-second false code test first second =
-    (ap (λ b. cond (b && is_code_byte code.second) (Some code) None) first ∙ ap (λ b. cond b (Some code) None) second,
-     pair-clean code.first code.second first second)
+    let none : code.second ≡ 0 = zero-test code.second test in (
+      ap (λ b. cond b (Some (record { first = code.first; second = 0 })) None) first ∙ ap (λ n. Some (record { first = code.first; second = n })) (sym none),
+      ap (λ c. c && true) (code-clean code.first first),
+    )
+by-second false code test first second = (
+  ap (λ b. cond (b && is_code_byte code.second) (Some code) None) first ∙ ap (λ b. cond b (Some code) None) second,
+  pair-clean code.first code.second first second,
+)
 
 pub qualifier_in-text : (code : Code) → is_qualifier code ≡ true → qualifier_in (code_text code) ≡ Some code
 qualifier_in-text code h =

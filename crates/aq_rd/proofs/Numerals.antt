@@ -1,7 +1,6 @@
 -- Numbers as they are written, read again.
-use Rattle.std.proofs.Common.{◌≡◌, ℕ, zero, suc, ◌+◌, ◌-◌, ◌*◌, ◌/◌, ◌%◌, ◌^◌, ◌<◌, ◌≤◌, Bool, true, false, cond, ◌&&◌, ◌||◌, ◌==◌, List, [], ◌∷◌, ◌++◌, length, take, drop, Some, None, Option, refl, sym, ap, ◌∙◌, append_assoc, arith}
+use Rattle.std.proofs.Common.{◌≡◌, ℕ, zero, suc, ◌+◌, ◌/◌, ◌%◌, ◌^◌, ◌<◌, ◌≤◌, Bool, true, false, cond, ◌&&◌, ◌||◌, ◌==◌, List, [], ◌∷◌, ◌++◌, length, take, drop, Some, None, refl, sym, ap, ◌∙◌, append_assoc, arith}
 use Rattle.std.specs.Prelude.{nat_le, codes, decimal, bytes_eq, if◌then◌else◌}
-use Rattle.std.specs.List.{list_all}
 use Rattle.std.specs.Char.{is_ascii_digit, digit_value}
 use Rattle.std.specs.Str.Parse.{digits_value}
 use Rattle.std.proofs.lemmas.Bool.{and_parts}
@@ -16,7 +15,7 @@ use Rattle.aq_base.specs.Decimal.{last_digits, are_digits}
 use Rattle.aq_base.specs.Site.{Site, IsSite}
 use Rattle.aq_base.specs.declared.day.TheConstants.{FIRST_YEAR, LAST_YEAR, LAST_DAY}
 use Rattle.aq_cal.proofs.Within.{date_is, date_number}
-use Rattle.aq_profile.specs.Spellings.{◌>>=◌, digits_in, site_in, poc_in, method_in, date_in, time_in}
+use Rattle.aq_profile.specs.Spellings.{◌>>=◌, digits_in, site_in, poc_in, date_in, time_in}
 use Rattle.aq_profile.specs.Canonical.{date_text}
 use Rattle.aq_rd.proofs.DigitSteps.{digit_value-digit}
 use Rattle.aq_rd.proofs.CleanTexts.{is_clean, are_clean}
@@ -102,7 +101,7 @@ poc_in-decimal poc low high =
     let fits : poc < 2 ^ 64 = omega arith in
     let value = value-decimal poc fits in
     test-three (nat_le (length (decimal poc)) 2) (are_digits (decimal poc)) (nat_le 1 (digits_value 10 (decimal poc))) (digits_value 10 (decimal poc))
-      (le-test _ 2 (length-decimal-le 2 poc (omega arith) (omega arith) fits)) (digits-decimal poc fits) (le-test 1 _ (omega (arith, value)))
+    (le-test _ 2 (length-decimal-le 2 poc (omega arith) (omega arith) fits)) (digits-decimal poc fits) (le-test 1 _ (omega (arith, value)))
     ∙ ap Some value
 
 -- ---- dates and times
@@ -158,11 +157,11 @@ date_in-text day h =
 pub clean-date : (day : ℕ) → are_clean (date_text day) ≡ true
 clean-date day =
     clean-digits (date_text day)
-      (list_all-append is_ascii_digit (last_digits 4 (year_of day) ++ last_digits 2 (month_of day)) (last_digits 2 (day_of_month day))
-      ∙ ap (λ b. b && are_digits (last_digits 2 (day_of_month day)))
-        (list_all-append is_ascii_digit (last_digits 4 (year_of day)) (last_digits 2 (month_of day))
-        ∙ ap (λ b. b && are_digits (last_digits 2 (month_of day))) (digits-last_digits 4 (year_of day)) ∙ digits-last_digits 2 (month_of day))
-      ∙ digits-last_digits 2 (day_of_month day))
+    (list_all-append is_ascii_digit (last_digits 4 (year_of day) ++ last_digits 2 (month_of day)) (last_digits 2 (day_of_month day))
+    ∙ ap (λ b. b && are_digits (last_digits 2 (day_of_month day)))
+    (list_all-append is_ascii_digit (last_digits 4 (year_of day)) (last_digits 2 (month_of day))
+    ∙ ap (λ b. b && are_digits (last_digits 2 (month_of day))) (digits-last_digits 4 (year_of day)) ∙ digits-last_digits 2 (month_of day))
+    ∙ digits-last_digits 2 (day_of_month day))
 
 pub time_in-text : (hour : ℕ) → hour ≤ 23 → time_in (last_digits 2 hour ++ codes ":00") ≡ Some hour
 unfolding time_in

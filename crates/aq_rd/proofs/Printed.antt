@@ -1,6 +1,5 @@
 -- A line that is written field by field.
-use Rattle.std.proofs.Common.{◌≡◌, ℕ, ◌+◌, ◌<◌, List, [], ◌∷◌, ◌++◌, map, length, take, get_or, Some, None, Option, refl, sym, ap, ◌∙◌, append_assoc, arith}
-use Rattle.std.specs.List.{join_with_byte}
+use Rattle.std.proofs.Common.{◌≡◌, ℕ, ◌+◌, ◌<◌, List, [], ◌∷◌, ◌++◌, map, length, take, get_or, Some, None, Option, refl, sym, ap, ◌∙◌, append_assoc}
 use Rattle.std.proofs.lemmas.List.{take_more, map-append, append-nil}
 use Rattle.aq_base.specs.declared.code.Code.{Code}
 use Rattle.aq_profile.specs.Canonical.{code_text, texts_behind, joined}
@@ -45,11 +44,11 @@ put-written o0 o1 o2 o3 o4 o5 o6 o7 o8 o9 tag action duration unit method value 
     let line : joined (tag ∷ action ∷ ((monitor ++ (duration ∷ unit ∷ method ∷ start)) ++ (value ∷ behind))) ≡ tag ++ (124 ∷ (action ++ ((behind_bars monitor ++ behind_bars (duration ∷ unit ∷ method ∷ start)) ++ behind_bars (value ∷ behind)))) =
     joined-cons tag (action ∷ ((monitor ++ (duration ∷ unit ∷ method ∷ start)) ++ (value ∷ behind)))
     ∙ ap (λ r. tag ++ (124 ∷ (action ++ r)))
-      (behind_bars-append (monitor ++ (duration ∷ unit ∷ method ∷ start)) (value ∷ behind)
-      ∙ ap (λ r. r ++ behind_bars (value ∷ behind)) (behind_bars-append monitor (duration ∷ unit ∷ method ∷ start)))
+    (behind_bars-append (monitor ++ (duration ∷ unit ∷ method ∷ start)) (value ∷ behind)
+    ∙ ap (λ r. r ++ behind_bars (value ∷ behind)) (behind_bars-append monitor (duration ∷ unit ∷ method ∷ start)))
     in
     rw (e9, e8, e7, e6, e5, e4, e3, e2, e1, line)
-      (regrouped o0 tag (124 ∷ action) (behind_bars monitor) (124 ∷ duration) (124 ∷ unit) (124 ∷ method) (behind_bars start) (124 ∷ value) (behind_bars behind))
+    (regrouped o0 tag (124 ∷ action) (behind_bars monitor) (124 ∷ duration) (124 ∷ unit) (124 ∷ method) (behind_bars start) (124 ∷ value) (behind_bars behind))
 
 pub delete-written : (o0 o1 o2 o3 o4 o5 tag action : List ℕ) (monitor start : List (List ℕ))
     → o1 ≡ o0 ++ tag → o2 ≡ o1 ++ 124 ∷ action → o3 ≡ o2 ++ behind_bars monitor → o4 ≡ o3 ++ 124 ∷ 124 ∷ 124 ∷ [] → o5 ≡ o4 ++ behind_bars start

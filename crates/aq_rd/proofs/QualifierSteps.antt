@@ -1,5 +1,5 @@
 -- Qualifier fields, one after another.
-use Rattle.std.proofs.Common.{◌≡◌, ℕ, zero, suc, ◌+◌, ◌-◌, ◌<◌, ◌≤◌, Bool, true, false, cond, ◌&&◌, ◌==◌, List, [], ◌∷◌, ◌++◌, Some, None, Option, length, take, drop, get_or, refl, sym, ap, ◌∙◌, arith, inl, inr, add-one}
+use Rattle.std.proofs.Common.{◌≡◌, ℕ, zero, suc, ◌+◌, ◌-◌, ◌<◌, ◌≤◌, Bool, true, false, cond, ◌&&◌, ◌==◌, List, [], ◌∷◌, ◌++◌, Some, None, Option, length, take, drop, refl, sym, ap, ◌∙◌, arith, inl, inr}
 use Rattle.std.proofs.lemmas.Bool.{false≢true, cases_lt}
 use Rattle.std.proofs.lemmas.Bool.Decides.{nat_tests}
 use Rattle.std.proofs.lemmas.List.{drop_all, get_or_past, length-append}
@@ -10,7 +10,7 @@ use Rattle.aq_rd.specs.Spelled.{is_qualifier}
 use Rattle.aq_base.specs.declared.code.Code.{Code}
 use Rattle.aq_base.specs.Quals.{with_code, has_code}
 use Rattle.aq_profile.specs.Fields.{field, is_empty}
-use Rattle.aq_profile.specs.Spellings.{◌>>=◌, qualifier_in, qualifiers_in, qualifiers_onto}
+use Rattle.aq_profile.specs.Spellings.{◌>>=◌, qualifier_in, qualifiers_onto}
 
 onto-empty : (codes : List Code) (text : List ℕ) (texts : List (List ℕ)) → is_empty text ≡ true → qualifiers_onto codes (text ∷ texts) ≡ qualifiers_onto codes texts
 onto-empty codes [] texts e = refl

@@ -1,6 +1,6 @@
 -- A line that is written spells the value that it was written for.
-use Rattle.std.proofs.Common.{◌≡◌, ℕ, zero, suc, ◌+◌, ◌-◌, ◌*◌, ◌/◌, ◌%◌, ◌^◌, ◌<◌, ◌≤◌, Bool, true, false, cond, not, ◌&&◌, ◌||◌, ◌==◌, List, [], ◌∷◌, ◌++◌, map, length, take, drop, Some, None, Option, ℤ, refl, sym, ap, ◌∙◌, arith}
-use Rattle.std.specs.Prelude.{codes, decimal, nat_lt, bytes_eq}
+use Rattle.std.proofs.Common.{◌≡◌, ℕ, ◌+◌, ◌/◌, ◌%◌, ◌^◌, ◌<◌, ◌≤◌, Bool, true, false, cond, not, ◌&&◌, ◌||◌, List, [], ◌∷◌, map, length, take, drop, Some, None, Option, ℤ, refl, ap, ◌∙◌, arith}
+use Rattle.std.specs.Prelude.{codes, decimal, nat_lt}
 use Rattle.std.specs.List.{list_all, list_any}
 use Rattle.std.proofs.lemmas.Bool.{false≢true, and_parts}
 use Rattle.std.proofs.lemmas.Bool.Decides.{nat_tests}
@@ -8,7 +8,7 @@ use Rattle.std.proofs.lemmas.List.{drop_all, take_all, length-map}
 use Rattle.aq_base.specs.Calendar.{hour_number, day_of_hour, hour_of_day}
 use Rattle.aq_base.specs.Decimal.{last_digits, fixed}
 use Rattle.aq_base.specs.Quals.{all_distinct}
-use Rattle.aq_base.specs.Site.{Site, IsSite}
+use Rattle.aq_base.specs.Site.{IsSite}
 use Rattle.aq_base.specs.declared.code.Code.{Code}
 use Rattle.aq_base.specs.declared.day.TheConstants.{LAST_DAY, LAST_HOUR}
 use Rattle.aq_base.specs.declared.monitor.Pollutant.{Pollutant}
@@ -18,16 +18,16 @@ use Rattle.aq_base.specs.declared.monitor.Duration.TheVariants.{Hour, Day}
 use Rattle.aq_base.specs.declared.monitor.MonitorId.{MonitorId}
 use Rattle.aq_base.specs.declared.observation.Observation.{Observation}
 use Rattle.aq_profile.specs.Fields.{is_empty, field, fields}
-use Rattle.aq_profile.specs.Spellings.{◌>>=◌, Tag, Rd, tag_in, has_duration, site_in, parameter_in, poc_in, duration_in, unit_in, method_in, date_in, time_in, value_in, null_in, qualifiers_in}
-use Rattle.aq_profile.specs.RdForm.{RdValue, Put, Delete, monitor_in, start_in, content_in, put_in, delete_in, qualifier_fields}
-use Rattle.aq_profile.specs.Reading.{OfRd, LineValue, line_value, form_value, has_wrong_count, is_plain, tag_of, value_for}
+use Rattle.aq_profile.specs.Spellings.{◌>>=◌, Rd, tag_in, has_duration, site_in, parameter_in, poc_in, duration_in, unit_in, method_in, date_in, time_in, value_in, null_in, qualifiers_in}
+use Rattle.aq_profile.specs.RdForm.{RdValue, Put, Delete, monitor_in, start_in, content_in, put_in, delete_in}
+use Rattle.aq_profile.specs.Reading.{OfRd, LineValue, line_value, form_value, has_wrong_count, tag_of}
 use Rattle.aq_profile.specs.Canonical.{canonical_rd, rd_texts, joined, parameter_text, duration_text, unit_text, value_places, date_text, time_text, value_text, code_text, texts_behind}
 use Rattle.aq_rd.specs.declared.line.RdLine.{RdLine}
 use Rattle.aq_rd.specs.declared.line.RdLine.TheVariants as lines
 use Rattle.aq_rd.specs.RdReading.{value_of}
-use Rattle.aq_rd.specs.Spelled.{is_null_code, is_qualifier, HasPoc, IsReported, IsSpelledSample, IsSpelled, HasTypeRanges}
+use Rattle.aq_rd.specs.Spelled.{is_qualifier, HasPoc, IsReported, IsSpelledSample, IsSpelled, HasTypeRanges}
 use Rattle.aq_rd.proofs.CleanTexts.{are_clean, all_clean, fields-joined, plain-joined}
-use Rattle.aq_rd.proofs.CodeTexts.{null_in-text, clean-null, some-code, qualifiers_in-texts, clean-quals}
+use Rattle.aq_rd.proofs.CodeTexts.{null_in-text, clean-null, qualifiers_in-texts, clean-quals}
 use Rattle.aq_rd.proofs.Numerals.{site_in-texts, poc_in-decimal, digits_in-last_digits, date_in-text, time_in-text, clean-date, clean-time, clean-digits, digits-last_digits, digits-decimal}
 use Rattle.aq_rd.proofs.ValueTexts.{value_in-text, clean-value, some-value}
 
@@ -226,12 +226,12 @@ put-fields update s c n p o d u m date time v behind monitor duration places met
     let a : List ℕ = cond update (codes "U") (codes "I") in
     let rest : List (List ℕ) = cond update (codes "U") (codes "I") ∷ s ∷ c ∷ n ∷ p ∷ o ∷ d ∷ u ∷ m ∷ date ∷ time ∷ v ∷ behind in
     line-back rest (OfRd (Put update monitor duration method (hour_number day hour) content))
-      (clean-put a s c n p o d u m date time (v ∷ behind) (clean-action update) hs hc hn hp ho hd hu hm hdate htime hrest)
-      (form-put update (s ∷ c ∷ n ∷ p ∷ o ∷ d ∷ u ∷ m ∷ date ∷ time ∷ v ∷ behind) (Put update monitor duration method (hour_number day hour) content)
-        (right-count (codes "RD") a s c n p o d u m date time v behind few)
-        (put-back update (codes "RD" ∷ rest) monitor duration places method (hour_number day hour) content
-          (monitor-back (codes "RD") a s c n p o (d ∷ u ∷ m ∷ date ∷ time ∷ v ∷ behind) monitor site param poc) dur unit meth
-          (start-back (codes "RD") a s c n p o d u m date time (v ∷ behind) day hour da ti) con))
+    (clean-put a s c n p o d u m date time (v ∷ behind) (clean-action update) hs hc hn hp ho hd hu hm hdate htime hrest)
+    (form-put update (s ∷ c ∷ n ∷ p ∷ o ∷ d ∷ u ∷ m ∷ date ∷ time ∷ v ∷ behind) (Put update monitor duration method (hour_number day hour) content)
+    (right-count (codes "RD") a s c n p o d u m date time v behind few)
+    (put-back update (codes "RD" ∷ rest) monitor duration places method (hour_number day hour) content
+    (monitor-back (codes "RD") a s c n p o (d ∷ u ∷ m ∷ date ∷ time ∷ v ∷ behind) monitor site param poc) dur unit meth
+    (start-back (codes "RD") a s c n p o d u m date time (v ∷ behind) day hour da ti) con))
 
 put-line : (update : Bool) (monitor : MonitorId) (duration : Duration) (method hour : ℕ) (content : Observation)
     → IsSite monitor.site → hour ≤ LAST_HOUR → length content.quals ≤ 10 → all_distinct content.quals ≡ true → IsSpelledSample monitor duration method content
@@ -251,12 +251,12 @@ put-line update monitor duration method hour content site fits few distinct spel
     let date = date_text (hour / 24) in
     let time = time_text hour in
     put-fields update s c n (parameter_text p) o d u m date time (value_text p content.value) (texts_behind content.null content.quals) monitor duration (value_places p) method (hour / 24) (hour % 24) content
-      (clean-last 2 monitor.site.state) (clean-last 3 monitor.site.county) (clean-last 4 monitor.site.number) (clean-parameter p) (clean-poc monitor.poc poc.1)
-      (clean-duration duration) (clean-unit p) (clean-last 3 method) (clean-date (hour / 24)) (clean-time (hour % 24)) (clean-content p content.value content.null content.quals spelled.reported spelled.quals)
-      (site_in-texts monitor.site site) (parameter-back p) (poc_in-decimal monitor.poc poc.0 poc.1)
-      (duration-back p duration spelled.fits) (unit-back p) (digits_in-last_digits 3 method (omega arith))
-      (date_in-text (hour / 24) (day-fits hour fits)) (time_in-text (hour % 24) (day-hour hour)) (few-behind content.null content.quals few)
-      (content-back (codes "RD") (cond update (codes "U") (codes "I")) s c n (parameter_text p) o d u m date time p content.value content.null content.quals spelled.reported few distinct spelled.quals)
+    (clean-last 2 monitor.site.state) (clean-last 3 monitor.site.county) (clean-last 4 monitor.site.number) (clean-parameter p) (clean-poc monitor.poc poc.1)
+    (clean-duration duration) (clean-unit p) (clean-last 3 method) (clean-date (hour / 24)) (clean-time (hour % 24)) (clean-content p content.value content.null content.quals spelled.reported spelled.quals)
+    (site_in-texts monitor.site site) (parameter-back p) (poc_in-decimal monitor.poc poc.0 poc.1)
+    (duration-back p duration spelled.fits) (unit-back p) (digits_in-last_digits 3 method (omega arith))
+    (date_in-text (hour / 24) (day-fits hour fits)) (time_in-text (hour % 24) (day-hour hour)) (few-behind content.null content.quals few)
+    (content-back (codes "RD") (cond update (codes "U") (codes "I")) s c n (parameter_text p) o d u m date time p content.value content.null content.quals spelled.reported few distinct spelled.quals)
     ∙ ap (λ h. Some (OfRd (Put update monitor duration method h content))) (hour-back hour)
 
 clean-delete : (s c n p o date time : List ℕ) → are_clean s ≡ true → are_clean c ≡ true → are_clean n ≡ true → are_clean p ≡ true → are_clean o ≡ true → are_clean date ≡ true → are_clean time ≡ true
@@ -269,20 +269,20 @@ delete-fields : (s c n p o date time : List ℕ) (monitor : MonitorId) (day hour
     → line_value (joined (codes "RD" ∷ codes "D" ∷ s ∷ c ∷ n ∷ p ∷ o ∷ [] ∷ [] ∷ [] ∷ date ∷ time ∷ [])) ≡ Some (OfRd (Delete monitor (hour_number day hour)))
 delete-fields s c n p o date time monitor day hour hs hc hn hp ho hdate htime site param poc da ti =
     line-back (codes "D" ∷ s ∷ c ∷ n ∷ p ∷ o ∷ [] ∷ [] ∷ [] ∷ date ∷ time ∷ []) (OfRd (Delete monitor (hour_number day hour)))
-      (clean-delete s c n p o date time hs hc hn hp ho hdate htime)
-      (form-delete (s ∷ c ∷ n ∷ p ∷ o ∷ [] ∷ [] ∷ [] ∷ date ∷ time ∷ []) (Delete monitor (hour_number day hour)) refl
-        (delete-back (codes "RD" ∷ codes "D" ∷ s ∷ c ∷ n ∷ p ∷ o ∷ [] ∷ [] ∷ [] ∷ date ∷ time ∷ []) monitor (hour_number day hour)
-          (monitor-back (codes "RD") (codes "D") s c n p o ([] ∷ [] ∷ [] ∷ date ∷ time ∷ []) monitor site param poc)
-          (start-back (codes "RD") (codes "D") s c n p o [] [] [] date time [] day hour da ti)))
+    (clean-delete s c n p o date time hs hc hn hp ho hdate htime)
+    (form-delete (s ∷ c ∷ n ∷ p ∷ o ∷ [] ∷ [] ∷ [] ∷ date ∷ time ∷ []) (Delete monitor (hour_number day hour)) refl
+    (delete-back (codes "RD" ∷ codes "D" ∷ s ∷ c ∷ n ∷ p ∷ o ∷ [] ∷ [] ∷ [] ∷ date ∷ time ∷ []) monitor (hour_number day hour)
+    (monitor-back (codes "RD") (codes "D") s c n p o ([] ∷ [] ∷ [] ∷ date ∷ time ∷ []) monitor site param poc)
+    (start-back (codes "RD") (codes "D") s c n p o [] [] [] date time [] day hour da ti)))
 
 delete-line : (monitor : MonitorId) (hour : ℕ) → IsSite monitor.site → hour ≤ LAST_HOUR → HasPoc monitor
     → line_value (canonical_rd (Delete monitor hour)) ≡ Some (OfRd (Delete monitor hour))
 unfolding rd_texts
 delete-line monitor hour site fits poc =
     delete-fields (last_digits 2 monitor.site.state) (last_digits 3 monitor.site.county) (last_digits 4 monitor.site.number) (parameter_text monitor.pollutant) (decimal monitor.poc) (date_text (hour / 24)) (time_text hour) monitor (hour / 24) (hour % 24)
-      (clean-last 2 monitor.site.state) (clean-last 3 monitor.site.county) (clean-last 4 monitor.site.number) (clean-parameter monitor.pollutant) (clean-poc monitor.poc poc.1)
-      (clean-date (hour / 24)) (clean-time (hour % 24)) (site_in-texts monitor.site site) (parameter-back monitor.pollutant) (poc_in-decimal monitor.poc poc.0 poc.1)
-      (date_in-text (hour / 24) (day-fits hour fits)) (time_in-text (hour % 24) (day-hour hour))
+    (clean-last 2 monitor.site.state) (clean-last 3 monitor.site.county) (clean-last 4 monitor.site.number) (clean-parameter monitor.pollutant) (clean-poc monitor.poc poc.1)
+    (clean-date (hour / 24)) (clean-time (hour % 24)) (site_in-texts monitor.site site) (parameter-back monitor.pollutant) (poc_in-decimal monitor.poc poc.0 poc.1)
+    (date_in-text (hour / 24) (day-fits hour fits)) (time_in-text (hour % 24) (day-hour hour))
     ∙ ap (λ h. Some (OfRd (Delete monitor h))) (hour-back hour)
 
 pub read-back : (line : RdLine) → HasTypeRanges line → IsSpelled line → line_value (canonical_rd (value_of line)) ≡ Some (OfRd (value_of line))

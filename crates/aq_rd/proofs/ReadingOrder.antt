@@ -1,6 +1,6 @@
 -- Testing field by field in the order of the rules gives the value that a line spells, or the first rule that it breaks.
 use Rattle.std.proofs.Common.{◌≡◌, ℕ, Bool, true, false, cond, not, ◌&&◌, ◌||◌, List, [], ◌∷◌, Some, None, Option, Ok, Err, Result, refl, sym, ap, ◌∙◌, subst}
-use Rattle.std.specs.Prelude.{IfOk, IfErr, OnOk, OnErr, bytes_eq, codes, find, is_some, is_none, ℤ, if◌then◌else◌}
+use Rattle.std.specs.Prelude.{IfOk, IfErr, OnOk, OnErr, bytes_eq, codes, find, is_none, ℤ, if◌then◌else◌}
 use Rattle.std.specs.Option.{ok_or}
 use Rattle.std.proofs.lemmas.Bool.{false≢true}
 use Rattle.std.proofs.lemmas.Slice.Eq.{bytes_eq-Decides}
@@ -138,12 +138,12 @@ by-action : (i u d : Bool) (texts : List (List ℕ)) → (i ≡ true → d ≡ f
     (find (λ rule. breaks_in rule Rd d texts) (rules_of Rd d)))
 by-action true u d texts not_i not_u =
     subst (λ b. Reads line_of (put_reading false texts) (put_in false texts >>- λ v. Some (OfRd v)) (find (λ rule. breaks_in rule Rd b texts) (rules_of Rd b)))
-      (sym (not_i refl))
-      (lift (put_reading false texts) (put_in false texts) _ (reads-put false texts))
+    (sym (not_i refl))
+    (lift (put_reading false texts) (put_in false texts) _ (reads-put false texts))
 by-action false true d texts not_i not_u =
     subst (λ b. Reads line_of (put_reading true texts) (put_in true texts >>- λ v. Some (OfRd v)) (find (λ rule. breaks_in rule Rd b texts) (rules_of Rd b)))
-      (sym (not_u refl))
-      (lift (put_reading true texts) (put_in true texts) _ (reads-put true texts))
+    (sym (not_u refl))
+    (lift (put_reading true texts) (put_in true texts) _ (reads-put true texts))
 by-action false false true texts not_i not_u = lift (delete_reading texts) (delete_in texts) _ (reads-delete texts)
 by-action false false false texts not_i not_u = (refl, refl)
 
@@ -159,10 +159,10 @@ by-count : (texts : List (List ℕ)) (wrong : Bool) (rest : Option Rule)
 by-count texts true rest same = (refl, refl)
 by-count texts false rest same =
     subst (λ r. Reads line_of (cond (bytes_eq (field 2 texts) (codes "I")) (put_reading false texts) (cond (bytes_eq (field 2 texts) (codes "U")) (put_reading true texts) (cond (bytes_eq (field 2 texts) (codes "D")) (delete_reading texts) (Err BadAction)))) (action_for Rd (field 2 texts) >>- λ action. value_for Rd action texts) (cond (is_none (action_for Rd (field 2 texts))) (Some BadAction) r))
-      (sym same)
-      (by-action (bytes_eq (field 2 texts) (codes "I")) (bytes_eq (field 2 texts) (codes "U")) (bytes_eq (field 2 texts) (codes "D")) texts
-        (λ i. ap (λ t. bytes_eq t (codes "D")) ((bytes_eq-Decides (field 2 texts) (codes "I")).0 i))
-        (λ u. ap (λ t. bytes_eq t (codes "D")) ((bytes_eq-Decides (field 2 texts) (codes "U")).0 u)))
+    (sym same)
+    (by-action (bytes_eq (field 2 texts) (codes "I")) (bytes_eq (field 2 texts) (codes "U")) (bytes_eq (field 2 texts) (codes "D")) texts
+    (λ i. ap (λ t. bytes_eq t (codes "D")) ((bytes_eq-Decides (field 2 texts) (codes "I")).0 i))
+    (λ u. ap (λ t. bytes_eq t (codes "D")) ((bytes_eq-Decides (field 2 texts) (codes "U")).0 u)))
 
 same_find : (p q : Rule → Bool) → ((rule : Rule) → p rule ≡ q rule) → (rules : List Rule) → find p rules ≡ find q rules
 same_find p q same [] = refl
@@ -190,23 +190,23 @@ unfolding form_reading
 by-tag false rd other tag texts is no_other none = (refl, refl)
 by-tag true true other tag texts is no_other none =
     subst (λ t. Reads line_of (form_reading texts) (t >>- λ t. form_value t texts) (find (λ rule. breaks_parts rule true t texts) (BadBytes ∷ BadTag ∷ FieldCount ∷ BadAction ∷ rules_for t texts)))
-      (sym is)
-      (by-count texts (has_wrong_count Rd (is_deletion texts) texts) _ (sym (same_find _ _ (same_breaks texts) (rules_of Rd (is_deletion texts)))))
+    (sym is)
+    (by-count texts (has_wrong_count Rd (is_deletion texts) texts) _ (sym (same_find _ _ (same_breaks texts) (rules_of Rd (is_deletion texts)))))
 by-tag true false other tag texts is no_other none =
     let nothing : tag ≡ None = is ∙ no_other (sym (ap is_office is) ∙ none) in
     subst (λ t. Reads line_of (Err BadTag) (t >>- λ t. form_value t texts) (find (λ rule. breaks_parts rule true t texts) (BadBytes ∷ BadTag ∷ FieldCount ∷ BadAction ∷ rules_for t texts)))
-      (sym nothing)
-      (refl, refl)
+    (sym nothing)
+    (refl, refl)
 
 pub reads-line : (line : List ℕ) → has_office_tag line ≡ false → Reads line_of (rd_reading line) (line_value line) (reading_rule line)
 unfolding rd_reading
 reads-line line none =
     let text = field 1 (fields line) in
     by-tag (is_plain line) (bytes_eq text (codes "RD")) _ (tag_of line) (fields line) refl
-      (no_office (bytes_eq text (codes "XM")) Xm _ refl (no_office (bytes_eq text (codes "XP")) Xp _ refl (no_office (bytes_eq text (codes "XS")) Xs _ refl
-      (no_office (bytes_eq text (codes "XO")) Xo _ refl (no_office (bytes_eq text (codes "XU")) Xu _ refl (no_office (bytes_eq text (codes "XE")) Xe _ refl
-      (no_office (bytes_eq text (codes "XC")) Xc _ refl (no_office (bytes_eq text (codes "XA")) Xa _ refl (λ _. refl)))))))))
-      none
+    (no_office (bytes_eq text (codes "XM")) Xm _ refl (no_office (bytes_eq text (codes "XP")) Xp _ refl (no_office (bytes_eq text (codes "XS")) Xs _ refl
+    (no_office (bytes_eq text (codes "XO")) Xo _ refl (no_office (bytes_eq text (codes "XU")) Xu _ refl (no_office (bytes_eq text (codes "XE")) Xe _ refl
+    (no_office (bytes_eq text (codes "XC")) Xc _ refl (no_office (bytes_eq text (codes "XA")) Xa _ refl (λ _. refl)))))))))
+    none
 
 -- ---- the clauses, one by one
 

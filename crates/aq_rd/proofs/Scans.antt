@@ -1,10 +1,8 @@
 -- A line that is scanned up to a place: the fields that began, and what is left.
-use Rattle.std.proofs.Common.{◌≡◌, ◌≢◌, ℕ, suc, ◌+◌, ◌-◌, ◌<◌, ◌≤◌, ◌⊎◌, inl, inr, Bool, true, false, not, ◌||◌, List, [], ◌∷◌, length, take, drop, set, get_or, replicate, zero, refl, sym, ap, ◌∙◌, arith, subst, add-one}
-
+use Rattle.std.proofs.Common.{◌≡◌, ◌≢◌, ℕ, suc, ◌+◌, ◌-◌, ◌<◌, ◌≤◌, inl, inr, Bool, true, false, not, ◌||◌, List, [], ◌∷◌, length, drop, set, get_or, replicate, zero, refl, sym, ap, ◌∙◌, arith, subst, add-one}
 use Rattle.std.proofs.lemmas.Bool.Decides.{nat_tests}
 use Rattle.std.proofs.lemmas.List.{drop-drop, get_or-drop, length-set, get_or_past, drop_all, get_or-set_same, get_or-set_other, get_or-replicate}
 use Rattle.std.proofs.lemmas.Bool.{cases_lt}
-use Rattle.std.proofs.lemmas.Grind.{common_steps}
 use Rattle.std.proofs.Math.Seq.{drop-cons}
 use Rattle.aq_profile.specs.Fields.{fields, field, is_space}
 use Rattle.aq_rd.specs.FieldPlaces.{HoldsFields, has_text}
@@ -206,10 +204,10 @@ not_space byte other = grind (arith, nat_tests)
 pub scanned-beyond : (line : List ℕ) (i c : ℕ) (starts : List ℕ) (is_longer : Bool) → Scanned line i c starts is_longer → i < length line → get_or line i 0 ≢ 124 → get_or line i 0 ≢ 32 → 28 < c → Scanned line (i + 1) c starts true
 scanned-beyond line i c starts is_longer s h other text many =
     scanned-text line i c starts is_longer true s h other
-      (ap (λ b. is_longer || b)
-      (text-beyond line i c h other many
-      ∙ ap (λ b. not b || has_text (drop (29 - c) (fields (drop (i + 1) line)))) (not_space (get_or line i 0) text))
-      ∙ or_true is_longer)
+    (ap (λ b. is_longer || b)
+    (text-beyond line i c h other many
+    ∙ ap (λ b. not b || has_text (drop (29 - c) (fields (drop (i + 1) line)))) (not_space (get_or line i 0) text))
+    ∙ or_true is_longer)
 
 -- ---- at the end
 

@@ -1,24 +1,23 @@
 -- Values as they are written, read again.
-use Rattle.std.proofs.Common.{◌≡◌, ◌≢◌, ℕ, zero, suc, ◌+◌, ◌-◌, ◌*◌, ◌/◌, ◌%◌, ◌^◌, ◌<◌, ◌≤◌, Bool, true, false, cond, not, ◌&&◌, ◌||◌, ◌==◌, List, [], ◌∷◌, ◌++◌, length, take, drop, Some, None, Option, ℤ, pos, negsuc, neg_ℤ, ◌≤ℤ◌, refl, sym, ap, ◌∙◌, append_assoc, arith}
-use Rattle.std.specs.Prelude.{nat_le, nat_lt, decimal, unsigned_abs, int_le, int_lt, if◌then◌else◌}
-use Rattle.std.specs.List.{list_all, before_first, after_first, position_or_len}
-use Rattle.std.specs.Char.{is_ascii_digit, digit_value}
+use Rattle.std.proofs.Common.{◌≡◌, ℕ, suc, ◌+◌, ◌*◌, ◌/◌, ◌%◌, ◌^◌, ◌<◌, Bool, true, false, cond, not, ◌&&◌, ◌||◌, ◌==◌, List, [], ◌∷◌, ◌++◌, length, take, drop, Some, None, ℤ, pos, negsuc, neg_ℤ, ◌≤ℤ◌, refl, sym, ap, ◌∙◌, append_assoc, arith}
+use Rattle.std.specs.Prelude.{nat_lt, decimal, unsigned_abs}
+use Rattle.std.specs.List.{before_first, after_first, position_or_len}
+use Rattle.std.specs.Char.{is_ascii_digit}
 use Rattle.std.specs.Str.Parse.{digits_value}
-use Rattle.std.proofs.lemmas.Bool.{and_parts, false≢true}
+use Rattle.std.proofs.lemmas.Bool.{and_parts}
 use Rattle.std.proofs.lemmas.Bool.Decides.{nat_tests}
 use Rattle.std.proofs.lemmas.Int.{ints}
-use Rattle.std.proofs.lemmas.List.{length-append, take-append-le, drop-append-le, take_all, drop_all, append-nil}
+use Rattle.std.proofs.lemmas.List.{length-append, take-append-le, drop-append-le, take_all, drop_all}
 use Rattle.std.proofs.lemmas.List.Folds.{list_all-append}
 use Rattle.std.proofs.lemmas.Int.Digits.{digits_value_push}
-use Rattle.aq_base.specs.Decimal.{last_digits, are_digits, is_point, is_minus, unsigned_part, whole_part, fraction_part, is_decimal, digits_number, cut_magnitude, cut, fixed}
+use Rattle.aq_base.specs.Decimal.{last_digits, are_digits, is_point, is_minus, unsigned_part, whole_part, fraction_part, is_decimal, cut_magnitude, cut, fixed}
 use Rattle.aq_base.specs.Values.{least_value, greatest_value}
 use Rattle.aq_base.specs.declared.monitor.Pollutant.{Pollutant}
 use Rattle.aq_base.specs.declared.monitor.Pollutant.TheVariants.{Ozone, Pm25, Pm10}
-use Rattle.aq_profile.specs.Limits.{LEAST_VALUE}
 use Rattle.aq_profile.specs.Spellings.{value_in, is_in_range}
 use Rattle.aq_profile.specs.Canonical.{value_places}
 use Rattle.aq_rd.proofs.DigitTexts.{three_digits}
-use Rattle.aq_rd.proofs.Numerals.{value-digit, le-test, length-last_digits, digits-last_digits, digits-decimal, value-decimal, clean-digits, nonempty-decimal}
+use Rattle.aq_rd.proofs.Numerals.{value-digit, length-last_digits, digits-last_digits, digits-decimal, value-decimal, clean-digits, nonempty-decimal}
 use Rattle.aq_rd.proofs.CleanTexts.{is_clean, are_clean}
 
 -- ---- round the point
@@ -90,7 +89,7 @@ is_decimal-shape text whole fraction minus s =
     let some = s.some in
     let long : length (whole_part text ++ fraction_part text) ≡ length (whole_part text) + length (fraction_part text) = length-append (whole_part text) (fraction_part text) in
     all-three (are_digits (whole_part text)) (are_digits (fraction_part text)) (nat_lt 0 (length (whole_part text ++ fraction_part text)))
-      (ap are_digits w ∙ s.wholes) (ap are_digits f ∙ s.fractions) (lt-test 0 _ (omega (arith, ap length w)))
+    (ap are_digits w ∙ s.wholes) (ap are_digits f ∙ s.fractions) (lt-test 0 _ (omega (arith, ap length w)))
 
 magnitude-shape : (text whole fraction : List ℕ) (minus : Bool) (k : ℕ) → Shape text whole fraction minus → cut_magnitude text k ≡ digits_value 10 (whole ++ fraction) * 10 ^ k / 10 ^ length fraction
 magnitude-shape text whole fraction minus k s =

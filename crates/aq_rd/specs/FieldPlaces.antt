@@ -1,5 +1,5 @@
 -- Where the fields of a line start.
-use Rattle.std.specs.Prelude.{◌≡◌, ℕ, ◌+◌, ◌<◌, ◌≤◌, Bool, not, List, [], length, drop, slice_index_or}
+use Rattle.std.specs.Prelude.{◌≡◌, ℕ, ◌+◌, ◌<◌, ◌≤◌, Bool, not, List, length, drop, slice_index_or}
 use Rattle.std.specs.List.{list_any}
 use Rattle.aq_profile.specs.Fields.{fields, field, is_empty}
 use Rattle.aq_rd.specs.declared.fields.TheConstants.{MOST_FIELDS}

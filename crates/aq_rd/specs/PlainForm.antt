@@ -1,5 +1,5 @@
 -- The plain form of an ozone monitor of hours: `SS|CCC|NNNN|44201|P|1|`, P from 1 to 99 without a leading zero, and no spaces.
-use Rattle.std.specs.Prelude.{ℕ, List, Option, Some, None, codes}
+use Rattle.std.specs.Prelude.{ℕ, List, Option, Some, codes}
 use Rattle.aq_base.specs.declared.monitor.MonitorId.{MonitorId}
 use Rattle.aq_base.specs.declared.monitor.Pollutant.TheVariants.{Ozone}
 use Rattle.aq_rd.specs.Front.{◌>>=◌, after, site_at, poc_at}

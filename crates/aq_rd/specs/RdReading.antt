@@ -1,5 +1,5 @@
 -- An RD line as it is read: each field is tested in the order of the rules, and the first one that breaks its rule refuses the line.
-use Rattle.std.specs.Prelude.{ℕ, Bool, true, false, if◌then◌else◌, Option, Some, None, Result, Ok, Err, ℤ, List, codes, bytes_eq}
+use Rattle.std.specs.Prelude.{ℕ, Bool, true, false, if◌then◌else◌, Some, None, Result, Ok, Err, ℤ, List, codes, bytes_eq}
 use Rattle.std.specs.Option.{ok_or}
 use Rattle.aq_base.specs.Calendar.{hour_number}
 use Rattle.aq_base.specs.Decimal.{is_decimal}

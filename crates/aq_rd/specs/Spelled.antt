@@ -1,5 +1,5 @@
 -- The samples that a line can spell.
-use Rattle.std.specs.Prelude.{◌≡◌, ℕ, ◌≤◌, ◌≤ℤ◌, ℤ, Bool, true, ◌&&◌, ◌||◌, ◌==◌, Option, Some, None, List, length}
+use Rattle.std.specs.Prelude.{◌≡◌, ℕ, ◌≤◌, ◌≤ℤ◌, ℤ, Bool, true, ◌&&◌, ◌||◌, ◌==◌, Option, Some, None, length}
 use Rattle.std.specs.List.{list_all}
 use Rattle.aq_base.specs.Quals.{all_distinct}
 use Rattle.aq_base.specs.Site.{IsSite}

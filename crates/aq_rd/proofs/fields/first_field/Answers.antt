@@ -1,6 +1,5 @@
-use Rattle.std.proofs.Common.{◌≡◌, ◌∙◌, sym, ap, take, length, arith}
+use Rattle.std.proofs.Common.{◌≡◌, ◌∙◌, sym, take, arith}
 use Rattle.std.proofs.lemmas.List.{take_all}
-use Rattle.std.proofs.lemmas.Grind.{common_steps}
 use Rattle.aq_rd.proofs.FieldSteps.{field-at, field-whole}
 use Rattle.aq_rd.proofs.fields.first_field.Goals as goal
 

@@ -1,4 +1,4 @@
-use Rattle.std.proofs.Common.{◌∙◌, sym, arith}
+use Rattle.std.proofs.Common.{◌∙◌, arith}
 use Rattle.aq_rd.proofs.FieldSteps.{back-step, back-stop, back-none}
 use Rattle.aq_rd.proofs.fields.trim_back.Goals as goal
 use Rattle.aq_rd.proofs.fields.trim_back.Goals.{then-loop-end-test+else-text-end-eq32, else-loop-end-test}
@@ -12,6 +12,7 @@ loop-end-preserved c = record {
 pub returns : goal.returns
 returns c =
     elim c.loop-end-test.branch [
-      then-loop-end-test+else-text-end-eq32 w ↦
+      | then-loop-end-test+else-text-end-eq32 w ↦
           back-stop c.args.text.now c.loop-end.end w.loop-end-test.true c.loop-end.invariant.within w.if-text-end-eq32.false ∙ c.loop-end.invariant.same
-      | else-loop-end-test w ↦ back-none c.args.text.now c.loop-end.end (omega arith) ∙ c.loop-end.invariant.same ]
+      | else-loop-end-test w ↦ back-none c.args.text.now c.loop-end.end (omega arith) ∙ c.loop-end.invariant.same
+    ]

@@ -1,4 +1,4 @@
-use Rattle.std.proofs.Common.{◌≡◌, ◌++◌, ◌∙◌, List, ℕ, ap}
+use Rattle.std.proofs.Common.{◌++◌, ◌∙◌, List, ℕ, ap}
 use Rattle.aq_profile.specs.Reading.{line_value}
 use Rattle.aq_profile.specs.Canonical.{canonical_rd}
 use Rattle.aq_rd.specs.RdReading.{value_of}
@@ -8,5 +8,5 @@ use Rattle.aq_rd.proofs.print.print_rd.Goals as goal
 pub returns-clause-back : goal.returns-clause-back
 returns-clause-back c = λ spelled.
     ap line_value
-      (c.in_ok-write_line.ensures.text ∙ ap (λ (text : List ℕ). text ++ canonical_rd (value_of c.args.line.now)) c.new-out.ensures.items)
+    (c.in_ok-write_line.ensures.text ∙ ap (λ (text : List ℕ). text ++ canonical_rd (value_of c.args.line.now)) c.new-out.ensures.items)
     ∙ read-back c.args.line.now c.in_ok-write_line.ensures.ranges spelled

@@ -1,6 +1,5 @@
-use Rattle.std.proofs.Common.{sym, subst, ◌≡◌, ◌∙◌}
 use Rattle.aq_profile.specs.Reading.{line_value, reading_rule}
-use Rattle.aq_rd.proofs.ReadingOrder.{Reads, line_of, reads-line, ok-line, unbroken-line, rule-line, refused-line}
+use Rattle.aq_rd.proofs.ReadingOrder.{reads-line, ok-line, unbroken-line, rule-line, refused-line}
 use Rattle.aq_rd.proofs.read.read_rd.Goals as goal
 
 pub returns-clause-ok : goal.returns-clause-ok

@@ -1,4 +1,4 @@
-use Rattle.std.proofs.Common.{◌≡◌, ◌+◌, ◌-◌, ◌≤◌, ◌∙◌, true, false, Some, None, Option, List, length, take, drop, sym, ap, refl, arith}
+use Rattle.std.proofs.Common.{◌≡◌, ◌+◌, ◌-◌, ◌∙◌, Option, length, take, drop, sym, ap, arith}
 use Rattle.std.specs.List.{list_all}
 use Rattle.aq_base.specs.declared.code.Code.{Code}
 use Rattle.aq_base.specs.Quals.{with_code}
@@ -24,8 +24,8 @@ returns-in_err-qualifier-clause-value c =
     let left = λ (part : Option Code). part >>= λ code. qualifiers_onto (with_code c.loop-number.quals code) rest in
     c.from_residual.ensures
     ∙ sym (c.loop-number.invariant.same
-      ∙ step-some c.loop-number.quals n c.args.texts.now c.field-text.result.now c.is_empty.result (omega arith) (omega arith) c.field-text.ensures c.is_empty.ensures (cc)
-      ∙ sym (ap left c.in_err-qualifier.ensures.value))
+    ∙ step-some c.loop-number.quals n c.args.texts.now c.field-text.result.now c.is_empty.result (omega arith) (omega arith) c.field-text.ensures c.is_empty.ensures (cc)
+    ∙ sym (ap left c.in_err-qualifier.ensures.value))
 
 pub loop-number-preserved : goal.loop-number-preserved
 loop-number-preserved c =
@@ -33,7 +33,7 @@ loop-number-preserved c =
     let rest = take (27 - (n + 1)) (drop (n + 1 - 1) c.args.texts.now) in
     let left = λ (part : Option Code). part >>= λ code. qualifiers_onto (with_code c.loop-number.quals code) rest in
     elim c.if-not-is_empty.branch [
-      then-not-is_empty+in_ok-qualifier w ↦
+      | then-not-is_empty+in_ok-qualifier w ↦
           let code = w.in_ok-qualifier.field-0 in
           let same : c.if-not-is_empty.quals ≡ with_code c.loop-number.quals code = cc in
           record {
@@ -53,4 +53,5 @@ loop-number-preserved c =
                 ∙ step-none c.loop-number.quals n c.args.texts.now c.field-text.result.now c.is_empty.result (omega arith) (omega arith) c.field-text.ensures c.is_empty.ensures (cc)
                 ∙ ap (λ codes. qualifiers_onto codes rest) (sym same);
             characters = ap (list_all is_qualifier) same ∙ c.loop-number.invariant.characters;
-          } ]
+          }
+    ]
