@@ -20,11 +20,12 @@ use Rattle.aq_base.specs.declared.observation.Observation.{Observation}
 use Rattle.aq_profile.specs.Fields.{is_empty, field, fields}
 use Rattle.aq_profile.specs.Spellings.{◌>>=◌, Rd, tag_in, has_duration, site_in, parameter_in, poc_in, duration_in, unit_in, method_in, date_in, time_in, value_in, null_in, qualifiers_in}
 use Rattle.aq_profile.specs.RdForm.{RdValue, Put, Delete, monitor_in, start_in, content_in, put_in, delete_in}
-use Rattle.aq_profile.specs.Reading.{OfRd, LineValue, line_value, form_value, has_wrong_count, tag_of}
+use Rattle.aq_profile.specs.Reading.{is_plain, OfRd, LineValue, line_value, form_value, has_wrong_count, tag_of}
 use Rattle.aq_profile.specs.Canonical.{canonical_rd, rd_texts, joined, parameter_text, duration_text, unit_text, value_places, date_text, time_text, value_text, code_text, texts_behind}
 use Rattle.aq_rd.specs.declared.line.RdLine.{RdLine}
 use Rattle.aq_rd.specs.declared.line.RdLine.TheVariants as lines
 use Rattle.aq_rd.specs.RdReading.{value_of}
+use Rattle.aq_rd.specs.Tags.{has_office_tag}
 use Rattle.aq_rd.specs.Spelled.{is_qualifier, HasPoc, IsReported, IsSpelledSample, IsSpelled, HasTypeRanges}
 use Rattle.aq_rd.proofs.CleanTexts.{are_clean, all_clean, fields-joined, plain-joined}
 use Rattle.aq_rd.proofs.CodeTexts.{null_in-text, clean-null, qualifiers_in-texts, clean-quals}
@@ -289,3 +290,14 @@ pub read-back : (line : RdLine) → HasTypeRanges line → IsSpelled line → li
 read-back (lines.Put update monitor duration method hour content) ranges spelled =
     put-line update monitor duration method hour content ranges.0 ranges.1 ranges.2 ranges.3 spelled
 read-back (lines.Delete monitor hour) ranges spelled = delete-line monitor hour ranges.0 ranges.1 spelled
+
+neither : (b : Bool) → cond b false false ≡ false
+neither true = refl
+neither false = refl
+
+-- a written line begins with RD
+pub no_office-line : (line : RdLine) → has_office_tag (canonical_rd (value_of line)) ≡ false
+unfolding rd_texts
+no_office-line (lines.Put update monitor duration method hour content) =
+    neither (is_plain (canonical_rd (Put update monitor duration method hour content)))
+no_office-line (lines.Delete monitor hour) = neither (is_plain (canonical_rd (Delete monitor hour)))

@@ -1,5 +1,5 @@
 //! Writing RD lines.
-ghost use Rattle.std.specs.Prelude.{◌≡◌, ◌≤◌, true, length, ◌+◌, ◌%◌, ◌++◌, ◌∷◌, map, if◌then◌else◌, codes, IfOk, OnOk, Some};
+ghost use Rattle.std.specs.Prelude.{◌≡◌, ◌≤◌, true, false, length, ◌+◌, ◌%◌, ◌++◌, ◌∷◌, map, if◌then◌else◌, codes, IfOk, OnOk, Some};
 ghost use Rattle.aq_base.specs.Decimal.{last_digits};
 ghost use Rattle.aq_base.specs.Quals.{all_distinct};
 ghost use Rattle.aq_base.specs.Site.{IsSite};
@@ -10,6 +10,7 @@ ghost use Rattle.aq_profile.specs.Canonical.{canonical_rd, monitor_texts, start_
 ghost use Rattle.aq_rd.specs.Printing.{behind_bars, null_text};
 ghost use Rattle.aq_rd.specs.Spelled.{IsSpelled, HasTypeRanges};
 ghost use Rattle.aq_rd.specs.RdReading.{value_of};
+ghost use Rattle.aq_rd.specs.Tags.{has_office_tag};
 
 use crate::line::RdLine;
 use aq_base::{Code, Day, Duration, Hour, Memory, MonitorId, Observation, Pollutant};
@@ -20,6 +21,7 @@ use std::alloc::Global;
 /// Writes the canonical line of a sample or of its deletion.
 pub fn print_rd(alloc: Global, line: &RdLine) -> Result<Vec<u8>, Memory>
     ensures canonical { IfOk result (λ text. text.items ≡ canonical_rd (value_of line.now)) }
+    ensures no_office { IfOk result (λ text. has_office_tag text.items ≡ false) }
     // what a line can spell is read again as it was
     ensures back { IfOk result (λ text. IsSpelled line.now → line_value text.items ≡ Some (OfRd (value_of line.now))) }
 {

@@ -409,3 +409,25 @@ fn canonical_lines_are_written_as_they_are_read(rt: HostRuntime) -> Result<(), F
     }
     Ok(())
 }
+
+#[test]
+fn a_text_is_read_from_its_front(rt: HostRuntime) -> Result<(), Fail> {
+    let mut text = Cursor::new(b"XM|06|037|1103|44201|12|1|2024-02-29 7");
+    assert_eq!(rt; text.skip(b"XP|"), None);
+    assert_eq!(rt; text.skip(b"XM|"), Some(()));
+    let monitor = ozone_monitor(&mut text).ok_or("a monitor")?;
+    assert_eq!(rt; (monitor.pollutant, monitor.poc), (Pollutant::Ozone, 12));
+    assert_eq!(rt; monitor.site.site(), 1103);
+    // 24 years of which six have a leap day, and 59 days
+    let day = text.date(b"-").ok_or("a date")?;
+    assert_eq!(rt; day.number(), 8_825);
+    assert!(rt; !text.is_empty());
+    assert_eq!(rt; text.skip(b" "), Some(()));
+    assert_eq!(rt; text.poc(), Some(7));
+    assert!(rt; text.is_empty());
+    let mut text = Cursor::new(b"06-037-1103x");
+    let site = text.site(b"-").ok_or("a site")?;
+    assert_eq!(rt; (site.state(), site.county()), (6, 37));
+    assert_eq!(rt; text.digits(1), None);
+    Ok(())
+}
