@@ -1,3 +1,8 @@
 pub mod Front
 pub mod PlainForm
 pub mod Ranges
+pub mod Tags
+pub mod FieldPlaces
+pub mod RdReading
+pub mod Printing
+pub mod Spelled

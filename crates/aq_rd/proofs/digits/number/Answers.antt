@@ -1,9 +1,8 @@
-use Rattle.std.proofs.Common.{◌≤◌, ◌<◌, ◌+◌, ◌*◌, ◌^◌, ◌∙◌, sym, length, get_or, rules, arith}
-use Rattle.std.proofs.lemmas.Grind.{common_steps}
+use Rattle.std.proofs.Common.{sym, length, arith}
 use Rattle.std.proofs.lemmas.List.Folds.{list_all_more}
 use Rattle.std.specs.Char.{is_ascii_digit}
-use Rattle.aq_rd.proofs.Digits.{next_fits, next_value, next_below}
-use Rattle.aq_rd.proofs.cursor.number.Goals as goal
+use Rattle.aq_rd.proofs.DigitSteps.{next_fits, next_value, next_below}
+use Rattle.aq_rd.proofs.digits.number.Goals as goal
 
 pub overflow_mul-number : goal.overflow_mul-number
 overflow_mul-number c =

@@ -1,0 +1,125 @@
+//! The fields of a line.
+ghost use Rattle.std.specs.Prelude.{◌≡◌};
+ghost use Rattle.aq_profile.specs.Fields.{fields, field, trimmed, without_front, without_back};
+
+use std::marker::Model;
+
+/// An RD line has at most this many fields.
+pub(crate) const MOST_FIELDS: usize = 28;
+
+/// The fields of a line, without the spaces round each. Contracts see their list. It takes no
+/// memory.
+#[derive(Drop)]
+pub(crate) struct FieldList<'a> {
+    line: &'a [u8],
+    // where the first fields start; a field that the line has not starts at its end
+    starts: [usize; MOST_FIELDS],
+    count: usize,
+    has_text_behind: bool,
+}
+
+impl<'a> Model for FieldList<'a> {
+    ghost use Rattle.std.specs.Prelude.{List, ℕ};
+    ghost use Rattle.aq_profile.specs.Fields.{fields};
+    ghost use Rattle.aq_rd.specs.FieldPlaces.{HoldsFields};
+
+    ghost Value = { List (List ℕ) };
+
+    ghost view = { λ list. fields list.line.now };
+
+    ghost invariant = { λ list. HoldsFields list.line.now list.starts list.count list.has_text_behind };
+}
+
+impl<'a> FieldList<'a> {
+    ghost use Rattle.std.specs.Prelude.{◌≡◌, ◌≤◌, length, drop};
+    ghost use Rattle.aq_profile.specs.Fields.{fields, field};
+    ghost use Rattle.aq_rd.specs.FieldPlaces.{has_text};
+
+    /// The fields of a line.
+    pub(crate) fn new(line: &'a [u8]) -> FieldList<'a>
+        ensures { result ≡ fields line.now }
+    {
+        let mut starts = [line.len(); MOST_FIELDS];
+        starts[0] = 0;
+        let mut count = 1;
+        let mut has_text_behind = false;
+        for (place, &byte) in line.iter().enumerate() {
+            if byte == b'|' {
+                if count < MOST_FIELDS {
+                    starts[count] = place + 1;
+                }
+                count += 1;
+            } else if byte != b' ' && count > MOST_FIELDS {
+                has_text_behind = true;
+            }
+        }
+        FieldList {
+            line,
+            starts,
+            count,
+            has_text_behind,
+        }
+    }
+
+    /// How many fields the line has.
+    pub(crate) fn count(&self) -> usize
+        ensures { result ≡ length self.now }
+    {
+        self.count
+    }
+
+    /// Whether a field behind the first `MOST_FIELDS` is not empty.
+    pub(crate) fn has_text_behind(&self) -> bool
+        ensures { result ≡ has_text (drop MOST_FIELDS self.now) }
+    {
+        self.has_text_behind
+    }
+
+    /// A field by its number from 1, empty where the line has none.
+    pub(crate) fn field(&self, number: usize) -> &'a [u8]
+        requires from { 1 ≤ number }
+        requires to { number ≤ MOST_FIELDS }
+        ensures { result.now ≡ field number self.now }
+    {
+        first_field(&self.line[self.starts[number - 1]..])
+    }
+}
+
+// The field with which a text begins.
+fn first_field(text: &[u8]) -> &[u8]
+    ensures { result.now ≡ field 1 (fields text.now) }
+{
+    for (place, &byte) in text.iter().enumerate() {
+        if byte == b'|' {
+            return trim(&text[..place]);
+        }
+    }
+    trim(text)
+}
+
+// A text without the spaces round it.
+fn trim(text: &[u8]) -> &[u8]
+    ensures { result.now ≡ trimmed text.now }
+{
+    trim_back(trim_front(text))
+}
+
+fn trim_front(text: &[u8]) -> &[u8]
+    ensures { result.now ≡ without_front text.now }
+{
+    let mut rest = text;
+    while let [b' ', behind @ ..] = rest {
+        rest = behind;
+    }
+    rest
+}
+
+fn trim_back(text: &[u8]) -> &[u8]
+    ensures { result.now ≡ without_back text.now }
+{
+    let mut end = text.len();
+    while end > 0 && text[end - 1] == b' ' {
+        end -= 1;
+    }
+    &text[..end]
+}

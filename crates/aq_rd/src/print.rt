@@ -1,0 +1,256 @@
+//! Writing RD lines.
+ghost use Rattle.std.specs.Prelude.{◌≡◌, ◌≤◌, true, false, length, ◌+◌, ◌%◌, ◌++◌, ◌∷◌, map, if◌then◌else◌, codes, IfOk, OnOk, Some};
+ghost use Rattle.aq_base.specs.Decimal.{last_digits};
+ghost use Rattle.aq_base.specs.Quals.{all_distinct};
+ghost use Rattle.aq_base.specs.Site.{IsSite};
+ghost use Rattle.aq_base.specs.declared.day.TheConstants.{LAST_HOUR};
+ghost use Rattle.aq_base.specs.declared.quals.TheConstants.{MOST_QUALIFIERS};
+ghost use Rattle.aq_profile.specs.Reading.{line_value, OfRd};
+ghost use Rattle.aq_profile.specs.Canonical.{canonical_rd, monitor_texts, start_texts, date_text, code_text, value_text, texts_behind, parameter_text, duration_text, unit_text, value_places};
+ghost use Rattle.aq_rd.specs.Printing.{behind_bars, null_text};
+ghost use Rattle.aq_rd.specs.Spelled.{IsSpelled, HasTypeRanges};
+ghost use Rattle.aq_rd.specs.RdReading.{value_of};
+ghost use Rattle.aq_rd.specs.Tags.{has_office_tag};
+
+use crate::line::RdLine;
+use aq_base::{Code, Day, Duration, Hour, Memory, MonitorId, Observation, Pollutant};
+use aq_cal::civil_of;
+use aq_num::write_fixed;
+use std::alloc::Global;
+
+/// Writes the canonical line of a sample or of its deletion.
+pub fn print_rd(alloc: Global, line: &RdLine) -> Result<Vec<u8>, Memory>
+    ensures canonical { IfOk result (λ text. text.items ≡ canonical_rd (value_of line.now)) }
+    ensures no_office { IfOk result (λ text. has_office_tag text.items ≡ false) }
+    // what a line can spell is read again as it was
+    ensures back { IfOk result (λ text. IsSpelled line.now → line_value text.items ≡ Some (OfRd (value_of line.now))) }
+{
+    let mut out = Vec::new(alloc);
+    write_line(&mut out, line)?;
+    Ok(out)
+}
+
+fn write_line(out: &mut Vec<u8>, line: &RdLine) -> Result<(), Memory>
+    ensures text { OnOk result (out.new.items ≡ out.old.items ++ canonical_rd (value_of line.now)) }
+    ensures ranges { OnOk result (HasTypeRanges line.now) }
+{
+    match line {
+        RdLine::Put {
+            update,
+            monitor,
+            duration,
+            method,
+            hour,
+            content,
+        } => {
+            out.extend_from_slice(b"RD")?;
+            write_field(out, action_name(*update))?;
+            write_monitor(out, monitor)?;
+            write_field(out, duration_name(*duration))?;
+            write_field(out, unit_name(monitor.pollutant))?;
+            write_field(out, &three_digits(*method))?;
+            write_start(out, *hour)?;
+            write_value(out, monitor.pollutant, content.value)?;
+            write_codes(out, content)?;
+            Ok(())
+        }
+        RdLine::Delete { monitor, hour } => {
+            out.extend_from_slice(b"RD")?;
+            write_field(out, b"D")?;
+            write_monitor(out, monitor)?;
+            out.extend_from_slice(b"|||")?;
+            write_start(out, *hour)?;
+            Ok(())
+        }
+    }
+}
+
+/// Appends a field behind a bar.
+fn write_field(out: &mut Vec<u8>, text: &[u8]) -> Result<(), Memory>
+    ensures { OnOk result (out.new.items ≡ out.old.items ++ 124 ∷ text.now) }
+{
+    out.push(b'|')?;
+    out.extend_from_slice(text)?;
+    Ok(())
+}
+
+fn write_monitor(out: &mut Vec<u8>, monitor: &MonitorId) -> Result<(), Memory>
+    ensures text { OnOk result (out.new.items ≡ out.old.items ++ behind_bars (monitor_texts monitor.now)) }
+    ensures range { OnOk result (IsSite monitor.now.site) }
+{
+    let site = &monitor.site;
+    write_field(out, &two_digits(u16::from(site.state())))?;
+    write_field(out, &three_digits(site.county()))?;
+    write_field(out, &four_digits(site.site()))?;
+    write_field(out, parameter_name(monitor.pollutant))?;
+    out.push(b'|')?;
+    write_fixed(out, i64::from(monitor.poc), 0)?;
+    Ok(())
+}
+
+fn write_start(out: &mut Vec<u8>, hour: Hour) -> Result<(), Memory>
+    ensures text { OnOk result (out.new.items ≡ out.old.items ++ behind_bars (start_texts hour)) }
+    ensures range { OnOk result (hour ≤ LAST_HOUR) }
+{
+    let number = hour.number();
+    let day = Day::new((number / 24) as u16);
+    write_field(out, &date_name(day))?;
+    write_field(out, &two_digits((number % 24) as u16))?;
+    out.extend_from_slice(b":00")?;
+    Ok(())
+}
+
+fn write_value(out: &mut Vec<u8>, pollutant: Pollutant, value: Option<i32>) -> Result<(), Memory>
+    ensures { OnOk result (out.new.items ≡ out.old.items ++ 124 ∷ value_text pollutant value) }
+{
+    out.push(b'|')?;
+    if let Some(value) = value {
+        write_fixed(out, i64::from(value), places(pollutant))?;
+    }
+    Ok(())
+}
+
+// What follows the value, without empty fields at the end.
+fn write_codes(out: &mut Vec<u8>, content: &Observation) -> Result<(), Memory>
+    ensures text { OnOk result (out.new.items ≡ out.old.items ++ behind_bars (texts_behind content.now.null content.now.quals)) }
+    ensures few { OnOk result (length content.now.quals ≤ MOST_QUALIFIERS) }
+    ensures distinct { OnOk result (all_distinct content.now.quals ≡ true) }
+{
+    let quals = content.quals.codes();
+    if quals.is_empty() && content.null.is_none() {
+        return Ok(());
+    }
+    out.push(b'|')?;
+    write_null(out, &content.null)?;
+    if quals.is_empty() {
+        return Ok(());
+    }
+    out.extend_from_slice(b"||")?;
+    write_quals(out, quals)?;
+    Ok(())
+}
+
+fn write_null(out: &mut Vec<u8>, null: &Option<Code>) -> Result<(), Memory>
+    ensures { OnOk result (out.new.items ≡ out.old.items ++ null_text null.now) }
+{
+    if let Some(code) = null {
+        write_code(out, code)?;
+    }
+    Ok(())
+}
+
+fn write_quals(out: &mut Vec<u8>, quals: &[Code]) -> Result<(), Memory>
+    ensures { OnOk result (out.new.items ≡ out.old.items ++ behind_bars (map code_text quals.now)) }
+{
+    for code in quals {
+        out.push(b'|')?;
+        write_code(out, code)?;
+    }
+    Ok(())
+}
+
+fn write_code(out: &mut Vec<u8>, code: &Code) -> Result<(), Memory>
+    ensures { OnOk result (out.new.items ≡ out.old.items ++ code_text code.now) }
+{
+    out.push(code.first)?;
+    if code.second != 0 {
+        out.push(code.second)?;
+    }
+    Ok(())
+}
+
+fn action_name(update: bool) -> &'static [u8]
+    ensures { result.now ≡ (if update then codes "U" else codes "I") }
+{
+    if update { b"U" } else { b"I" }
+}
+
+fn parameter_name(pollutant: Pollutant) -> &'static [u8]
+    ensures { result.now ≡ parameter_text pollutant }
+{
+    match pollutant {
+        Pollutant::Ozone => b"44201",
+        Pollutant::Pm25 => b"88101",
+        Pollutant::Pm10 => b"81102",
+    }
+}
+
+fn duration_name(duration: Duration) -> &'static [u8]
+    ensures { result.now ≡ duration_text duration }
+{
+    match duration {
+        Duration::Hour => b"1",
+        Duration::Day => b"7",
+    }
+}
+
+fn unit_name(pollutant: Pollutant) -> &'static [u8]
+    ensures { result.now ≡ unit_text pollutant }
+{
+    match pollutant {
+        Pollutant::Ozone => b"007",
+        Pollutant::Pm25 => b"105",
+        Pollutant::Pm10 => b"001",
+    }
+}
+
+// The places behind the point with which values are written.
+fn places(pollutant: Pollutant) -> u8
+    ensures { result ≡ value_places pollutant }
+{
+    match pollutant {
+        Pollutant::Ozone => 3,
+        Pollutant::Pm25 | Pollutant::Pm10 => 1,
+    }
+}
+
+// YYYYMMDD
+fn date_name(day: Day) -> [u8; 8]
+    ensures { result ≡ date_text day }
+{
+    let date = civil_of(day);
+    [
+        last_digit(date.year / 1000),
+        last_digit(date.year / 100),
+        last_digit(date.year / 10),
+        last_digit(date.year),
+        last_digit(u16::from(date.month / 10)),
+        last_digit(u16::from(date.month)),
+        last_digit(u16::from(date.day / 10)),
+        last_digit(u16::from(date.day)),
+    ]
+}
+
+fn two_digits(number: u16) -> [u8; 2]
+    ensures { result ≡ last_digits 2 number }
+{
+    [last_digit(number / 10), last_digit(number)]
+}
+
+fn three_digits(number: u16) -> [u8; 3]
+    ensures { result ≡ last_digits 3 number }
+{
+    [
+        last_digit(number / 100),
+        last_digit(number / 10),
+        last_digit(number),
+    ]
+}
+
+fn four_digits(number: u16) -> [u8; 4]
+    ensures { result ≡ last_digits 4 number }
+{
+    [
+        last_digit(number / 1000),
+        last_digit(number / 100),
+        last_digit(number / 10),
+        last_digit(number),
+    ]
+}
+
+// The last decimal digit of a number, as ASCII.
+fn last_digit(number: u16) -> u8
+    ensures { result ≡ 48 + number % 10 }
+{
+    b'0' + (number % 10) as u8
+}

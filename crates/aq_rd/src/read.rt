@@ -1,0 +1,185 @@
+//! Reading RD lines.
+ghost use Rattle.std.specs.Prelude.{◌≡◌, ◌≤◌, true, false, IfOk, IfErr, OnOk, OnErr, Some, None};
+ghost use Rattle.std.specs.List.{list_all};
+ghost use Rattle.aq_base.specs.declared.monitor.Pollutant.{Pollutant};
+ghost use Rattle.aq_profile.specs.Reading.{reading_rule, line_value, has_wrong_count, is_deletion, OfRd};
+ghost use Rattle.aq_profile.specs.Spellings.{Rd};
+ghost use Rattle.aq_rd.specs.Ranges.{HasLineRange};
+ghost use Rattle.aq_rd.specs.RdReading.{monitor_reading, start_reading, content_reading, valued_reading, null_reading, put_reading, delete_reading, form_reading, rd_reading, value_of};
+ghost use Rattle.aq_rd.specs.Spelled.{IsSpelled, HasPoc, IsReported, is_qualifier};
+ghost use Rattle.aq_rd.specs.Tags.{has_office_tag};
+
+use crate::fields::FieldList;
+use crate::line::RdLine;
+use crate::spellings::{
+    date, duration, method, null_code, parameter, poc, qualifiers, site, time, unit_places, value,
+};
+use crate::tag::is_plain;
+use aq_base::{Hour, MonitorId, Observation, Pollutant, Rule};
+use aq_cal::hour_of;
+
+/// Reads an RD line. Its refusal is the first reading rule that it breaks.
+pub fn read_rd(line: &[u8]) -> Result<RdLine, Rule>
+    requires { has_office_tag line.now ≡ false }
+    ensures ok { IfOk result (λ x. line_value line.now ≡ Some (OfRd (value_of x))) }
+    ensures unbroken { OnOk result (reading_rule line.now ≡ None) }
+    ensures rule { IfErr result (λ r. reading_rule line.now ≡ Some r) }
+    ensures refused { OnErr result (line_value line.now ≡ None) }
+    ensures range { IfOk result HasLineRange }
+    ensures spelled { IfOk result IsSpelled }
+{
+    read_line(line)
+}
+
+// In the order of the rules.
+#[tactic(auto, unfolding(crate::specs::RdReading::rd_reading))]
+fn read_line(line: &[u8]) -> Result<RdLine, Rule>
+    ensures value { result ≡ rd_reading line.now }
+    ensures spelled { IfOk result IsSpelled }
+{
+    if !is_plain(line) {
+        return Err(Rule::BadBytes);
+    }
+    let texts = FieldList::new(line);
+    if texts.field(1) != b"RD".as_slice() {
+        return Err(Rule::BadTag);
+    }
+    read_form(&texts)
+}
+
+#[tactic(auto, unfolding(crate::specs::RdReading::form_reading))]
+fn read_form(texts: &FieldList<'_>) -> Result<RdLine, Rule>
+    ensures spelled { IfOk result IsSpelled }
+    ensures value { result ≡ form_reading texts.now }
+{
+    if has_wrong_count(texts) {
+        return Err(Rule::FieldCount);
+    }
+    match texts.field(2) {
+        b"I" => read_put(false, texts),
+        b"U" => read_put(true, texts),
+        b"D" => read_delete(texts),
+        _ => Err(Rule::BadAction),
+    }
+}
+
+// A deletion needs the fields up to the time, and another line those up to the value.
+fn has_wrong_count(texts: &FieldList<'_>) -> bool
+    ensures { result ≡ has_wrong_count Rd (is_deletion texts.now) texts.now }
+{
+    let fewest = if texts.field(2) == b"D".as_slice() {
+        12
+    } else {
+        13
+    };
+    texts.count() < fewest || texts.has_text_behind()
+}
+
+#[tactic(auto, unfolding(crate::specs::RdReading::put_reading))]
+fn read_put(update: bool, texts: &FieldList<'_>) -> Result<RdLine, Rule>
+    ensures spelled { IfOk result IsSpelled }
+    ensures value { result ≡ put_reading update texts.now }
+{
+    let monitor = read_monitor(texts)?;
+    let pollutant = monitor.pollutant;
+    let duration = duration(pollutant, texts.field(8)).ok_or(Rule::BadDuration)?;
+    let places = unit_places(pollutant, texts.field(9)).ok_or(Rule::BadUnit)?;
+    let method = method(texts.field(10)).ok_or(Rule::BadMethod)?;
+    let hour = read_start(texts)?;
+    let content = read_content(pollutant, places, texts)?;
+    Ok(RdLine::Put {
+        update,
+        monitor,
+        duration,
+        method,
+        hour,
+        content,
+    })
+}
+
+// Of a deletion, only the monitor and the start are read.
+#[tactic(auto, unfolding(crate::specs::RdReading::delete_reading))]
+fn read_delete(texts: &FieldList<'_>) -> Result<RdLine, Rule>
+    ensures spelled { IfOk result IsSpelled }
+    ensures value { result ≡ delete_reading texts.now }
+{
+    let monitor = read_monitor(texts)?;
+    let hour = read_start(texts)?;
+    Ok(RdLine::Delete { monitor, hour })
+}
+
+#[tactic(auto, unfolding(crate::specs::RdReading::monitor_reading))]
+fn read_monitor(texts: &FieldList<'_>) -> Result<MonitorId, Rule>
+    ensures poc { IfOk result HasPoc }
+    ensures value { result ≡ monitor_reading texts.now }
+{
+    let site = site(texts.field(3), texts.field(4), texts.field(5)).ok_or(Rule::BadSite)?;
+    let pollutant = parameter(texts.field(6)).ok_or(Rule::ParameterOutOfProfile)?;
+    let poc = poc(texts.field(7)).ok_or(Rule::BadPoc)?;
+    Ok(MonitorId {
+        site,
+        pollutant,
+        poc,
+    })
+}
+
+#[tactic(auto, unfolding(crate::specs::RdReading::start_reading))]
+fn read_start(texts: &FieldList<'_>) -> Result<Hour, Rule>
+    ensures { result ≡ start_reading texts.now }
+{
+    let day = date(texts.field(11)).ok_or(Rule::BadDate)?;
+    let hour = time(texts.field(12)).ok_or(Rule::BadTime)?;
+    Ok(hour_of(day, hour))
+}
+
+#[tactic(auto, unfolding(crate::specs::RdReading::content_reading))]
+fn read_content(
+    pollutant: Pollutant,
+    places: u8,
+    texts: &FieldList<'_>,
+) -> Result<Observation, Rule>
+    requires { places ≤ 6 }
+    ensures reported { IfOk result (λ content. IsReported pollutant content.value content.null) }
+    ensures quals { IfOk result (λ content. list_all is_qualifier content.quals ≡ true) }
+    ensures value { result ≡ content_reading pollutant places texts.now }
+{
+    let has_value = !texts.field(13).is_empty();
+    let has_null = !texts.field(14).is_empty();
+    match (has_value, has_null) {
+        (true, true) => Err(Rule::ValueAndNull),
+        (false, false) => Err(Rule::NeitherValueNorNull),
+        (true, false) => read_valued(pollutant, places, texts),
+        (false, true) => read_null(texts),
+    }
+}
+
+#[tactic(auto, unfolding(crate::specs::RdReading::valued_reading))]
+fn read_valued(pollutant: Pollutant, places: u8, texts: &FieldList<'_>) -> Result<Observation, Rule>
+    requires { places ≤ 6 }
+    ensures reported { IfOk result (λ content. IsReported pollutant content.value content.null) }
+    ensures quals { IfOk result (λ content. list_all is_qualifier content.quals ≡ true) }
+    ensures value { result ≡ valued_reading pollutant places texts.now }
+{
+    let value = value(pollutant, places, texts.field(13))?;
+    let quals = qualifiers(texts).ok_or(Rule::BadQualifier)?;
+    Ok(Observation {
+        value: Some(value),
+        null: None,
+        quals,
+    })
+}
+
+#[tactic(auto, unfolding(crate::specs::RdReading::null_reading))]
+fn read_null(texts: &FieldList<'_>) -> Result<Observation, Rule>
+    ensures reported { (pollutant : Pollutant) → IfOk result (λ content. IsReported pollutant content.value content.null) }
+    ensures quals { IfOk result (λ content. list_all is_qualifier content.quals ≡ true) }
+    ensures value { result ≡ null_reading texts.now }
+{
+    let null = null_code(texts.field(14)).ok_or(Rule::BadNull)?;
+    let quals = qualifiers(texts).ok_or(Rule::BadQualifier)?;
+    Ok(Observation {
+        value: None,
+        null: Some(null),
+        quals,
+    })
+}

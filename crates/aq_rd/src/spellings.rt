@@ -1,0 +1,204 @@
+//! The spelling of each field of an RD line.
+ghost use Rattle.std.specs.Prelude.{◌≡◌, true, ℕ, ◌≤◌, ◌<◌, ◌^◌, length, IfSome, IfOk, Some, ◌≤ℤ◌};
+ghost use Rattle.std.specs.List.{list_all};
+ghost use Rattle.aq_base.specs.Values.{least_value, greatest_value};
+ghost use Rattle.aq_profile.specs.Spellings.{has_duration, site_in, parameter_in, poc_in, duration_in, unit_in, method_in, date_in, time_in, null_in, qualifier_in, qualifiers_in, digits_in, is_code_byte};
+ghost use Rattle.aq_profile.specs.RdForm.{qualifier_fields};
+ghost use Rattle.aq_rd.specs.RdReading.{value_reading};
+ghost use Rattle.aq_rd.specs.Spelled.{is_null_code, is_qualifier};
+
+use crate::digits::number;
+use crate::fields::FieldList;
+use aq_base::{Code, Day, Duration, Pollutant, Quals, Rule, SiteId};
+use aq_cal::day_of;
+use aq_num::{NumberFault, read_decimal};
+
+/// The least value of each pollutant, in thousandths of a ppm or tenths of a µg/m3.
+const LEAST_VALUE: i32 = -999;
+
+/// A number of exactly so many digits, at most eight.
+pub(crate) fn digits(width: usize, text: &[u8]) -> Option<u32>
+    requires { width ≤ 8 }
+    ensures value { result ≡ digits_in width text.now }
+    ensures small { IfSome result (λ n. n < 10 ^ width) }
+{
+    if text.len() == width {
+        number(text)
+    } else {
+        None
+    }
+}
+
+/// A site: state, county and site number in two, three and four digits.
+#[tactic(auto, unfolding(aq_profile::specs::Spellings::site_in))]
+pub(crate) fn site(state: &[u8], county: &[u8], number: &[u8]) -> Option<SiteId>
+    ensures { result ≡ site_in state.now county.now number.now }
+{
+    let state = digits(2, state)?;
+    let county = digits(3, county)?;
+    let number = digits(4, number)?;
+    SiteId::new(state as u8, county as u16, number as u16)
+}
+
+/// The pollutant of a parameter.
+pub(crate) fn parameter(text: &[u8]) -> Option<Pollutant>
+    ensures { result ≡ parameter_in text.now }
+{
+    match text {
+        b"44201" => Some(Pollutant::Ozone),
+        b"88101" => Some(Pollutant::Pm25),
+        b"81102" => Some(Pollutant::Pm10),
+        _ => None,
+    }
+}
+
+/// A POC: one or two digits, 1 to 99.
+pub(crate) fn poc(text: &[u8]) -> Option<u8>
+    ensures value { result ≡ poc_in text.now }
+    ensures least { IfSome result (λ poc. 1 ≤ poc) }
+    ensures most { IfSome result (λ poc. poc ≤ 99) }
+{
+    if text.len() > 2 {
+        return None;
+    }
+    let number = number(text)?;
+    if number >= 1 {
+        Some(number as u8)
+    } else {
+        None
+    }
+}
+
+/// A sample duration: `1` for an hour, and `7` for 24 hours, which ozone does not have.
+pub(crate) fn duration(pollutant: Pollutant, text: &[u8]) -> Option<Duration>
+    ensures value { result ≡ duration_in pollutant text.now }
+    ensures fits { IfSome result (λ duration. has_duration pollutant duration ≡ true) }
+{
+    match text {
+        b"1" => Some(Duration::Hour),
+        b"7" if pollutant != Pollutant::Ozone => Some(Duration::Day),
+        _ => None,
+    }
+}
+
+/// The places behind the point at which a pollutant's values in a unit are cut.
+pub(crate) fn unit_places(pollutant: Pollutant, text: &[u8]) -> Option<u8>
+    ensures value { result ≡ unit_in pollutant text.now }
+    ensures most { IfSome result (λ places. places ≤ 3) }
+{
+    match (pollutant, text) {
+        (Pollutant::Ozone, b"007") => Some(3),
+        (Pollutant::Ozone, b"008") => Some(0),
+        (Pollutant::Pm25, b"105") => Some(1),
+        (Pollutant::Pm10, b"001") => Some(1),
+        _ => None,
+    }
+}
+
+/// A method code of three digits.
+pub(crate) fn method(text: &[u8]) -> Option<u16>
+    ensures value { result ≡ method_in text.now }
+    ensures most { IfSome result (λ method. method ≤ 999) }
+{
+    let number = digits(3, text)?;
+    Some(number as u16)
+}
+
+/// A date of the profile as YYYYMMDD.
+#[tactic(auto, unfolding(aq_profile::specs::Spellings::date_in))]
+pub(crate) fn date(text: &[u8]) -> Option<Day>
+    ensures { result ≡ date_in text.now }
+{
+    let (year, rest) = text.split_at_checked(4)?;
+    let year = digits(4, year)?;
+    let (month, day) = rest.split_at_checked(2)?;
+    let month = digits(2, month)?;
+    let day = digits(2, day)?;
+    day_of(year as u16, month as u8, day as u8)
+}
+
+/// A full hour as HH:00.
+#[tactic(auto, unfolding(aq_profile::specs::Spellings::time_in))]
+pub(crate) fn time(text: &[u8]) -> Option<u8>
+    ensures value { result ≡ time_in text.now }
+    ensures most { IfSome result (λ hour. hour ≤ 23) }
+{
+    let (hour, minute) = text.split_at_checked(2)?;
+    let hour = digits(2, hour)?;
+    if minute == b":00".as_slice() && hour <= 23 {
+        Some(hour as u8)
+    } else {
+        None
+    }
+}
+
+/// A sample value, cut at so many places. `BadValue` where the text is no decimal number, else
+/// `ValueOutOfRange` where the cut value is out of the pollutant's range.
+#[tactic(auto, unfolding(aq_profile::specs::Spellings::value_in, crate::specs::RdReading::value_reading))]
+pub(crate) fn value(pollutant: Pollutant, places: u8, text: &[u8]) -> Result<i32, Rule>
+    requires { places ≤ 6 }
+    ensures value { result ≡ value_reading pollutant places text.now }
+    ensures range { IfOk result (λ v. (least_value ≤ℤ v) × (v ≤ℤ greatest_value pollutant)) }
+{
+    match read_decimal(text, places) {
+        Ok(value) if LEAST_VALUE <= value && value <= greatest(pollutant) => Ok(value),
+        Err(NumberFault::Spelling) => Err(Rule::BadValue),
+        _ => Err(Rule::ValueOutOfRange),
+    }
+}
+
+/// The greatest value of a pollutant, in thousandths of a ppm or tenths of a µg/m3.
+fn greatest(pollutant: Pollutant) -> i32
+    ensures { result ≡ greatest_value pollutant }
+{
+    match pollutant {
+        Pollutant::Ozone => 9_999,
+        Pollutant::Pm25 | Pollutant::Pm10 => 99_999,
+    }
+}
+
+/// A null data code, of two characters.
+pub(crate) fn null_code(text: &[u8]) -> Option<Code>
+    ensures value { result ≡ null_in text.now }
+    ensures characters { IfSome result (λ code. is_null_code code ≡ true) }
+{
+    match text {
+        &[first, second] if is_code_byte(first) && is_code_byte(second) => {
+            Some(Code { first, second })
+        }
+        _ => None,
+    }
+}
+
+/// A qualifier code, of one character or two.
+fn qualifier(text: &[u8]) -> Option<Code>
+    ensures value { result ≡ qualifier_in text.now }
+    ensures characters { IfSome result (λ code. is_qualifier code ≡ true) }
+{
+    match text {
+        &[first] if is_code_byte(first) => Some(Code { first, second: 0 }),
+        _ => null_code(text),
+    }
+}
+
+fn is_code_byte(byte: u8) -> bool
+    ensures { result ≡ is_code_byte byte }
+{
+    byte.is_ascii_uppercase() || byte.is_ascii_digit()
+}
+
+/// The codes of the qualifier fields. An empty field is passed over, and a code that came before is
+/// dropped.
+pub(crate) fn qualifiers(texts: &FieldList<'_>) -> Option<Quals>
+    ensures value { result ≡ qualifiers_in (qualifier_fields texts.now) }
+    ensures characters { IfSome result (λ codes. list_all is_qualifier codes ≡ true) }
+{
+    let mut quals = Quals::new();
+    for number in 17..27 {
+        let text = texts.field(number);
+        if !text.is_empty() {
+            quals.add(qualifier(text)?);
+        }
+    }
+    Some(quals)
+}
