@@ -16,7 +16,8 @@ use Rattle.aq_profile.specs.Reading.{line_value}
 use Rattle.aq_profile.specs.Lines.{NumberedLine}
 use Rattle.aq_profile.specs.Load.{after, changed_by, listed_for, refusal}
 use Rattle.aq_profile.specs.Office.{Office}
-use Rattle.aq_desk.specs.Built.{after_beside, built_after, built_after_all, built_refusal, built_refusals, built_reply_for, built_rest_of, is_office_line, monitor_for, refusal_beside}
+use Rattle.aq_desk.specs.Built.{after_beside, built_after, built_after_all, built_refusal, built_refusals, built_reply_for, built_rest_of, monitor_for, refusal_beside}
+use Rattle.aq_rd.specs.Tags.{has_office_tag}
 
 -- a line that is refused leaves the office
 after_beside-refused : (found : Option MonitorId) (office : Office) (text : List ℕ) (rule : Rule) → refusal_beside found office text ≡ Some rule → after_beside found office text ≡ office
@@ -25,7 +26,7 @@ after_beside-refused None office text rule broken =
     let by_line : (line : Bool) → (if line then Some NotBuilt else refusal office text) ≡ Some rule → (if line then office else after office text) ≡ office =
     elim [ true ↦ λ _. refl | false ↦ λ unread. ap (λ (r : Option Rule). if is_some r then office else changed_by office (line_value text)) unread ]
     in
-    by_line (is_office_line text) broken
+    by_line (has_office_tag text) broken
 
 pub built_after-refused : (office : Office) (text : List ℕ) (rule : Rule) → built_refusal office text ≡ Some rule → built_after office text ≡ office
 built_after-refused office text rule broken = after_beside-refused (monitor_for office.records text) office text rule broken

@@ -1,5 +1,5 @@
 -- What a load's lines make of an office, as far as the forms of lines are built: RD lines whole, and of the office's own lines the plain one of an ozone monitor, once (own).
-use Rattle.std.specs.Prelude.{ℕ, Bool, true, false, ◌&&◌, ◌==◌, if◌then◌else◌, Option, Some, None, List, [], ◌∷◌, ◌++◌, ◌-◌, length, take, drop, filter_map, codes}
+use Rattle.std.specs.Prelude.{ℕ, true, ◌==◌, if◌then◌else◌, Option, Some, None, List, [], ◌∷◌, ◌++◌, ◌-◌, length, take, drop, filter_map, codes}
 use Rattle.aq_base.specs.declared.monitor.MonitorId.{MonitorId}
 use Rattle.aq_base.specs.declared.monitor.Duration.TheVariants.{Hour}
 use Rattle.aq_base.specs.declared.office.OfficeRecord.{OfficeRecord}
@@ -13,10 +13,9 @@ use Rattle.aq_profile.specs.Limits.{MOST_LISTED}
 use Rattle.aq_profile.specs.Lines.{NumberedLine, line_count, body_lines}
 use Rattle.aq_profile.specs.Load.{after, all_rules, listed_for, refusal, rest_for}
 use Rattle.aq_profile.specs.Office.{Office}
-use Rattle.aq_profile.specs.Reading.{is_plain, tag_of}
-use Rattle.aq_profile.specs.Spellings.{Tag, Rd}
 use Rattle.aq_rd.specs.Front.{◌>>=◌, after as behind, whole}
 use Rattle.aq_rd.specs.PlainForm.{ozone_monitor_at}
+use Rattle.aq_rd.specs.Tags.{has_office_tag}
 
 -- XM|I|SS|CCC|NNNN|44201|P|1|Y, with no spaces
 unfoldable pub plain_monitor : List ℕ → Option MonitorId
@@ -35,18 +34,9 @@ abbrev pub monitor_for : List OfficeRecord → List ℕ → Option MonitorId
 monitor_for [] text = plain_monitor text
 monitor_for (_ ∷ _) text = None
 
-abbrev pub is_office_tag : Option Tag → Bool
-is_office_tag None = false
-is_office_tag (Some Rd) = false
-is_office_tag (Some _) = true
-
--- a line of printed ASCII with a tag of the office
-abbrev pub is_office_line : List ℕ → Bool
-is_office_line text = is_plain text && is_office_tag (tag_of text)
-
 abbrev pub refusal_beside : Option MonitorId → Office → List ℕ → Option Rule
 refusal_beside (Some id) office text = None
-refusal_beside None office text = if is_office_line text then Some NotBuilt else refusal office text
+refusal_beside None office text = if has_office_tag text then Some NotBuilt else refusal office text
 
 -- the rule under which a line is refused
 abbrev pub built_refusal : Office → List ℕ → Option Rule
@@ -54,7 +44,7 @@ built_refusal office text = refusal_beside (monitor_for office.records text) off
 
 abbrev pub after_beside : Option MonitorId → Office → List ℕ → Office
 after_beside (Some id) office text = record office { records = registered id ∷ [] }
-after_beside None office text = if is_office_line text then office else after office text
+after_beside None office text = if has_office_tag text then office else after office text
 
 -- the office after a line, which is the same after a refused one
 abbrev pub built_after : Office → List ℕ → Office

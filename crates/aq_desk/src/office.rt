@@ -6,7 +6,7 @@ ghost use Rattle.aq_rd.specs.Ranges.{HasLineRange};
 ghost use Rattle.aq_desk.specs.Built.{plain_monitor};
 
 use aq_base::{Duration, Hour, MonitorId, ObsKey, Observation, Rule, SiteId, Steps};
-use aq_rd::{Cursor, RdLine, ozone_monitor, read_rd};
+use aq_rd::{Cursor, RdLine, Tag, ozone_monitor, read_rd, tag_of};
 use aq_shelf::{Shelf, ShelfFault};
 use std::alloc::Global;
 use std::marker::Model;
@@ -66,17 +66,18 @@ impl Model for Office {
 }
 
 impl Office {
-    ghost use Rattle.std.specs.Prelude.{◌≡◌, ℕ, ◌<◌, Some, None, [], ◌∷◌, length, if◌then◌else◌, IfErr, IfSome, IsTrue, OnErr, OnOk};
+    ghost use Rattle.std.specs.Prelude.{◌≡◌, ℕ, ◌<◌, Some, None, [], ◌∷◌, length, if◌then◌else◌, false, IfErr, IfSome, IsTrue, OnErr, OnOk, OnSome};
     ghost use Rattle.aq_base.specs.declared.monitor.Duration.TheVariants.{Hour as ForHour};
     ghost use Rattle.aq_base.specs.declared.monitor.Pollutant.TheVariants.{Ozone};
     ghost use Rattle.aq_base.specs.declared.rule.Rule.TheVariants.{NotBuilt};
-    ghost use Rattle.aq_profile.specs.Load.{changed};
+    ghost use Rattle.aq_profile.specs.Load.{after, changed, refusal};
     ghost use Rattle.aq_profile.specs.Office.{nothing, duration_at, has_monitor};
     ghost use Rattle.aq_profile.specs.RdForm.{Put as PutSample, Delete as DeleteSample};
     ghost use Rattle.aq_profile.specs.Reading.{OfRd};
     ghost use Rattle.aq_profile.specs.Refusal.{broken};
-    ghost use Rattle.aq_desk.specs.Built.{built_after, built_refusal, registered};
+    ghost use Rattle.aq_desk.specs.Built.{built_after, built_refusal, monitor_for, registered};
     ghost use Rattle.aq_desk.specs.declared.office.Refusal.TheVariants.{Broken};
+    ghost use Rattle.aq_rd.specs.Tags.{has_office_tag};
     ghost use Rattle.std.specs.Option.{option_map};
     ghost use Rattle.aq_profile.specs.SiteHour.{site_hour};
     ghost use Rattle.aq_desk.specs.OfficeView.{IsOzone, IsRefusal, IsRule, line_value_of, plain_cell};
@@ -98,30 +99,50 @@ impl Office {
         ensures refused { IfErr result (IsRefusal (built_refusal self.old line.now)) }
         ensures unchanged { OnErr result (self.new ≡ self.old) }
     {
-        if let Some(monitor) = read_monitor(line) {
-            return self.register(monitor);
+        if let Some(monitor) = self.monitor_for(line) {
+            self.register(monitor);
+            return Ok(());
         }
-        match read_rd(line) {
-            Ok(line) => self.apply(&line),
+        match tag_of(line) {
+            Ok(Tag::Rd) => self.take_sample(line),
+            Ok(_) => Err(Refusal::Broken(Rule::NotBuilt)),
             Err(rule) => Err(Refusal::Broken(rule)),
         }
     }
 
-    /// Registers the first monitor.
-    fn register(&mut self, monitor: MonitorId) -> Result<(), Refusal>
-        requires { monitor.pollutant ≡ Ozone }
-        ensures first { OnOk result (self.old.records ≡ []) }
-        ensures after { OnOk result
-            (self.new ≡ record self.old { records = registered monitor ∷ [] }) }
-        ensures second { OnErr result (0 < length self.old.records) }
-        ensures refused { IfErr result (λ refusal. refusal ≡ Broken NotBuilt) }
-        ensures unchanged { OnErr result (self.new ≡ self.old) }
+    /// The monitor that a line registers: the first one.
+    fn monitor_for(&self, line: &[u8]) -> Option<MonitorId>
+        ensures value { result ≡ monitor_for self.now.records line.now }
+        ensures ozone { IfSome result (λ id. id.pollutant ≡ Ozone) }
+        ensures first { OnSome result (self.now.records ≡ []) }
     {
         if self.monitor.is_some() {
-            return Err(Refusal::Broken(Rule::NotBuilt));
+            return None;
         }
+        read_monitor(line)
+    }
+
+    /// Registers the first monitor.
+    fn register(&mut self, monitor: MonitorId)
+        requires ozone { monitor.pollutant ≡ Ozone }
+        requires first { self.old.records ≡ [] }
+        ensures { self.new ≡ record self.old { records = registered monitor ∷ [] } }
+    {
         self.monitor = Some(monitor);
-        Ok(())
+    }
+
+    /// Takes an RD line.
+    fn take_sample(&mut self, line: &[u8]) -> Result<(), Refusal>
+        requires { has_office_tag line.now ≡ false }
+        ensures unbroken { OnOk result (refusal self.old line.now ≡ None) }
+        ensures after { OnOk result (self.new ≡ after self.old line.now) }
+        ensures refused { IfErr result (IsRefusal (refusal self.old line.now)) }
+        ensures unchanged { OnErr result (self.new ≡ self.old) }
+    {
+        match read_rd(line) {
+            Ok(line) => self.apply(&line),
+            Err(rule) => Err(Refusal::Broken(rule)),
+        }
     }
 
     /// Whether the monitor is the registered one, which is one of hours.
