@@ -1,5 +1,5 @@
 -- The body of a load as it is read from a source.
-use Rattle.std.specs.Prelude.{◌≡◌, ℕ, ◌+◌, ◌<◌, ◌≤◌, List, [], ◌++◌, length, Option, IfSome}
+use Rattle.std.specs.Prelude.{◌≡◌, ℕ, ◌+◌, ◌<◌, List, [], ◌++◌, length, Option, IfSome}
 use Rattle.std.specs.Option.{option_map}
 use Rattle.aq_desk.specs.Outside.{HasRisen}
 use Rattle.aq_desk.specs.declared.body.BodyFault.{BodyFault}

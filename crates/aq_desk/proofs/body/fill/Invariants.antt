@@ -1,4 +1,4 @@
-use Rattle.std.proofs.Common.{◌≡◌, ◌++◌, ℕ, ◌+◌, ◌-◌, ◌≤◌, vec_len}
+use Rattle.std.proofs.Common.{◌≡◌, ◌++◌, ◌+◌, ◌-◌, ◌≤◌, vec_len}
 use Rattle.std.specs.Option.{option_map}
 use Rattle.aq_desk.specs.declared.body.TheConstants.{MOST_BYTES}
 use Rattle.aq_desk.proofs.body.fill.Given as goal

@@ -1,4 +1,4 @@
-use Rattle.std.proofs.Common.{◌≡◌, ◌+◌, length, ap, ◌∙◌, sym, arith}
+use Rattle.std.proofs.Common.{◌≡◌, length, ap, ◌∙◌, arith}
 use Rattle.aq_profile.specs.Lines.{body_lines}
 use Rattle.aq_profile.specs.Office.{nothing}
 use Rattle.aq_desk.specs.Built.{built_refusals}

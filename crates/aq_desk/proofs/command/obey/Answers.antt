@@ -1,0 +1,16 @@
+use Rattle.std.specs.Prelude.{ℕ, List, IfSome}
+use Rattle.aq_desk.specs.Ending.{ending_from, status_of}
+use Rattle.aq_desk.specs.Scan.{Follows, Outcome, outcome_of, scan_outcome}
+use Rattle.aq_desk.specs.declared.words.Command.{Command}
+use Rattle.aq_desk.specs.declared.words.Command.TheVariants.{Scan}
+use Rattle.aq_desk.specs.contracts.words.Command.{enum}
+use borrow.Enum.Total.{values_d}
+use Rattle.aq_desk.proofs.command.obey.Goals as goal
+
+pub returns-clause-told : goal.returns-clause-told
+returns-clause-told g c =
+    let told_by = λ (outcome : List ℕ → Outcome). IfSome (g.S.Source.left c.args.input.now) (λ body. Follows (outcome body) (status_of (ending_from c.scan.result)) (g.O.Sink.written c.args.output.now) (g.O.Sink.written c.scan.new.output)) in
+    let by_command : (command : Command) → told_by (λ body. scan_outcome body (values_d enum 0 c.site-1.given.0 command).0 (values_d enum 0 c.day-1.given.0 command).1.0) → told_by (outcome_of command) =
+    elim [ (Scan site day) ↦ λ told. told ]
+    in
+    by_command c.args.command.now c.scan.ensures.told
