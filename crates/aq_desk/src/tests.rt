@@ -144,12 +144,164 @@ fn refused_lines_are_listed_under_their_rules(rt: HostRuntime) -> Result<(), Fai
     body.push_str(hour_line(alloc, 10, 72)?.as_str())?;
     body.push_str("\nnonsense\n")?;
     body.push_str(MONITOR)?;
+    // The last line has no end.
     body.push_str("RD|I|06|037|1103|44201|2|1|007|087|20240701|10:00|0.071")?;
     let outcome = run_over(alloc, &SCAN, body.as_bytes(), &[], &[])?;
     assert_eq!(rt; outcome.status, 0);
     let reply =
-        "load 0\nlines 7\naccepted 2\nrefused 4\nline rule name count\n3 21 AlreadyThere 1\n5 99 NotBuilt 1\n6 99 NotBuilt 1\n7 19 UnknownMonitor 1\nsite 06-037-1103\n";
+        "load 0\nlines 7\naccepted 2\nrefused 4\nline rule name count\n3 21 AlreadyThere 1\n5 2 BadTag 1\n6 99 NotBuilt 1\n7 19 UnknownMonitor 1\nsite 06-037-1103\n";
     assert!(rt; outcome.output.starts_with(reply.as_bytes()));
+    Ok(())
+}
+
+#[test]
+fn five_hundred_refused_lines_are_listed_and_the_others_counted(
+    rt: HostRuntime,
+) -> Result<(), Fail> {
+    let alloc = rt.alloc();
+    // Lines of a wrong tag, then lines of no registered monitor.
+    let cases = [
+        (
+            501,
+            0,
+            "lines 501\naccepted 0\nrefused 501\n",
+            "500 2 BadTag 1\n- 2 BadTag 1\n",
+        ),
+        (
+            550,
+            50,
+            "lines 600\naccepted 0\nrefused 600\n",
+            "500 2 BadTag 1\n- 2 BadTag 50\n- 19 UnknownMonitor 50\n",
+        ),
+    ];
+    for (wrong, unknown, counts, end) in cases {
+        let mut body = String::new(alloc);
+        for _ in 0..wrong {
+            body.push_str("x\n")?;
+        }
+        for _ in 0..unknown {
+            body.push_str(hour_line(alloc, 10, 71)?.as_str())?;
+        }
+        let outcome = run_over(alloc, &SCAN, body.as_bytes(), &[], &[])?;
+        assert_eq!(rt; outcome.status, 12);
+        assert!(rt; outcome.output[7..].starts_with(counts.as_bytes()), "{counts}");
+        assert!(rt; outcome.output.ends_with(end.as_bytes()), "{end}");
+        assert_eq!(rt; outcome.output.split(|byte| *byte == b'\n').count(), 506 + unknown.min(1) as usize + 1);
+    }
+    Ok(())
+}
+
+/// Whether the day's seventeen rows have no average and no hour, save the one at this index.
+fn has_no_other_average(output: &[u8], row: Option<usize>) -> bool {
+    let mut lines = output.split(|byte| *byte == b'\n');
+    lines.any(|line| line.starts_with(b"hour "))
+        && lines
+            .take(17)
+            .enumerate()
+            .all(|(index, line)| Some(index) == row || line.ends_with(b" - 0 - 0"))
+}
+
+#[test]
+fn an_hour_before_seven_counts_for_the_day_before(rt: HostRuntime) -> Result<(), Fail> {
+    let alloc = rt.alloc();
+    let before = ["scan", "06-037-1103", "2023-12-31"];
+    let day = ["scan", "06-037-1103", "2024-01-01"];
+    let cases = [
+        ("06:00", before, Some(16), "23:00 0.071 1 0.071 1"),
+        ("06:00", day, None, "07:00 - 0 - 0"),
+        ("07:00", before, None, "23:00 - 0 - 0"),
+        ("07:00", day, Some(0), "07:00 0.071 1 0.071 1"),
+    ];
+    for (time, words, row, line) in cases {
+        let mut body = String::from_str(alloc, MONITOR)?;
+        let hour =
+            format!(in alloc; "RD|I|06|037|1103|44201|1|1|007|087|20240101|{time}|0.568\n")?;
+        body.push_str(hour.as_str())?;
+        let outcome = run_over(alloc, &words, body.as_bytes(), &[], &[])?;
+        assert_eq!(rt; outcome.status, 0);
+        assert!(rt; has_line(&outcome.output, line), "{line}");
+        assert!(rt; has_no_other_average(&outcome.output, row), "{line}");
+    }
+    Ok(())
+}
+
+#[test]
+fn an_hour_is_updated_deleted_and_inserted_again(rt: HostRuntime) -> Result<(), Fail> {
+    let alloc = rt.alloc();
+    let hour = "06|037|1103|44201|1|1|007|087|20240701|13:00";
+    let body = format!(in alloc;
+        "{MONITOR}RD|U|{hour}|0.568\nRD|D|{hour}\nRD|I|{hour}|0.070\nRD|U|{hour}||AN\nRD|U|{hour}|0.568\nRD|D|{hour}\nRD|D|{hour}\nRD | I|{hour}| 568.9 \nRD|I|06|037|1103|44201|1|1|008|087|20240701|13:00|576.9||||V|RT\n"
+    )?;
+    let outcome = run_over(alloc, &SCAN, body.as_bytes(), &[], &[])?;
+    assert_eq!(rt; outcome.status, 0);
+    let reply = "load 0\nlines 10\naccepted 6\nrefused 4\nline rule name count\n2 22 NotThere 1\n3 22 NotThere 1\n8 22 NotThere 1\n9 16 ValueOutOfRange 1\nsite 06-037-1103\n";
+    assert!(rt; outcome.output.starts_with(reply.as_bytes()));
+    assert!(rt; has_line(&outcome.output, "13:00 0.072 1 0.072 1"));
+    assert!(rt; has_line(&outcome.output, "14:00 - 0 - 0"));
+    Ok(())
+}
+
+/// The lines of the hours of 2024 with CRLF, some with qualifiers and some with a null code.
+fn push_leap_year(alloc: Global, body: &mut String) -> Result<(), Fail> {
+    let months = [31u32, 29, 31, 30, 31, 30, 31, 31, 30, 31, 30, 31];
+    let mut month = 0u32;
+    for days in months {
+        month = month.saturating_add(1);
+        for day in 1..=days {
+            for hour in 0u32..24 {
+                let sample = match hour {
+                    3 => "|AN",
+                    9 => "0.071||||V|RT",
+                    _ => "0.071",
+                };
+                let line = format!(in alloc;
+                    "RD|I|06|037|1103|44201|1|1|007|087|2024{month:02}{day:02}|{hour:02}:00|{sample}\r\n"
+                )?;
+                body.push_str(line.as_str())?;
+            }
+        }
+    }
+    Ok(())
+}
+
+#[test]
+fn a_leap_year_is_taken_whole(rt: HostRuntime) -> Result<(), Fail> {
+    let alloc = rt.alloc();
+    let mut body = String::from_str(alloc, "# hours of 2024\r\n")?;
+    body.push_str("XM|I|06|037|1103|44201|1|1|Y\r\n")?;
+    push_leap_year(alloc, &mut body)?;
+    body.push_str("RD|I|06|037|1103|42602|1|1|007|087|20240701|10:00|0.071\r\n")?;
+    let words = ["scan", "06-037-1103", "2024-02-29"];
+    let outcome = run_over(alloc, &words, body.as_bytes(), &[], &[])?;
+    assert_eq!(rt; outcome.status, 0);
+    let reply = "load 0\nlines 8787\naccepted 8785\nrefused 1\nline rule name count\n8787 6 ParameterOutOfProfile 1\nsite 06-037-1103\nday 2024-02-29\n";
+    assert!(rt; outcome.output.starts_with(reply.as_bytes()));
+    assert!(rt; has_line(&outcome.output, "07:00 0.071 8 0.071 8"));
+    // The hours from 20:00 to 03:00 of the next day have one null code.
+    assert!(rt; has_line(&outcome.output, "20:00 0.071 7 0.071 7"));
+    Ok(())
+}
+
+#[test]
+fn a_body_of_120001_lines_ends_with_10(rt: HostRuntime) -> Result<(), Fail> {
+    let alloc = rt.alloc();
+    let mut body = Vec::new(alloc);
+    for _ in 0..120_000 {
+        body.extend_from_slice(b"#\n")?;
+    }
+    let outcome = run_over(alloc, &SCAN, &body, &[], &[])?;
+    assert_eq!(rt; outcome.status, 12);
+    let reply = "load 0\nlines 120000\naccepted 0\nrefused 0\nline rule name count\n";
+    assert_eq!(rt; outcome.output.as_slice(), reply.as_bytes());
+    // A further line, with no end.
+    body.push(b'#')?;
+    let outcome = run_over(alloc, &SCAN, &body, &[], &[])?;
+    assert_eq!(rt; outcome.status, 10);
+    assert_eq!(rt; outcome.output.as_slice(), b"".as_slice());
+    assert_eq!(rt;
+        outcome.errors.as_slice(),
+        b"airdv: 10 120001 lines\n".as_slice()
+    );
     Ok(())
 }
 
