@@ -18,7 +18,8 @@ use aq_cal::civil_of;
 use aq_num::write_fixed;
 use std::alloc::Global;
 
-/// Writes the canonical line of a sample or of its deletion.
+/// Writes the one line by which a sample, or its deletion, is written (own, within the AQS raw data
+/// transaction format): ozone in ppm with three decimals, PM in µg/m3 with one.
 pub fn print_rd(alloc: Global, line: &RdLine) -> Result<Vec<u8>, Memory>
     ensures canonical { IfOk result (λ text. text.items ≡ canonical_rd (value_of line.now)) }
     ensures no_office { IfOk result (λ text. has_office_tag text.items ≡ false) }

@@ -18,7 +18,9 @@ use crate::tag::is_plain;
 use aq_base::{Hour, MonitorId, Observation, Pollutant, Rule};
 use aq_cal::hour_of;
 
-/// Reads an RD line. Its refusal is the first reading rule that it breaks.
+/// Reads a line of the AQS raw data transaction format (RD), whose first field is no tag of the
+/// office's forms. It is refused under the reading rule with the smallest number that it breaks
+/// (own). It takes no memory.
 pub fn read_rd(line: &[u8]) -> Result<RdLine, Rule>
     requires { has_office_tag line.now ≡ false }
     ensures ok { IfOk result (λ x. line_value line.now ≡ Some (OfRd (value_of x))) }
