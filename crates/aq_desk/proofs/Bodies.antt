@@ -3,7 +3,7 @@ use Rattle.std.proofs.Common.{◌≡◌, ℕ, ◌+◌, ◌<◌, List, [], ◌++�
 use Rattle.std.specs.Option.{option_map}
 use Rattle.std.proofs.lemmas.List.{append-nil, length-append, nil_from_length}
 use Rattle.aq_desk.specs.Body.{Extends, IsBody, TellsTooMany}
-use Rattle.aq_desk.specs.declared.body.TheConstants.{MOST_BYTES}
+use Rattle.aq_forms.specs.declared.lines.TheConstants.{MOST_BYTES}
 
 -- the body so far and what is left are all that there is
 pub piece_more : (start before after : Option (List ℕ)) (body longer : List ℕ) (n : ℕ) → option_map (λ left. body ++ left) before ≡ start → Extends before after body longer n → option_map (λ left. longer ++ left) after ≡ start

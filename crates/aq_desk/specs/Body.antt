@@ -4,7 +4,7 @@ use Rattle.std.specs.Option.{option_map}
 use Rattle.aq_desk.specs.Outside.{HasRisen}
 use Rattle.aq_desk.specs.declared.body.BodyFault.{BodyFault}
 use Rattle.aq_desk.specs.declared.body.BodyFault.TheVariants.{InputFailed, Memory, TooManyBytes}
-use Rattle.aq_desk.specs.declared.body.TheConstants.{MOST_BYTES}
+use Rattle.aq_forms.specs.declared.lines.TheConstants.{MOST_BYTES}
 
 -- a piece of n bytes went from the front of what was left behind the body; none is the end
 pub record Extends (before after : Option (List ℕ)) (body longer : List ℕ) (n : ℕ) : Type 0 where

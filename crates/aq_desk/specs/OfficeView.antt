@@ -10,10 +10,7 @@ use Rattle.aq_base.specs.Values.{least_value, greatest_value}
 use Rattle.aq_base.specs.declared.rule.Rule.{Rule}
 use Rattle.aq_base.specs.declared.rule.Rule.TheVariants.{AlreadyThere, ObservationsFull}
 use Rattle.aq_profile.specs.Office.{Office}
-use Rattle.aq_profile.specs.RdForm.{RdValue, Put as PutSample, Delete as DeleteSample}
 use Rattle.aq_profile.specs.SiteHour.{Cell}
-use Rattle.aq_rd.specs.declared.line.RdLine.{RdLine}
-use Rattle.aq_rd.specs.declared.line.RdLine.TheVariants.{Put, Delete}
 use Rattle.aq_shelf.specs.declared.fault.ShelfFault.{ShelfFault}
 use Rattle.aq_shelf.specs.declared.fault.ShelfFault.TheVariants as fault
 use Rattle.aq_desk.specs.Built.{registered}
@@ -51,11 +48,6 @@ abbrev pub refusal_of : ShelfFault → Refusal
 refusal_of fault.AlreadyThere = Broken AlreadyThere
 refusal_of fault.Full = Broken ObservationsFull
 refusal_of fault.Memory = Memory
-
--- an RD line as a value of the book of rules
-abbrev pub line_value_of : RdLine → RdValue
-line_value_of (Put update monitor duration method hour content) = PutSample update monitor duration method hour content
-line_value_of (Delete monitor hour) = DeleteSample monitor hour
 
 -- an hour's value, which no event excludes yet
 abbrev pub plain_cell : ℤ → Cell

@@ -4,10 +4,8 @@ ghost use Rattle.aq_desk.specs.Body.{IsBody, IsBodyFault, TellsTooMany, Extends}
 
 use crate::outside::Source;
 use aq_base::{Failed, Memory};
+use aq_forms::MOST_BYTES;
 use std::alloc::{AllocError, Global};
-
-/// A load's body has at most this many bytes.
-pub const MOST_BYTES: usize = 8_388_608;
 
 const PIECE: usize = 65_536;
 

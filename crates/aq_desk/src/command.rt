@@ -12,7 +12,7 @@ ghost use Rattle.aq_desk.specs.Scan.{Follows, outcome_for, outcome_of, scan_answ
 ghost use Rattle.aq_desk.specs.WindowView.{row_view};
 ghost use Rattle.aq_desk.specs.Words.{command_of};
 ghost use Rattle.aq_desk.specs.Writing.{WritesFront};
-ghost use Rattle.aq_desk.specs.declared.body.TheConstants.{MOST_BYTES};
+ghost use Rattle.aq_forms.specs.declared.lines.TheConstants.{MOST_BYTES};
 ghost use Rattle.aq_desk.specs.declared.ending.Ending.TheVariants.{NoCommand};
 
 use crate::body::read_body;

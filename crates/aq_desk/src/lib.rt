@@ -15,7 +15,6 @@ mod windows;
 mod words;
 mod writing;
 
-pub use body::MOST_BYTES;
 pub use command::run;
 pub use memory_sink::MemorySink;
 pub use memory_source::MemorySource;

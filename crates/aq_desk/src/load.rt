@@ -6,7 +6,7 @@ ghost use Rattle.aq_profile.specs.Lines.{body_lines};
 ghost use Rattle.aq_profile.specs.Load.{refused_under, rest_for};
 ghost use Rattle.aq_profile.specs.Office.{nothing};
 ghost use Rattle.aq_desk.specs.Built.{built_after, built_after_all, built_reply, built_reply_for, counted, listed_for_line};
-ghost use Rattle.aq_desk.specs.declared.body.TheConstants.{MOST_BYTES};
+ghost use Rattle.aq_forms.specs.declared.lines.TheConstants.{MOST_BYTES};
 
 use crate::office::{Office, Refusal};
 use aq_base::{Listed, ListedLine, LoadReply, Memory, Rest, RestRule, Rule};

@@ -77,10 +77,11 @@ impl Office {
     ghost use Rattle.aq_profile.specs.Refusal.{broken};
     ghost use Rattle.aq_desk.specs.Built.{built_after, built_refusal, monitor_for, registered};
     ghost use Rattle.aq_desk.specs.declared.office.Refusal.TheVariants.{Broken};
+    ghost use Rattle.aq_rd.specs.RdReading.{value_of};
     ghost use Rattle.aq_rd.specs.Tags.{has_office_tag};
     ghost use Rattle.std.specs.Option.{option_map};
     ghost use Rattle.aq_profile.specs.SiteHour.{site_hour};
-    ghost use Rattle.aq_desk.specs.OfficeView.{IsOzone, IsRefusal, IsRule, line_value_of, plain_cell};
+    ghost use Rattle.aq_desk.specs.OfficeView.{IsOzone, IsRefusal, IsRule, plain_cell};
 
     /// An office of which nothing stands.
     pub(crate) fn new(alloc: Global) -> Office
@@ -158,9 +159,9 @@ impl Office {
     /// Takes an RD line. After a refusal the office is as before.
     fn apply(&mut self, line: &RdLine) -> Result<(), Refusal>
         requires { HasLineRange line.now }
-        ensures unbroken { OnOk result (broken self.old (OfRd (line_value_of line.now)) ≡ None) }
-        ensures after { OnOk result (self.new ≡ changed self.old (OfRd (line_value_of line.now))) }
-        ensures refused { let value = OfRd (line_value_of line.now) in
+        ensures unbroken { OnOk result (broken self.old (OfRd (value_of line.now)) ≡ None) }
+        ensures after { OnOk result (self.new ≡ changed self.old (OfRd (value_of line.now))) }
+        ensures refused { let value = OfRd (value_of line.now) in
             IfErr result (IsRefusal (broken self.old value)) }
         ensures unchanged { OnErr result (self.new ≡ self.old) }
     {
