@@ -6,7 +6,7 @@ ghost use Rattle.aq_rd.specs.Ranges.{HasLineRange};
 ghost use Rattle.aq_desk.specs.Built.{plain_monitor};
 
 use aq_base::{Duration, Hour, MonitorId, ObsKey, Observation, Rule, SiteId, Steps};
-use aq_rd::{Cursor, RdLine, Tag, ozone_monitor, read_rd, tag_of};
+use aq_rd::{Cursor, RdLine, has_office_tag, ozone_monitor, read_rd};
 use aq_shelf::{Shelf, ShelfFault};
 use std::alloc::Global;
 use std::marker::Model;
@@ -104,11 +104,10 @@ impl Office {
             self.register(monitor);
             return Ok(());
         }
-        match tag_of(line) {
-            Ok(Tag::Rd) => self.take_sample(line),
-            Ok(_) => Err(Refusal::Broken(Rule::NotBuilt)),
-            Err(rule) => Err(Refusal::Broken(rule)),
+        if has_office_tag(line) {
+            return Err(Refusal::Broken(Rule::NotBuilt));
         }
+        self.take_sample(line)
     }
 
     /// The monitor that a line registers: the first one.

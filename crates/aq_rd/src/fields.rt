@@ -85,8 +85,8 @@ impl<'a> FieldList<'a> {
     }
 }
 
-// The field with which a text begins.
-fn first_field(text: &[u8]) -> &[u8]
+/// The field with which a text begins.
+pub(crate) fn first_field(text: &[u8]) -> &[u8]
     ensures { result.now ≡ field 1 (fields text.now) }
 {
     for (place, &byte) in text.iter().enumerate() {

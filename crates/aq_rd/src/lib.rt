@@ -17,7 +17,7 @@ pub use line::RdLine;
 pub use plain::ozone_monitor;
 pub use print::print_rd;
 pub use read::read_rd;
-pub use tag::{Tag, tag_of};
+pub use tag::{Tag, has_office_tag, tag_of};
 
 #[cfg(test)]
 mod tests;

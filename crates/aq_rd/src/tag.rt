@@ -6,7 +6,7 @@ ghost use Rattle.aq_profile.specs.Reading.{is_plain, is_plain_byte, reading_rule
 ghost use Rattle.aq_profile.specs.Reading as reading;
 ghost use Rattle.aq_rd.specs.Tags.{tag_value, tag_rule, has_office_tag};
 
-use crate::fields::FieldList;
+use crate::fields::first_field;
 use aq_base::Rule;
 
 /// The form of a line, by its first field: RD for samples, and the agency's own for its office
@@ -45,7 +45,18 @@ pub fn tag_of(line: &[u8]) -> Result<Tag, Rule>
     if !is_plain(line) {
         return Err(Rule::BadBytes);
     }
-    form_of(FieldList::new(line).field(1)).ok_or(Rule::BadTag)
+    form_of(first_field(line)).ok_or(Rule::BadTag)
+}
+
+/// Whether a line has the tag of one of the agency's own forms, and no byte outside 20 to 7E
+/// (hexadecimal): such a line is none for `read_rd`.
+pub fn has_office_tag(line: &[u8]) -> bool
+    ensures { result ≡ has_office_tag line.now }
+{
+    match form_of(first_field(line)) {
+        None | Some(Tag::Rd) => false,
+        Some(_) => is_plain(line),
+    }
 }
 
 /// Whether a line is of printed ASCII and spaces.
