@@ -19,6 +19,16 @@ pub mod EightHour
 pub mod OzoneDay
 pub mod OzoneYear
 pub mod OzoneVerdict
+pub mod ParticleDay
+pub mod QuarterCounts
+pub mod Means
+pub mod Percentile
+pub mod Substitution
+pub mod AnnualVerdict
+pub mod DailyVerdict
+pub mod Strata
+pub mod Pm10Estimate
+pub mod Pm10Verdict
 pub mod Sheet
 pub mod Sheets
 pub mod OzoneExamples
