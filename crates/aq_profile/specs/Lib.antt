@@ -45,4 +45,5 @@ pub mod Answer
 pub mod Rows
 pub mod Generator
 pub mod LineExamples
+pub mod ParticleExamples
 pub mod Least

@@ -2,7 +2,9 @@
 //! functions here are laws, which show that a definition means what a reader expects.
 #![tactic(auto)]
 
+pub mod annual_verdict;
 pub mod canonical;
+pub mod daily_verdict;
 pub mod eight_hour;
 pub mod exclusion;
 pub mod lines;
@@ -13,6 +15,10 @@ pub mod office_records;
 pub mod ozone_day;
 pub mod ozone_verdict;
 pub mod ozone_year;
+pub mod particle_day;
+pub mod percentile;
+pub mod pm10;
+pub mod quarter_counts;
 pub mod reading;
 pub mod refusal;
 pub mod sheets;
