@@ -1,5 +1,5 @@
 -- Small offices, quarters and years of particles, on which the laws work the rules out.
-use Rattle.std.specs.Prelude.{ℕ, ◌+◌, ◌*◌, true, List, [], ◌∷◌, ◌++◌, map, replicate, Some, None, pos, neg_ℤ}
+use Rattle.std.specs.Prelude.{ℕ, ◌+◌, ◌*◌, true, List, [], ◌∷◌, ◌++◌, map, replicate, codes, Some, None, pos, neg_ℤ}
 use Rattle.std.specs.List.{range_with_len}
 use Rattle.aq_base.specs.Calendar.{day_number, hour_number, quarter_number}
 use Rattle.aq_base.specs.declared.monitor.Duration.{Duration}
@@ -10,12 +10,16 @@ use Rattle.aq_base.specs.declared.monitor.Pollutant.TheVariants.{Pm25, Pm10}
 use Rattle.aq_base.specs.declared.observation.ObsKey.{ObsKey}
 use Rattle.aq_base.specs.declared.observation.Observation.{Observation}
 use Rattle.aq_base.specs.declared.office.OfficeRecord.{OfficeRecord}
-use Rattle.aq_base.specs.declared.office.OfficeRecord.TheVariants.{Monitor, Primary, Schedule}
-use Rattle.aq_profile.specs.Office.{Office}
+use Rattle.aq_base.specs.declared.office.OfficeRecord.TheVariants.{Monitor, Primary, Schedule, Event, Concurrence}
+use Rattle.aq_base.specs.declared.reply.LoadReply.{LoadReply}
+use Rattle.aq_base.specs.declared.rule.Rule.TheVariants.{AlreadyThere, ParameterOutOfProfile}
+use Rattle.aq_profile.specs.Office.{Office, StoredLoad}
+use Rattle.aq_profile.specs.Sheet.{Sheet, head_of, site_text}
+use Rattle.aq_profile.specs.Sheet.SheetCell.{Int, Fixed, Text, Missing}
 use Rattle.aq_profile.specs.QuarterCounts.{Makeup, QuarterDays}
 use Rattle.aq_profile.specs.Pm10Estimate.{Pm10Quarter}
 use Rattle.aq_profile.specs.Rows.{Row, OfOfficeRow, OfObsRow, OfLoadRow, office_row, obs_row}
-use Rattle.aq_profile.specs.OzoneExamples.{site, office_of}
+use Rattle.aq_profile.specs.OzoneExamples.{site, office_of, smoke}
 
 -- ---- monitors and samples
 
@@ -144,3 +148,37 @@ sample_at hour = OfObsRow (obs_row (particle_hour Pm25 1 120 (hour_number winter
 abbrev pub empty_load : ℕ → Row
 empty_load number =
     OfLoadRow (record { number = pos number; digest = replicate 32 0; lines = pos 0; accepted = pos 0; listed = []; rest = [] })
+
+-- ---- sheets, rows and exports
+
+abbrev pub exceeding_quarter : Pm10Quarter
+exceeding_quarter = record { days = 92; scheduled = 16; captured = 15; strata = 15; samples = 15; exceedances = 1; scheduled_exceedances = 1; sixtieths = 60 }
+
+abbrev pub reply_without_lines : ℕ → LoadReply
+reply_without_lines number = record { number = number; lines = 0; accepted = 0; refused = 0; listed = []; rest = [] }
+
+-- a sheet with a cell of each kind
+abbrev pub one_row : Sheet
+one_row = record {
+  heads = head_of (codes "site") (Text (site_text site)) ∷ [];
+  columns = codes "a" ∷ codes "b" ∷ codes "c" ∷ codes "d" ∷ [];
+  rows = (Int (neg_ℤ (pos 7)) ∷ Fixed (neg_ℤ (pos 5)) 1 ∷ Text (codes "Met") ∷ Missing ∷ []) ∷ [];
+}
+
+-- a monitor with two samples in an event that was concurred in: one with the codes V and RT, and one with a null code
+abbrev pub exported : Office
+exported =
+    office_of
+    (sampler Pm25 Day 1 ∷ Event 1 site Pm25 (hour_number winter_day 0) (hour_number winter_day 90) smoke ∷ Concurrence 1 true ∷ [])
+    ((record { monitor = particle_id Pm25 1; hour = hour_number winter_day 0 }, record { value = Some (pos 120); null = None; quals = record { first = 86; second = 0 } ∷ smoke ∷ [] })
+    ∷ (record { monitor = particle_id Pm25 1; hour = hour_number (winter_day + 3) 0 }, record { value = None; null = Some (record { first = 65; second = 78 }); quals = smoke ∷ [] })
+    ∷ [])
+
+-- a load of three lines, of which two were refused
+abbrev pub load_of_three_lines : StoredLoad
+load_of_three_lines = record {
+  number = 7;
+  digest = replicate 32 9;
+  reply =
+      record { number = 7; lines = 3; accepted = 1; refused = 2; listed = record { line = 2; rule = AlreadyThere } ∷ record { line = 3; rule = ParameterOutOfProfile } ∷ []; rest = [] };
+}

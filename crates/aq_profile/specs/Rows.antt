@@ -172,15 +172,15 @@ is_colon byte = byte == 58
 abbrev pub rule_with : ℕ → Option Rule
 rule_with number = find (λ r. rule_number r == number) all_rules
 
-unfoldable pub listed_of : List ℕ → Option ListedLine
-listed_of text = do
+unfoldable pub listed_in : List ℕ → Option ListedLine
+listed_in text = do
   line ← number_in (before_first is_colon text)
   number ← number_in (after_first is_colon text)
   rule ← rule_with number
   Some (record { line = line; rule = rule })
 
-unfoldable pub rest_of : List ℕ → Option RestRule
-rest_of text = do
+unfoldable pub rest_in : List ℕ → Option RestRule
+rest_in text = do
   number ← number_in (before_first is_colon text)
   rule ← rule_with number
   count ← number_in (after_first is_colon text)
@@ -197,8 +197,8 @@ load_of_row row = do
   number ← whole row.number
   lines ← whole row.lines
   accepted ← whole row.accepted
-  listed ← each listed_of (words row.listed)
-  rest ← each rest_of (words row.rest)
+  listed ← each listed_in (words row.listed)
+  rest ← each rest_in (words row.rest)
   only_if (λ l. is_load_row (load_row l) row) (record { number = number; digest = row.digest; reply = record { number = number; lines = lines; accepted = accepted; refused = length listed + sum_by (λ (r : RestRule). r.count) rest; listed = listed; rest = rest } })
 
 -- ---- which rows are an office's
