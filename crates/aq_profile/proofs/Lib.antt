@@ -9,3 +9,5 @@ pub mod Greatest
 pub mod Rows
 pub mod Least
 pub mod Agree
+pub mod Descent
+pub mod Percentiles
