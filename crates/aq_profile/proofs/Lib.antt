@@ -11,3 +11,5 @@ pub mod Least
 pub mod Agree
 pub mod Descent
 pub mod Percentiles
+pub mod Cuts
+pub mod Quotients

@@ -27,5 +27,6 @@ pub mod reading;
 pub mod refusal;
 pub mod sheets;
 pub mod site_hour;
+pub mod strata;
 pub mod tables;
 pub mod windows;
