@@ -13,3 +13,7 @@ pub mod Descent
 pub mod Percentiles
 pub mod Cuts
 pub mod Quotients
+pub mod Sums
+pub mod Eight
+pub mod Kept
+pub mod KeptDaily

@@ -28,5 +28,6 @@ pub mod refusal;
 pub mod sheets;
 pub mod site_hour;
 pub mod strata;
+pub mod summaries;
 pub mod tables;
 pub mod windows;
