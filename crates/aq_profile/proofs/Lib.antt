@@ -17,3 +17,5 @@ pub mod Sums
 pub mod Eight
 pub mod Kept
 pub mod KeptDaily
+pub mod Valid
+pub mod DaysInOrder

@@ -1,10 +1,11 @@
 //! The rows of an office, and where damaged rows are found.
 #![tactic(auto)]
 
-ghost use Rattle.std.specs.Prelude.{◌≡◌, ◌∷◌, [], ◌++◌, codes, map, replicate, Some, None, pos};
+ghost use Rattle.std.specs.Prelude.{◌≡◌, ◌↔◌, IsTrue, ◌∷◌, [], codes, map, replicate, Some, None, pos};
 ghost use Rattle.aq_base.specs.declared.monitor.Pollutant.TheVariants.{Pm25};
 ghost use Rattle.aq_base.specs.declared.monitor.Duration.TheVariants.{Day};
-ghost use Rattle.aq_profile.specs.Rows.{damage, load_row, obs_row, office_row, office_of_rows, rows_of};
+ghost use Rattle.aq_profile.specs.Office.{IsOffice, Office};
+ghost use Rattle.aq_profile.specs.Rows.{damage, is_valid, load_row, obs_row, office_row, office_of_rows, rows_of};
 ghost use Rattle.aq_profile.specs.ParticleExamples.{empty_load, exported, first_sampler, load_of_three_lines, primary_of, sample_at, sampler, stray_designation};
 
 /// A monitor's row, a sample's, and a load's with a listed line and the rest.
@@ -34,4 +35,9 @@ pub fn damaged_rows_are_found()
     ensures hour { damage (first_sampler ∷ sample_at 13 ∷ []) ≡ Some (record { table = 1; index = 0 }) }
     ensures no_records { damage (sample_at 0 ∷ []) ≡ Some (record { table = 1; index = 0 }) }
     ensures order { damage (empty_load 5 ∷ first_sampler ∷ []) ≡ Some (record { table = 0; index = 0 }) }
+{}
+
+/// The test by which rows are judged is what makes an office a valid one.
+pub fn valid_offices_pass_the_test()
+    ensures { (office : Office) → IsTrue (is_valid office) ↔ IsOffice office }
 {}
