@@ -1,5 +1,5 @@
 -- The strata of a quarter: its days in order, six at most in each, and no scheduled day behind the first of one.
-use Rattle.std.proofs.Common.{◌≡◌, ℕ, zero, suc, ◌+◌, ◌-◌, ◌<◌, ◌≤◌, Bool, true, false, not, ◌||◌, cond, List, [], ◌∷◌, ◌++◌, length, drop, refl, sym, ap, ◌∙◌, arith}
+use Rattle.std.proofs.Common.{◌≡◌, ℕ, zero, suc, ◌+◌, ◌-◌, ◌<◌, ◌≤◌, Bool, true, false, not, ◌||◌, cond, List, [], ◌∷◌, length, drop, refl, ap, ◌∙◌, arith}
 use Rattle.std.specs.Prelude.{⊤, ◌==◌, All}
 use Rattle.std.specs.List.{flat_map, onto_first, range_with_len, list_all}
 use Rattle.std.proofs.lemmas.List.Elements.{All-cons, All-nil}
@@ -73,10 +73,10 @@ from_by f start day n false e low high has =
     let last : (day == start + 6) ≡ false = or_right (f day) (day == start + 6) e in
     let within : day < start + 6 = grind (arith, nat_tests) in
     first_has-more (suc (start + 5 - day)) (start + 6 - day) (onto_first day (strata_from f start (range_with_len (day + 1) n))) (omega arith) (onto-first_has (start + 5 - day) day (strata_from f start (range_with_len (day + 1) n)) has)
-    where
-      or_right : (a c : Bool) → (a || c) ≡ false → c ≡ false
-      or_right true c h = cc
-      or_right false c h = h
+  where
+    or_right : (a c : Bool) → (a || c) ≡ false → c ≡ false
+    or_right true c h = cc
+    or_right false c h = h
 
 -- a stratum's start and the next day, one to six days on, whether that begins the next stratum or not
 next_start : (f : ℕ → Bool) (start day n : ℕ) (b : Bool) → begins f start day ≡ b → start < day → day ≤ start + 6
@@ -88,10 +88,10 @@ next_start f start day n false e low high rest =
     let last : (day == start + 6) ≡ false = or_right (f day) (day == start + 6) e in
     let within : day < start + 6 = grind (arith, nat_tests) in
     first_has-more (start + 6 - (day + 1)) (start + 5 - day) (strata_from f start (range_with_len (day + 1) n)) (omega arith) (rest start (omega arith) (omega arith))
-    where
-      or_right : (a c : Bool) → (a || c) ≡ false → c ≡ false
-      or_right true c h = cc
-      or_right false c h = h
+  where
+    or_right : (a c : Bool) → (a || c) ≡ false → c ≡ false
+    or_right true c h = cc
+    or_right false c h = h
 
 first_has-from : (f : ℕ → Bool) (n start day : ℕ) → start < day → day ≤ start + 6 → FirstHas (start + 6 - day) (strata_from f start (range_with_len day n))
 unfolding strata_from

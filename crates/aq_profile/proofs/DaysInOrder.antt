@@ -7,7 +7,7 @@ use Rattle.std.specs.List.Sorted.{IsPermutation}
 use Rattle.std.proofs.lemmas.List.Sorted.{length_permutation}
 use Rattle.std.proofs.lemmas.List.{length-map}
 use Rattle.std.proofs.lemmas.Int.{ints}
-use Rattle.aq_base.specs.Calendar.{hour_number, day_of_hour, days_in_quarter}
+use Rattle.aq_base.specs.Calendar.{hour_number, days_in_quarter}
 use Rattle.aq_base.specs.Decimal.{truncated}
 use Rattle.aq_base.specs.Site.{Site}
 use Rattle.aq_base.specs.declared.monitor.Duration.{Duration}
@@ -21,11 +21,10 @@ use Rattle.aq_base.specs.declared.office.OfficeRecord.{OfficeRecord}
 use Rattle.aq_profile.specs.Office.{Office}
 use Rattle.aq_profile.specs.Lists.{total}
 use Rattle.aq_profile.specs.Monitors.{is_same_monitor, is_same_key}
-use Rattle.aq_profile.specs.Exclusion.{excluded}
 use Rattle.aq_profile.specs.SiteHour.{Cell, Sample, mean_of, chosen, is_of_poc}
 use Rattle.aq_profile.specs.Designation.{primary_on}
 use Rattle.aq_profile.specs.Schedule.{is_scheduled}
-use Rattle.aq_profile.specs.ParticleDay.{Sampler, starts_on, cell_of, day_value, mean_of_hours, mean_or_high_sum, day_cell, monitor_day, samplers_of, lowest_poc, site_day, unless_excluded}
+use Rattle.aq_profile.specs.ParticleDay.{Sampler, cell_of, mean_of_hours, mean_or_high_sum, day_cell, monitor_day, samplers_of, lowest_poc, site_day, unless_excluded}
 use Rattle.aq_profile.specs.QuarterCounts.{Makeup, makeup_by, QuarterDays, days_of_quarter, credits, quarter_counts, quarter_values, quarters_of, pm25_year}
 use Rattle.aq_profile.specs.Strata.{cut_into_strata, strata_of}
 use Rattle.aq_profile.specs.Pm10Estimate.{Pm10Quarter, exceeds, quarter_of_strata, pm10_quarter, pm10_year}

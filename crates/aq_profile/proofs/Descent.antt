@@ -1,15 +1,12 @@
 -- Places in the ranked list: how many values are above the one at a place, and how many are it or above.
-use Rattle.std.proofs.Common.{◌≡◌, ℕ, zero, suc, ◌+◌, ◌-◌, ◌<◌, ◌≤◌, Bool, true, false, cond, List, [], ◌∷◌, length, get_or, refl, sym, ap, ◌∙◌, add-one, suc-add, arith}
-use Rattle.std.specs.Prelude.{ℤ, int_lt, int_le, ⊤, Option, Some, None, slice_get, IsSome}
+use Rattle.std.proofs.Common.{◌≡◌, ℕ, zero, suc, ◌+◌, ◌<◌, ◌≤◌, Bool, true, false, cond, List, [], ◌∷◌, length, get_or, refl, sym, ap, ◌∙◌, add-one, suc-add, arith}
+use Rattle.std.specs.Prelude.{ℤ, int_lt, int_le, ⊤, Some, slice_get}
 use Rattle.std.specs.List.{count_by}
-use Rattle.std.specs.List.Sorted.{IsPermutation}
 use Rattle.std.proofs.lemmas.List.Sorted.{sum_by-IsPermutation, length_permutation}
-use Rattle.std.proofs.lemmas.List.Sums.{sum_by-cons, sum_by-le-sum_by, count_by-le-length}
-use Rattle.std.proofs.lemmas.Option.{slice_get-get_or, slice_get_within}
+use Rattle.std.proofs.lemmas.List.Sums.{sum_by-cons, sum_by-le-sum_by}
 use Rattle.std.proofs.lemmas.Int.{ints}
-use Rattle.std.proofs.lemmas.Bool.Decides.{nat_tests}
 use Rattle.aq_profile.specs.Lists.{ranked}
-use Rattle.aq_profile.proofs.Ranked.{ranked-moved, ranked-falls, ranked-in_any_order}
+use Rattle.aq_profile.proofs.Ranked.{ranked-moved, ranked-falls}
 
 -- each value is at or below the one before it
 abbrev pub IsNext : ℤ → List ℤ → Type 0
@@ -113,11 +110,11 @@ length-ranked xs = length_permutation xs (ranked xs) (ranked-moved xs)
 -- a higher value has no more values at or above it than the lower one has above it
 higher : (p q v : ℤ) → int_lt p q ≡ true → cond (int_le q v) 1 0 ≤ cond (int_lt p v) 1 0
 higher p q v h = by_cases (int_le q v) (int_lt p v) refl refl
-    where
-      by_cases : (a b : Bool) → int_le q v ≡ a → int_lt p v ≡ b → cond a 1 0 ≤ cond b 1 0
-      by_cases true true e f = omega arith
-      by_cases true false e f = absurd (grind (arith, ints))
-      by_cases false b e f = omega arith
+  where
+    by_cases : (a b : Bool) → int_le q v ≡ a → int_lt p v ≡ b → cond a 1 0 ≤ cond b 1 0
+    by_cases true true e f = omega arith
+    by_cases true false e f = absurd (grind (arith, ints))
+    by_cases false b e f = omega arith
 
 pub fewer : (p q : ℤ) (xs : List ℤ) → int_lt p q ≡ true → at_least q xs ≤ above p xs
 fewer p q xs h = sum_by-le-sum_by (λ v. cond (int_le q v) 1 0) (λ v. cond (int_lt p v) 1 0) xs (λ v. higher p q v h)

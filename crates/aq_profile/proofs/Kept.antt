@@ -1,23 +1,17 @@
 -- The PM2.5 verdicts on lists of values are those on what is kept of them.
-use Rattle.std.proofs.Common.{◌≡◌, ℕ, zero, suc, ◌+◌, ◌-◌, ◌≤◌, Bool, true, false, cond, List, [], ◌∷◌, ◌++◌, length, map, refl, sym, ap, ◌∙◌, arith, append_assoc, length-append}
-use Rattle.std.specs.Prelude.{ℤ, ◌+ℤ◌, ⊤, Option, Some, None, option_map, option_and_then, slice_get, All}
+use Rattle.std.proofs.Common.{◌≡◌, ℕ, zero, suc, ◌+◌, List, [], ◌∷◌, ◌++◌, length, map, refl, sym, ap, ◌∙◌, length-append}
+use Rattle.std.specs.Prelude.{ℤ, ⊤, Option, Some, None, option_map, option_and_then, slice_get}
 use Rattle.std.specs.List.{filter_map, cons_option, flat_map, zip, sum_by}
-use Rattle.std.specs.List.Sorted.{IsPermutation}
-use Rattle.std.proofs.lemmas.List.{map-append, length-map}
-use Rattle.std.proofs.lemmas.List.Elements.{All-head, All-tail}
-use Rattle.std.proofs.lemmas.List.Sorted.{IsPermutation-refl, IsPermutation-trans, IsPermutation-append, IsPermutation-append_comm, IsPermutation-append_left, IsPermutation-append_right}
+use Rattle.std.proofs.lemmas.List.{map-append}
 use Rattle.std.proofs.lemmas.List.Sums.{sum_by-cons}
-use Rattle.aq_profile.specs.Lists.{total, greatest}
-use Rattle.aq_profile.specs.QuarterCounts.{QuarterCounts, QuarterDays, counted_in, values_in}
+use Rattle.aq_profile.specs.Lists.{greatest}
+use Rattle.aq_profile.specs.QuarterCounts.{QuarterDays, counted_in}
 use Rattle.aq_profile.specs.Means.{Fraction, quarterly_mean, mean_of_means}
-use Rattle.aq_profile.specs.Percentile.{percentile}
 use Rattle.aq_profile.specs.Substitution.{least, minimum_copies, maximum_copies, across, all_of, copies_for, minimum_for, maximum_for, with_copies, filled_year, filled}
 use Rattle.aq_profile.specs.AnnualVerdict.{annual_from, annual_dv, annual_value, is_annual_year, counts_in, mean_in}
-use Rattle.aq_profile.specs.Summaries.{PmQuarter, PmYear, counts_of, days_in, eight_greatest, summary_of_quarter, summary_of_year}
+use Rattle.aq_profile.specs.Summaries.{PmQuarter, PmYear, counts_of, days_in, summary_of_quarter, summary_of_year}
 use Rattle.aq_profile.specs.SummaryVerdicts.{mean_of_sum, mean_of_sums, kept_counts, kept_counted, kept_minimum_for, kept_maximum_for, kept_with, kept_filled_with, kept_filled_year, kept_filled, kept_annual_value, kept_annual_dv}
 use Rattle.aq_profile.proofs.Sums.{total-append, least-of_lists, greatest-of_lists}
-use Rattle.aq_profile.proofs.Ranked.{ranked-in_any_order}
-use Rattle.aq_profile.proofs.Eight.{eight-more}
 
 -- ---- lists of pairs and of options
 

@@ -1,7 +1,7 @@
 -- The 24-hour PM2.5 verdict on lists of values is that on what is kept of them: the eight greatest values are enough.
-use Rattle.std.proofs.Common.{◌≡◌, ℕ, zero, suc, ◌+◌, ◌-◌, ◌≤◌, Bool, true, false, cond, List, [], ◌∷◌, ◌++◌, length, map, replicate, take, refl, sym, ap, ◌∙◌, arith, append_assoc, length-append, subst}
-use Rattle.std.specs.Prelude.{ℤ, ⊤, Option, Some, None, option_map, option_and_then, All, nat_le}
-use Rattle.std.specs.List.{flat_map, zip, sum_by}
+use Rattle.std.proofs.Common.{◌≡◌, ℕ, suc, ◌+◌, ◌-◌, ◌≤◌, Bool, true, false, cond, List, [], ◌∷◌, ◌++◌, length, map, replicate, take, refl, sym, ap, ◌∙◌, arith, append_assoc, subst}
+use Rattle.std.specs.Prelude.{ℤ, Option, Some, None, option_map, option_and_then, All, nat_le}
+use Rattle.std.specs.List.{flat_map, zip}
 use Rattle.std.specs.List.Sorted.{IsPermutation}
 use Rattle.std.proofs.lemmas.List.{length-map, length-replicate}
 use Rattle.std.proofs.lemmas.List.Elements.{All-head, All-tail}
@@ -16,7 +16,7 @@ use Rattle.aq_profile.specs.Summaries.{PmQuarter, PmYear, KeepsPmQuarter, KeepsP
 use Rattle.aq_profile.specs.SummaryVerdicts.{kept_counted, kept_counts, kept_percentile, kept_maximum_for, kept_filled_with, kept_filled_year, kept_filled, kept_daily_value, kept_daily_dv}
 use Rattle.aq_profile.proofs.Ranked.{ranked-in_any_order}
 use Rattle.aq_profile.proofs.Eight.{eight-more, percentile-eight}
-use Rattle.aq_profile.proofs.Kept.{Both, Each, all_of-both, mapped, copies-summary, maximum-same, quarters-summary, counts-summary, with_all, kept_with_all, counted-with, counted-summary}
+use Rattle.aq_profile.proofs.Kept.{Both, Each, all_of-both, mapped, copies-summary, maximum-same, quarters-summary, counts-summary, with_all, counted-with, counted-summary}
 
 -- ---- the values with their copies, in another order
 

@@ -1,12 +1,12 @@
 -- Estimates of PM10 quarters: sixtieths are exact, and samples of strata of their own give v * N / n.
-use Rattle.std.proofs.Common.{◌≡◌, ℕ, zero, suc, ◌+◌, ◌-◌, ◌*◌, ◌/◌, ◌<◌, ◌≤◌, Bool, true, false, not, cond, List, [], ◌∷◌, length, refl, sym, ap, ◌∙◌, arith}
+use Rattle.std.proofs.Common.{◌≡◌, ℕ, zero, suc, ◌+◌, ◌*◌, ◌/◌, ◌≤◌, Bool, cond, List, [], ◌∷◌, length, refl, ap, ◌∙◌, arith}
 use Rattle.std.specs.Prelude.{ℤ, pos, Option, Some, None, ◌==◌, All, if◌then◌else◌}
-use Rattle.std.specs.List.{sum_by, count_by, filter}
+use Rattle.std.specs.List.{sum_by, count_by}
 use Rattle.std.proofs.lemmas.List.Elements.{All-head, All-tail}
 use Rattle.std.proofs.lemmas.List.Sums.{sum_by-cons}
 use Rattle.std.proofs.Math.Nat.{mul-div-mul_left, zero-lt-suc}
 use Rattle.aq_base.specs.Decimal.{half_up}
-use Rattle.aq_profile.specs.Pm10Estimate.{Pm10Quarter, exceeds, sampled_strata, sixtieths_of, quarter_of_strata, quarter_estimate}
+use Rattle.aq_profile.specs.Pm10Estimate.{exceeds, sampled_strata, sixtieths_of, quarter_of_strata, quarter_estimate}
 
 -- ---- sixtieths
 
