@@ -1,3 +1,4 @@
 pub mod Digits
+pub mod HalfUp
 pub mod Scan
 pub mod Sums

@@ -1,17 +1,15 @@
 -- Reading the digits of a decimal text from the left, and that this gives its magnitude.
-use Rattle.std.proofs.Common.{◌≡◌, ℕ, zero, suc, ◌+◌, ◌-◌, ◌*◌, ◌/◌, ◌^◌, ◌<◌, ◌≤◌, min, Bool, true, false, not, ◌&&◌, ◌||◌, cond, nat_lt, nat_eq, List, [], ◌∷◌, ◌++◌, length, take, drop, Option, Some, None, refl, sym, ap, ◌∙◌, inl, inr, mul_assoc, lit<, arith, rules, tests}
+use Rattle.std.proofs.Common.{◌≡◌, ℕ, zero, suc, ◌+◌, ◌-◌, ◌*◌, ◌/◌, ◌^◌, ◌<◌, ◌≤◌, min, Bool, true, false, not, ◌&&◌, ◌||◌, cond, nat_lt, nat_eq, List, [], ◌∷◌, ◌++◌, length, Option, Some, None, refl, sym, ap, ◌∙◌, inl, inr, mul_assoc, lit<, arith, rules, tests}
 use Rattle.std.specs.List.{before_first, after_first, position_or_len}
 use Rattle.std.specs.Char.{is_ascii_digit, digit_value}
-use Rattle.std.specs.Str.Parse.{digits_value, digits_value_after}
-use Rattle.std.proofs.lemmas.Grind.{common_steps}
-use Rattle.std.proofs.lemmas.Bool.Decides.{nat_tests}
+use Rattle.std.specs.Str.Parse.{digits_value_after}
 use Rattle.std.proofs.lemmas.Bool.{false≢true, cases_lt, cases_Bool, and_parts, lt-ltb}
 use Rattle.std.proofs.Math.Bool.{and-false, and-true, or-true}
 use Rattle.std.proofs.lemmas.Str.{digit_value_digit}
 use Rattle.std.specs.Int.{IsInRange}
 use Rattle.std.proofs.Math.Nat.{le-mul_of_pos_right, one-le-pow, pow-suc, mul-one, div-div-eq-div-mul, mul-div-mul_right}
 use Rattle.aq_base.specs.Decimal.{is_point, are_digits}
-use Rattle.aq_num.specs.DecimalIn.{is_magnitude, magnitude_of, magnitude_in}
+use Rattle.aq_num.specs.Magnitude.{is_magnitude, magnitude_in}
 
 -- a magnitude, held at one past the largest
 abbrev pub held : ℕ → ℕ
@@ -22,18 +20,18 @@ abbrev pub scan : ℕ → ℕ → Bool → Bool → List ℕ → Option ℕ
 scan m missing behind digit [] = cond digit (Some (held (m * 10 ^ missing))) None
 scan m missing behind digit (b ∷ bs) =
     cond
-      (nat_eq b 46 && not behind)
-      (scan m missing true digit bs)
-      (cond
-        (is_ascii_digit b)
-        (cond
-          behind
-          (cond
-            (nat_lt 0 missing)
-            (scan (held (m * 10 + (b - 48))) (missing - 1) behind true bs)
-            (scan m missing behind true bs))
-          (scan (held (m * 10 + (b - 48))) missing behind true bs))
-        None)
+    (nat_eq b 46 && not behind)
+    (scan m missing true digit bs)
+    (cond
+    (is_ascii_digit b)
+    (cond
+    behind
+    (cond
+    (nat_lt 0 missing)
+    (scan (held (m * 10 + (b - 48))) (missing - 1) behind true bs)
+    (scan m missing behind true bs))
+    (scan (held (m * 10 + (b - 48))) missing behind true bs))
+    None)
 
 -- the number with `missing` more digits: those of the text, and then zeros
 abbrev pub filled : ℕ → List ℕ → ℕ → ℕ
@@ -49,10 +47,11 @@ held-zeros n q above =
     let own : n ≤ n * q = le-mul_of_pos_right n above in
     let most : 1000000000 ≤ 1000000000 * q = le-mul_of_pos_right 1000000000 above in
     elim (cases_lt n 1000000000) [
-      inl below ↦ let same : min n 1000000000 ≡ n = omega arith in rw same
+      | inl below ↦ let same : min n 1000000000 ≡ n = omega arith in rw same
       | inr past ↦
           let same : min n 1000000000 ≡ 1000000000 = omega arith in
-          rw same (omega arith) ]
+          rw same (omega arith)
+    ]
 
 pow-above : (k : ℕ) → 0 < 10 ^ k
 pow-above k = one-le-pow k 10 (omega arith)
@@ -104,7 +103,7 @@ filled-is n (b ∷ bs) (suc missing) digits =
     let parts = and_parts (is_ascii_digit b) (are_digits bs) digits in
     let value : ℕ = digits_value_after 10 (n * 10 + digit_value b) bs in
     rw (pow-suc 10 missing, pow-suc 10 (length bs), ← mul_assoc value (10 ^ missing) 10, mul-div-mul_right (value * 10 ^ missing) (10 ^ length bs) (lit< tt), digit_value-is b parts.0)
-      (ap (λ v. digits_value_after 10 (n * 10 + v) bs * 10 ^ missing / 10 ^ length bs) (sym (digit_value-is b parts.0)) ∙ filled-is (n * 10 + digit_value b) bs missing parts.1 ∙ ap (λ v. filled (n * 10 + v) bs missing) (digit_value-is b parts.0))
+    (ap (λ v. digits_value_after 10 (n * 10 + v) bs * 10 ^ missing / 10 ^ length bs) (sym (digit_value-is b parts.0)) ∙ filled-is (n * 10 + digit_value b) bs missing parts.1 ∙ ap (λ v. filled (n * 10 + v) bs missing) (digit_value-is b parts.0))
 
 pub digits_value_after-append : (n : ℕ) (xs ys : List ℕ) → digits_value_after 10 n (xs ++ ys) ≡ digits_value_after 10 (digits_value_after 10 n xs) ys
 digits_value_after-append n [] ys = refl
@@ -132,14 +131,15 @@ scan-before n [] missing true = ap Some (held-zeros n (10 ^ missing) (pow-above 
 scan-before n [] missing false = refl
 scan-before n (b ∷ bs) missing read =
     elim (cases_Bool (nat_eq b 46)) [
-      inl point ↦ rw point (scan-behind n bs missing read)
+      | inl point ↦ rw point (scan-behind n bs missing read)
       | inr other ↦
           let whole : List ℕ = before_first is_point bs in
           let fraction : List ℕ = after_first is_point bs in
           rw (before_first-other b bs other, after_first-other b bs other, other)
-            (before-turn (is_ascii_digit b) (are_digits whole) (are_digits fraction) read (nat_lt 0 (suc (length (whole ++ fraction)))) _ _ (some-length (length (whole ++ fraction)))
-              (λ digit. rw (← digit_value-is b digit, held-digit n (digit_value b))
-                (scan-before (n * 10 + digit_value b) bs missing true ∙ ap (λ q. cond q (Some (held (filled (digits_value_after 10 (n * 10 + digit_value b) whole) fraction missing))) None) (and-true (are_digits whole && are_digits fraction))))) ]
+          (before-turn (is_ascii_digit b) (are_digits whole) (are_digits fraction) read (nat_lt 0 (suc (length (whole ++ fraction)))) _ _ (some-length (length (whole ++ fraction)))
+          (λ digit. rw (← digit_value-is b digit, held-digit n (digit_value b))
+          (scan-before (n * 10 + digit_value b) bs missing true ∙ ap (λ q. cond q (Some (held (filled (digits_value_after 10 (n * 10 + digit_value b) whole) fraction missing))) None) (and-true (are_digits whole && are_digits fraction)))))
+    ]
 
 -- equal where the test passes
 cond-same : {A : Type 0} (q : Bool) (x y : Option A) → (q ≡ true → x ≡ y) → cond q x None ≡ cond q y None
@@ -152,9 +152,9 @@ scan-is bs places =
     let fraction : List ℕ = after_first is_point bs in
     scan-before 0 bs places false
     ∙ cond-same (is_magnitude bs) _ _ (λ is.
-      let first = and_parts (are_digits whole && are_digits fraction) (nat_lt 0 (length (whole ++ fraction))) is in
-      let digits = and_parts (are_digits whole) (are_digits fraction) first.0 in
-      ap (λ m. Some (held m)) (sym (ap (λ v. v * 10 ^ places / 10 ^ length fraction) (digits_value_after-append 0 whole fraction) ∙ filled-is (digits_value_after 10 0 whole) fraction places digits.1)))
+    let first = and_parts (are_digits whole && are_digits fraction) (nat_lt 0 (length (whole ++ fraction))) is in
+    let digits = and_parts (are_digits whole) (are_digits fraction) first.0 in
+    ap (λ m. Some (held m)) (sym (ap (λ v. v * 10 ^ places / 10 ^ length fraction) (digits_value_after-append 0 whole fraction) ∙ filled-is (digits_value_after 10 0 whole) fraction places digits.1)))
 
 -- a byte that is no digit, and no point before which there is none
 pub scan-none : (m missing : ℕ) (behind read : Bool) (b : ℕ) (bs : List ℕ) → is_ascii_digit b ≡ false → (nat_eq b 46 && not behind) ≡ false → scan m missing behind read (b ∷ bs) ≡ None

@@ -1,18 +1,18 @@
 -- The running sum of fractions, and how large it grows.
-use Rattle.std.proofs.Common.{◌≡◌, ℕ, zero, suc, ◌+◌, ◌-◌, ◌*◌, ◌/◌, ◌^◌, ◌<◌, ◌≤◌, List, [], ◌∷◌, ◌++◌, length, take, get_or, ℤ, pos, ◌+ℤ◌, ◌*ℤ◌, unsigned_abs, All, refl, sym, ap, ◌∙◌, subst, arith, rules, lit≤, lit<, FitsSigned}
+use Rattle.std.proofs.Common.{◌≡◌, ℕ, suc, ◌+◌, ◌*◌, ◌/◌, ◌^◌, ◌<◌, ◌≤◌, List, [], ◌∷◌, ◌++◌, length, take, ℤ, pos, ◌+ℤ◌, ◌*ℤ◌, unsigned_abs, All, sym, ap, ◌∙◌, subst, arith, lit≤, lit<, FitsSigned}
 use Rattle.std.specs.Int.{◌∣◌, w128}
-use Rattle.std.proofs.lemmas.List.{length-take, take_more}
+use Rattle.std.proofs.lemmas.List.{length-take}
 use Rattle.std.proofs.lemmas.List.Elements.{All-head, All-tail, All-take}
 use borrow.Author.Differences.{sum_is_lem, product_is}
 use Rattle.std.proofs.lemmas.Int.{ints, unsigned_abs-mul, fits_signed_from_abs}
 use Rattle.std.proofs.Math.Nat.{pow-suc, one-le-mul, mul-le-mul, mul-le-mul_left, mul-le-mul_right, mul_comm, mul_assoc, div-mul_cancel, pow-le-pow_right}
-use Rattle.aq_num.specs.Fractions.{fraction_sum, sum_of_fractions, sum_in_units}
+use Rattle.aq_num.specs.Fractions.{sum_of_fractions, sum_in_units}
 
 -- a sum and a product, times a natural number
-scale-add : (a b : ℤ) (n : ℕ) → (a +ℤ b) *ℤ pos n ≡ (a *ℤ pos n) +ℤ (b *ℤ pos n)
+pub scale-add : (a b : ℤ) (n : ℕ) → (a +ℤ b) *ℤ pos n ≡ (a *ℤ pos n) +ℤ (b *ℤ pos n)
 scale-add a b n = omega (arith, ints, ap (λ z. z * n) (sum_is_lem a b))
 
-scale-scale : (a : ℤ) (m n : ℕ) → (a *ℤ pos m) *ℤ pos n ≡ a *ℤ pos (m * n)
+pub scale-scale : (a : ℤ) (m n : ℕ) → (a *ℤ pos m) *ℤ pos n ≡ a *ℤ pos (m * n)
 scale-scale a m n =
     omega (arith, ints, ap (λ z. z * n) (product_is a (pos m)).0, ap (λ z. z * n) (product_is a (pos m)).1)
 
@@ -29,7 +29,7 @@ pub num-push : (fractions : List (ℤ × ℕ)) (one : ℤ × ℕ) → (sum_of_fr
 num-push [] one = omega (arith, ints)
 num-push (fraction ∷ fractions) one =
     rw (num-push fractions one, den-push fractions one)
-      (num-regroup fraction.0 (sum_of_fractions fractions).0 one.0 fraction.1 one.1 (sum_of_fractions fractions).1)
+    (num-regroup fraction.0 (sum_of_fractions fractions).0 one.0 fraction.1 one.1 (sum_of_fractions fractions).1)
 
 -- the bounds of counts and sums
 abbrev pub AreCounts : List (ℤ × ℕ) → Type 0
@@ -111,6 +111,6 @@ ratio-fits num den total count num_small den_small total_small count_small =
 pub limits-at : (parts : List (ℤ × ℕ)) (i : ℕ) → AreCounts parts → AreSums parts → length parts ≡ 12 → Limits (take i parts)
 limits-at parts i counts sums twelve =
     limits-of (take i parts)
-      (All-take (λ (part : ℤ × ℕ). (1 ≤ part.1) × (part.1 ≤ 103)) i parts counts)
-      (All-take (λ (part : ℤ × ℕ). unsigned_abs part.0 ≤ 10299897) i parts sums)
-      (omega (arith, length-take i parts))
+    (All-take (λ (part : ℤ × ℕ). (1 ≤ part.1) × (part.1 ≤ 103)) i parts counts)
+    (All-take (λ (part : ℤ × ℕ). unsigned_abs part.0 ≤ 10299897) i parts sums)
+    (omega (arith, length-take i parts))

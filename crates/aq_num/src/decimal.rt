@@ -1,15 +1,16 @@
 //! Reading a decimal text.
-ghost use Rattle.std.specs.Prelude.{◌≡◌, ℕ, ◌≤◌, ◌<◌, ◌+◌, ◌-◌, ◌*◌, ◌↔◌, min, Bool, false, IsTrue, IfOk, unsigned_abs, Err};
-ghost use Rattle.aq_base.specs.Decimal.{is_decimal, cut_magnitude, is_minus, unsigned_part};
-ghost use Rattle.aq_num.specs.DecimalIn.{decimal_in, magnitude_in};
+ghost use Rattle.std.specs.Prelude.{◌≡◌, ℕ, ◌≤◌, ◌<◌, ◌+◌, ◌-◌, ◌*◌, ◌↔◌, min, Bool, false, IsTrue, IfOk, OnOk, unsigned_abs, Err};
+ghost use Rattle.aq_base.specs.Decimal.{is_decimal, cut_magnitude, cut, is_minus, unsigned_part};
+ghost use Rattle.aq_num.specs.DecimalIn.{decimal_in};
+ghost use Rattle.aq_num.specs.Magnitude.{magnitude_in};
 
 use std::error::Error;
 use std::fmt;
 
-/// The greatest magnitude that is read, in units of 10^-places.
-pub const LARGEST: u32 = 999_999_999;
+/// The greatest magnitude that is read, in units of 10^-places (own).
+const LARGEST: u64 = 999_999_999;
 
-const PAST_LARGEST: u64 = 1_000_000_000;
+const PAST_LARGEST: u64 = LARGEST + 1;
 
 /// Why a text is not read as a number.
 #[derive(Clone, Copy, Debug, PartialEq, Eq)]
@@ -33,16 +34,23 @@ impl Error for NumberFault {}
 
 /// Reads a decimal text: an optional sign and then digits with an optional point and optional
 /// further digits, or a point and digits. Ok is its number in units of 10^-places, truncated toward
-/// zero. A text may be of any length.
+/// zero: `-0.05` at one place is 0. A text may be of any length. Refused are other texts, and numbers
+/// above 999,999,999 units.
 pub fn read_decimal(text: &[u8], places: u8) -> Result<i32, NumberFault>
     requires { places ≤ 6 }
-    ensures { result ≡ decimal_in text.now places }
+    ensures value { result ≡ decimal_in text.now places }
+    ensures spelling { (result ≡ Err NumberFault.Spelling) ↔ (is_decimal text.now ≡ false) }
+    ensures too_large { (result ≡ Err NumberFault.TooLarge)
+        ↔ (IsTrue (is_decimal text.now) × (999999999 < cut_magnitude text.now places)) }
+    ensures decimal { OnOk result (IsTrue (is_decimal text.now)) }
+    ensures number { IfOk result (λ number. number ≡ cut text.now places) }
+    ensures within { IfOk result (λ number. unsigned_abs number ≤ 999999999) }
 {
     let (is_minus, digits) = split_sign(text);
     let Some(magnitude) = read_magnitude(digits, places) else {
         return Err(NumberFault::Spelling);
     };
-    if magnitude >= PAST_LARGEST {
+    if magnitude > LARGEST {
         return Err(NumberFault::TooLarge);
     }
     let magnitude = magnitude as i32;

@@ -31,7 +31,17 @@ fn texts_are_cut_toward_zero(rt: HostRuntime) {
 #[test]
 fn other_texts_and_large_numbers_are_refused(rt: HostRuntime) {
     let spelling: [&[u8]; 11] = [
-        b"", b"+", b"-", b".", b"+.", b"1e3", b"1.2.3", b"--1", b"+-1", b" 1", b"99999999999x",
+        b"",
+        b"+",
+        b"-",
+        b".",
+        b"+.",
+        b"1e3",
+        b"1.2.3",
+        b"--1",
+        b"+-1",
+        b" 1",
+        b"99999999999x",
     ];
     for text in spelling {
         assert_eq!(rt; read_decimal(text, 1), Err(NumberFault::Spelling));
@@ -50,8 +60,24 @@ fn other_texts_and_large_numbers_are_refused(rt: HostRuntime) {
 }
 
 #[test]
+fn faults_have_words(rt: HostRuntime) -> Result<(), Fail> {
+    let words = format!(in rt.alloc(); "{}; {}", NumberFault::Spelling, NumberFault::TooLarge)?;
+    assert_eq!(rt;
+        words.as_str(),
+        "not a decimal number; a number that is too large"
+    );
+    Ok(())
+}
+
+#[test]
 fn a_quotient_is_cut_toward_zero(rt: HostRuntime) {
-    for (a, b, want) in [(7, 2, 3), (-7, 2, -3), (-1, 3, 0), (6, 3, 2), (i64::MIN, 1, i64::MIN)] {
+    for (a, b, want) in [
+        (7, 2, 3),
+        (-7, 2, -3),
+        (-1, 3, 0),
+        (6, 3, 2),
+        (i64::MIN, 1, i64::MIN),
+    ] {
         assert_eq!(rt; trunc_div(a, b), want);
     }
 }
@@ -79,7 +105,18 @@ fn twelve_quotients_are_summed_exactly(rt: HostRuntime) {
     let sum = sum_of_ratios(&[(3615, 30); 12]);
     assert_eq!(rt; sum.num, 1446 * sum.den);
     let sum = sum_of_ratios(&[
-        (1, 1), (1, 2), (1, 3), (1, 4), (1, 5), (1, 6), (-1, 1), (-1, 2), (-1, 3), (-1, 4), (-1, 5), (5, 6),
+        (1, 1),
+        (1, 2),
+        (1, 3),
+        (1, 4),
+        (1, 5),
+        (1, 6),
+        (-1, 1),
+        (-1, 2),
+        (-1, 3),
+        (-1, 4),
+        (-1, 5),
+        (5, 6),
     ]);
     assert_eq!(rt; sum.num, sum.den);
 }

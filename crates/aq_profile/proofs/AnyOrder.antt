@@ -17,7 +17,7 @@ use Rattle.aq_profile.specs.Office.{Office}
 use Rattle.aq_profile.specs.Lists.{total}
 use Rattle.aq_profile.specs.Monitors.{is_same_site, is_same_pollutant, is_same_key, is_eligible}
 use Rattle.aq_profile.specs.Designation.{primary_on}
-use Rattle.aq_profile.specs.SiteHour.{Cell, Sample, sample_of, samples_at, is_for_hour, mean_of, is_of_poc, chosen, site_hour}
+use Rattle.aq_profile.specs.SiteHour.{Cell, Sample, sample_of, samples_at, is_ozone_at, mean_of, is_of_poc, chosen, site_hour}
 use Rattle.aq_profile.specs.Season.{season_of, is_in_season}
 use Rattle.aq_profile.specs.Approval.{is_approved}
 use Rattle.aq_profile.specs.EightHour.{window}
@@ -65,8 +65,8 @@ total-step x xs = total-from (pos 0 +ℤ x) xs ∙ ap (λ (z : ℤ). z +ℤ tota
 total-any_order : (xs ys : List Sample) → IsPermutation xs ys → total (map value_of xs) ≡ total (map value_of ys)
 total-any_order =
     fold_in_any_order (λ (xs : List Sample). total (map value_of xs)) (λ s sum. value_of s +ℤ sum)
-        (λ s xs. total-step (value_of s) (map value_of xs))
-        (λ s t sum. sum_turns (value_of s) (value_of t) sum)
+    (λ s xs. total-step (value_of s) (map value_of xs))
+    (λ s t sum. sum_turns (value_of s) (value_of t) sum)
 
 out-any_order : (xs ys : List Sample) → IsPermutation xs ys → list_any is_out xs ≡ list_any is_out ys
 out-any_order =
@@ -107,13 +107,13 @@ chosen-any_order poc xs ys one moved =
 
 -- ---- distinct keys leave one sample of a POC
 
-abbrev Entry : Type 0
+abbrev pub Entry : Type 0
 Entry = ObsKey × Observation
 
 abbrev key_at : Site → ℕ → ℕ → ObsKey
 key_at site hour poc = record { monitor = record { site = site; pollutant = Ozone; poc = poc }; hour = hour }
 
-same_key : (p s h e c : Bool) → (p && s && h && e) ≡ true → c ≡ true → ((s && p && c) && h) ≡ true
+same_key : (p s h e c : Bool) → ((p && s && h) && e) ≡ true → c ≡ true → ((s && p && c) && h) ≡ true
 same_key p s h e c both poc = grind arith
 
 entry_bound : (poc : ℕ) (of : ℤ → Sample) (b c k : Bool) (value : Option ℤ) (entry : Entry) (samples : List Sample) (entries : List Entry)
@@ -133,7 +133,7 @@ bound : (office : Office) (site : Site) (hour poc : ℕ) (entries : List Entry)
     → length (filter_map (kept (Some poc)) (filter_map (sample_of office site hour) entries)) ≤ length (filter (λ (e : Entry). is_same_key e.0 (key_at site hour poc)) entries)
 bound office site hour poc [] = omega arith
 bound office site hour poc (entry ∷ entries) =
-    entry_bound poc _ (is_for_hour office site hour entry.0) (entry.0.monitor.poc == poc) (is_same_key entry.0 (key_at site hour poc))
+    entry_bound poc _ (is_ozone_at site hour entry.0 && is_eligible office.records entry.0.monitor) (entry.0.monitor.poc == poc) (is_same_key entry.0 (key_at site hour poc))
     entry.1.value entry (filter_map (sample_of office site hour) entries) (filter (λ (e : Entry). is_same_key e.0 (key_at site hour poc)) entries)
     (λ v. refl) (λ fits same. same_key (is_same_pollutant entry.0.monitor.pollutant Ozone) (is_same_site entry.0.monitor.site site) (entry.0.hour == hour) (is_eligible office.records entry.0.monitor) (entry.0.monitor.poc == poc) fits same) (bound office site hour poc entries)
 
@@ -150,7 +150,8 @@ one_kept office site hour (Some poc) distinct =
 
 -- ---- the law
 
-abbrev hour_by : List OfficeRecord → List Entry → Site → ℕ → Option Cell
+-- a site hour, by the records and the observations alone
+abbrev pub hour_by : List OfficeRecord → List Entry → Site → ℕ → Option Cell
 hour_by records entries site hour =
     chosen
     (find (is_of_poc (primary_on records site Ozone (day_of_hour hour))) (filter_map (sample_of (record { records = records; observations = []; loads = [] }) site hour) entries))

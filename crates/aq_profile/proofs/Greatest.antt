@@ -13,10 +13,10 @@ further x xs y h = (suc h.0, omega (arith, h.1), h.2)
 
 first_of_two : {X : Type 0} (a b r : X) (xs : List X) → Contains (a ∷ xs) r → Contains (a ∷ b ∷ xs) r
 first_of_two a b r xs h = by_place h.0 h.1 h.2
-    where
-      by_place : (k : ℕ) → k < length (a ∷ xs) → get_or (a ∷ xs) k r ≡ r → Contains (a ∷ b ∷ xs) r
-      by_place zero within e = (0, omega arith, e)
-      by_place (suc k) within e = (suc (suc k), omega arith, e)
+  where
+    by_place : (k : ℕ) → k < length (a ∷ xs) → get_or (a ∷ xs) k r ≡ r → Contains (a ∷ b ∷ xs) r
+    by_place zero within e = (0, omega arith, e)
+    by_place (suc k) within e = (suc (suc k), omega arith, e)
 
 abbrev IsGreatest : List ℤ → ℤ → Type 0
 IsGreatest values top = Contains values top × All (λ v. v ≤ℤ top) values

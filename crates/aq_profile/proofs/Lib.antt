@@ -19,3 +19,6 @@ pub mod Kept
 pub mod KeptDaily
 pub mod Valid
 pub mod DaysInOrder
+pub mod OtherHours
+pub mod Thirds
+pub mod Joined

@@ -61,6 +61,13 @@ nine_lines = record { number = 0; lines = 9; accepted = 9; refused = 0; listed =
 abbrev pub one_hour : ℕ → Office
 one_hour hour = office_of (registered 1 ∷ []) (run_of 568 [] hour 1)
 
+-- one hour at noon on each of four days of 2024
+abbrev pub four_peaks : Office
+four_peaks =
+    office_of (registered 1 ∷ [])
+    (reading 1 568 [] (hour_number (day_number 2024 6 1) 12) ∷ reading 1 600 [] (hour_number (day_number 2024 6 2) 12)
+    ∷ reading 1 584 [] (hour_number (day_number 2024 7 1) 12) ∷ reading 1 576 [] (hour_number (day_number 2024 12 31) 12) ∷ [])
+
 -- three monitors, of which POC 1 is the primary
 abbrev pub three_monitors : List OfficeRecord
 three_monitors = registered 1 ∷ registered 2 ∷ registered 3 ∷ Primary site Ozone 0 1 ∷ []

@@ -24,16 +24,15 @@ pub record Sample : Type 0 where
   pub poc : ℕ
   pub cell : Cell
 
--- whether the key is one of the site and hour: of ozone, and of an eligible monitor
-abbrev pub is_for_hour : Office → Site → ℕ → ObsKey → Bool
-is_for_hour office site hour key =
+-- whether the key is one of ozone at the site and hour
+abbrev pub is_ozone_at : Site → ℕ → ObsKey → Bool
+is_ozone_at site hour key =
     is_same_pollutant key.monitor.pollutant Ozone && is_same_site key.monitor.site site && (key.hour == hour)
-    && is_eligible office.records key.monitor
 
 -- the sample that an observation gives: nothing without a value
 abbrev pub sample_of : Office → Site → ℕ → (ObsKey × Observation) → Option Sample
 sample_of office site hour entry =
-    if is_for_hour office site hour entry.0
+    if is_ozone_at site hour entry.0 && is_eligible office.records entry.0.monitor
     then option_map (λ value. record { poc = entry.0.monitor.poc; cell = record { value = value; excluded = excluded office.records entry.0 entry.1.quals } }) entry.1.value
     else None
 

@@ -20,14 +20,11 @@ pub fn ranking_forgets_the_order()
 
 /// A list of the values that falls is the ranked list.
 pub fn ranked_list_is_the_only_one()
-    ensures {
-        (values sorted : List ℤ)
+    ensures { (values sorted : List ℤ)
         → IsPermutation values sorted
         → ((k : ℕ) (d : ℤ) → k + 1 < length sorted → int_lt (slice_index_or sorted k d) (slice_index_or sorted (k + 1) d) ≡ false)
-        → ranked values ≡ sorted
-    }
-{
-}
+        → ranked values ≡ sorted }
+{}
 
 /// The greatest value is one of the values, and none is above it; no values have none.
 pub fn greatest_is_one_of_the_values()

@@ -7,7 +7,7 @@ ghost use Rattle.aq_base.specs.Calendar.{hour_number};
 ghost use Rattle.aq_profile.specs.Office.{Office};
 ghost use Rattle.aq_profile.specs.SiteHour.{site_hour};
 ghost use Rattle.aq_profile.specs.OzoneDay.{OzoneDay, windows, ozone_day};
-ghost use Rattle.aq_profile.specs.OzoneExamples.{site, summer_day, smoky, day_with};
+ghost use Rattle.aq_profile.specs.OzoneExamples.{site, summer_day, afternoon, smoky, day_with};
 
 /// Twelve averages do not make a valid day where the greatest is 0.070 ppm.
 pub fn twelve_averages_at_the_level_are_too_few()
@@ -22,6 +22,11 @@ pub fn twelve_averages_above_the_level_are_enough()
 /// Thirteen averages make a valid day.
 pub fn thirteen_averages_are_enough()
     ensures { day_with 13 70 ≡ record { averages = 13; valid = true; maximum = Some (pos 70) } }
+{}
+
+/// Eight hours of 0.071 ppm from 10:00 make a valid day, of five averages.
+pub fn eight_hours_above_the_level_are_a_valid_day()
+    ensures { ozone_day afternoon site summer_day ≡ record { averages = 5; valid = true; maximum = Some (pos 71) } }
 {}
 
 /// An event concurred in takes its hours from the maximum, and not from the day's validity.

@@ -1,9 +1,10 @@
 //! The design value and the verdict on ozone, worked out.
 #![tactic(auto)]
 
-ghost use Rattle.std.specs.Prelude.{◌≡◌, true, false, ◌∷◌, [], Some, None, pos};
+ghost use Rattle.std.specs.Prelude.{◌≡◌, ℕ, ◌+◌, ◌*◌, ◌<◌, nat_le, true, false, ◌∷◌, [], Some, None, pos};
 ghost use Rattle.aq_base.specs.declared.standard.Verdict.TheVariants.{Met, NotMet, Incomplete, NoValue};
-ghost use Rattle.aq_profile.specs.OzoneVerdict.{OzoneDv, is_complete, ozone_dv};
+ghost use Rattle.aq_profile.specs.OzoneYear.{OzoneYear};
+ghost use Rattle.aq_profile.specs.OzoneVerdict.{OzoneDv, is_average_kept, is_complete, ozone_dv};
 ghost use Rattle.aq_profile.specs.OzoneExamples.{year_with, year_without_fourth};
 
 /// A third of 212 thousandths is cut to 0.070 ppm, which meets the standard where the seasons are
@@ -33,4 +34,12 @@ pub fn nine_tenths_of_735_days()
 pub fn three_quarters_of_each_season()
     ensures enough { is_complete (year_with 245 70) (year_with 245 70) (year_with 184 70) ≡ true }
     ensures too_few { is_complete (year_with 245 70) (year_with 245 70) (year_with 183 70) ≡ false }
+{}
+
+/// Where the three seasons are of one length, the mean of the fractions is nine tenths where nine
+/// tenths of all their days are valid.
+pub fn nine_tenths_of_equal_seasons()
+    ensures { (a b c : OzoneYear)
+        → 0 < a.season_days → b.season_days ≡ a.season_days → c.season_days ≡ a.season_days
+        → is_average_kept a b c ≡ nat_le (27 * a.season_days) (10 * (a.season_valid + b.season_valid + c.season_valid)) }
 {}

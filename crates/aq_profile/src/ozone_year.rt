@@ -6,11 +6,12 @@ ghost use Rattle.aq_base.specs.Site.{Site};
 ghost use Rattle.aq_base.specs.declared.observation.ObsKey.{ObsKey};
 ghost use Rattle.aq_base.specs.declared.observation.Observation.{Observation};
 ghost use Rattle.aq_profile.specs.Office.{Office};
+ghost use Rattle.aq_profile.specs.OzoneExamples.{site, four_peaks};
 ghost use Rattle.aq_profile.specs.Monitors.{is_same_key};
 ghost use Rattle.aq_profile.specs.EightHour.{window};
 ghost use Rattle.aq_profile.specs.OzoneDay.{OzoneDay, ozone_day};
 ghost use Rattle.aq_profile.specs.Lists.{ranked};
-ghost use Rattle.aq_profile.specs.OzoneYear.{fourth_of, ozone_year, ranked_maxima};
+ghost use Rattle.aq_profile.specs.OzoneYear.{OzoneYear, fourth_of, ozone_year, ranked_maxima};
 
 /// Equal values are counted each.
 pub fn fourth_highest_counts_ties()
@@ -30,6 +31,11 @@ pub fn valid_maxima_are_ranked()
         ∷ record { averages = 17; valid = true; maximum = None }
         ∷ record { averages = 17; valid = true; maximum = Some (pos 60) } ∷ [])
         ≡ pos 60 ∷ pos 50 ∷ [] }
+{}
+
+/// A year of four valid days, with maxima of 0.071, 0.075, 0.073 and 0.072 ppm.
+pub fn year_of_four_peaks()
+    ensures { ozone_year four_peaks site 2024 ≡ record { season_days = 366; season_valid = 4; ranked = 4; fourth = Some (pos 71) } }
 {}
 
 /// The order of the observations does not matter to an average, a day or a year, where no two stand

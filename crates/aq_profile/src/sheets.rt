@@ -1,14 +1,15 @@
 //! The sheets of ozone days and of a design value, as they print.
 #![tactic(auto)]
 
-ghost use Rattle.std.specs.Prelude.{◌≡◌, ℕ, ◌+◌, length, true, false, ◌∷◌, [], ◌++◌, codes, Some, None, pos};
+ghost use Rattle.std.specs.Prelude.{◌≡◌, ℕ, List, ◌+◌, length, true, false, ◌∷◌, [], ◌++◌, codes, Some, None, pos};
+ghost use Rattle.std.specs.List.{flat_map};
 ghost use Rattle.aq_base.specs.Calendar.{days_in_year};
 ghost use Rattle.aq_base.specs.Site.{Site};
 ghost use Rattle.aq_profile.specs.Office.{Office};
 ghost use Rattle.aq_profile.specs.Season.{Season};
 ghost use Rattle.aq_profile.specs.OzoneDay.{OzoneDay};
 ghost use Rattle.aq_profile.specs.OzoneVerdict.{ozone_dv};
-ghost use Rattle.aq_profile.specs.Sheet.{text_of};
+ghost use Rattle.aq_profile.specs.Sheet.{line_of, text_of};
 ghost use Rattle.aq_profile.specs.Sheets.{days_answer, days_sheet, ozone_value_answer, ozone_value_sheet, windows_answer};
 ghost use Rattle.aq_profile.specs.OzoneExamples.{site, day_with, year_with, year_without_fourth};
 
@@ -45,4 +46,10 @@ pub fn sheets_have_their_rows()
     ensures windows { (office : Office) (site : Site) (day : ℕ) → length (windows_answer office site day).rows ≡ 17 }
     ensures days { (office : Office) (site : Site) (year : ℕ) → length (days_answer office site year).rows ≡ days_in_year year }
     ensures value { (office : Office) (site : Site) (year : ℕ) → length (ozone_value_answer office site year).rows ≡ 3 }
+{}
+
+/// A line is its first word, each further one behind a space, and LF.
+pub fn words_stand_behind_single_spaces()
+    ensures { (word : List ℕ) (words : List (List ℕ))
+        → line_of (word ∷ words) ≡ (word ++ flat_map (λ (w : List ℕ). codes " " ++ w) words) ++ codes "\n" }
 {}

@@ -8,7 +8,7 @@ ghost use Rattle.aq_base.specs.declared.observation.Observation.{Observation};
 ghost use Rattle.aq_base.specs.Calendar.{hour_number};
 ghost use Rattle.aq_profile.specs.Office.{Office};
 ghost use Rattle.aq_profile.specs.Monitors.{is_same_key};
-ghost use Rattle.aq_profile.specs.SiteHour.{site_hour};
+ghost use Rattle.aq_profile.specs.SiteHour.{is_ozone_at, site_hour};
 ghost use Rattle.aq_profile.specs.OzoneExamples.{site, summer_day, three_monitors, secondaries, reading, office_of};
 
 /// Without the primary's value the mean of the other two monitors is taken, truncated.
@@ -29,5 +29,13 @@ pub fn site_hour_forgets_the_order()
         → a.records ≡ b.records
         → IsPermutation a.observations b.observations
         → ((key : ObsKey) → length (filter (λ (e : ObsKey × Observation). is_same_key e.0 key) a.observations) ≤ 1)
+        → site_hour a site hour ≡ site_hour b site hour }
+{}
+
+/// A site hour reads no observation of another site, pollutant or hour.
+pub fn site_hour_reads_its_own_observations()
+    ensures { (a b : Office) (site : Site) (hour : ℕ)
+        → a.records ≡ b.records
+        → filter (λ (e : ObsKey × Observation). is_ozone_at site hour e.0) a.observations ≡ filter (λ (e : ObsKey × Observation). is_ozone_at site hour e.0) b.observations
         → site_hour a site hour ≡ site_hour b site hour }
 {}

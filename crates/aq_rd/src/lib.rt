@@ -8,3 +8,6 @@ mod plain;
 pub use cursor::Cursor;
 pub use line::RdLine;
 pub use plain::{ozone_monitor, read_rd};
+
+#[cfg(test)]
+mod tests;

@@ -1,5 +1,5 @@
 -- What holds of the entries after each change.
-use Rattle.std.proofs.Common.{◌≡◌, ℕ, ◌+◌, ◌<◌, ◌≤◌, Bool, true, false, ◌&&◌, nat_eq, List, [], ◌∷◌, length, map, cond, Some, refl, ap, sym, subst, ◌∙◌, arith}
+use Rattle.std.proofs.Common.{Option, ◌≡◌, ℕ, ◌+◌, ◌<◌, ◌≤◌, Bool, true, false, ◌&&◌, nat_eq, List, [], ◌∷◌, length, map, cond, Some, refl, ap, sym, subst, ◌∙◌, arith}
 use Rattle.std.specs.Prelude.{nat_le, nat_lt, filter, IfSome}
 use Rattle.std.specs.declared.cmp.Ordering.{Ordering}
 use Rattle.std.specs.declared.cmp.Ordering.TheVariants.{Less, Equal, Greater}
@@ -22,7 +22,7 @@ use Rattle.aq_base.specs.declared.observation.ObsKey.{ObsKey}
 use Rattle.aq_base.specs.declared.observation.Observation.{Observation}
 use Rattle.aq_shelf.specs.declared.shelf.TheConstants.{MOST_OBSERVATIONS}
 use Rattle.aq_shelf.specs.Keys.{key_cmp, same_key, same_monitor, same_site, pollutant_place}
-use Rattle.aq_shelf.specs.Values.{HasValueInRange}
+use Rattle.aq_base.specs.Values.{HasValueInRange}
 use Rattle.aq_shelf.specs.Entries.{IsStanding, IsShelf, in_span, hour_content, observations_in, observation_at, with_entry, with_content, without_key}
 use Rattle.aq_shelf.proofs.Order.{derived_cmp, same_order, same_test, is_eq-key_cmp, half_open, closed}
 
@@ -85,9 +85,9 @@ all-insert_entry key content [] new h = (new, h)
 all-insert_entry key content (e ∷ es) new h =
     let at : (o : Ordering) → key_cmp key e.0 ≡ o → AllByRecursion IsStanding (match_ordering o ((key, content) ∷ e ∷ es) ((e.0, content) ∷ es) (e ∷ insert_entry key_cmp es key content)) =
     elim [
-    Less ↦ λ _. (new, h)
-    | Equal ↦ λ same. (IsStanding-same_key key content e new.1 (sym (is_eq-key_cmp key e.0) ∙ ap is_eq same) h.0, h.1)
-    | Greater ↦ λ _. (h.0, all-insert_entry key content es new h.1)
+      | Less ↦ λ _. (new, h)
+      | Equal ↦ λ same. (IsStanding-same_key key content e new.1 (sym (is_eq-key_cmp key e.0) ∙ ap is_eq same) h.0, h.1)
+      | Greater ↦ λ _. (h.0, all-insert_entry key content es new h.1)
     ]
     in
     at (key_cmp key e.0) refl
@@ -97,9 +97,9 @@ length-insert_entry-le key content [] = omega arith
 length-insert_entry-le key content (e ∷ es) =
     let h = length-insert_entry-le key content es in
     elim (key_cmp key e.0) as (λ o. length (match_ordering o ((key, content) ∷ e ∷ es) ((e.0, content) ∷ es) (e ∷ insert_entry key_cmp es key content)) ≤ length (e ∷ es) + 1) [
-    Less ↦ omega arith
-    | Equal ↦ omega arith
-    | Greater ↦ omega arith
+      | Less ↦ omega arith
+      | Equal ↦ omega arith
+      | Greater ↦ omega arith
     ]
 
 -- ---- the shelf's facts after a change
@@ -148,17 +148,28 @@ IsShelf-insert key content es fs entry room old new sorted =
 pub lookup-derived : (key : ObsKey) (es : List (ObsKey × Observation)) → lookup (is_at (derived_cmp key)) es ≡ observation_at key es
 lookup-derived key es = ap (λ (t : ObsKey → Bool). lookup t es) (same_test key)
 
+-- what the map says of its keys, by the order that the code derives
+pub observation_at-changed : (key other : ObsKey) (content : Option Observation) (es fs : List (ObsKey × Observation)) → lookup (is_at (derived_cmp other)) fs ≡ cond (is_at (derived_cmp key) other) content (lookup (is_at (derived_cmp other)) es) → observation_at other fs ≡ cond (same_key key other) content (observation_at other es)
+observation_at-changed key other content es fs changed =
+    sym (lookup-derived other fs) ∙ changed
+    ∙ ap (λ (t : ObsKey → Bool). cond (t other) content (lookup (is_at (derived_cmp other)) es)) (same_test key)
+    ∙ ap (cond (same_key key other) content) (lookup-derived other es)
+
 pub IfSome-observation_at : (key : ObsKey) (es : List (ObsKey × Observation)) → AllByRecursion IsStanding es → IfSome (observation_at key es) (HasValueInRange key.monitor.pollutant)
 IfSome-observation_at key [] h = tt
 IfSome-observation_at key (e ∷ es) h =
     let at : (b : Bool) → same_key key e.0 ≡ b → IfSome (cond b (Some e.1) (observation_at key es)) (HasValueInRange key.monitor.pollutant) =
     elim [
-    true ↦ λ same.
-    subst (λ p. HasValueInRange p e.1) (sym (pollutant_from_monitor key.monitor e.0.monitor (first_of_both (same_monitor key.monitor e.0.monitor) (nat_eq key.hour e.0.hour) same))) h.0.1
-    | false ↦ λ _. IfSome-observation_at key es h.1
+      | true ↦ λ same.
+          subst (λ p. HasValueInRange p e.1) (sym (pollutant_from_monitor key.monitor e.0.monitor (first_of_both (same_monitor key.monitor e.0.monitor) (nat_eq key.hour e.0.hour) same))) h.0.1
+      | false ↦ λ _. IfSome-observation_at key es h.1
     ]
     in
     at (same_key key e.0) refl
+
+pub HasValueInRange-found : (key : ObsKey) (content : Observation) (es : List (ObsKey × Observation)) → IsShelf es → observation_at key es ≡ Some content → HasValueInRange key.monitor.pollutant content
+HasValueInRange-found key content es shelf found =
+    rw found at (IfSome-observation_at key es shelf.standing)
 
 -- ---- a monitor's hours
 
@@ -192,11 +203,11 @@ all-observations_in m from hours (e ∷ es) h =
     let rest = all-observations_in m from hours es h.1 in
     let at : (b : Bool) → in_span m from hours e ≡ b → AllByRecursion (λ (item : ℕ × Observation). HasValueInRange m.pollutant item.1) (map hour_content (cond b (e ∷ filter (in_span m from hours) es) (filter (in_span m from hours) es))) =
     elim [
-    true ↦ λ inside.
-    let monitor = same_monitor m e.0.monitor in
-    let same = first_of_both monitor (nat_le from e.0.hour) (first_of_both (monitor && nat_le from e.0.hour) (nat_lt e.0.hour (from + hours)) inside) in
-    (subst (λ p. HasValueInRange p e.1) (sym (pollutant_from_monitor m e.0.monitor same)) h.0.1, rest)
-    | false ↦ λ _. rest
+      | true ↦ λ inside.
+          let monitor = same_monitor m e.0.monitor in
+          let same = first_of_both monitor (nat_le from e.0.hour) (first_of_both (monitor && nat_le from e.0.hour) (nat_lt e.0.hour (from + hours)) inside) in
+          (subst (λ p. HasValueInRange p e.1) (sym (pollutant_from_monitor m e.0.monitor same)) h.0.1, rest)
+      | false ↦ λ _. rest
     ]
     in
     at (in_span m from hours e) refl

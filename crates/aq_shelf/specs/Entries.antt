@@ -1,5 +1,5 @@
 -- The standing observations: a list of entries, in rising order of distinct keys.
-use Rattle.std.specs.Prelude.{◌≡◌, ℕ, ◌+◌, ◌<◌, ◌≤◌, Bool, ◌&&◌, nat_le, nat_lt, Option, None, List, length, map, filter, IsSome}
+use Rattle.std.specs.Prelude.{◌≡◌, ℕ, ◌+◌, ◌<◌, ◌≤◌, Bool, ◌&&◌, nat_le, nat_lt, if◌then◌else◌, Option, None, List, length, map, filter, IsSome}
 use Rattle.std.specs.List.{AllByRecursion}
 use Rattle.std.specs.List.Sorted.{IsStrictlySortedBy}
 use Rattle.std.specs.Map.{lookup, keys_of, set_value, remove_entry}
@@ -12,7 +12,7 @@ use Rattle.aq_shelf.specs.declared.shelf.TheConstants.{MOST_OBSERVATIONS}
 use Rattle.aq_shelf.specs.declared.fault.ShelfFault.{ShelfFault}
 use Rattle.aq_shelf.specs.declared.fault.ShelfFault.TheVariants.{AlreadyThere, Full, Memory}
 use Rattle.aq_shelf.specs.Keys.{key_cmp, same_key, same_monitor}
-use Rattle.aq_shelf.specs.Values.{HasValueInRange}
+use Rattle.aq_base.specs.Values.{HasValueInRange}
 
 -- what stands at a key
 abbrev pub observation_at : ObsKey → List (ObsKey × Observation) → Option Observation
@@ -29,6 +29,11 @@ with_content key content entries = set_value (same_key key) entries content
 -- the entries without that of a key
 abbrev pub without_key : ObsKey → List (ObsKey × Observation) → List (ObsKey × Observation)
 without_key key entries = remove_entry (same_key key) entries
+
+-- a key has this content now or none, and each other key has what it had
+abbrev pub ChangesOnly : ObsKey → Option Observation → List (ObsKey × Observation) → List (ObsKey × Observation) → Type 0
+ChangesOnly key content old new =
+    (other : ObsKey) → observation_at other new ≡ (if same_key key other then content else observation_at other old)
 
 -- an observation of the monitor that starts in the hours from `from` on
 abbrev pub in_span : MonitorId → ℕ → ℕ → ObsKey × Observation → Bool

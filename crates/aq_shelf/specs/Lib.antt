@@ -1,4 +1,4 @@
 -- The shelf as a list of entries, in the order of keys.
 pub mod Keys
-pub mod Values
 pub mod Entries
+pub mod Faults

@@ -1,4 +1,7 @@
 //! Why the shelf refuses a change.
+ghost use Rattle.std.specs.Prelude.{Some};
+ghost use Rattle.aq_shelf.specs.Faults.{fault_text, not_there_text};
+
 use std::error::Error;
 use std::fmt;
 
@@ -14,6 +17,8 @@ pub enum ShelfFault {
 }
 
 impl fmt::Display for ShelfFault {
+    ghost output = { λ fault. Some (fault_text fault) };
+
     fn fmt<W: fmt::Write>(&self, f: &mut fmt::Formatter<W>) -> fmt::Result {
         f.write_str(match self {
             ShelfFault::AlreadyThere => "an observation stands at the key",
@@ -30,6 +35,8 @@ impl Error for ShelfFault {}
 pub struct NotThere;
 
 impl fmt::Display for NotThere {
+    ghost output = { λ _. Some not_there_text };
+
     fn fmt<W: fmt::Write>(&self, f: &mut fmt::Formatter<W>) -> fmt::Result {
         f.write_str("no observation stands at the key")
     }

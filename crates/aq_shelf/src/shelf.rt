@@ -1,8 +1,8 @@
 //! The standing observations.
 ghost use Rattle.std.specs.Prelude.{◌≡◌, ◌+◌, ◌<◌, ◌≤◌, Some, None, [], length, filter, IfSome, IfOk, IfErr, OnOk, OnErr};
 ghost use Rattle.std.specs.List.{AllByRecursion};
-ghost use Rattle.aq_shelf.specs.Values.{HasValueInRange};
-ghost use Rattle.aq_shelf.specs.Entries.{observation_at, with_entry, with_content, without_key, in_span, observations_in, IsShelf, IsInsertFault};
+ghost use Rattle.aq_base.specs.Values.{HasValueInRange};
+ghost use Rattle.aq_shelf.specs.Entries.{ChangesOnly, observation_at, with_entry, with_content, without_key, in_span, observations_in, IsShelf, IsInsertFault};
 
 use crate::fault::{NotThere, ShelfFault};
 use crate::span::Span;
@@ -62,6 +62,7 @@ impl Shelf {
     pub fn insert(&mut self, key: ObsKey, content: Observation) -> Result<(), ShelfFault>
         requires { HasValueInRange key.monitor.pollutant content }
         ensures ok { OnOk result (self.new ≡ with_entry key content self.old) }
+        ensures keys { OnOk result (ChangesOnly key (Some content) self.old self.new) }
         ensures absent { OnOk result (observation_at key self.old ≡ None) }
         ensures room { OnOk result (length self.old < MOST_OBSERVATIONS) }
         ensures refused { IfErr result (λ fault. IsInsertFault fault key self.old) }
@@ -87,21 +88,25 @@ impl Shelf {
     pub fn update(&mut self, key: ObsKey, content: Observation) -> Result<Observation, NotThere>
         requires { HasValueInRange key.monitor.pollutant content }
         ensures before { IfOk result (λ before. observation_at key self.old ≡ Some before) }
+        ensures range { IfOk result (HasValueInRange key.monitor.pollutant) }
         ensures ok { OnOk result (self.new ≡ with_content key content self.old) }
+        ensures keys { OnOk result (ChangesOnly key (Some content) self.old self.new) }
         ensures not_there { OnErr result (observation_at key self.old ≡ None) }
         ensures unchanged { OnErr result (self.new ≡ self.old) }
     {
-        match self.entries.get_mut(&key) {
-            Some(place) => Ok(mem::replace(place, content)),
-            None => Err(NotThere),
-        }
+        let Some(place) = self.entries.get_mut(&key) else {
+            return Err(NotThere);
+        };
+        Ok(mem::replace(place, content))
     }
 
     /// Takes the observation at a key away, and answers it. It takes no memory. It is refused where
     /// none stands there, and the shelf is then as before.
     pub fn remove(&mut self, key: ObsKey) -> Result<Observation, NotThere>
         ensures before { IfOk result (λ before. observation_at key self.old ≡ Some before) }
+        ensures range { IfOk result (HasValueInRange key.monitor.pollutant) }
         ensures ok { OnOk result (self.new ≡ without_key key self.old) }
+        ensures keys { OnOk result (ChangesOnly key None self.old self.new) }
         ensures not_there { OnErr result (observation_at key self.old ≡ None) }
         ensures unchanged { OnErr result (self.new ≡ self.old) }
     {
@@ -139,11 +144,18 @@ impl Shelf {
     {
         let entries = &self.entries;
         let monitor = &monitor;
-        steps.tick();
-        for _ in entries_in(entries, monitor, from, hours) {
-            steps.tick();
-        }
+        count_steps(entries_in(entries, monitor, from, hours), steps);
         Span::new(entries_in(entries, monitor, from, hours))
+    }
+}
+
+/// Counts one step, and one for each entry.
+fn count_steps<L: Ledger>(entries: Range<'_, ObsKey, Observation>, counter: &mut Steps<L>)
+    ensures { counter.new ≡ counter.old + 1 + length entries.entry }
+{
+    counter.tick();
+    for _ in entries {
+        counter.tick();
     }
 }
 
@@ -158,22 +170,23 @@ fn entries_in<'a>(
     requires standing { IsShelf entries.now.entries }
     ensures { result ≡ filter (in_span monitor.now from hours) entries.now.entries }
 {
-    let first = ObsKey {
-        monitor: *monitor,
-        hour: from,
-    };
+    let first = key_at(monitor, from);
     let end = from.number() + hours;
     if end <= LAST_HOUR {
-        let last = ObsKey {
-            monitor: *monitor,
-            hour: Hour::new(end),
-        };
+        let last = key_at(monitor, Hour::new(end));
         entries.range(first..last)
     } else {
-        let last = ObsKey {
-            monitor: *monitor,
-            hour: Hour::new(LAST_HOUR),
-        };
+        let last = key_at(monitor, Hour::new(LAST_HOUR));
         entries.range(first..=last)
+    }
+}
+
+/// The key of a monitor's hour.
+fn key_at(monitor: &MonitorId, hour: Hour) -> ObsKey
+    ensures { result ≡ record { monitor = monitor.now; hour = hour } }
+{
+    ObsKey {
+        monitor: *monitor,
+        hour,
     }
 }

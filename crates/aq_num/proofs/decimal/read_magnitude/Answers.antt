@@ -1,7 +1,6 @@
-use Rattle.std.proofs.Common.{◌≡◌, suc, ◌+◌, true, false, length, drop, [], ◌∷◌, get_or, sym, ◌∙◌, arith, rules, Some}
+use Rattle.std.proofs.Common.{arith}
 use Rattle.std.proofs.lemmas.Grind.{common_steps}
-use Rattle.std.proofs.lemmas.List.{drop_all}
-use Rattle.aq_num.proofs.Scan.{scan, scan-is, scan-none}
+use Rattle.aq_num.proofs.Scan.{scan-is, scan-none}
 use Rattle.aq_num.proofs.decimal.read_magnitude.Goals as goal
 
 pub returns-else-is_ascii_digit : goal.returns-else-is_ascii_digit

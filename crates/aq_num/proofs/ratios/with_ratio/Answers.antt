@@ -1,4 +1,4 @@
-use Rattle.std.proofs.Common.{◌≡◌, ◌≤◌, ◌^◌, ◌∙◌, pos, ◌+ℤ◌, ◌*ℤ◌, unsigned_abs, FitsSigned, lit<, arith}
+use Rattle.std.proofs.Common.{◌^◌, ◌∙◌, pos, ◌*ℤ◌, FitsSigned, lit<, arith}
 use Rattle.std.specs.Int.{w32, w128}
 use Rattle.std.proofs.lemmas.Int.{ints, to_z-of_z, fits_signed_mul}
 use Rattle.aq_num.proofs.Sums.{ratio-fits}

@@ -7,5 +7,6 @@ use Rattle.aq_num.proofs.text.+write_decimal.Goals.{then-number-ge10+in_ok-write
 pub returns-clause-ok : goal.returns-clause-ok
 returns-clause-ok t c =
     elim c.if-number-ge10.branch [
-      then-number-ge10+in_ok-write_decimal w ↦ grind (arith, common_steps, decimal_step)
-      | else-number-ge10 w ↦ grind (arith, common_steps, decimal_digit) ]
+      | then-number-ge10+in_ok-write_decimal w ↦ grind (arith, common_steps, decimal_step)
+      | else-number-ge10 w ↦ grind (arith, common_steps, decimal_digit)
+    ]

@@ -1,6 +1,5 @@
-use Rattle.std.proofs.Common.{arith, rules}
+use Rattle.std.proofs.Common.{arith}
 use Rattle.std.proofs.lemmas.Grind.{common_steps}
-use Rattle.aq_base.specs.Decimal.{last_digits}
 use Rattle.aq_num.proofs.Digits.{last_digits-none, last_digits-more}
 use Rattle.aq_num.proofs.text.+write_last_digits.Goals as goal
 

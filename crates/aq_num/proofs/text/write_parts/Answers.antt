@@ -1,4 +1,4 @@
-use Rattle.std.proofs.Common.{◌≡◌, ◌≤◌, take, arith, rules}
+use Rattle.std.proofs.Common.{◌≡◌, take, arith}
 use Rattle.std.specs.Vec.{vec_len}
 use Rattle.std.proofs.Math.Nat.{one-le-pow}
 use Rattle.std.proofs.lemmas.Grind.{common_steps}
@@ -14,8 +14,9 @@ pub returns-in_err-write_decimal-clause-front : goal.returns-in_err-write_decima
 returns-in_err-write_decimal-clause-front c =
     let signed : take (vec_len c.args.out.now) c.if-value-lt0.out.items ≡ c.args.out.now.items =
     elim c.if-value-lt0.branch [
-      then-value-lt0+in_ok-push w ↦ grind (arith, common_steps)
-      | else-value-lt0 w ↦ grind (arith, common_steps) ]
+      | then-value-lt0+in_ok-push w ↦ grind (arith, common_steps)
+      | else-value-lt0 w ↦ grind (arith, common_steps)
+    ]
     in
     take-through _ _ c.write_decimal.new.out.items _ _ (omega arith) (omega arith) c.in_err-write_decimal.ensures.front signed
 
@@ -24,8 +25,9 @@ pub returns-in_err-write_last_digits-clause-front :
 returns-in_err-write_last_digits-clause-front c =
     let signed : take (vec_len c.args.out.now) c.if-value-lt0.out.items ≡ c.args.out.now.items =
     elim c.if-value-lt0.branch [
-      then-value-lt0+in_ok-push w ↦ grind (arith, common_steps)
-      | else-value-lt0 w ↦ grind (arith, common_steps) ]
+      | then-value-lt0+in_ok-push w ↦ grind (arith, common_steps)
+      | else-value-lt0 w ↦ grind (arith, common_steps)
+    ]
     in
     let whole : take (vec_len c.args.out.now) c.write_decimal.new.out.items ≡ c.args.out.now.items =
     take-through _ _ c.write_decimal.new.out.items _ _ (omega arith) (omega arith) c.in_ok-write_decimal.ensures.front signed

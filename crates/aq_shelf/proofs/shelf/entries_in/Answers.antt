@@ -7,7 +7,8 @@ pub returns-then-end-le-LAST_HOUR : goal.returns-then-end-le-LAST_HOUR
 returns-then-end-le-LAST_HOUR c =
     let from = c.number.ensures.value in
     let end : c.new.result ≡ c.args.from + c.args.hours = omega arith in
-    c.range.ensures.between tt ∙ rw end (filter-half_open c.args.monitor.now c.args.from c.args.hours c.args.entries.now.entries c.requires.standing)
+    c.range.ensures.between tt
+    ∙ rw (c.key_at-first.ensures, c.key_at-last.ensures, end) (filter-half_open c.args.monitor.now c.args.from c.args.hours c.args.entries.now.entries c.requires.standing)
 
 pub returns-else-end-le-LAST_HOUR : goal.returns-else-end-le-LAST_HOUR
 returns-else-end-le-LAST_HOUR c =
@@ -15,4 +16,4 @@ returns-else-end-le-LAST_HOUR c =
     let past : LAST_HOUR < c.args.from + c.args.hours = omega arith in
     let range = c.new-else-end-le-LAST_HOUR-2.ensures in
     c.range-else-end-le-LAST_HOUR.ensures.between range.exhausted
-    ∙ rw (range.start, range.end, c.new-else-end-le-LAST_HOUR.ensures) (filter-closed c.args.monitor.now c.args.from c.args.hours c.args.entries.now.entries past c.requires.standing)
+    ∙ rw (range.start, range.end, c.key_at-first.ensures, c.key_at-last-else-end-le-LAST_HOUR.ensures, c.new-else-end-le-LAST_HOUR.ensures) (filter-closed c.args.monitor.now c.args.from c.args.hours c.args.entries.now.entries past c.requires.standing)

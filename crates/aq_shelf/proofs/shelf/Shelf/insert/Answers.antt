@@ -3,7 +3,7 @@ use Rattle.std.proofs.lemmas.Bool.{false≢true}
 use Rattle.aq_base.specs.declared.observation.Observation.{Observation}
 use Rattle.aq_shelf.specs.declared.shelf.TheConstants.{MOST_OBSERVATIONS}
 use Rattle.aq_shelf.specs.Entries.{observation_at, with_entry, IsShelf}
-use Rattle.aq_shelf.proofs.EntryLemmas.{IsShelf-insert, lookup-derived, insert_entry-derived}
+use Rattle.aq_shelf.proofs.EntryLemmas.{observation_at-changed, IsShelf-insert, lookup-derived, insert_entry-derived}
 use Rattle.aq_shelf.proofs.shelf.Shelf.insert.Goals as goal
 use Rattle.aq_shelf.proofs.shelf.Shelf.insert.Goals.{in-Ok, in-Err}
 
@@ -37,10 +37,10 @@ absent c =
 pub invariant_of-self : goal.invariant_of-self
 invariant_of-self c =
     elim c.match-insert.branch [
-    in-Ok w ↦
-    IsShelf-insert c.args.key c.args.content c.self.inside.entries.entries c.insert.new.self.entries
-    (rw c.number.ensures.value at c.number.ensures.range, c.requires) (room c) c.self.invariant w.in-Ok.ensures.entries c.insert.ensures.ordered
-    | in-Err w ↦ subst IsShelf (sym w.in-Err.ensures.err) c.self.invariant
+      | in-Ok w ↦
+          IsShelf-insert c.args.key c.args.content c.self.inside.entries.entries c.insert.new.self.entries
+          (rw c.number.ensures.value at c.number.ensures.range, c.requires) (room c) c.self.invariant w.in-Ok.ensures.entries c.insert.ensures.ordered
+      | in-Err w ↦ subst IsShelf (sym w.in-Err.ensures.err) c.self.invariant
     ]
 
 pub returns-clause-absent : goal.returns-clause-absent
@@ -50,15 +50,23 @@ returns-clause-absent c =
 pub returns-clause-refused : goal.returns-clause-refused
 returns-clause-refused c =
     elim c.match-insert.branch [
-    in-Ok w ↦ rw w.result-is tt
-    | in-Err w ↦ rw w.result-is (absent c, rw (← c.self.view_is) (room c))
+      | in-Ok w ↦ rw w.result-is tt
+      | in-Err w ↦ rw w.result-is (absent c, rw (← c.self.view_is) (room c))
     ]
 
 pub returns-clause-ok : goal.returns-clause-ok
 returns-clause-ok c =
     elim c.match-insert.branch [
-    in-Ok w ↦
-    rw w.result-is (w.in-Ok.ensures.entries ∙ insert_entry-derived c.args.key c.args.content c.self.inside.entries.entries
-    ∙ ap (with_entry c.args.key c.args.content) c.self.view_is)
-    | in-Err w ↦ rw w.result-is tt
+      | in-Ok w ↦
+          rw w.result-is (w.in-Ok.ensures.entries ∙ insert_entry-derived c.args.key c.args.content c.self.inside.entries.entries
+          ∙ ap (with_entry c.args.key c.args.content) c.self.view_is)
+      | in-Err w ↦ rw w.result-is tt
+    ]
+
+pub returns-clause-keys : goal.returns-clause-keys
+returns-clause-keys c =
+    elim c.match-insert.branch [
+      | in-Ok w ↦
+          rw (w.result-is, ← c.self.view_is) (λ other. observation_at-changed c.args.key other (Some c.args.content) c.self.inside.entries.entries c.insert.new.self.entries (w.in-Ok.ensures.updates.0 other))
+      | in-Err w ↦ rw w.result-is tt
     ]
