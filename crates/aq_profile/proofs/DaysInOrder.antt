@@ -216,7 +216,7 @@ abbrev pm10_by : List OfficeRecord → (ℕ → Option Cell) → Site → ℕ �
 pm10_by records days site quarter =
     quarter_of_strata (days_in_quarter quarter) (length (scheduled_by records site Pm10 quarter))
     (count_by (sampled_by days) (scheduled_by records site Pm10 quarter))
-    (count_by (λ day. option_map_or exceeds (option_and_then unless_excluded (days day)) (1 == 0)) (scheduled_by records site Pm10 quarter))
+    (count_by (λ day. option_map_or exceeds (option_and_then unless_excluded (days day)) false) (scheduled_by records site Pm10 quarter))
     (map (filter_map (λ day. option_and_then unless_excluded (days day))) (cut_into_strata (is_scheduled records site Pm10) (days_of_quarter quarter)))
 
 pub pm10_year-any_order : (a b : Office) (site : Site) (year : ℕ) → a.records ≡ b.records → IsPermutation a.observations b.observations

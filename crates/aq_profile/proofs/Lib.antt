@@ -22,3 +22,4 @@ pub mod DaysInOrder
 pub mod OtherHours
 pub mod Thirds
 pub mod Joined
+pub mod Pm10Facts

@@ -1,5 +1,5 @@
 -- The estimated number of PM10 exceedances of quarters, years and three years (40 CFR Part 50, Appendix K, 2.1 and 3.0). Each exceedance is adjusted for days without a sample, the first one too (own).
-use Rattle.std.specs.Prelude.{ℕ, ◌*◌, ◌/◌, Bool, not, ◌==◌, if◌then◌else◌, List, length, map, filter, filter_map, count_by, sum_by, Option, Some, None, option_map, ℤ, pos, int_le}
+use Rattle.std.specs.Prelude.{ℕ, ◌*◌, ◌/◌, Bool, true, false, ◌==◌, if◌then◌else◌, List, [], ◌∷◌, length, map, filter, filter_map, count_by, sum_by, Option, Some, None, option_map, ℤ, pos, int_le}
 use Rattle.std.specs.Option.{option_map_or}
 use Rattle.aq_base.specs.Calendar.{days_in_quarter}
 use Rattle.aq_base.specs.Decimal.{half_up}
@@ -29,9 +29,12 @@ pub record Pm10Quarter : Type 0 where
   pub scheduled_exceedances : ℕ
   pub sixtieths : ℕ
 
--- strata with a sample
+abbrev pub has_sample : List ℤ → Bool
+has_sample [] = false
+has_sample (value ∷ values) = true
+
 abbrev pub sampled_strata : List (List ℤ) → List (List ℤ)
-sampled_strata strata = filter (λ values. not (length values == 0)) strata
+sampled_strata strata = filter has_sample strata
 
 -- the part of a stratum's samples that exceed, in sixtieths: whole, since a stratum has six days at most
 abbrev pub sixtieths_of : List ℤ → ℕ
@@ -52,7 +55,7 @@ quarter_of_strata days scheduled captured scheduled_exceedances strata = record 
 
 -- whether the day has a sample that exceeds
 abbrev pub is_exceedance : Office → Site → ℕ → Bool
-is_exceedance office site day = option_map_or exceeds (net_day office site Pm10 day) (1 == 0)
+is_exceedance office site day = option_map_or exceeds (net_day office site Pm10 day) false
 
 -- the samples of each stratum
 abbrev pub strata_samples : Office → Site → ℕ → List (List ℤ)
