@@ -25,7 +25,7 @@ next-take zero x xs next = tt
 next-take (suc n) x [] next = tt
 next-take (suc n) x (y ∷ ys) next = next
 
-descends-take : (n : ℕ) (xs : List ℤ) → Descends xs → Descends (take n xs)
+pub descends-take : (n : ℕ) (xs : List ℤ) → Descends xs → Descends (take n xs)
 descends-take zero xs falls = tt
 descends-take (suc n) [] falls = tt
 descends-take (suc n) (x ∷ xs) falls = (next-take n x xs falls.0, descends-take n xs falls.1)
@@ -69,7 +69,7 @@ eight-more xs more =
 
 -- ---- ranks up to the eighth
 
-slice_get-front : (n k : ℕ) (xs : List ℤ) → k < n → slice_get (take n xs) k ≡ slice_get xs k
+pub slice_get-front : (n k : ℕ) (xs : List ℤ) → k < n → slice_get (take n xs) k ≡ slice_get xs k
 slice_get-front zero k xs low = absurd (omega arith)
 slice_get-front (suc n) k [] low = refl
 slice_get-front (suc n) zero (x ∷ xs) low = refl

@@ -91,7 +91,7 @@ module _ (copies : QuarterDays → List QuarterDays → Option (List ℤ)) (kept
       ap (λ (triples : List (List PmQuarter)). all_of (map (λ (q, three). kept q three) (zip (map s year) triples))) (across-summary years)
       ∙ ap all_of (zip-copies year (across years))
 
-days-summary : (three : List QuarterDays) → days_in (map s three) ≡ sum_by (λ (o : QuarterDays). length o.values) three
+pub days-summary : (three : List QuarterDays) → days_in (map s three) ≡ sum_by (λ (o : QuarterDays). length o.values) three
 days-summary [] = refl
 days-summary (q ∷ qs) =
     sum_by-cons (λ (o : PmQuarter). o.days) (s q) (map s qs)
@@ -101,7 +101,7 @@ least-summary : (three : List QuarterDays) → filter_map (λ (o : PmQuarter). o
 least-summary [] = refl
 least-summary (q ∷ qs) = ap (cons_option (least q.values)) (least-summary qs)
 
-greatest-summary : (three : List QuarterDays) → filter_map (λ (o : PmQuarter). o.greatest) (map s three) ≡ filter_map (λ (o : QuarterDays). greatest o.values) three
+pub greatest-summary : (three : List QuarterDays) → filter_map (λ (o : PmQuarter). o.greatest) (map s three) ≡ filter_map (λ (o : QuarterDays). greatest o.values) three
 greatest-summary [] = refl
 greatest-summary (q ∷ qs) = ap (cons_option (greatest q.values)) (greatest-summary qs)
 

@@ -23,3 +23,4 @@ pub mod OtherHours
 pub mod Thirds
 pub mod Joined
 pub mod Pm10Facts
+pub mod Pm25Facts

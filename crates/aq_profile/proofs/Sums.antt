@@ -32,12 +32,12 @@ min_of_three x y z = grind (arith, ints)
 max_of_three : (x y z : ℤ) → int_max (int_max x y) z ≡ int_max x (int_max y z)
 max_of_three x y z = grind (arith, ints)
 
-abbrev lesser_of : Option ℤ → Option ℤ → Option ℤ
+abbrev pub lesser_of : Option ℤ → Option ℤ → Option ℤ
 lesser_of None b = b
 lesser_of (Some x) None = Some x
 lesser_of (Some x) (Some y) = Some (int_min x y)
 
-abbrev greater_of : Option ℤ → Option ℤ → Option ℤ
+abbrev pub greater_of : Option ℤ → Option ℤ → Option ℤ
 greater_of None b = b
 greater_of (Some x) None = Some x
 greater_of (Some x) (Some y) = Some (int_max x y)
@@ -50,12 +50,12 @@ greater_turns : (x y : ℤ) (b : Option ℤ) → greater_of (Some (int_max x y))
 greater_turns x y None = refl
 greater_turns x y (Some z) = ap (λ (v : ℤ). Some v) (max_of_three x y z)
 
-least-some : (x : ℤ) (ys : List ℤ) → fold lesser (Some x) ys ≡ lesser_of (Some x) (least ys)
+pub least-some : (x : ℤ) (ys : List ℤ) → fold lesser (Some x) ys ≡ lesser_of (Some x) (least ys)
 least-some x [] = refl
 least-some x (y ∷ ys) =
     least-some (int_min x y) ys ∙ lesser_turns x y (least ys) ∙ ap (lesser_of (Some x)) (sym (least-some y ys))
 
-greatest-some : (x : ℤ) (ys : List ℤ) → fold greater (Some x) ys ≡ greater_of (Some x) (greatest ys)
+pub greatest-some : (x : ℤ) (ys : List ℤ) → fold greater (Some x) ys ≡ greater_of (Some x) (greatest ys)
 greatest-some x [] = refl
 greatest-some x (y ∷ ys) =
     greatest-some (int_max x y) ys ∙ greater_turns x y (greatest ys) ∙ ap (greater_of (Some x)) (sym (greatest-some y ys))
