@@ -24,3 +24,4 @@ pub mod Thirds
 pub mod Joined
 pub mod Pm10Facts
 pub mod Pm25Facts
+pub mod Rising

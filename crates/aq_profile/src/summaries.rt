@@ -1,11 +1,16 @@
 //! The verdicts on what is kept are the verdicts on the lists of values.
 #![tactic(auto)]
 
-ghost use Rattle.std.specs.Prelude.{◌≡◌, List, ℤ, map, All};
-ghost use Rattle.aq_profile.specs.QuarterCounts.{QuarterDays};
+ghost use Rattle.std.specs.Prelude.{◌≡◌, ℕ, List, ℤ, pos, map, filter_map, length, min, slice_get, nat_le, is_some, IsTrue, All};
+ghost use Rattle.aq_base.specs.Site.{Site};
+ghost use Rattle.aq_profile.specs.Office.{Office};
+ghost use Rattle.aq_profile.specs.Lists.{greatest, total};
+ghost use Rattle.aq_profile.specs.QuarterCounts.{QuarterDays, values_in};
+ghost use Rattle.aq_profile.specs.Pm10Estimate.{pm10_quarter};
+ghost use Rattle.aq_profile.specs.Substitution.{least};
 ghost use Rattle.aq_profile.specs.AnnualVerdict.{annual_dv};
 ghost use Rattle.aq_profile.specs.DailyVerdict.{daily_dv};
-ghost use Rattle.aq_profile.specs.Summaries.{KeepsPmYear, summary_of_year};
+ghost use Rattle.aq_profile.specs.Summaries.{KeepsPm10Quarter, KeepsPmYear, PmQuarter, days_in, eight_greatest, falls, is_sum_within, summary_of_quarter, summary_of_year};
 ghost use Rattle.aq_profile.specs.SummaryVerdicts.{kept_annual_dv, kept_daily_dv};
 
 /// Sums and numbers of values are enough for an annual standard, its tests with their copies too.
@@ -19,4 +24,27 @@ pub fn eight_greatest_are_enough_for_the_daily_verdict()
     ensures { (years : List (List QuarterDays))
         → All (λ year. KeepsPmYear (summary_of_year year)) years
         → kept_daily_dv (map summary_of_year years) ≡ daily_dv years }
+{}
+
+/// What is kept of a PM10 quarter keeps its facts, in every office.
+pub fn pm10_quarters_keep_their_facts()
+    ensures { (office : Office) (site : Site) (quarter : ℕ) → KeepsPm10Quarter (pm10_quarter office site quarter) }
+{}
+
+/// A quarter with a value has a least and a greatest one, and its sum lies between so many times
+/// either; a quarter without has the sum 0.
+pub fn quarter_summaries_keep_their_facts()
+    ensures least { (values : List ℤ) → is_some (least values) ≡ nat_le 1 (length values) }
+    ensures greatest { (values : List ℤ) → is_some (greatest values) ≡ nat_le 1 (length values) }
+    ensures sum { (quarter : QuarterDays) → IsTrue (is_sum_within (summary_of_quarter quarter)) }
+    ensures no_sum { (values : List ℤ) → length values ≡ 0 → total values ≡ pos 0 }
+{}
+
+/// The eight greatest values fall; there are as many as the quarters' days, but eight at most; and the
+/// first is the greatest of the quarters.
+pub fn eight_greatest_keep_their_facts()
+    ensures falls { (values : List ℤ) → IsTrue (falls (eight_greatest values)) }
+    ensures count { (year : List QuarterDays) → length (eight_greatest (values_in year)) ≡ min 8 (days_in (map summary_of_quarter year)) }
+    ensures first { (year : List QuarterDays)
+        → slice_get (eight_greatest (values_in year)) 0 ≡ greatest (filter_map (λ (q : PmQuarter). q.greatest) (map summary_of_quarter year)) }
 {}
