@@ -25,3 +25,4 @@ pub mod Joined
 pub mod Pm10Facts
 pub mod Pm25Facts
 pub mod Rising
+pub mod Pm25Counts
