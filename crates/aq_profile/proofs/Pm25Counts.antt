@@ -217,3 +217,184 @@ module _ (office : Office) (site : Site) (d : ℕ) where
 
   one_makeup : IsOffice office → makeups_on office site d ≤ 1
   one_makeup is = elim (none_or_one office.records is.makeup_days_differ) [ inl none ↦ omega (arith, none) | inr few ↦ few ]
+
+-- ---- counts of days
+
+tests_rest : (f p : Bool) → cond f (cond p 1 0) 0 + cond (p && not f) 1 0 ≡ cond p 1 0
+tests_rest true true = refl
+tests_rest true false = refl
+tests_rest false true = refl
+tests_rest false false = refl
+
+tests_room : (f k u : Bool) → (k ≡ true → u ≡ true) → cond k 1 0 + cond f 1 0 ≤ 1 + cond f (cond u 1 0) 0
+tests_room true true true h = omega arith
+tests_room true true false h = let e = h refl in cc
+tests_room true false u h = elim u as (λ b. 0 + 1 ≤ 1 + cond b 1 0) [ true ↦ omega arith | false ↦ omega arith ]
+tests_room false true u h = omega arith
+tests_room false false u h = omega arith
+
+module _ (f p : ℕ → Bool) where
+  both_of : List ℕ → ℕ
+  both_of days = sum_by (λ d. cond (f d) (cond (p d) 1 0) 0) days
+
+  split-days : (days : List ℕ) → count_by p (filter f days) + count_by (λ d. f d && not (p d)) days ≡ count_by f days
+  split-days [] = refl
+  split-days (d ∷ days) =
+      let rest = split-days days in
+      omega (arith, tests_split (f d) (p d), rest, count-of_filter p f (d ∷ days), count-of_filter p f days, sum_by-cons (λ e. cond (f e) (cond (p e) 1 0) 0) d days, sum_by-cons (λ e. cond (f e && not (p e)) 1 0) d days, sum_by-cons (λ e. cond (f e) 1 0) d days)
+
+  rest-days : (days : List ℕ) → count_by p (filter f days) + count_by (λ d. p d && not (f d)) days ≡ count_by p days
+  rest-days [] = refl
+  rest-days (d ∷ days) =
+      let rest = rest-days days in
+      omega (arith, tests_rest (f d) (p d), rest, count-of_filter p f (d ∷ days), count-of_filter p f days, sum_by-cons (λ e. cond (f e) (cond (p e) 1 0) 0) d days, sum_by-cons (λ e. cond (p e && not (f e)) 1 0) d days, sum_by-cons (λ e. cond (p e) 1 0) d days)
+
+  room-days : (k : ℕ → Bool) → ((d : ℕ) → k d ≡ true → p d ≡ true) → (days : List ℕ) → count_by k days + count_by f days ≤ length days + count_by p (filter f days)
+  room-days k h [] = omega arith
+  room-days k h (d ∷ days) =
+      let rest = room-days k h days in
+      omega (arith, tests_room (f d) (k d) (p d) (h d), rest, count-of_filter p f (d ∷ days), count-of_filter p f days, sum_by-cons (λ e. cond (f e) (cond (p e) 1 0) 0) d days, sum_by-cons (λ e. cond (k e) 1 0) d days, sum_by-cons (λ e. cond (f e) 1 0) d days)
+
+length-given : {Y : Type 0} (f : ℕ → Option Y) (days : List ℕ) → length (filter_map f days) ≡ count_by (λ d. is_some (f d)) days
+length-given f [] = refl
+length-given {Y = Y} f (d ∷ days) = by_value (f d) (length-given f days) ∙ sym (sum_by-cons (λ e. cond (is_some (f e)) 1 0) d days)
+    where
+      by_value : (o : Option Y) → length (filter_map f days) ≡ count_by (λ e. is_some (f e)) days → length (cons_option o (filter_map f days)) ≡ cond (is_some o) 1 0 + count_by (λ e. is_some (f e)) days
+      by_value None rest = omega (arith, rest)
+      by_value (Some y) rest = omega (arith, rest)
+
+-- ---- the quarter of a valid office
+
+-- what the day numbers of the quarter's days are, which the calendar's laws say
+abbrev pub HoldsDays : ℕ → Type 0
+HoldsDays quarter = (n : ℕ) → n ≤ LAST_DAY → quarter_of n ≡ quarter → (quarter_first quarter ≤ n) × (n < quarter_first quarter + days_in_quarter quarter)
+
+kept-sampled : (o : Option Cell) → is_some (option_and_then unless_excluded o) ≡ true → is_some o ≡ true
+kept-sampled None h = h
+kept-sampled (Some cell) h = refl
+
+module _ (office : Office) (site : Site) (quarter : ℕ) (valid : IsOffice office) (holds : HoldsDays quarter) where
+  sched : ℕ → Bool
+  sched d = is_scheduled office.records site Pm25 d
+
+  made : List Makeup
+  made = filter_map (makeup_by site quarter) office.records
+
+  given : List Makeup
+  given = filter (gives_credit office site) made
+
+  -- the parts of a credit
+  record Credit (m : Makeup) : Type 0 where
+    missed_low : quarter_first quarter ≤ m.missed
+    missed_high : m.missed < quarter_first quarter + days_in_quarter quarter
+    makeup_low : quarter_first quarter ≤ m.makeup
+    makeup_high : m.makeup < quarter_first quarter + days_in_quarter quarter
+    scheduled : is_scheduled office.records site Pm25 m.missed ≡ true
+    unsampled : not (is_sampled office site Pm25 m.missed) ≡ true
+    unscheduled : not (is_scheduled office.records site Pm25 m.makeup) ≡ true
+    sampled : is_sampled office site Pm25 m.makeup ≡ true
+
+  credit : (m : Makeup) → InQuarter quarter m × (gives_credit office site m ≡ true) → Credit m
+  credit m h =
+      let missed = holds m.missed h.0.0 h.0.1 in
+      let makeup = holds m.makeup h.0.2 h.0.3 in
+      let d = both _ (is_in_time office site m) h.1 in
+      let c = both _ (is_sampled office site Pm25 m.makeup) d.0 in
+      let b = both _ (not (is_scheduled office.records site Pm25 m.makeup)) c.0 in
+      let a = both (is_scheduled office.records site Pm25 m.missed) (not (is_sampled office site Pm25 m.missed)) b.0 in
+      record {
+        missed_low = missed.0;
+        missed_high = missed.1;
+        makeup_low = makeup.0;
+        makeup_high = makeup.1;
+        scheduled = a.0;
+        unsampled = a.1;
+        unscheduled = b.1;
+        sampled = c.1;
+      }
+
+  every-credit : Every Credit (credits office site quarter)
+  unfolding credits
+  every-credit =
+      every-weaker (λ m. InQuarter quarter m × (gives_credit office site m ≡ true)) Credit credit (credits office site quarter)
+      (every-filter (InQuarter quarter) (gives_credit office site) (filter_map (makeup_by site quarter) office.records) (makeups-in_quarter site quarter office office.records valid.records_fit))
+
+  missed-once : (d : ℕ) → on (λ (m : Makeup). m.missed) d (credits office site quarter) ≤ 1
+  unfolding credits
+  missed-once d =
+      omega (arith,
+          count-filter (λ (m : Makeup). m.missed == d) (gives_credit office site) (filter_map (makeup_by site quarter) office.records),
+          made-few site quarter (λ (m : Makeup). m.missed) d (λ r. is_same (record_rank r) (key_numbers (MakeupKey site d))) (missed-key site quarter d) office.records,
+          one_rank record_rank (key_numbers (MakeupKey site d)) office.records valid.records_rise)
+
+  makeup-once : (d : ℕ) → on (λ (m : Makeup). m.makeup) d (credits office site quarter) ≤ 1
+  unfolding credits
+  makeup-once d =
+      omega (arith,
+          count-filter (λ (m : Makeup). m.makeup == d) (gives_credit office site) (filter_map (makeup_by site quarter) office.records),
+          made-few site quarter (λ (m : Makeup). m.makeup) d (makes_up_on site d) (makeup-key site quarter d) office.records, one_makeup office site d valid)
+
+  and_both : (a b : Bool) → a ≡ true → b ≡ true → (a && b) ≡ true
+  and_both true b h k = k
+  and_both false b h k = cc
+
+  pub credits-few : length (credits office site quarter) ≤ count_by (λ d. is_scheduled office.records site Pm25 d && not (is_sampled office site Pm25 d)) (days_of_quarter quarter)
+  unfolding days_of_quarter
+  credits-few =
+      fit (λ (m : Makeup). m.missed) (λ d. is_scheduled office.records site Pm25 d && not (is_sampled office site Pm25 d)) (quarter_first quarter) (days_in_quarter quarter) (credits office site quarter)
+      (every-weaker Credit (λ m. (quarter_first quarter ≤ m.missed) × (m.missed < quarter_first quarter + days_in_quarter quarter)) (λ m c. (c.missed_low, c.missed_high)) (credits office site quarter) every-credit)
+      (every-weaker Credit (λ m. (is_scheduled office.records site Pm25 m.missed && not (is_sampled office site Pm25 m.missed)) ≡ true) (λ m c. and_both _ _ c.scheduled c.unsampled) (credits office site quarter) every-credit)
+      missed-once
+
+  -- the credits whose make-up day is not excluded
+  kept_credits : List Makeup
+  kept_credits = filter (λ (m : Makeup). is_kept office site Pm25 m.makeup) (credits office site quarter)
+
+  pub kept_credits-few : count_by (λ (m : Makeup). is_kept office site Pm25 m.makeup) (credits office site quarter)
+      ≤ count_by (λ d. is_kept office site Pm25 d && not (is_scheduled office.records site Pm25 d)) (days_of_quarter quarter)
+  unfolding days_of_quarter
+  kept_credits-few =
+      let keep : Makeup → Bool = λ m. is_kept office site Pm25 m.makeup in
+      let cs = credits office site quarter in
+      let every : Every (λ m. Credit m × (keep m ≡ true)) (filter keep cs) = every-filter Credit keep cs every-credit in
+      let once : (d : ℕ) → on (λ (m : Makeup). m.makeup) d (filter keep cs) ≤ 1 = λ d. omega (arith, count-filter (λ (m : Makeup). m.makeup == d) keep cs, makeup-once d) in
+      let few = fit (λ (m : Makeup). m.makeup) (λ d. is_kept office site Pm25 d && not (is_scheduled office.records site Pm25 d)) (quarter_first quarter) (days_in_quarter quarter) (filter keep cs)
+      (every-weaker (λ m. Credit m × (keep m ≡ true)) (λ m. (quarter_first quarter ≤ m.makeup) × (m.makeup < quarter_first quarter + days_in_quarter quarter)) (λ m c. (c.0.makeup_low, c.0.makeup_high)) (filter keep cs) every)
+      (every-weaker (λ m. Credit m × (keep m ≡ true)) (λ m. (is_kept office site Pm25 m.makeup && not (is_scheduled office.records site Pm25 m.makeup)) ≡ true) (λ m c. and_both _ _ c.1 c.0.unscheduled) (filter keep cs) every)
+      once
+      in
+      omega (arith, few, length-filter keep cs)
+
+  pub record CountsKeep (counts : QuarterCounts) (days : ℕ) : Type 0 where
+    pub counted : counts.counted ≤ counts.creditable
+    pub creditable : counts.creditable ≤ counts.scheduled
+    pub scheduled : counts.scheduled ≤ 92
+    pub counted_days : counts.counted ≤ days
+    pub room : days + counts.scheduled ≤ 92 + counts.creditable
+
+  pub counts-keep : CountsKeep (quarter_counts office site quarter) (length (quarter_values office site Pm25 quarter))
+  unfolding quarter_counts quarter_values
+  counts-keep =
+      let D = days_of_quarter quarter in
+      let scheduled : ℕ → Bool = λ d. is_scheduled office.records site Pm25 d in
+      let sampled : ℕ → Bool = λ d. is_sampled office site Pm25 d in
+      let kept : ℕ → Bool = λ d. is_kept office site Pm25 d in
+      let most = (quarter_days quarter).1 in
+      let number = length-days quarter in
+      let all = length-filter scheduled D in
+      let values : length (filter_map (net_day office site Pm25) D) ≡ count_by kept D = length-given (net_day office site Pm25) D in
+      let few = credits-few in
+      let kept_few = kept_credits-few in
+      let split = split-days scheduled sampled D in
+      let rest = rest-days scheduled kept D in
+      let room = room-days scheduled sampled kept (λ d h. kept-sampled (site_day office site Pm25 d) h) D in
+      let implied = count-implied kept sampled (λ d h. kept-sampled (site_day office site Pm25 d) h) (filter scheduled D) in
+      let those = count_by-le-length (λ (m : Makeup). is_kept office site Pm25 m.makeup) (credits office site quarter) in
+      let within = length-filter-le scheduled D in
+      record {
+        counted = omega (arith, implied, those);
+        creditable = omega (arith, split, few, all);
+        scheduled = omega (arith, within, number, most);
+        counted_days = omega (arith, rest, kept_few, values);
+        room = omega (arith, room, values, all, number, most);
+      }
