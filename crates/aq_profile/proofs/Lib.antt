@@ -26,3 +26,4 @@ pub mod Pm10Facts
 pub mod Pm25Facts
 pub mod Rising
 pub mod Pm25Counts
+pub mod Pm25Range
