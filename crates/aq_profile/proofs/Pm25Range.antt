@@ -1,8 +1,11 @@
 -- The PM2.5 values of a site in a valid office are in range, and what is kept of its quarters and years keeps its facts.
 use Rattle.std.proofs.Common.{◌≡◌, ℕ, zero, suc, ◌+◌, ◌-◌, ◌*◌, ◌/◌, ◌%◌, ◌<◌, ◌≤◌, Bool, true, false, not, ◌&&◌, cond, List, [], ◌∷◌, ◌++◌, length, map, take, refl, sym, ap, subst, ◌∙◌, arith}
-use Rattle.std.specs.Prelude.{ℤ, pos, negsuc, neg_ℤ, ◌+ℤ◌, ◌*ℤ◌, ◌≤ℤ◌, int_le, int_lt, int_div, Option, Some, None, option_map, option_and_then, IsTrue, ⊤, ◌==◌, slice_get, nat_le, All}
+use Rattle.std.specs.Prelude.{ℤ, pos, negsuc, neg_ℤ, ◌+ℤ◌, ◌*ℤ◌, ◌≤ℤ◌, int_le, int_lt, int_div, Option, Some, None, option_map, option_and_then, IsTrue, ⊤, ◌==◌, slice_get, nat_le, All, sum}
 use Rattle.std.specs.Option.{option_map_or}
-use Rattle.std.specs.List.{filter_map, cons_option, find, list_all, list_any}
+use Rattle.std.specs.List.{filter_map, cons_option, find, list_all, list_any, range_with_len}
+use Rattle.std.proofs.lemmas.List.Elements.{All-cons, All-nil}
+use Rattle.aq_base.specs.Calendar.{quarter_number, quarter_year, days_in_month, days_in_quarter}
+use Rattle.aq_profile.specs.Schedule.{is_scheduled}
 use Rattle.std.specs.Int.{int_min, int_max}
 use Rattle.std.proofs.lemmas.Int.{ints}
 use Rattle.std.proofs.lemmas.Bool.Decides.{nat_tests}
@@ -20,19 +23,20 @@ use Rattle.aq_base.specs.declared.observation.ObsKey.{ObsKey}
 use Rattle.aq_base.specs.declared.observation.Observation.{Observation}
 use Rattle.aq_profile.specs.Spellings.{is_in_range}
 use Rattle.aq_profile.specs.Office.{Office, IsOffice, is_measured, is_content, fits_monitors}
-use Rattle.aq_profile.specs.Lists.{total, greatest}
+use Rattle.aq_profile.specs.Lists.{total, greatest, ranked, ranked_in}
 use Rattle.aq_profile.specs.Monitors.{is_same_site, is_same_pollutant, is_same_monitor}
 use Rattle.aq_profile.specs.Exclusion.{excluded}
 use Rattle.aq_profile.specs.Designation.{primary_on}
 use Rattle.aq_profile.specs.SiteHour.{Cell, Sample, mean_of, chosen, is_of_poc}
 use Rattle.aq_profile.specs.ParticleDay.{Sampler, starts_on, cell_of, mean_or_high_sum, day_value, day_cell, monitor_day, sample_on, samples_on, samplers_of, site_day, net_day, unless_excluded}
-use Rattle.aq_profile.specs.QuarterCounts.{days_of_quarter, QuarterDays, pm25_quarter, quarter_values}
+use Rattle.aq_profile.specs.QuarterCounts.{days_of_quarter, QuarterDays, quarter_counts, pm25_quarter, quarter_values, quarters_of, pm25_year, values_in}
 use Rattle.aq_profile.specs.Substitution.{least}
-use Rattle.aq_profile.specs.Summaries.{is_value, KeepsPmQuarter, summary_of_quarter}
+use Rattle.aq_profile.specs.Summaries.{is_value, PmQuarter, KeepsPmQuarter, KeepsPmYear, eight_greatest, summary_of_quarter, pm25_summary}
 use Rattle.aq_profile.proofs.Sameness.{same_pollutant}
 use Rattle.aq_profile.proofs.Sums.{total-cons, lesser_of, greater_of, least-some, greatest-some}
 use Rattle.aq_profile.proofs.Rising.{Every}
-use Rattle.aq_profile.proofs.Pm25Facts.{least-there, greatest-there, sum-within, no-sum}
+use Rattle.aq_profile.proofs.Pm25Facts.{least-there, greatest-there, sum-within, no-sum, top-falls, top-count, top-greatest}
+use Rattle.aq_profile.proofs.Pm10Facts.{length-days, length-filter-le}
 use Rattle.aq_profile.proofs.Pm25Counts.{HoldsDays, counts-keep}
 
 both : (a b : Bool) → (a && b) ≡ true → (a ≡ true) × (b ≡ true)
@@ -289,4 +293,85 @@ pm25_quarter-keeps office site quarter valid holds =
       greatest_in_range = value_test (greatest values) (greatest-in_range values every);
       sum_within = sum-within (pm25_quarter office site quarter);
       no_sum = no-sum values;
+    }
+
+-- ---- the year
+
+every-ranked_in : (v : ℤ) (zs : List ℤ) → InRange v → Every InRange zs → Every InRange (ranked_in v zs)
+every-ranked_in v [] h every = (h, tt)
+every-ranked_in v (z ∷ zs) h every =
+    elim (int_lt v z) as (λ b. Every InRange (cond b (z ∷ ranked_in v zs) (v ∷ z ∷ zs))) [ true ↦ (every.0, every-ranked_in v zs h every.1) | false ↦ (h, every) ]
+
+every-ranked : (values : List ℤ) → Every InRange values → Every InRange (ranked values)
+unfolding ranked
+every-ranked [] every = tt
+every-ranked (v ∷ vs) every = every-ranked_in v (ranked vs) every.0 (every-ranked vs every.1)
+
+every-take : (n : ℕ) (values : List ℤ) → Every InRange values → Every InRange (take n values)
+every-take zero values every = tt
+every-take (suc n) [] every = tt
+every-take (suc n) (v ∷ vs) every = (every.0, every-take n vs every.1)
+
+all_in_range : (values : List ℤ) → Every InRange values → list_all (is_in_range Pm25) values ≡ true
+all_in_range [] every = refl
+all_in_range (v ∷ vs) every = let h = to_test v every.0 in rw h (all_in_range vs every.1)
+
+every-append : (xs ys : List ℤ) → Every InRange xs → Every InRange ys → Every InRange (xs ++ ys)
+every-append [] ys every more = more
+every-append (x ∷ xs) ys every more = (every.0, every-append xs ys every.1 more)
+
+year_values-in_range : (office : Office) (site : Site) (quarters : List ℕ) → IsOffice office → Every InRange (values_in (map (pm25_quarter office site) quarters))
+year_values-in_range office site [] valid = tt
+year_values-in_range office site (quarter ∷ quarters) valid =
+    every-append (quarter_values office site Pm25 quarter) (values_in (map (pm25_quarter office site) quarters)) (quarter_values-in_range office site quarter valid)
+    (year_values-in_range office site quarters valid)
+
+-- the days of the four quarters of a year
+most_days : (quarter year part : ℕ) → quarter_year quarter ≡ year → quarter % 4 ≡ part → part < 4 → days_in_quarter quarter ≤ cond (nat_le 2 part) 92 91
+most_days quarter year part y p low =
+    let P : ℕ → Type 0 = λ n. sum (map (days_in_month (quarter_year quarter)) (range_with_len (3 * n + 1) 3)) ≤ cond (nat_le 2 part) 92 91 in
+    subst P (sym p) (by_part (quarter_year quarter) part low)
+    where
+      feb : (b : Bool) → 0 + 31 + cond b 29 28 + 31 ≤ 91
+      feb true = omega arith
+      feb false = omega arith
+      by_part : (y n : ℕ) → n < 4 → sum (map (days_in_month y) (range_with_len (3 * n + 1) 3)) ≤ cond (nat_le 2 n) 92 91
+      by_part y zero low = feb (y % 4 == 0)
+      by_part y (suc zero) low = omega arith
+      by_part y (suc (suc zero)) low = omega arith
+      by_part y (suc (suc (suc zero))) low = omega arith
+      by_part y (suc (suc (suc (suc n)))) low = absurd (omega arith)
+
+scheduled-most : (office : Office) (site : Site) (quarter : ℕ) → (quarter_counts office site quarter).scheduled ≤ days_in_quarter quarter
+unfolding quarter_counts
+scheduled-most office site quarter =
+    omega (arith, length-filter-le (is_scheduled office.records site Pm25) (days_of_quarter quarter), length-days quarter)
+
+part_most : (office : Office) (site : Site) (year part : ℕ) → part < 4 → (quarter_counts office site (quarter_number year part)).scheduled ≤ cond (nat_le 2 part) 92 91
+part_most office site year part low =
+    let p : quarter_number year part % 4 ≡ part = omega arith in
+    omega (arith, scheduled-most office site (quarter_number year part), most_days (quarter_number year part) (quarter_year (quarter_number year part)) part refl p low)
+
+pub pm25_year-keeps : (office : Office) (site : Site) (year : ℕ) → IsOffice office
+    → ((part : ℕ) → part < 4 → HoldsDays (quarter_number year part)) → KeepsPmYear (pm25_summary office site year)
+unfolding pm25_summary pm25_year
+pm25_year-keeps office site year valid holds =
+    let quarters = map (pm25_quarter office site) (quarters_of year) in
+    let every = year_values-in_range office site (quarters_of year) valid in
+    let keeps : (part : ℕ) → part < 4 → KeepsPmQuarter (summary_of_quarter (pm25_quarter office site (quarter_number year part))) =
+    λ part low. pm25_quarter-keeps office site (quarter_number year part) valid (holds part low)
+    in
+    let q : ℕ → PmQuarter = λ part. summary_of_quarter (pm25_quarter office site (quarter_number year part)) in
+    record {
+      four = refl;
+      quarters =
+          All-cons KeepsPmQuarter (q 0) (q 1 ∷ q 2 ∷ q 3 ∷ []) (keeps 0 (omega arith))
+          (All-cons KeepsPmQuarter (q 1) (q 2 ∷ q 3 ∷ []) (keeps 1 (omega arith))
+          (All-cons KeepsPmQuarter (q 2) (q 3 ∷ []) (keeps 2 (omega arith))
+          (All-cons KeepsPmQuarter (q 3) [] (keeps 3 (omega arith)) (All-nil KeepsPmQuarter))));
+      scheduled = omega (arith, part_most office site year 0 (omega arith), part_most office site year 1 (omega arith), part_most office site year 2 (omega arith), part_most office site year 3 (omega arith));
+      top_falls = top-falls (values_in quarters);
+      top_in_range = all_in_range (eight_greatest (values_in quarters)) (every-take 8 (ranked (values_in quarters)) (every-ranked (values_in quarters) every));
+      top_count = top-count quarters;
+      top_greatest = top-greatest quarters;
     }

@@ -1,16 +1,18 @@
 //! The verdicts on what is kept are the verdicts on the lists of values.
 #![tactic(auto)]
 
-ghost use Rattle.std.specs.Prelude.{◌≡◌, ℕ, List, ℤ, pos, map, filter_map, length, min, slice_get, nat_le, is_some, IsTrue, All};
+ghost use Rattle.std.specs.Prelude.{◌≡◌, ℕ, ◌+◌, ◌<◌, ◌≤◌, List, ℤ, pos, map, filter_map, length, min, slice_get, nat_le, is_some, IsTrue, All};
+ghost use Rattle.aq_base.specs.Calendar.{days_in_quarter, quarter_first, quarter_number, quarter_of};
 ghost use Rattle.aq_base.specs.Site.{Site};
-ghost use Rattle.aq_profile.specs.Office.{Office};
+ghost use Rattle.aq_base.specs.declared.day.TheConstants.{LAST_DAY};
+ghost use Rattle.aq_profile.specs.Office.{IsOffice, Office};
 ghost use Rattle.aq_profile.specs.Lists.{greatest, total};
-ghost use Rattle.aq_profile.specs.QuarterCounts.{QuarterDays, values_in};
+ghost use Rattle.aq_profile.specs.QuarterCounts.{QuarterDays, pm25_quarter, values_in};
 ghost use Rattle.aq_profile.specs.Pm10Estimate.{pm10_quarter};
 ghost use Rattle.aq_profile.specs.Substitution.{least};
 ghost use Rattle.aq_profile.specs.AnnualVerdict.{annual_dv};
 ghost use Rattle.aq_profile.specs.DailyVerdict.{daily_dv};
-ghost use Rattle.aq_profile.specs.Summaries.{KeepsPm10Quarter, KeepsPmYear, PmQuarter, days_in, eight_greatest, falls, is_sum_within, summary_of_quarter, summary_of_year};
+ghost use Rattle.aq_profile.specs.Summaries.{KeepsPm10Quarter, KeepsPmQuarter, KeepsPmYear, PmQuarter, days_in, eight_greatest, falls, is_sum_within, pm25_summary, summary_of_quarter, summary_of_year};
 ghost use Rattle.aq_profile.specs.SummaryVerdicts.{kept_annual_dv, kept_daily_dv};
 
 /// Sums and numbers of values are enough for an annual standard, its tests with their copies too.
@@ -29,6 +31,19 @@ pub fn eight_greatest_are_enough_for_the_daily_verdict()
 /// What is kept of a PM10 quarter keeps its facts, in every office.
 pub fn pm10_quarters_keep_their_facts()
     ensures { (office : Office) (site : Site) (quarter : ℕ) → KeepsPm10Quarter (pm10_quarter office site quarter) }
+{}
+
+/// What is kept of a PM2.5 quarter and year of a valid office keeps its facts, where a quarter's days are
+/// those from its first on, as the calendar has it.
+pub fn pm25_quarters_keep_their_facts()
+    ensures quarter { (office : Office) (site : Site) (quarter : ℕ)
+        → IsOffice office
+        → ((n : ℕ) → n ≤ LAST_DAY → quarter_of n ≡ quarter → (quarter_first quarter ≤ n) × (n < quarter_first quarter + days_in_quarter quarter))
+        → KeepsPmQuarter (summary_of_quarter (pm25_quarter office site quarter)) }
+    ensures year { (office : Office) (site : Site) (year : ℕ)
+        → IsOffice office
+        → ((quarter n : ℕ) → n ≤ LAST_DAY → quarter_of n ≡ quarter → (quarter_first quarter ≤ n) × (n < quarter_first quarter + days_in_quarter quarter))
+        → KeepsPmYear (pm25_summary office site year) }
 {}
 
 /// A quarter with a value has a least and a greatest one, and its sum lies between so many times
