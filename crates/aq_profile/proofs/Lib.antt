@@ -27,3 +27,4 @@ pub mod Pm25Facts
 pub mod Rising
 pub mod Pm25Counts
 pub mod Pm25Range
+pub mod Damage

@@ -7,7 +7,7 @@ use Rattle.std.proofs.lemmas.List.FromFn.{length-range_with_len}
 use Rattle.std.proofs.lemmas.List.Sums.{sum_by-cons, sum_by-append, sum_by-le-sum_by, length-filter, count_by-le-length}
 use Rattle.std.proofs.lemmas.Bool.Decides.{nat_tests}
 use Rattle.std.proofs.Math.Nat.{div-le_of_le-mul}
-use Rattle.aq_base.specs.Calendar.{quarter_year, quarter_first, days_in_month, days_in_quarter}
+use Rattle.aq_base.specs.Calendar.{quarter_number, quarter_year, quarter_first, days_in_month, days_in_quarter}
 use Rattle.aq_base.specs.Site.{Site}
 use Rattle.aq_base.specs.declared.monitor.Pollutant.TheVariants.{Pm10}
 use Rattle.aq_profile.specs.Office.{Office}
@@ -16,8 +16,9 @@ use Rattle.aq_profile.specs.SiteHour.{Cell}
 use Rattle.aq_profile.specs.ParticleDay.{site_day, net_day, unless_excluded}
 use Rattle.aq_profile.specs.QuarterCounts.{days_of_quarter, scheduled_days, is_sampled}
 use Rattle.aq_profile.specs.Strata.{strata_of}
-use Rattle.aq_profile.specs.Pm10Estimate.{Pm10Quarter, exceeds, sampled_strata, sixtieths_of, quarter_of_strata, is_exceedance, strata_samples, pm10_quarter}
-use Rattle.aq_profile.specs.Summaries.{KeepsPm10Quarter}
+use Rattle.aq_profile.specs.Pm10Estimate.{Pm10Quarter, exceeds, sampled_strata, sixtieths_of, quarter_of_strata, is_exceedance, strata_samples, pm10_quarter, pm10_year}
+use Rattle.aq_profile.specs.Summaries.{KeepsPm10Quarter, KeepsPm10Year}
+use Rattle.std.proofs.lemmas.List.Elements.{All-cons, All-nil}
 use Rattle.aq_profile.proofs.Cuts.{strata-joined}
 
 -- ---- the days of a quarter
@@ -153,4 +154,18 @@ pm10_quarter-keeps office site quarter =
       exceedances = sum_by-le-sum_by (count_by exceeds) length strata (λ values. count_by-le-length exceeds values);
       captured_exceedances = count-implied (is_exceedance office site) (is_sampled office site Pm10) (λ day. exceeding-sampled (site_day office site Pm10 day)) scheduled;
       sixtieths = sixtieths-few strata;
+    }
+
+pub pm10_year-keeps : (office : Office) (site : Site) (year : ℕ) → KeepsPm10Year (pm10_year office site year)
+unfolding pm10_year
+pm10_year-keeps office site year =
+    let q : ℕ → Pm10Quarter = λ part. pm10_quarter office site (quarter_number year part) in
+    let keeps : (part : ℕ) → KeepsPm10Quarter (q part) = λ part. pm10_quarter-keeps office site (quarter_number year part) in
+    record {
+      four = refl;
+      each =
+          All-cons KeepsPm10Quarter (q 0) (q 1 ∷ q 2 ∷ q 3 ∷ []) (keeps 0)
+          (All-cons KeepsPm10Quarter (q 1) (q 2 ∷ q 3 ∷ []) (keeps 1)
+          (All-cons KeepsPm10Quarter (q 2) (q 3 ∷ []) (keeps 2)
+          (All-cons KeepsPm10Quarter (q 3) [] (keeps 3) (All-nil KeepsPm10Quarter))));
     }

@@ -1,5 +1,5 @@
 -- An office as the rows of three tables, records, observations and loads, and which lists of rows are an office's (own).
-use Rattle.std.specs.Prelude.{ℕ, ◌+◌, ◌*◌, ◌/◌, ◌%◌, Bool, true, not, ◌&&◌, ◌==◌, nat_le, if◌then◌else◌, List, [], ◌∷◌, ◌++◌, length, map, filter_map, find, count_by, sum_by, codes, decimal, bytes_eq, Option, Some, None, is_some, option_map, ℤ, pos, negsuc}
+use Rattle.std.specs.Prelude.{◌≡◌, ℕ, ◌+◌, ◌*◌, ◌/◌, ◌%◌, Bool, true, false, not, ◌&&◌, ◌==◌, nat_le, if◌then◌else◌, List, [], ◌∷◌, ◌++◌, length, map, filter_map, find, count_by, sum_by, codes, decimal, bytes_eq, Option, Some, None, is_some, option_map, ℤ, pos, negsuc}
 use Rattle.std.specs.List.{list_all, before_first, after_first, slice_split, join_with_byte}
 use Rattle.std.specs.Option.{option_eq}
 use Rattle.std.specs.Ordering.{int_eq}
@@ -270,3 +270,13 @@ damaged_at before (row ∷ rows) = if are_office_rows (before ++ row ∷ []) the
 -- the first row with which the rows up to it are no office's
 unfoldable pub damage : List Row → Option Place
 damage rows = damaged_at [] rows
+
+-- a row with which the rows up to it are no office's, while those before it are one's
+pub record FirstDamaged (rows : List Row) (place : Place) : Type 0 where
+  pub before : List Row
+  pub row : Row
+  pub after : List Row
+  pub rows_are : rows ≡ before ++ row ∷ after
+  pub good : are_office_rows before ≡ true
+  pub bad : are_office_rows (before ++ row ∷ []) ≡ false
+  pub place_is : place ≡ place_of before row

@@ -3,6 +3,7 @@
 #![tactic(auto)]
 
 pub mod annual_verdict;
+pub mod answer;
 pub mod canonical;
 pub mod daily_verdict;
 pub mod eight_hour;

@@ -8,11 +8,11 @@ ghost use Rattle.aq_base.specs.declared.day.TheConstants.{LAST_DAY};
 ghost use Rattle.aq_profile.specs.Office.{IsOffice, Office};
 ghost use Rattle.aq_profile.specs.Lists.{greatest, total};
 ghost use Rattle.aq_profile.specs.QuarterCounts.{QuarterDays, pm25_quarter, values_in};
-ghost use Rattle.aq_profile.specs.Pm10Estimate.{pm10_quarter};
+ghost use Rattle.aq_profile.specs.Pm10Estimate.{pm10_quarter, pm10_year};
 ghost use Rattle.aq_profile.specs.Substitution.{least};
 ghost use Rattle.aq_profile.specs.AnnualVerdict.{annual_dv};
 ghost use Rattle.aq_profile.specs.DailyVerdict.{daily_dv};
-ghost use Rattle.aq_profile.specs.Summaries.{KeepsPm10Quarter, KeepsPmQuarter, KeepsPmYear, PmQuarter, days_in, eight_greatest, falls, is_sum_within, pm25_summary, summary_of_quarter, summary_of_year};
+ghost use Rattle.aq_profile.specs.Summaries.{KeepsPm10Quarter, KeepsPm10Year, KeepsPmQuarter, KeepsPmYear, PmQuarter, days_in, eight_greatest, falls, is_sum_within, pm25_summary, summary_of_quarter, summary_of_year};
 ghost use Rattle.aq_profile.specs.SummaryVerdicts.{kept_annual_dv, kept_daily_dv};
 
 /// Sums and numbers of values are enough for an annual standard, its tests with their copies too.
@@ -28,9 +28,10 @@ pub fn eight_greatest_are_enough_for_the_daily_verdict()
         → kept_daily_dv (map summary_of_year years) ≡ daily_dv years }
 {}
 
-/// What is kept of a PM10 quarter keeps its facts, in every office.
+/// What is kept of a PM10 quarter and year keeps its facts, in every office.
 pub fn pm10_quarters_keep_their_facts()
-    ensures { (office : Office) (site : Site) (quarter : ℕ) → KeepsPm10Quarter (pm10_quarter office site quarter) }
+    ensures quarter { (office : Office) (site : Site) (quarter : ℕ) → KeepsPm10Quarter (pm10_quarter office site quarter) }
+    ensures year { (office : Office) (site : Site) (year : ℕ) → KeepsPm10Year (pm10_year office site year) }
 {}
 
 /// What is kept of a PM2.5 quarter and year of a valid office keeps its facts, where a quarter's days are

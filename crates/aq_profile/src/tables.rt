@@ -1,11 +1,11 @@
 //! The rows of an office, and where damaged rows are found.
 #![tactic(auto)]
 
-ghost use Rattle.std.specs.Prelude.{◌≡◌, ◌↔◌, IsTrue, ◌∷◌, [], codes, map, replicate, Some, None, pos};
+ghost use Rattle.std.specs.Prelude.{◌≡◌, ◌↔◌, IsTrue, true, List, ◌∷◌, [], codes, map, replicate, Some, None, pos};
 ghost use Rattle.aq_base.specs.declared.monitor.Pollutant.TheVariants.{Pm25};
 ghost use Rattle.aq_base.specs.declared.monitor.Duration.TheVariants.{Day};
 ghost use Rattle.aq_profile.specs.Office.{IsOffice, Office};
-ghost use Rattle.aq_profile.specs.Rows.{damage, is_valid, load_row, obs_row, office_row, office_of_rows, rows_of};
+ghost use Rattle.aq_profile.specs.Rows.{FirstDamaged, Place, Row, are_office_rows, damage, is_valid, load_row, obs_row, office_row, office_of_rows, rows_of};
 ghost use Rattle.aq_profile.specs.ParticleExamples.{empty_load, exported, first_sampler, load_of_three_lines, primary_of, sample_at, sampler, stray_designation};
 
 /// A monitor's row, a sample's, and a load's with a listed line and the rest.
@@ -40,4 +40,11 @@ pub fn damaged_rows_are_found()
 /// The test by which rows are judged is what makes an office a valid one.
 pub fn valid_offices_pass_the_test()
     ensures { (office : Office) → IsTrue (is_valid office) ↔ IsOffice office }
+{}
+
+/// A place that is found is that of the first row with which the rows up to it are no office's, and where
+/// none is found the rows are an office's.
+pub fn first_damaged_row_is_named()
+    ensures place { (rows : List Row) (place : Place) → damage rows ≡ Some place → FirstDamaged rows place }
+    ensures none { (rows : List Row) → damage rows ≡ None → are_office_rows rows ≡ true }
 {}
