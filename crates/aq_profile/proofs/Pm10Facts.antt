@@ -1,5 +1,5 @@
 -- What is kept of a PM10 quarter keeps its facts.
-use Rattle.std.proofs.Common.{◌≡◌, ℕ, zero, suc, ◌+◌, ◌-◌, ◌*◌, ◌/◌, ◌%◌, ◌<◌, ◌≤◌, Bool, true, false, not, cond, List, [], ◌∷◌, ◌++◌, length, map, refl, sym, ap, ◌∙◌, arith, length-append}
+use Rattle.std.proofs.Common.{◌≡◌, ℕ, zero, suc, ◌+◌, ◌*◌, ◌/◌, ◌%◌, ◌<◌, ◌≤◌, Bool, true, false, cond, List, [], ◌∷◌, length, map, refl, sym, ap, ◌∙◌, arith, length-append}
 use Rattle.std.specs.Prelude.{ℤ, Option, Some, None, is_some, option_and_then, sum, ◌==◌}
 use Rattle.std.specs.Option.{option_map_or}
 use Rattle.std.specs.List.{sum_by, count_by, filter, filter_map, cons_option, flat_map, range_with_len}
@@ -16,7 +16,7 @@ use Rattle.aq_profile.specs.SiteHour.{Cell}
 use Rattle.aq_profile.specs.ParticleDay.{site_day, net_day, unless_excluded}
 use Rattle.aq_profile.specs.QuarterCounts.{days_of_quarter, scheduled_days, is_sampled}
 use Rattle.aq_profile.specs.Strata.{strata_of}
-use Rattle.aq_profile.specs.Pm10Estimate.{Pm10Quarter, exceeds, sampled_strata, sixtieths_of, quarter_of_strata, is_exceedance, strata_samples, pm10_quarter, pm10_year}
+use Rattle.aq_profile.specs.Pm10Estimate.{Pm10Quarter, exceeds, sampled_strata, sixtieths_of, is_exceedance, strata_samples, pm10_quarter, pm10_year}
 use Rattle.aq_profile.specs.Summaries.{KeepsPm10Quarter, KeepsPm10Year}
 use Rattle.std.proofs.lemmas.List.Elements.{All-cons, All-nil}
 use Rattle.aq_profile.proofs.Cuts.{strata-joined}
@@ -77,11 +77,11 @@ count-kept : {X Y : Type 0} (p : Y → Bool) (f : X → Option Y) (xs : List X) 
 count-kept p f [] = refl
 count-kept {X = X} {Y = Y} p f (x ∷ xs) =
     by_value (f x) (count-kept p f xs) ∙ sym (sum_by-cons (λ y. cond (option_map_or p (f y) false) 1 0) x xs)
-    where
-      by_value : (o : Option Y) → count_by p (filter_map f xs) ≡ count_by (λ y. option_map_or p (f y) false) xs
-          → count_by p (cons_option o (filter_map f xs)) ≡ cond (option_map_or p o false) 1 0 + count_by (λ y. option_map_or p (f y) false) xs
-      by_value None rest = omega (arith, rest)
-      by_value (Some y) rest = omega (arith, rest, sum_by-cons (λ z. cond (p z) 1 0) y (filter_map f xs))
+  where
+    by_value : (o : Option Y) → count_by p (filter_map f xs) ≡ count_by (λ y. option_map_or p (f y) false) xs
+        → count_by p (cons_option o (filter_map f xs)) ≡ cond (option_map_or p o false) 1 0 + count_by (λ y. option_map_or p (f y) false) xs
+    by_value None rest = omega (arith, rest)
+    by_value (Some y) rest = omega (arith, rest, sum_by-cons (λ z. cond (p z) 1 0) y (filter_map f xs))
 
 samples-days : {X Y : Type 0} (f : X → Option Y) (strata : List (List X)) → sum_by length (map (filter_map f) strata) ≤ length (flat_map (λ days. days) strata)
 samples-days f [] = omega arith

@@ -1,7 +1,7 @@
 -- The counts of a PM2.5 quarter in a valid office keep their facts.
-use Rattle.std.proofs.Common.{◌≡◌, ℕ, zero, suc, ◌+◌, ◌-◌, ◌<◌, ◌≤◌, Bool, true, false, not, ◌&&◌, cond, List, [], ◌∷◌, length, refl, sym, ap, subst, ◌∙◌, ◌⊎◌, inl, inr, arith}
+use Rattle.std.proofs.Common.{◌≡◌, ℕ, ◌+◌, ◌<◌, ◌≤◌, Bool, true, false, not, ◌&&◌, cond, List, [], ◌∷◌, length, refl, sym, ap, ◌∙◌, ◌⊎◌, inl, inr, arith}
 use Rattle.std.specs.Prelude.{Option, Some, None, is_some, ⊤, ◌==◌, nat_le, option_and_then}
-use Rattle.std.specs.List.{count_by, sum_by, filter, filter_map, cons_option, list_all, range_with_len}
+use Rattle.std.specs.List.{count_by, sum_by, filter, filter_map, cons_option, list_all}
 use Rattle.std.proofs.lemmas.List.Sums.{sum_by-cons, length-filter, count_by-le-length}
 use Rattle.std.proofs.lemmas.Bool.Decides.{nat_tests}
 use Rattle.std.proofs.lemmas.Slice.Eq.{bytes_eq-Decides}
@@ -18,9 +18,9 @@ use Rattle.aq_profile.specs.Monitors.{is_same_site}
 use Rattle.aq_profile.specs.Schedule.{is_scheduled}
 use Rattle.aq_profile.specs.SiteHour.{Cell}
 use Rattle.aq_profile.specs.ParticleDay.{site_day, net_day, unless_excluded}
-use Rattle.aq_profile.specs.QuarterCounts.{days_of_quarter, scheduled_days, is_sampled, is_kept, Makeup, makeup_by, is_in_time, gives_credit, credits, QuarterCounts, quarter_counts, quarter_values}
+use Rattle.aq_profile.specs.QuarterCounts.{days_of_quarter, is_sampled, is_kept, Makeup, makeup_by, is_in_time, gives_credit, credits, QuarterCounts, quarter_counts, quarter_values}
 use Rattle.aq_profile.proofs.Sameness.{same_site}
-use Rattle.aq_profile.proofs.Rising.{Every, one_rank, with_rank, on, fit}
+use Rattle.aq_profile.proofs.Rising.{Every, one_rank, on, fit}
 use Rattle.aq_profile.proofs.Pm10Facts.{quarter_days, length-days, count-filter, count-implied, length-filter-le}
 
 both : (a b : Bool) → (a && b) ≡ true → (a ≡ true) × (b ≡ true)
@@ -32,10 +32,10 @@ both false b h = cc
 every-filter : {X : Type 0} (P : X → Type 0) (f : X → Bool) (xs : List X) → Every P xs → Every (λ x. P x × (f x ≡ true)) (filter f xs)
 every-filter P f [] every = tt
 every-filter {X = X} P f (x ∷ xs) every = by_test (f x) refl (every-filter P f xs every.1)
-    where
-      by_test : (b : Bool) → f x ≡ b → Every (λ y. P y × (f y ≡ true)) (filter f xs) → Every (λ y. P y × (f y ≡ true)) (cond b (x ∷ filter f xs) (filter f xs))
-      by_test true e rest = ((every.0, e), rest)
-      by_test false e rest = rest
+  where
+    by_test : (b : Bool) → f x ≡ b → Every (λ y. P y × (f y ≡ true)) (filter f xs) → Every (λ y. P y × (f y ≡ true)) (cond b (x ∷ filter f xs) (filter f xs))
+    by_test true e rest = ((every.0, e), rest)
+    by_test false e rest = rest
 
 every-weaker : {X : Type 0} (P Q : X → Type 0) → ((x : X) → P x → Q x) → (xs : List X) → Every P xs → Every Q xs
 every-weaker P Q h [] every = tt
@@ -55,9 +55,9 @@ count-of_filter p f (x ∷ xs) =
       | false ↦ omega (arith, count-of_filter p f xs)
     ]
     ∙ sym (sum_by-cons (λ y. cond (f y) (cond (p y) 1 0) 0) x xs)
-    where
-      fold_from : Bool → ℕ
-      fold_from b = cond b (cond (p x) 1 0) 0 + sum_by (λ y. cond (f y) (cond (p y) 1 0) 0) xs
+  where
+    fold_from : Bool → ℕ
+    fold_from b = cond b (cond (p x) 1 0) 0 + sum_by (λ y. cond (f y) (cond (p y) 1 0) 0) xs
 
 -- ---- make-up records of a quarter
 
@@ -78,19 +78,19 @@ same a b h = grind (arith, nat_tests)
 module _ (site : Site) (quarter : ℕ) where
   made-in_quarter : (r : OfficeRecord) → is_record r ≡ true → IfMade (InQuarter quarter) (makeup_by site quarter r)
   made-in_quarter (MakeupRecord other missed makeup) is = by_test (is_same_site other site) (quarter_of missed == quarter) refl refl
-      where
-        by_test : (a b : Bool) → is_same_site other site ≡ a → (quarter_of missed == quarter) ≡ b
-            → IfMade (InQuarter quarter) (cond (a && b) (Some (record { missed = missed; makeup = makeup })) None)
-        by_test false b e f = tt
-        by_test true false e f = tt
-        by_test true true e f =
-            let d = both (is_site other && is_day missed && is_day makeup) (is_makeup missed makeup) is in
-            let c = both (is_site other && is_day missed) (is_day makeup) d.0 in
-            let b = both (is_site other) (is_day missed) c.0 in
-            let span = both _ (nat_le makeup (missed + 7)) d.1 in
-            let there = both _ (quarter_of makeup == quarter_of missed) span.0 in
-            let q : quarter_of missed ≡ quarter = same (quarter_of missed) quarter f in
-            (within missed LAST_DAY b.1, q, within makeup LAST_DAY c.1, same (quarter_of makeup) (quarter_of missed) there.1 ∙ q)
+    where
+      by_test : (a b : Bool) → is_same_site other site ≡ a → (quarter_of missed == quarter) ≡ b
+          → IfMade (InQuarter quarter) (cond (a && b) (Some (record { missed = missed; makeup = makeup })) None)
+      by_test false b e f = tt
+      by_test true false e f = tt
+      by_test true true e f =
+          let d = both (is_site other && is_day missed && is_day makeup) (is_makeup missed makeup) is in
+          let c = both (is_site other && is_day missed) (is_day makeup) d.0 in
+          let b = both (is_site other) (is_day missed) c.0 in
+          let span = both _ (nat_le makeup (missed + 7)) d.1 in
+          let there = both _ (quarter_of makeup == quarter_of missed) span.0 in
+          let q : quarter_of missed ≡ quarter = same (quarter_of missed) quarter f in
+          (within missed LAST_DAY b.1, q, within makeup LAST_DAY c.1, same (quarter_of makeup) (quarter_of missed) there.1 ∙ q)
   made-in_quarter (Monitor id duration eligible) is = tt
   made-in_quarter (Primary other pollutant from poc) is = tt
   made-in_quarter (Schedule other pollutant from interval anchor) is = tt
@@ -120,13 +120,13 @@ module _ (site : Site) (quarter : ℕ) where
 
   missed-key : (d : ℕ) (r : OfficeRecord) → IfMade (λ m. m.missed ≡ d → is_same (record_rank r) (key_numbers (MakeupKey site d)) ≡ true) (makeup_by site quarter r)
   missed-key d (MakeupRecord other missed makeup) = by_test (is_same_site other site) (quarter_of missed == quarter) refl
-      where
-        by_test : (a b : Bool) → is_same_site other site ≡ a
-            → IfMade (λ m. m.missed ≡ d → is_same (record_rank (MakeupRecord other missed makeup)) (key_numbers (MakeupKey site d)) ≡ true) (cond (a && b) (Some (record { missed = missed; makeup = makeup })) None)
-        by_test false b e = tt
-        by_test true false e = tt
-        by_test true true e =
-            λ day. (bytes_eq-Decides (key_numbers (MakeupKey other missed)) (key_numbers (MakeupKey site d))).1 (λ i. key_numbers (MakeupKey (same_site other site e i) (day i)))
+    where
+      by_test : (a b : Bool) → is_same_site other site ≡ a
+          → IfMade (λ m. m.missed ≡ d → is_same (record_rank (MakeupRecord other missed makeup)) (key_numbers (MakeupKey site d)) ≡ true) (cond (a && b) (Some (record { missed = missed; makeup = makeup })) None)
+      by_test false b e = tt
+      by_test true false e = tt
+      by_test true true e =
+          λ day. (bytes_eq-Decides (key_numbers (MakeupKey other missed)) (key_numbers (MakeupKey site d))).1 (λ i. key_numbers (MakeupKey (same_site other site e i) (day i)))
   missed-key d (Monitor id duration eligible) = tt
   missed-key d (Primary other pollutant from poc) = tt
   missed-key d (Schedule other pollutant from interval anchor) = tt
@@ -137,16 +137,16 @@ module _ (site : Site) (quarter : ℕ) where
 
   makeup-key : (d : ℕ) (r : OfficeRecord) → IfMade (λ m. m.makeup ≡ d → makes_up_on site d r ≡ true) (makeup_by site quarter r)
   makeup-key d (MakeupRecord other missed makeup) = by_test (is_same_site other site) (quarter_of missed == quarter) refl
-      where
-        by_test : (a b : Bool) → is_same_site other site ≡ a
-            → IfMade (λ m. m.makeup ≡ d → makes_up_on site d (MakeupRecord other missed makeup) ≡ true) (cond (a && b) (Some (record { missed = missed; makeup = makeup })) None)
-        by_test false b e = tt
-        by_test true false e = tt
-        by_test true true e =
-            λ day.
-                let numbers : is_same (site_numbers other) (site_numbers site) ≡ true = (bytes_eq-Decides (site_numbers other) (site_numbers site)).1 (ap site_numbers (same_site other site e)) in
-                let there : (makeup == d) ≡ true = grind (arith, nat_tests) in
-                rw numbers there
+    where
+      by_test : (a b : Bool) → is_same_site other site ≡ a
+          → IfMade (λ m. m.makeup ≡ d → makes_up_on site d (MakeupRecord other missed makeup) ≡ true) (cond (a && b) (Some (record { missed = missed; makeup = makeup })) None)
+      by_test false b e = tt
+      by_test true false e = tt
+      by_test true true e =
+          λ day.
+          let numbers : is_same (site_numbers other) (site_numbers site) ≡ true = (bytes_eq-Decides (site_numbers other) (site_numbers site)).1 (ap site_numbers (same_site other site e)) in
+          let there : (makeup == d) ≡ true = grind (arith, nat_tests) in
+          rw numbers there
   makeup-key d (Monitor id duration eligible) = tt
   makeup-key d (Primary other pollutant from poc) = tt
   makeup-key d (Schedule other pollutant from interval anchor) = tt
@@ -161,15 +161,15 @@ module _ (site : Site) (quarter : ℕ) where
     one_by : (o : Option Makeup) (ms : List Makeup) (b : Bool) → IfMade (λ m. day m ≡ d → b ≡ true) o → on day d (cons_option o ms) ≤ cond b 1 0 + on day d ms
     one_by None ms b h = omega arith
     one_by (Some m) ms b h = by_test (day m == d) refl b h
-        where
-          by_test : (a : Bool) → (day m == d) ≡ a → (c : Bool) → (day m ≡ d → c ≡ true) → on day d (m ∷ ms) ≤ cond c 1 0 + on day d ms
-          by_test true e true k =
-              let first : on day d (m ∷ ms) ≡ 1 + on day d ms = sum_by-cons (λ y. cond (day y == d) 1 0) m ms ∙ rw e refl in
-              omega (arith, first)
-          by_test true e false k = let f = k (same (day m) d e) in cc
-          by_test false e c k =
-              let first : on day d (m ∷ ms) ≡ 0 + on day d ms = sum_by-cons (λ y. cond (day y == d) 1 0) m ms ∙ rw e refl in
-              omega (arith, first)
+      where
+        by_test : (a : Bool) → (day m == d) ≡ a → (c : Bool) → (day m ≡ d → c ≡ true) → on day d (m ∷ ms) ≤ cond c 1 0 + on day d ms
+        by_test true e true k =
+            let first : on day d (m ∷ ms) ≡ 1 + on day d ms = sum_by-cons (λ y. cond (day y == d) 1 0) m ms ∙ rw e refl in
+            omega (arith, first)
+        by_test true e false k = let f = k (same (day m) d e) in cc
+        by_test false e c k =
+            let first : on day d (m ∷ ms) ≡ 0 + on day d ms = sum_by-cons (λ y. cond (day y == d) 1 0) m ms ∙ rw e refl in
+            omega (arith, first)
 
     made-few : (records : List OfficeRecord) → on day d (filter_map (makeup_by site quarter) records) ≤ count_by test records
     made-few [] = omega arith
@@ -206,14 +206,14 @@ module _ (office : Office) (site : Site) (d : ℕ) where
   none_or_one (r ∷ records) own =
       let parts = both (has_own_makeup_day office r) (list_all (has_own_makeup_day office) records) own in
       by_test (makes_up_on site d r) refl parts.0 (none_or_one records parts.1)
-      where
-        by_test : (b : Bool) → makes_up_on site d r ≡ b → has_own_makeup_day office r ≡ true → (count_by (makes_up_on site d) records ≡ 0) ⊎ (makeups_on office site d ≤ 1)
-            → (count_by (makes_up_on site d) (r ∷ records) ≡ 0) ⊎ (makeups_on office site d ≤ 1)
-        by_test true e mine rest = inr (own_day r e mine)
-        by_test false e mine (inr few) = inr few
-        by_test false e mine (inl none) =
-            let first : count_by (makes_up_on site d) (r ∷ records) ≡ 0 + count_by (makes_up_on site d) records = sum_by-cons (λ s. cond (makes_up_on site d s) 1 0) r records ∙ rw e refl in
-            inl (omega (arith, first, none))
+    where
+      by_test : (b : Bool) → makes_up_on site d r ≡ b → has_own_makeup_day office r ≡ true → (count_by (makes_up_on site d) records ≡ 0) ⊎ (makeups_on office site d ≤ 1)
+          → (count_by (makes_up_on site d) (r ∷ records) ≡ 0) ⊎ (makeups_on office site d ≤ 1)
+      by_test true e mine rest = inr (own_day r e mine)
+      by_test false e mine (inr few) = inr few
+      by_test false e mine (inl none) =
+          let first : count_by (makes_up_on site d) (r ∷ records) ≡ 0 + count_by (makes_up_on site d) records = sum_by-cons (λ s. cond (makes_up_on site d s) 1 0) r records ∙ rw e refl in
+          inl (omega (arith, first, none))
 
   one_makeup : IsOffice office → makeups_on office site d ≤ 1
   one_makeup is = elim (none_or_one office.records is.makeup_days_differ) [ inl none ↦ omega (arith, none) | inr few ↦ few ]
@@ -258,10 +258,10 @@ module _ (f p : ℕ → Bool) where
 length-given : {Y : Type 0} (f : ℕ → Option Y) (days : List ℕ) → length (filter_map f days) ≡ count_by (λ d. is_some (f d)) days
 length-given f [] = refl
 length-given {Y = Y} f (d ∷ days) = by_value (f d) (length-given f days) ∙ sym (sum_by-cons (λ e. cond (is_some (f e)) 1 0) d days)
-    where
-      by_value : (o : Option Y) → length (filter_map f days) ≡ count_by (λ e. is_some (f e)) days → length (cons_option o (filter_map f days)) ≡ cond (is_some o) 1 0 + count_by (λ e. is_some (f e)) days
-      by_value None rest = omega (arith, rest)
-      by_value (Some y) rest = omega (arith, rest)
+  where
+    by_value : (o : Option Y) → length (filter_map f days) ≡ count_by (λ e. is_some (f e)) days → length (cons_option o (filter_map f days)) ≡ cond (is_some o) 1 0 + count_by (λ e. is_some (f e)) days
+    by_value None rest = omega (arith, rest)
+    by_value (Some y) rest = omega (arith, rest)
 
 -- ---- the quarter of a valid office
 
@@ -322,17 +322,22 @@ module _ (office : Office) (site : Site) (quarter : ℕ) (valid : IsOffice offic
   missed-once : (d : ℕ) → on (λ (m : Makeup). m.missed) d (credits office site quarter) ≤ 1
   unfolding credits
   missed-once d =
-      omega (arith,
-          count-filter (λ (m : Makeup). m.missed == d) (gives_credit office site) (filter_map (makeup_by site quarter) office.records),
-          made-few site quarter (λ (m : Makeup). m.missed) d (λ r. is_same (record_rank r) (key_numbers (MakeupKey site d))) (missed-key site quarter d) office.records,
-          one_rank record_rank (key_numbers (MakeupKey site d)) office.records valid.records_rise)
+      omega (
+        arith,
+        count-filter (λ (m : Makeup). m.missed == d) (gives_credit office site) (filter_map (makeup_by site quarter) office.records),
+        made-few site quarter (λ (m : Makeup). m.missed) d (λ r. is_same (record_rank r) (key_numbers (MakeupKey site d))) (missed-key site quarter d) office.records,
+        one_rank record_rank (key_numbers (MakeupKey site d)) office.records valid.records_rise,
+      )
 
   makeup-once : (d : ℕ) → on (λ (m : Makeup). m.makeup) d (credits office site quarter) ≤ 1
   unfolding credits
   makeup-once d =
-      omega (arith,
-          count-filter (λ (m : Makeup). m.makeup == d) (gives_credit office site) (filter_map (makeup_by site quarter) office.records),
-          made-few site quarter (λ (m : Makeup). m.makeup) d (makes_up_on site d) (makeup-key site quarter d) office.records, one_makeup office site d valid)
+      omega (
+        arith,
+        count-filter (λ (m : Makeup). m.makeup == d) (gives_credit office site) (filter_map (makeup_by site quarter) office.records),
+        made-few site quarter (λ (m : Makeup). m.makeup) d (makes_up_on site d) (makeup-key site quarter d) office.records,
+        one_makeup office site d valid,
+      )
 
   and_both : (a b : Bool) → a ≡ true → b ≡ true → (a && b) ≡ true
   and_both true b h k = k

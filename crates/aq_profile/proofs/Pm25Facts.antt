@@ -1,20 +1,20 @@
 -- What is kept of PM2.5 quarters and years keeps its facts.
-use Rattle.std.proofs.Common.{◌≡◌, ℕ, zero, suc, ◌+◌, ◌-◌, ◌*◌, ◌<◌, ◌≤◌, min, Bool, true, false, not, ◌&&◌, cond, List, [], ◌∷◌, ◌++◌, length, map, take, refl, sym, ap, ◌∙◌, arith, length-append, subst}
+use Rattle.std.proofs.Common.{◌≡◌, ℕ, zero, suc, min, Bool, true, false, cond, List, [], ◌∷◌, length, map, refl, sym, ap, ◌∙◌, arith, subst}
 use Rattle.std.specs.Prelude.{ℤ, pos, ◌+ℤ◌, ◌*ℤ◌, ◌≤ℤ◌, int_le, int_lt, Option, Some, None, is_some, IsTrue, nat_le, slice_get, ⊤}
 use Rattle.std.specs.Option.{option_map_or}
-use Rattle.std.specs.List.{fold, sum_by, flat_map, filter_map}
+use Rattle.std.specs.List.{filter_map}
 use Rattle.std.specs.Int.{int_min, int_max}
 use Rattle.std.proofs.lemmas.Int.{ints}
 use Rattle.std.proofs.lemmas.List.{length-take}
 use Rattle.std.proofs.lemmas.List.Concat.{length-flat_map}
 use Rattle.std.proofs.lemmas.Bool.Decides.{nat_tests}
 use Rattle.std.proofs.Math.IntN.{suc_ℤ-*ℤ, *ℤ_comm, *ℤ-zero}
-use Rattle.aq_profile.specs.Lists.{total, greater, greatest, ranked, ranked_in}
+use Rattle.aq_profile.specs.Lists.{total, greatest, ranked, ranked_in}
 use Rattle.aq_profile.specs.QuarterCounts.{QuarterDays, values_in}
-use Rattle.aq_profile.specs.Substitution.{lesser, least}
+use Rattle.aq_profile.specs.Substitution.{least}
 use Rattle.aq_profile.specs.Summaries.{PmQuarter, days_in, eight_greatest, falls, is_sum_within, summary_of_quarter}
 use Rattle.aq_profile.proofs.Sums.{total-cons, lesser_of, greater_of, least-some, greatest-some, greatest-of_lists}
-use Rattle.aq_profile.proofs.Descent.{IsNext, Descends, ranked-descends, length-ranked}
+use Rattle.aq_profile.proofs.Descent.{Descends, ranked-descends, length-ranked}
 use Rattle.aq_profile.proofs.Eight.{descends-take, slice_get-front}
 use Rattle.aq_profile.proofs.Kept.{days-summary, greatest-summary}
 

@@ -1,15 +1,12 @@
 -- The PM2.5 values of a site in a valid office are in range, and what is kept of its quarters and years keeps its facts.
-use Rattle.std.proofs.Common.{◌≡◌, ℕ, zero, suc, ◌+◌, ◌-◌, ◌*◌, ◌/◌, ◌%◌, ◌<◌, ◌≤◌, Bool, true, false, not, ◌&&◌, cond, List, [], ◌∷◌, ◌++◌, length, map, take, refl, sym, ap, subst, ◌∙◌, arith}
-use Rattle.std.specs.Prelude.{ℤ, pos, negsuc, neg_ℤ, ◌+ℤ◌, ◌*ℤ◌, ◌≤ℤ◌, int_le, int_lt, int_div, Option, Some, None, option_map, option_and_then, IsTrue, ⊤, ◌==◌, slice_get, nat_le, All, sum}
-use Rattle.std.specs.Option.{option_map_or}
+use Rattle.std.proofs.Common.{◌≡◌, ℕ, zero, suc, ◌+◌, ◌*◌, ◌/◌, ◌%◌, ◌<◌, ◌≤◌, Bool, true, false, ◌&&◌, cond, List, [], ◌∷◌, ◌++◌, length, map, take, refl, sym, ap, subst, ◌∙◌, arith}
+use Rattle.std.specs.Prelude.{ℤ, pos, negsuc, neg_ℤ, ◌≤ℤ◌, int_le, int_lt, Option, Some, None, option_map, option_and_then, IsTrue, ⊤, ◌==◌, slice_get, nat_le, sum}
 use Rattle.std.specs.List.{filter_map, cons_option, find, list_all, list_any, range_with_len}
 use Rattle.std.proofs.lemmas.List.Elements.{All-cons, All-nil}
 use Rattle.aq_base.specs.Calendar.{quarter_number, quarter_year, days_in_month, days_in_quarter}
 use Rattle.aq_profile.specs.Schedule.{is_scheduled}
-use Rattle.std.specs.Int.{int_min, int_max}
 use Rattle.std.proofs.lemmas.Int.{ints}
 use Rattle.std.proofs.lemmas.Bool.Decides.{nat_tests}
-use Rattle.std.proofs.Math.IntN.{suc_ℤ-*ℤ, *ℤ_comm, *ℤ-zero}
 use Rattle.std.proofs.Math.Nat.{div-le_of_le-mul}
 use Rattle.aq_base.specs.Decimal.{truncated}
 use Rattle.aq_base.specs.Site.{Site}
@@ -18,7 +15,7 @@ use Rattle.aq_base.specs.declared.monitor.Duration.{Duration}
 use Rattle.aq_base.specs.declared.monitor.Duration.TheVariants.{Hour, Day}
 use Rattle.aq_base.specs.declared.monitor.MonitorId.{MonitorId}
 use Rattle.aq_base.specs.declared.monitor.Pollutant.{Pollutant}
-use Rattle.aq_base.specs.declared.monitor.Pollutant.TheVariants.{Ozone, Pm25, Pm10}
+use Rattle.aq_base.specs.declared.monitor.Pollutant.TheVariants.{Pm25}
 use Rattle.aq_base.specs.declared.observation.ObsKey.{ObsKey}
 use Rattle.aq_base.specs.declared.observation.Observation.{Observation}
 use Rattle.aq_profile.specs.Spellings.{is_in_range}
@@ -29,7 +26,7 @@ use Rattle.aq_profile.specs.Exclusion.{excluded}
 use Rattle.aq_profile.specs.Designation.{primary_on}
 use Rattle.aq_profile.specs.SiteHour.{Cell, Sample, mean_of, chosen, is_of_poc}
 use Rattle.aq_profile.specs.ParticleDay.{Sampler, starts_on, cell_of, mean_or_high_sum, day_value, day_cell, monitor_day, sample_on, samples_on, samplers_of, site_day, net_day, unless_excluded}
-use Rattle.aq_profile.specs.QuarterCounts.{days_of_quarter, QuarterDays, quarter_counts, pm25_quarter, quarter_values, quarters_of, pm25_year, values_in}
+use Rattle.aq_profile.specs.QuarterCounts.{days_of_quarter, quarter_counts, pm25_quarter, quarter_values, quarters_of, pm25_year, values_in}
 use Rattle.aq_profile.specs.Substitution.{least}
 use Rattle.aq_profile.specs.Summaries.{is_value, PmQuarter, KeepsPmQuarter, KeepsPmYear, eight_greatest, summary_of_quarter, pm25_summary}
 use Rattle.aq_profile.proofs.Sameness.{same_pollutant}
@@ -95,15 +92,15 @@ IfValue (Some v) = InRange v
 
 hours-in_range : (n : ℕ) (t : ℤ) → Between n t → IfValue (mean_or_high_sum n t)
 hours-in_range n t h = by_tests (nat_le 18 n) (int_le (pos 8520) t) refl refl
-    where
-      by_tests : (a b : Bool) → nat_le 18 n ≡ a → int_le (pos 8520) t ≡ b
-          → IfValue (cond a (Some (truncated t (pos n))) (cond b (Some (truncated t (pos 24))) None))
-      by_tests true b e f = let many : 18 ≤ n = grind (arith, nat_tests) in trunc-in_range t n (omega arith) h
-      by_tests false true e f =
-          let few : n ≤ 17 = grind (arith, nat_tests) in
-          let high : pos 8520 ≤ℤ t = grind (arith, ints) in
-          high-in_range t n few high h
-      by_tests false false e f = tt
+  where
+    by_tests : (a b : Bool) → nat_le 18 n ≡ a → int_le (pos 8520) t ≡ b
+        → IfValue (cond a (Some (truncated t (pos n))) (cond b (Some (truncated t (pos 24))) None))
+    by_tests true b e f = let many : 18 ≤ n = grind (arith, nat_tests) in trunc-in_range t n (omega arith) h
+    by_tests false true e f =
+        let few : n ≤ 17 = grind (arith, nat_tests) in
+        let high : pos 8520 ≤ℤ t = grind (arith, ints) in
+        high-in_range t n few high h
+    by_tests false false e f = tt
 
 first-in_range : (values : List ℤ) → Every InRange values → IfValue (slice_get values 0)
 first-in_range [] every = tt
@@ -140,15 +137,15 @@ cell-in_range : (office : Office) (monitor : MonitorId) (duration : Duration) (d
     → IfCell (cell_of office monitor duration day entry)
 cell-in_range office monitor duration day entry is fits =
     by_test (is_same_monitor entry.0.monitor monitor) (starts_on duration day entry.0.hour) refl
-    where
-      by_test : (a b : Bool) → is_same_monitor entry.0.monitor monitor ≡ a
-          → IfCell (cond (a && b) (option_map (λ value. record { value = value; excluded = excluded office.records entry.0 entry.1.quals }) entry.1.value) None)
-      by_test false b e = tt
-      by_test true false e = tt
-      by_test true true e =
-          let site_and = both _ (entry.0.monitor.poc == monitor.poc) e in
-          let pollutant = (both (is_same_site entry.0.monitor.site monitor.site) (is_same_pollutant entry.0.monitor.pollutant monitor.pollutant) site_and.0).1 in
-          of_value (excluded office.records entry.0 entry.1.quals) entry.0.monitor.pollutant entry.1.value entry.1.null (same_pollutant entry.0.monitor.pollutant monitor.pollutant pollutant ∙ is) (measured-of office entry fits)
+  where
+    by_test : (a b : Bool) → is_same_monitor entry.0.monitor monitor ≡ a
+        → IfCell (cond (a && b) (option_map (λ value. record { value = value; excluded = excluded office.records entry.0 entry.1.quals }) entry.1.value) None)
+    by_test false b e = tt
+    by_test true false e = tt
+    by_test true true e =
+        let site_and = both _ (entry.0.monitor.poc == monitor.poc) e in
+        let pollutant = (both (is_same_site entry.0.monitor.site monitor.site) (is_same_pollutant entry.0.monitor.pollutant monitor.pollutant) site_and.0).1 in
+        of_value (excluded office.records entry.0 entry.1.quals) entry.0.monitor.pollutant entry.1.value entry.1.null (same_pollutant entry.0.monitor.pollutant monitor.pollutant pollutant ∙ is) (measured-of office entry fits)
 
 every-onto : (o : Option Cell) (cells : List Cell) → IfCell o → Every CellIn cells → Every CellIn (cons_option o cells)
 every-onto None cells h every = every
@@ -331,16 +328,17 @@ most_days : (quarter year part : ℕ) → quarter_year quarter ≡ year → quar
 most_days quarter year part y p low =
     let P : ℕ → Type 0 = λ n. sum (map (days_in_month (quarter_year quarter)) (range_with_len (3 * n + 1) 3)) ≤ cond (nat_le 2 part) 92 91 in
     subst P (sym p) (by_part (quarter_year quarter) part low)
-    where
-      feb : (b : Bool) → 0 + 31 + cond b 29 28 + 31 ≤ 91
-      feb true = omega arith
-      feb false = omega arith
-      by_part : (y n : ℕ) → n < 4 → sum (map (days_in_month y) (range_with_len (3 * n + 1) 3)) ≤ cond (nat_le 2 n) 92 91
-      by_part y zero low = feb (y % 4 == 0)
-      by_part y (suc zero) low = omega arith
-      by_part y (suc (suc zero)) low = omega arith
-      by_part y (suc (suc (suc zero))) low = omega arith
-      by_part y (suc (suc (suc (suc n)))) low = absurd (omega arith)
+  where
+    feb : (b : Bool) → 0 + 31 + cond b 29 28 + 31 ≤ 91
+    feb true = omega arith
+    feb false = omega arith
+
+    by_part : (y n : ℕ) → n < 4 → sum (map (days_in_month y) (range_with_len (3 * n + 1) 3)) ≤ cond (nat_le 2 n) 92 91
+    by_part y zero low = feb (y % 4 == 0)
+    by_part y (suc zero) low = omega arith
+    by_part y (suc (suc zero)) low = omega arith
+    by_part y (suc (suc (suc zero))) low = omega arith
+    by_part y (suc (suc (suc (suc n)))) low = absurd (omega arith)
 
 scheduled-most : (office : Office) (site : Site) (quarter : ℕ) → (quarter_counts office site quarter).scheduled ≤ days_in_quarter quarter
 unfolding quarter_counts

@@ -1,7 +1,7 @@
 -- In a list that rises no rank comes twice; and how many of some things fit the days of a span.
-use Rattle.std.proofs.Common.{◌≡◌, ℕ, zero, suc, ◌+◌, ◌-◌, ◌<◌, ◌≤◌, Bool, true, false, not, ◌&&◌, ◌||◌, cond, List, [], ◌∷◌, length, refl, sym, ap, subst, ◌∙◌, arith}
-use Rattle.std.specs.Prelude.{◌==◌, nat_lt, IsTrue, bytes_eq, ⊤}
-use Rattle.std.specs.List.{sum_by, count_by, filter, range_with_len}
+use Rattle.std.proofs.Common.{◌≡◌, ℕ, zero, suc, ◌+◌, ◌<◌, ◌≤◌, Bool, true, false, ◌&&◌, ◌||◌, cond, List, [], ◌∷◌, length, refl, subst, ◌∙◌, arith}
+use Rattle.std.specs.Prelude.{◌==◌, nat_lt, ⊤}
+use Rattle.std.specs.List.{sum_by, count_by, range_with_len}
 use Rattle.std.proofs.lemmas.List.Sums.{sum_by-cons, sum_by-le-sum_by}
 use Rattle.std.proofs.lemmas.Bool.Decides.{nat_tests}
 use Rattle.std.proofs.lemmas.Slice.Eq.{bytes_eq-Decides}
@@ -20,31 +20,31 @@ before-trans [] (y ∷ ys) (z ∷ zs) h k = refl
 before-trans (x ∷ xs) (y ∷ ys) (z ∷ zs) h k =
     by_tests (nat_lt x y) (x == y) (nat_lt y z) (y == z) (comes_before xs ys) (comes_before ys zs) (comes_before xs zs) (nat_lt x z) (x == z) h k
     (before-trans xs ys zs) (λ p q. grind (arith, nat_tests)) (λ p q. grind (arith, nat_tests)) (λ p q. grind (arith, nat_tests)) (λ p q. grind (arith, nat_tests))
-    where
-      by_tests : (xy xey yz yez a b c xz xez : Bool) → (xy || (xey && a)) ≡ true → (yz || (yez && b)) ≡ true
-          → (a ≡ true → b ≡ true → c ≡ true)
-          → (xy ≡ true → yz ≡ true → xz ≡ true) → (xy ≡ true → yez ≡ true → xz ≡ true) → (xey ≡ true → yz ≡ true → xz ≡ true) → (xey ≡ true → yez ≡ true → xez ≡ true)
-          → (xz || (xez && c)) ≡ true
-      by_tests true xey true yez a b c xz xez h k t p q r s = let e = p refl refl in rw e refl
-      by_tests true xey false yez a b c xz xez h k t p q r s = let e = q refl (both yez b k).0 in rw e refl
-      by_tests false xey true yez a b c xz xez h k t p q r s = let e = r (both xey a h).0 refl in rw e refl
-      by_tests false xey false yez a b c xz xez h k t p q r s =
-          let e = s (both xey a h).0 (both yez b k).0 in
-          let f = t (both xey a h).1 (both yez b k).1 in
-          last xz xez c e f
-          where
-            last : (u v w : Bool) → v ≡ true → w ≡ true → (u || (v && w)) ≡ true
-            last true v w e f = refl
-            last false true w e f = f
-            last false false w e f = cc
+  where
+    by_tests : (xy xey yz yez a b c xz xez : Bool) → (xy || (xey && a)) ≡ true → (yz || (yez && b)) ≡ true
+        → (a ≡ true → b ≡ true → c ≡ true)
+        → (xy ≡ true → yz ≡ true → xz ≡ true) → (xy ≡ true → yez ≡ true → xz ≡ true) → (xey ≡ true → yz ≡ true → xz ≡ true) → (xey ≡ true → yez ≡ true → xez ≡ true)
+        → (xz || (xez && c)) ≡ true
+    by_tests true xey true yez a b c xz xez h k t p q r s = let e = p refl refl in rw e refl
+    by_tests true xey false yez a b c xz xez h k t p q r s = let e = q refl (both yez b k).0 in rw e refl
+    by_tests false xey true yez a b c xz xez h k t p q r s = let e = r (both xey a h).0 refl in rw e refl
+    by_tests false xey false yez a b c xz xez h k t p q r s =
+        let e = s (both xey a h).0 (both yez b k).0 in
+        let f = t (both xey a h).1 (both yez b k).1 in
+        last xz xez c e f
+      where
+        last : (u v w : Bool) → v ≡ true → w ≡ true → (u || (v && w)) ≡ true
+        last true v w e f = refl
+        last false true w e f = f
+        last false false w e f = cc
 
 before-itself : (xs : List ℕ) → comes_before xs xs ≡ true → ⊥
 before-itself [] h = cc
 before-itself (x ∷ xs) h = by_tests (nat_lt x x) (x == x) (comes_before xs xs) h (λ l. absurd (grind (arith, nat_tests))) (before-itself xs)
-    where
-      by_tests : (a b c : Bool) → (a || (b && c)) ≡ true → (a ≡ true → ⊥) → (c ≡ true → ⊥) → ⊥
-      by_tests true b c h p q = p refl
-      by_tests false b c h p q = q (both b c h).1
+  where
+    by_tests : (a b c : Bool) → (a || (b && c)) ≡ true → (a ≡ true → ⊥) → (c ≡ true → ⊥) → ⊥
+    by_tests true b c h p q = p refl
+    by_tests false b c h p q = q (both b c h).1
 
 module _ {X : Type 0} (rank : X → List ℕ) where
   abbrev pub with_rank : List ℕ → List X → ℕ
@@ -55,13 +55,13 @@ module _ {X : Type 0} (rank : X → List ℕ) where
 
   not_same : (key : List ℕ) (row : X) → comes_before key (rank row) ≡ true → is_same (rank row) key ≡ false
   not_same key row before = by_test (is_same (rank row) key) refl
-      where
-        by_test : (b : Bool) → is_same (rank row) key ≡ b → b ≡ false
-        by_test false e = refl
-        by_test true e =
-            let same : rank row ≡ key = (bytes_eq-Decides (rank row) key).0 e in
-            let P : List ℕ → Type 0 = λ l. comes_before key l ≡ true in
-            absurd (before-itself key (subst P same before))
+    where
+      by_test : (b : Bool) → is_same (rank row) key ≡ b → b ≡ false
+      by_test false e = refl
+      by_test true e =
+          let same : rank row ≡ key = (bytes_eq-Decides (rank row) key).0 e in
+          let P : List ℕ → Type 0 = λ l. comes_before key l ≡ true in
+          absurd (before-itself key (subst P same before))
 
   none_above : (key : List ℕ) (row : X) (rows : List X) → comes_before key (rank row) ≡ true → rises_from rank row rows ≡ true → with_rank key (row ∷ rows) ≡ 0
   none_above key row [] before rising = count-cons key row [] ∙ rw (not_same key row before) refl
@@ -85,15 +85,15 @@ module _ {X : Type 0} (rank : X → List ℕ) where
   pub one_rank : (key : List ℕ) (rows : List X) → rises rank rows ≡ true → with_rank key rows ≤ 1
   one_rank key [] rising = omega arith
   one_rank key (row ∷ rows) rising = by_test (is_same (rank row) key) refl (one_rank key rows (rises-rest row rows rising))
-      where
-        by_test : (b : Bool) → is_same (rank row) key ≡ b → with_rank key rows ≤ 1 → with_rank key (row ∷ rows) ≤ 1
-        by_test true e rest =
-            let none = none_behind key row rows ((bytes_eq-Decides (rank row) key).0 e) rising in
-            let first : with_rank key (row ∷ rows) ≡ 1 + with_rank key rows = count-cons key row rows ∙ rw e refl in
-            omega (arith, first, none)
-        by_test false e rest =
-            let first : with_rank key (row ∷ rows) ≡ 0 + with_rank key rows = count-cons key row rows ∙ rw e refl in
-            omega (arith, first, rest)
+    where
+      by_test : (b : Bool) → is_same (rank row) key ≡ b → with_rank key rows ≤ 1 → with_rank key (row ∷ rows) ≤ 1
+      by_test true e rest =
+          let none = none_behind key row rows ((bytes_eq-Decides (rank row) key).0 e) rising in
+          let first : with_rank key (row ∷ rows) ≡ 1 + with_rank key rows = count-cons key row rows ∙ rw e refl in
+          omega (arith, first, none)
+      by_test false e rest =
+          let first : with_rank key (row ∷ rows) ≡ 0 + with_rank key rows = count-cons key row rows ∙ rw e refl in
+          omega (arith, first, rest)
 
 -- ---- things that are put on days of a span
 
@@ -140,35 +140,35 @@ module _ {X : Type 0} (day : X → ℕ) where
       let other : (day x == d) ≡ false = by_test (day x == d) refl in
       let first : on d (x ∷ xs) ≡ 0 + on d xs = sum_by-cons (λ y. cond (day y == d) 1 0) x xs ∙ rw other refl in
       omega (arith, first, no_place p d xs h every.1)
-      where
-        by_test : (b : Bool) → (day x == d) ≡ b → b ≡ false
-        by_test false e = refl
-        by_test true e =
-            let same : day x ≡ d = grind (arith, nat_tests) in
-            let h2 : p d ≡ true = rw same at every.0 in
-            cc
+    where
+      by_test : (b : Bool) → (day x == d) ≡ b → b ≡ false
+      by_test false e = refl
+      by_test true e =
+          let same : day x ≡ d = grind (arith, nat_tests) in
+          let h2 : p d ≡ true = rw same at every.0 in
+          cc
 
   on_few : (p : ℕ → Bool) (d : ℕ) (xs : List X) → on d xs ≤ 1 → Every (λ x. p (day x) ≡ true) xs → on d xs ≤ cond (p d) 1 0
   on_few p d xs few every = by_test (p d) refl
-      where
-        by_test : (b : Bool) → p d ≡ b → on d xs ≤ cond b 1 0
-        by_test true e = few
-        by_test false e = let none = no_place p d xs e every in omega (arith, none)
+    where
+      by_test : (b : Bool) → p d ≡ b → on d xs ≤ cond b 1 0
+      by_test true e = few
+      by_test false e = let none = no_place p d xs e every in omega (arith, none)
 
   in_span : (a n d : ℕ) → a ≤ d → d < a + n → 1 ≤ count_by (λ e. d == e) (range_with_len a n)
   in_span a zero d low high = absurd (omega arith)
   in_span a (suc n) d low high = by_test (d == a) refl (λ apart. in_span (a + 1) n d apart (omega arith))
-      where
-        by_test : (b : Bool) → (d == a) ≡ b → (a + 1 ≤ d → 1 ≤ count_by (λ e. d == e) (range_with_len (a + 1) n)) → 1 ≤ count_by (λ e. d == e) (range_with_len a (suc n))
-        by_test true e later =
-            let first : count_by (λ e. d == e) (range_with_len a (suc n)) ≡ 1 + count_by (λ e. d == e) (range_with_len (a + 1) n) =
-            sum_by-cons (λ e. cond (d == e) 1 0) a (range_with_len (a + 1) n) ∙ rw e refl
-            in
-            omega (arith, first)
-        by_test false e later =
-            let apart : a + 1 ≤ d = grind (arith, nat_tests) in
-            let rest = later apart in
-            omega (arith, rest, sum_by-cons (λ e. cond (d == e) 1 0) a (range_with_len (a + 1) n))
+    where
+      by_test : (b : Bool) → (d == a) ≡ b → (a + 1 ≤ d → 1 ≤ count_by (λ e. d == e) (range_with_len (a + 1) n)) → 1 ≤ count_by (λ e. d == e) (range_with_len a (suc n))
+      by_test true e later =
+          let first : count_by (λ e. d == e) (range_with_len a (suc n)) ≡ 1 + count_by (λ e. d == e) (range_with_len (a + 1) n) =
+          sum_by-cons (λ e. cond (d == e) 1 0) a (range_with_len (a + 1) n) ∙ rw e refl
+          in
+          omega (arith, first)
+      by_test false e later =
+          let apart : a + 1 ≤ d = grind (arith, nat_tests) in
+          let rest = later apart in
+          omega (arith, rest, sum_by-cons (λ e. cond (d == e) 1 0) a (range_with_len (a + 1) n))
 
   every-places : (a n : ℕ) (xs : List X) → Every (λ x. (a ≤ day x) × (day x < a + n)) xs → Every (λ x. 1 ≤ places (range_with_len a n) x) xs
   every-places a n [] every = tt
