@@ -28,3 +28,4 @@ pub mod Rising
 pub mod Pm25Counts
 pub mod Pm25Range
 pub mod Damage
+pub mod OzoneFacts

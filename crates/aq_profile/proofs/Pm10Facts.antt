@@ -65,7 +65,7 @@ length-filter-le f xs = omega (arith, length-filter f xs, count_by-le-length f x
 
 -- ---- the samples of the strata and the days
 
-length-kept : {X Y : Type 0} (f : X → Option Y) (xs : List X) → length (filter_map f xs) ≤ length xs
+pub length-kept : {X Y : Type 0} (f : X → Option Y) (xs : List X) → length (filter_map f xs) ≤ length xs
 length-kept f [] = omega arith
 length-kept f (x ∷ xs) =
     elim (f x) as (λ o. length (cons_option o (filter_map f xs)) ≤ length (x ∷ xs)) [

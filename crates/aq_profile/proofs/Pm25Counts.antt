@@ -103,7 +103,7 @@ module _ (site : Site) (quarter : ℕ) where
   onto P None ms h every = every
   onto P (Some m) ms h every = (h, every)
 
-  is_record-of : (office : Office) (r : OfficeRecord) → fits_records office r ≡ true → is_record r ≡ true
+  pub is_record-of : (office : Office) (r : OfficeRecord) → fits_records office r ≡ true → is_record r ≡ true
   is_record-of office r fits =
       let c = both _ (nat_le (group_size office r) (most_in_group r)) fits in
       let b = both _ (has_its_event office r) c.0 in

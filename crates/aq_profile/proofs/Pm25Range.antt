@@ -115,7 +115,7 @@ abbrev IfCell : Option Cell → Type 0
 IfCell None = ⊤
 IfCell (Some cell) = CellIn cell
 
-measured-in_range : (pollutant : Pollutant) (v : ℤ) (null : Option Code) → is_measured pollutant (Some v) null ≡ true → is_in_range pollutant v ≡ true
+pub measured-in_range : (pollutant : Pollutant) (v : ℤ) (null : Option Code) → is_measured pollutant (Some v) null ≡ true → is_in_range pollutant v ≡ true
 measured-in_range pollutant v None h = h
 measured-in_range pollutant v (Some code) h = cc
 
@@ -126,7 +126,7 @@ of_value out pollutant (Some v) null is h =
     let P : Pollutant → Type 0 = λ p. is_in_range p v ≡ true in
     from_test v (subst P is (measured-in_range pollutant v null h))
 
-measured-of : (office : Office) (entry : ObsKey × Observation) → fits_monitors office entry ≡ true → is_measured entry.0.monitor.pollutant entry.1.value entry.1.null ≡ true
+pub measured-of : (office : Office) (entry : ObsKey × Observation) → fits_monitors office entry ≡ true → is_measured entry.0.monitor.pollutant entry.1.value entry.1.null ≡ true
 measured-of office entry fits =
     let content = (both _ (is_content entry.0.monitor.pollutant entry.1) fits).1 in
     let c = both _ (nat_le (length entry.1.quals) 10) content in

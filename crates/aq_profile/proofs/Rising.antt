@@ -155,7 +155,7 @@ module _ {X : Type 0} (day : X → ℕ) where
       by_test true e = few
       by_test false e = let none = no_place p d xs e every in omega (arith, none)
 
-  in_span : (a n d : ℕ) → a ≤ d → d < a + n → 1 ≤ count_by (λ e. d == e) (range_with_len a n)
+  pub in_span : (a n d : ℕ) → a ≤ d → d < a + n → 1 ≤ count_by (λ e. d == e) (range_with_len a n)
   in_span a zero d low high = absurd (omega arith)
   in_span a (suc n) d low high = by_test (d == a) refl (λ apart. in_span (a + 1) n d apart (omega arith))
     where

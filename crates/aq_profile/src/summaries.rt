@@ -2,17 +2,18 @@
 #![tactic(auto)]
 
 ghost use Rattle.std.specs.Prelude.{◌≡◌, ℕ, ◌+◌, ◌<◌, ◌≤◌, List, ℤ, pos, map, filter_map, length, min, slice_get, nat_le, is_some, IsTrue, All};
-ghost use Rattle.aq_base.specs.Calendar.{days_in_quarter, quarter_first, quarter_number, quarter_of};
+ghost use Rattle.aq_base.specs.Calendar.{days_in_quarter, days_in_year, quarter_first, quarter_of, year_first, year_of};
 ghost use Rattle.aq_base.specs.Site.{Site};
 ghost use Rattle.aq_base.specs.declared.day.TheConstants.{LAST_DAY};
 ghost use Rattle.aq_profile.specs.Office.{IsOffice, Office};
 ghost use Rattle.aq_profile.specs.Lists.{greatest, total};
+ghost use Rattle.aq_profile.specs.OzoneYear.{ozone_year};
 ghost use Rattle.aq_profile.specs.QuarterCounts.{QuarterDays, pm25_quarter, values_in};
 ghost use Rattle.aq_profile.specs.Pm10Estimate.{pm10_quarter, pm10_year};
 ghost use Rattle.aq_profile.specs.Substitution.{least};
 ghost use Rattle.aq_profile.specs.AnnualVerdict.{annual_dv};
 ghost use Rattle.aq_profile.specs.DailyVerdict.{daily_dv};
-ghost use Rattle.aq_profile.specs.Summaries.{KeepsPm10Quarter, KeepsPm10Year, KeepsPmQuarter, KeepsPmYear, PmQuarter, days_in, eight_greatest, falls, is_sum_within, pm25_summary, summary_of_quarter, summary_of_year};
+ghost use Rattle.aq_profile.specs.Summaries.{KeepsOzoneYear, KeepsPm10Quarter, KeepsPm10Year, KeepsPmQuarter, KeepsPmYear, PmQuarter, days_in, eight_greatest, falls, is_sum_within, pm25_summary, summary_of_quarter, summary_of_year};
 ghost use Rattle.aq_profile.specs.SummaryVerdicts.{kept_annual_dv, kept_daily_dv};
 
 /// Sums and numbers of values are enough for an annual standard, its tests with their copies too.
@@ -26,6 +27,15 @@ pub fn eight_greatest_are_enough_for_the_daily_verdict()
     ensures { (years : List (List QuarterDays))
         → All (λ year. KeepsPmYear (summary_of_year year)) years
         → kept_daily_dv (map summary_of_year years) ≡ daily_dv years }
+{}
+
+/// What is kept of an ozone year of a valid office keeps its facts, where a year's days are those from its
+/// first on, as the calendar has it.
+pub fn ozone_years_keep_their_facts()
+    ensures { (office : Office) (site : Site) (year : ℕ)
+        → IsOffice office
+        → ((n : ℕ) → n ≤ LAST_DAY → year_of n ≡ year → (year_first year ≤ n) × (n < year_first year + days_in_year year))
+        → KeepsOzoneYear (ozone_year office site year) }
 {}
 
 /// What is kept of a PM10 quarter and year keeps its facts, in every office.
