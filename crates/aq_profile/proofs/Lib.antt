@@ -29,3 +29,15 @@ pub mod Pm25Counts
 pub mod Pm25Range
 pub mod Damage
 pub mod OzoneFacts
+pub mod Loads
+pub mod Days
+pub mod Digits
+pub mod KeyOrder
+pub mod Spelled
+pub mod JoinedFields
+pub mod RoundTrip
+pub mod Values
+pub mod Samples
+pub mod ValidLines
+pub mod Spans
+pub mod ValidOffice

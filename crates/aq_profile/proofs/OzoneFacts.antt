@@ -36,7 +36,7 @@ use Rattle.aq_profile.specs.Summaries.{is_value, KeepsOzoneYear}
 use Rattle.aq_profile.proofs.Sameness.{same_pollutant}
 use Rattle.aq_profile.proofs.Sums.{total-cons, greater_of, greatest-some}
 use Rattle.aq_profile.proofs.Descent.{length-ranked}
-use Rattle.aq_profile.proofs.Rising.{Every, in_span}
+use Rattle.aq_profile.proofs.Spans.{Every, in_span}
 use Rattle.aq_profile.proofs.Pm10Facts.{count-implied, length-kept}
 use Rattle.aq_profile.proofs.Pm25Counts.{is_record-of}
 use Rattle.aq_profile.proofs.Pm25Range.{measured-of, measured-in_range}
@@ -292,12 +292,12 @@ module _ (site : Site) (year : ℕ) (holds : HoldsYear year) where
         by_test false b e = tt
         by_test true false e = tt
         by_test true true e =
-            let d = both (is_site other && is_year y && is_day first && is_day last) (is_season y first last) is in
-            let c = both (is_site other && is_year y && is_day first) (is_day last) d.0 in
-            let b = both (is_site other && is_year y) (is_day first) c.0 in
-            let s = both _ (nat_le first last) d.1 in
+            let d = both (is_site other && is_year y) (is_day first && is_day last && is_season y first last) is in
+            let c = both (is_day first && is_day last) (is_season y first last) d.1 in
+            let b = both (is_day first) (is_day last) c.0 in
+            let s = both _ (nat_le first last) c.1 in
             let t = both (year_of first == y) (year_of last == y) s.0 in
-            let span = holds first (within first LAST_DAY b.1) (same (year_of first) y t.0 ∙ same y year e) in
+            let span = holds first (within first LAST_DAY b.0) (same (year_of first) y t.0 ∙ same y year e) in
             record { low = span.0; high = span.1; rises = within first last s.1 }
   season-begins (Monitor id duration eligible) is = tt
   season-begins (Primary other pollutant from poc) is = tt

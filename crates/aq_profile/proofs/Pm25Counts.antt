@@ -20,7 +20,7 @@ use Rattle.aq_profile.specs.SiteHour.{Cell}
 use Rattle.aq_profile.specs.ParticleDay.{site_day, net_day, unless_excluded}
 use Rattle.aq_profile.specs.QuarterCounts.{days_of_quarter, is_sampled, is_kept, Makeup, makeup_by, is_in_time, gives_credit, credits, QuarterCounts, quarter_counts, quarter_values}
 use Rattle.aq_profile.proofs.Sameness.{same_site}
-use Rattle.aq_profile.proofs.Rising.{Every, one_rank, on, fit}
+use Rattle.aq_profile.proofs.Spans.{Every, one_rank, on, fit}
 use Rattle.aq_profile.proofs.Pm10Facts.{quarter_days, length-days, count-filter, count-implied, length-filter-le}
 
 both : (a b : Bool) → (a && b) ≡ true → (a ≡ true) × (b ≡ true)
@@ -84,13 +84,13 @@ module _ (site : Site) (quarter : ℕ) where
       by_test false b e f = tt
       by_test true false e f = tt
       by_test true true e f =
-          let d = both (is_site other && is_day missed && is_day makeup) (is_makeup missed makeup) is in
-          let c = both (is_site other && is_day missed) (is_day makeup) d.0 in
-          let b = both (is_site other) (is_day missed) c.0 in
-          let span = both _ (nat_le makeup (missed + 7)) d.1 in
+          let h = both (is_site other && is_day missed) (is_day makeup && is_makeup missed makeup) is in
+          let b = both (is_site other) (is_day missed) h.0 in
+          let c = both (is_day makeup) (is_makeup missed makeup) h.1 in
+          let span = both _ (nat_le makeup (missed + 7)) c.1 in
           let there = both _ (quarter_of makeup == quarter_of missed) span.0 in
           let q : quarter_of missed ≡ quarter = same (quarter_of missed) quarter f in
-          (within missed LAST_DAY b.1, q, within makeup LAST_DAY c.1, same (quarter_of makeup) (quarter_of missed) there.1 ∙ q)
+          (within missed LAST_DAY b.1, q, within makeup LAST_DAY c.0, same (quarter_of makeup) (quarter_of missed) there.1 ∙ q)
   made-in_quarter (Monitor id duration eligible) is = tt
   made-in_quarter (Primary other pollutant from poc) is = tt
   made-in_quarter (Schedule other pollutant from interval anchor) is = tt
@@ -326,7 +326,7 @@ module _ (office : Office) (site : Site) (quarter : ℕ) (valid : IsOffice offic
         arith,
         count-filter (λ (m : Makeup). m.missed == d) (gives_credit office site) (filter_map (makeup_by site quarter) office.records),
         made-few site quarter (λ (m : Makeup). m.missed) d (λ r. is_same (record_rank r) (key_numbers (MakeupKey site d))) (missed-key site quarter d) office.records,
-        one_rank record_rank (key_numbers (MakeupKey site d)) office.records valid.records_rise,
+        one_rank record_rank (key_numbers (MakeupKey site d)) office.records valid.keys_rise.records,
       )
 
   makeup-once : (d : ℕ) → on (λ (m : Makeup). m.makeup) d (credits office site quarter) ≤ 1

@@ -31,7 +31,7 @@ use Rattle.aq_profile.specs.Substitution.{least}
 use Rattle.aq_profile.specs.Summaries.{is_value, PmQuarter, KeepsPmQuarter, KeepsPmYear, eight_greatest, summary_of_quarter, pm25_summary}
 use Rattle.aq_profile.proofs.Sameness.{same_pollutant}
 use Rattle.aq_profile.proofs.Sums.{total-cons, lesser_of, greater_of, least-some, greatest-some}
-use Rattle.aq_profile.proofs.Rising.{Every}
+use Rattle.aq_profile.proofs.Spans.{Every}
 use Rattle.aq_profile.proofs.Pm25Facts.{least-there, greatest-there, sum-within, no-sum, top-falls, top-count, top-greatest}
 use Rattle.aq_profile.proofs.Pm10Facts.{length-days, length-filter-le}
 use Rattle.aq_profile.proofs.Pm25Counts.{HoldsDays, counts-keep}

@@ -1,185 +1,129 @@
--- In a list that rises no rank comes twice; and how many of some things fit the days of a span.
-use Rattle.std.proofs.Common.{◌≡◌, ℕ, zero, suc, ◌+◌, ◌<◌, ◌≤◌, Bool, true, false, ◌&&◌, ◌||◌, cond, List, [], ◌∷◌, length, refl, subst, ◌∙◌, arith}
-use Rattle.std.specs.Prelude.{◌==◌, nat_lt, ⊤}
-use Rattle.std.specs.List.{sum_by, count_by, range_with_len}
-use Rattle.std.proofs.lemmas.List.Sums.{sum_by-cons, sum_by-le-sum_by}
+-- A row put into a list in rising order, or dropped from it, leaves the order.
+use Rattle.std.proofs.Common.{◌≡◌, ℕ, ◌<◌, ◌⊎◌, Bool, true, false, cond, not, ◌&&◌, ◌||◌, List, [], ◌∷◌, refl, sym, ap, ◌∙◌, arith, inl, inr, subst}
+use Rattle.std.specs.Prelude.{nat_lt, ◌==◌, bytes_eq, filter}
+use Rattle.std.proofs.lemmas.Bool.{false≢true}
 use Rattle.std.proofs.lemmas.Bool.Decides.{nat_tests}
 use Rattle.std.proofs.lemmas.Slice.Eq.{bytes_eq-Decides}
-use Rattle.aq_profile.specs.Office.{is_same, comes_before, rises_from, rises}
+use Rattle.aq_profile.proofs.Least.{both, true_or_false}
+use Rattle.aq_profile.specs.Office.{is_same, comes_before, rises_from, rises, with_row, without_row}
 
--- ---- the order of ranks
+-- the cases of a first number that decides, or a tie
+first_decides : (x y : ℕ) (b : Bool) → (nat_lt x y || ((x == y) && b)) ≡ true → (x < y) ⊎ ((x ≡ y) × (b ≡ true))
+first_decides x y true h = elim (true_or_false (nat_lt x y)) [ inl l ↦ inl (grind (arith, nat_tests)) | inr g ↦ inr (grind (arith, nat_tests), refl) ]
+first_decides x y false h = inl (grind (arith, nat_tests))
 
-both : (a b : Bool) → (a && b) ≡ true → (a ≡ true) × (b ≡ true)
-both true b h = (refl, h)
-both false b h = cc
+decided_less : (x y : ℕ) (b : Bool) → x < y → (nat_lt x y || ((x == y) && b)) ≡ true
+decided_less x y b h = grind (arith, nat_tests)
 
-before-trans : (xs ys zs : List ℕ) → comes_before xs ys ≡ true → comes_before ys zs ≡ true → comes_before xs zs ≡ true
-before-trans xs [] zs h k = cc
-before-trans xs (y ∷ ys) [] h k = cc
-before-trans [] (y ∷ ys) (z ∷ zs) h k = refl
-before-trans (x ∷ xs) (y ∷ ys) (z ∷ zs) h k =
-    by_tests (nat_lt x y) (x == y) (nat_lt y z) (y == z) (comes_before xs ys) (comes_before ys zs) (comes_before xs zs) (nat_lt x z) (x == z) h k
-    (before-trans xs ys zs) (λ p q. grind (arith, nat_tests)) (λ p q. grind (arith, nat_tests)) (λ p q. grind (arith, nat_tests)) (λ p q. grind (arith, nat_tests))
-  where
-    by_tests : (xy xey yz yez a b c xz xez : Bool) → (xy || (xey && a)) ≡ true → (yz || (yez && b)) ≡ true
-        → (a ≡ true → b ≡ true → c ≡ true)
-        → (xy ≡ true → yz ≡ true → xz ≡ true) → (xy ≡ true → yez ≡ true → xz ≡ true) → (xey ≡ true → yz ≡ true → xz ≡ true) → (xey ≡ true → yez ≡ true → xez ≡ true)
-        → (xz || (xez && c)) ≡ true
-    by_tests true xey true yez a b c xz xez h k t p q r s = let e = p refl refl in rw e refl
-    by_tests true xey false yez a b c xz xez h k t p q r s = let e = q refl (both yez b k).0 in rw e refl
-    by_tests false xey true yez a b c xz xez h k t p q r s = let e = r (both xey a h).0 refl in rw e refl
-    by_tests false xey false yez a b c xz xez h k t p q r s =
-        let e = s (both xey a h).0 (both yez b k).0 in
-        let f = t (both xey a h).1 (both yez b k).1 in
-        last xz xez c e f
-      where
-        last : (u v w : Bool) → v ≡ true → w ≡ true → (u || (v && w)) ≡ true
-        last true v w e f = refl
-        last false true w e f = f
-        last false false w e f = cc
+decided_tie : (x y : ℕ) → x ≡ y → (nat_lt x y || ((x == y) && true)) ≡ true
+decided_tie x y h = grind (arith, nat_tests)
 
-before-itself : (xs : List ℕ) → comes_before xs xs ≡ true → ⊥
-before-itself [] h = cc
-before-itself (x ∷ xs) h = by_tests (nat_lt x x) (x == x) (comes_before xs xs) h (λ l. absurd (grind (arith, nat_tests))) (before-itself xs)
-  where
-    by_tests : (a b c : Bool) → (a || (b && c)) ≡ true → (a ≡ true → ⊥) → (c ≡ true → ⊥) → ⊥
-    by_tests true b c h p q = p refl
-    by_tests false b c h p q = q (both b c h).1
+pub before-trans : (a b c : List ℕ) → comes_before a b ≡ true → comes_before b c ≡ true → comes_before a c ≡ true
+before-trans a [] c p q = absurd (false≢true p)
+before-trans a (y ∷ b) [] p q = absurd (false≢true q)
+before-trans [] (y ∷ b) (z ∷ c) p q = refl
+before-trans (x ∷ a) (y ∷ b) (z ∷ c) p q =
+    elim (first_decides x y (comes_before a b) p) [
+      | inl l ↦ elim (first_decides y z (comes_before b c) q) [ inl m ↦ decided_less x z _ (omega arith) | inr m ↦ decided_less x z _ (omega (arith, m.0)) ]
+      | inr l ↦ elim (first_decides y z (comes_before b c) q) [
+        | inl m ↦ decided_less x z _ (omega (arith, l.0))
+        | inr m ↦ subst (λ t. (nat_lt x z || ((x == z) && t)) ≡ true) (sym (before-trans a b c l.1 m.1)) (decided_tie x z (omega (arith, l.0, m.0)))
+      ]
+    ]
+
+undecided : (x y : ℕ) (p q r : Bool) → (p ≡ false → q ≡ false → r ≡ true)
+    → (nat_lt x y || ((x == y) && p)) ≡ false → ((x == y) && q) ≡ false → (nat_lt y x || ((y == x) && r)) ≡ true
+undecided x y p q true h a b = grind (arith, nat_tests)
+undecided x y true q false h a b = grind (arith, nat_tests)
+undecided x y false true false h a b = grind (arith, nat_tests)
+undecided x y false false false h a b = absurd (false≢true (h refl refl))
+
+pub before-total : (a b : List ℕ) → comes_before a b ≡ false → bytes_eq a b ≡ false → comes_before b a ≡ true
+before-total [] [] p q = absurd (false≢true (sym q))
+before-total [] (y ∷ b) p q = absurd (false≢true (sym p))
+before-total (x ∷ a) [] p q = refl
+before-total (x ∷ a) (y ∷ b) p q =
+    undecided x y (comes_before a b) (bytes_eq a b) (comes_before b a) (before-total a b) p q
 
 module _ {X : Type 0} (rank : X → List ℕ) where
-  abbrev pub with_rank : List ℕ → List X → ℕ
-  with_rank key rows = count_by (λ row. is_same (rank row) key) rows
+  same_rank : (x y : X) (rows : List X) → rank x ≡ rank y → rises_from rank x rows ≡ rises_from rank y rows
+  same_rank x y [] same = refl
+  same_rank x y (next ∷ rows) same = ap (λ r. comes_before r (rank next) && rises_from rank next rows) same
 
-  count-cons : (key : List ℕ) (row : X) (rows : List X) → with_rank key (row ∷ rows) ≡ cond (is_same (rank row) key) 1 0 + with_rank key rows
-  count-cons key row rows = sum_by-cons (λ r. cond (is_same (rank r) key) 1 0) row rows
+  and_true : (a b : Bool) → a ≡ true → b ≡ true → (a && b) ≡ true
+  and_true true b p q = q
+  and_true false b p q = absurd (false≢true p)
 
-  not_same : (key : List ℕ) (row : X) → comes_before key (rank row) ≡ true → is_same (rank row) key ≡ false
-  not_same key row before = by_test (is_same (rank row) key) refl
-    where
-      by_test : (b : Bool) → is_same (rank row) key ≡ b → b ≡ false
-      by_test false e = refl
-      by_test true e =
-          let same : rank row ≡ key = (bytes_eq-Decides (rank row) key).0 e in
-          let P : List ℕ → Type 0 = λ l. comes_before key l ≡ true in
-          absurd (before-itself key (subst P same before))
+  with_row-from : (x row : X) (rows : List X) → comes_before (rank x) (rank row) ≡ true → rises_from rank x rows ≡ true
+      → rises_from rank x (with_row rank row rows) ≡ true
+  with_row-from x row [] p q = and_true _ _ p refl
+  with_row-from x row (first ∷ rows) p q =
+      let parts = both (comes_before (rank x) (rank first)) (rises_from rank first rows) q in
+      elim (true_or_false (comes_before (rank row) (rank first))) [
+        | inl here ↦
+            subst (λ b. rises_from rank x (cond b (row ∷ first ∷ rows) (cond (is_same (rank row) (rank first)) (row ∷ rows) (first ∷ with_row rank row rows))) ≡ true)
+            (sym here) (and_true _ _ p (and_true _ _ here parts.1))
+        | inr behind ↦
+            subst (λ b. rises_from rank x (cond b (row ∷ first ∷ rows) (cond (is_same (rank row) (rank first)) (row ∷ rows) (first ∷ with_row rank row rows))) ≡ true)
+            (sym behind)
+            (elim (true_or_false (is_same (rank row) (rank first))) [
+              | inl same ↦
+                  subst (λ b. rises_from rank x (cond b (row ∷ rows) (first ∷ with_row rank row rows)) ≡ true) (sym same)
+                  (and_true _ _ p (same_rank row first rows ((bytes_eq-Decides (rank row) (rank first)).0 same) ∙ parts.1))
+              | inr other ↦
+                  subst (λ b. rises_from rank x (cond b (row ∷ rows) (first ∷ with_row rank row rows)) ≡ true) (sym other)
+                  (and_true _ _ parts.0 (with_row-from first row rows (before-total (rank row) (rank first) behind other) parts.1))
+            ])
+      ]
 
-  none_above : (key : List ℕ) (row : X) (rows : List X) → comes_before key (rank row) ≡ true → rises_from rank row rows ≡ true → with_rank key (row ∷ rows) ≡ 0
-  none_above key row [] before rising = count-cons key row [] ∙ rw (not_same key row before) refl
-  none_above key row (next ∷ rows) before rising =
-      let parts = both (comes_before (rank row) (rank next)) (rises_from rank next rows) rising in
-      let rest = none_above key next rows (before-trans key (rank row) (rank next) before parts.0) parts.1 in
-      count-cons key row (next ∷ rows) ∙ rw (not_same key row before) (rw rest refl)
+  pub with_row-rises : (row : X) (rows : List X) → rises rank rows ≡ true → rises rank (with_row rank row rows) ≡ true
+  with_row-rises row [] p = refl
+  with_row-rises row (first ∷ rows) p =
+      elim (true_or_false (comes_before (rank row) (rank first))) [
+        | inl here ↦
+            subst (λ b. rises rank (cond b (row ∷ first ∷ rows) (cond (is_same (rank row) (rank first)) (row ∷ rows) (first ∷ with_row rank row rows))) ≡ true)
+            (sym here) (and_true _ _ here p)
+        | inr behind ↦
+            subst (λ b. rises rank (cond b (row ∷ first ∷ rows) (cond (is_same (rank row) (rank first)) (row ∷ rows) (first ∷ with_row rank row rows))) ≡ true)
+            (sym behind)
+            (elim (true_or_false (is_same (rank row) (rank first))) [
+              | inl same ↦
+                  subst (λ b. rises rank (cond b (row ∷ rows) (first ∷ with_row rank row rows)) ≡ true) (sym same)
+                  (same_rank row first rows ((bytes_eq-Decides (rank row) (rank first)).0 same) ∙ p)
+              | inr other ↦
+                  subst (λ b. rises rank (cond b (row ∷ rows) (first ∷ with_row rank row rows)) ≡ true) (sym other)
+                  (with_row-from first row rows (before-total (rank row) (rank first) behind other) p)
+            ])
+      ]
 
-  rises-rest : (row : X) (rows : List X) → rises_from rank row rows ≡ true → rises rank rows ≡ true
-  rises-rest row [] rising = refl
-  rises-rest row (next ∷ rows) rising = (both (comes_before (rank row) (rank next)) (rises_from rank next rows) rising).1
+  from_earlier : (x y : X) (rows : List X) → comes_before (rank x) (rank y) ≡ true → rises_from rank y rows ≡ true → rises_from rank x rows ≡ true
+  from_earlier x y [] p q = refl
+  from_earlier x y (next ∷ rows) p q =
+      let parts = both (comes_before (rank y) (rank next)) (rises_from rank next rows) q in
+      and_true _ _ (before-trans (rank x) (rank y) (rank next) p parts.0) parts.1
 
-  none_behind : (key : List ℕ) (row : X) (rows : List X) → rank row ≡ key → rises_from rank row rows ≡ true → with_rank key rows ≡ 0
-  none_behind key row [] same rising = refl
-  none_behind key row (next ∷ rows) same rising =
-      let parts = both (comes_before (rank row) (rank next)) (rises_from rank next rows) rising in
-      let P : List ℕ → Type 0 = λ l. comes_before l (rank next) ≡ true in
-      none_above key next rows (subst P same parts.0) parts.1
+  filter-from : (keep : X → Bool) (x : X) (rows : List X) → rises_from rank x rows ≡ true → rises_from rank x (filter keep rows) ≡ true
+  filter-from keep x [] p = refl
+  filter-from keep x (first ∷ rows) p =
+      let parts = both (comes_before (rank x) (rank first)) (rises_from rank first rows) p in
+      elim (true_or_false (keep first)) [
+        | inl keeps ↦ subst (λ b. rises_from rank x (cond b (first ∷ filter keep rows) (filter keep rows)) ≡ true) (sym keeps)
+            (and_true _ _ parts.0 (filter-from keep first rows parts.1))
+        | inr drops ↦ subst (λ b. rises_from rank x (cond b (first ∷ filter keep rows) (filter keep rows)) ≡ true) (sym drops)
+            (filter-from keep x rows (from_earlier x first rows parts.0 parts.1))
+      ]
 
-  -- a rank comes once at most
-  pub one_rank : (key : List ℕ) (rows : List X) → rises rank rows ≡ true → with_rank key rows ≤ 1
-  one_rank key [] rising = omega arith
-  one_rank key (row ∷ rows) rising = by_test (is_same (rank row) key) refl (one_rank key rows (rises-rest row rows rising))
-    where
-      by_test : (b : Bool) → is_same (rank row) key ≡ b → with_rank key rows ≤ 1 → with_rank key (row ∷ rows) ≤ 1
-      by_test true e rest =
-          let none = none_behind key row rows ((bytes_eq-Decides (rank row) key).0 e) rising in
-          let first : with_rank key (row ∷ rows) ≡ 1 + with_rank key rows = count-cons key row rows ∙ rw e refl in
-          omega (arith, first, none)
-      by_test false e rest =
-          let first : with_rank key (row ∷ rows) ≡ 0 + with_rank key rows = count-cons key row rows ∙ rw e refl in
-          omega (arith, first, rest)
+  rises_rest : (first : X) (rows : List X) → rises_from rank first rows ≡ true → rises rank rows ≡ true
+  rises_rest first [] p = refl
+  rises_rest first (next ∷ rows) p = (both (comes_before (rank first) (rank next)) (rises_from rank next rows) p).1
 
--- ---- things that are put on days of a span
+  filter-rises : (keep : X → Bool) (rows : List X) → rises rank rows ≡ true → rises rank (filter keep rows) ≡ true
+  filter-rises keep [] p = refl
+  filter-rises keep (first ∷ rows) p =
+      elim (true_or_false (keep first)) [
+        | inl keeps ↦ subst (λ b. rises rank (cond b (first ∷ filter keep rows) (filter keep rows)) ≡ true) (sym keeps) (filter-from keep first rows p)
+        | inr drops ↦ subst (λ b. rises rank (cond b (first ∷ filter keep rows) (filter keep rows)) ≡ true) (sym drops) (filter-rises keep rows (rises_rest first rows p))
+      ]
 
--- P of each
-abbrev pub Every : {X : Type 0} → (X → Type 0) → List X → Type 0
-Every P [] = ⊤
-Every P (x ∷ xs) = P x × Every P xs
-
-module _ {X : Type 0} (day : X → ℕ) where
-  abbrev pub on : ℕ → List X → ℕ
-  on d xs = count_by (λ x. day x == d) xs
-
-  abbrev by_days : List ℕ → List X → ℕ
-  by_days days xs = sum_by (λ d. on d xs) days
-
-  abbrev places : List ℕ → X → ℕ
-  places days x = count_by (λ d. day x == d) days
-
-  add_turns : (a b c d : ℕ) → a + b + (c + d) ≡ a + c + (b + d)
-  add_turns a b c d = omega arith
-
-  -- one more thing adds its places
-  one_more : (days : List ℕ) (x : X) (xs : List X) → by_days days (x ∷ xs) ≡ places days x + by_days days xs
-  one_more [] x xs = refl
-  one_more (d ∷ days) x xs =
-      let here = sum_by-cons (λ y. cond (day y == d) 1 0) x xs in
-      let rest = one_more days x xs in
-      let left = sum_by-cons (λ e. on e (x ∷ xs)) d days in
-      let right = sum_by-cons (λ e. on e xs) d days in
-      let one = sum_by-cons (λ e. cond (day x == e) 1 0) d days in
-      omega (arith, here, rest, left, right, one)
-
-  none_yet : (days : List ℕ) → by_days days [] ≡ 0
-  none_yet [] = refl
-  none_yet (d ∷ days) = omega (arith, sum_by-cons (λ e. on e []) d days, none_yet days)
-
-  each_has_place : (days : List ℕ) (xs : List X) → Every (λ x. 1 ≤ places days x) xs → length xs ≤ by_days days xs
-  each_has_place days [] every = omega arith
-  each_has_place days (x ∷ xs) every = omega (arith, one_more days x xs, each_has_place days xs every.1, every.0)
-
-  no_place : (p : ℕ → Bool) (d : ℕ) (xs : List X) → p d ≡ false → Every (λ x. p (day x) ≡ true) xs → on d xs ≡ 0
-  no_place p d [] h every = refl
-  no_place p d (x ∷ xs) h every =
-      let other : (day x == d) ≡ false = by_test (day x == d) refl in
-      let first : on d (x ∷ xs) ≡ 0 + on d xs = sum_by-cons (λ y. cond (day y == d) 1 0) x xs ∙ rw other refl in
-      omega (arith, first, no_place p d xs h every.1)
-    where
-      by_test : (b : Bool) → (day x == d) ≡ b → b ≡ false
-      by_test false e = refl
-      by_test true e =
-          let same : day x ≡ d = grind (arith, nat_tests) in
-          let h2 : p d ≡ true = rw same at every.0 in
-          cc
-
-  on_few : (p : ℕ → Bool) (d : ℕ) (xs : List X) → on d xs ≤ 1 → Every (λ x. p (day x) ≡ true) xs → on d xs ≤ cond (p d) 1 0
-  on_few p d xs few every = by_test (p d) refl
-    where
-      by_test : (b : Bool) → p d ≡ b → on d xs ≤ cond b 1 0
-      by_test true e = few
-      by_test false e = let none = no_place p d xs e every in omega (arith, none)
-
-  pub in_span : (a n d : ℕ) → a ≤ d → d < a + n → 1 ≤ count_by (λ e. d == e) (range_with_len a n)
-  in_span a zero d low high = absurd (omega arith)
-  in_span a (suc n) d low high = by_test (d == a) refl (λ apart. in_span (a + 1) n d apart (omega arith))
-    where
-      by_test : (b : Bool) → (d == a) ≡ b → (a + 1 ≤ d → 1 ≤ count_by (λ e. d == e) (range_with_len (a + 1) n)) → 1 ≤ count_by (λ e. d == e) (range_with_len a (suc n))
-      by_test true e later =
-          let first : count_by (λ e. d == e) (range_with_len a (suc n)) ≡ 1 + count_by (λ e. d == e) (range_with_len (a + 1) n) =
-          sum_by-cons (λ e. cond (d == e) 1 0) a (range_with_len (a + 1) n) ∙ rw e refl
-          in
-          omega (arith, first)
-      by_test false e later =
-          let apart : a + 1 ≤ d = grind (arith, nat_tests) in
-          let rest = later apart in
-          omega (arith, rest, sum_by-cons (λ e. cond (d == e) 1 0) a (range_with_len (a + 1) n))
-
-  every-places : (a n : ℕ) (xs : List X) → Every (λ x. (a ≤ day x) × (day x < a + n)) xs → Every (λ x. 1 ≤ places (range_with_len a n) x) xs
-  every-places a n [] every = tt
-  every-places a n (x ∷ xs) every = (in_span a n (day x) every.0.0 every.0.1, every-places a n xs every.1)
-
-  -- things on different days of a span, each on a day that passes the test, are no more than such days
-  pub fit : (p : ℕ → Bool) (a n : ℕ) (xs : List X) → Every (λ x. (a ≤ day x) × (day x < a + n)) xs → Every (λ x. p (day x) ≡ true) xs → ((d : ℕ) → on d xs ≤ 1)
-      → length xs ≤ count_by p (range_with_len a n)
-  fit p a n xs within passes once =
-      let all = each_has_place (range_with_len a n) xs (every-places a n xs within) in
-      let few : by_days (range_with_len a n) xs ≤ count_by p (range_with_len a n) =
-      sum_by-le-sum_by (λ d. on d xs) (λ d. cond (p d) 1 0) (range_with_len a n) (λ d. on_few p d xs (once d) passes)
-      in
-      omega (arith, all, few)
+  pub without_row-rises : (key : List ℕ) (rows : List X) → rises rank rows ≡ true → rises rank (without_row rank key rows) ≡ true
+  without_row-rises key rows p = filter-rises (λ row. not (is_same (rank row) key)) rows p

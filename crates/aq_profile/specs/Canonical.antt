@@ -1,5 +1,5 @@
 -- The one line by which a value is written (own, within the AQS raw data transaction format), and the printed keys of office records (own).
-use Rattle.std.specs.Prelude.{ℕ, Bool, true, false, ◌==◌, if◌then◌else◌, Option, Some, None, List, [], ◌∷◌, ◌++◌, map, codes, decimal, ℤ}
+use Rattle.std.specs.Prelude.{ℕ, nat_le, ◌&&◌, Bool, true, false, ◌==◌, if◌then◌else◌, Option, Some, None, List, [], ◌∷◌, ◌++◌, map, codes, decimal, ℤ}
 use Rattle.std.specs.List.{join_with_byte}
 use Rattle.aq_base.specs.Calendar.{year_of, month_of, day_of_month, day_of_hour, hour_of_day}
 use Rattle.aq_base.specs.Decimal.{fixed, last_digits}
@@ -16,7 +16,10 @@ use Rattle.aq_base.specs.declared.office.OfficeKey.{OfficeKey}
 use Rattle.aq_base.specs.declared.office.OfficeKey.TheVariants.{Monitor as MonitorKey, Primary as PrimaryKey, Schedule as ScheduleKey, Season as SeasonKey, Makeup as MakeupKey, Event as EventKey, Concurrence as ConcurrenceKey, Approved as ApprovedKey}
 use Rattle.aq_base.specs.declared.office.OfficeLine.{OfficeLine}
 use Rattle.aq_base.specs.declared.office.OfficeLine.TheVariants.{Put, Change, Drop}
-use Rattle.aq_profile.specs.Office.{key_of}
+use Rattle.aq_profile.specs.Office.{key_of, is_key, is_record, is_site, is_poc, is_content}
+use Rattle.aq_profile.specs.Spellings.{has_duration}
+use Rattle.aq_base.specs.declared.day.TheConstants.{LAST_HOUR}
+use Rattle.aq_profile.specs.Reading.{LineValue, OfRd, OfOffice}
 use Rattle.aq_profile.specs.RdForm.{RdValue, Put as PutSample, Delete as DeleteSample}
 
 -- ---- texts of the parts
@@ -91,6 +94,13 @@ rd_texts (DeleteSample monitor hour) =
 abbrev pub canonical_rd : RdValue → List ℕ
 canonical_rd value = joined (rd_texts value)
 
+-- a sample that a body's line can spell
+abbrev pub is_rd_value : RdValue → Bool
+is_rd_value (PutSample update monitor duration method hour content) =
+    is_site monitor.site && is_poc monitor.poc && has_duration monitor.pollutant duration && nat_le method 999
+    && nat_le hour LAST_HOUR && is_content monitor.pollutant content
+is_rd_value (DeleteSample monitor hour) = is_site monitor.site && is_poc monitor.poc && nat_le hour LAST_HOUR
+
 -- ---- office lines
 
 -- site, parameter and date
@@ -140,6 +150,22 @@ office_texts (Drop key) = key_tag key ∷ codes "D" ∷ deletion_texts key
 
 abbrev pub canonical_office : OfficeLine → List ℕ
 canonical_office line = joined (office_texts line)
+
+-- an office line that a body's line can spell
+abbrev pub is_office_line : OfficeLine → Bool
+is_office_line (Put (Concurrence number agreed)) = false
+is_office_line (Put r) = is_record r
+is_office_line (Change (Monitor id duration eligible)) = is_record (Monitor id duration eligible)
+is_office_line (Change (Concurrence number agreed)) = is_record (Concurrence number agreed)
+is_office_line (Change r) = false
+is_office_line (Drop (MonitorKey id)) = false
+is_office_line (Drop (ConcurrenceKey number)) = false
+is_office_line (Drop key) = is_key key
+
+-- a value that a body's line can spell
+abbrev pub is_line_value : LineValue → Bool
+is_line_value (OfRd value) = is_rd_value value
+is_line_value (OfOffice line) = is_office_line line
 
 -- the line by which a record is kept: an insertion, and for a concurrence the update that makes it
 abbrev pub record_line : OfficeRecord → OfficeLine

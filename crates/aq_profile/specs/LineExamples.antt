@@ -7,6 +7,8 @@ use Rattle.aq_base.specs.declared.monitor.MonitorId.{MonitorId}
 use Rattle.aq_base.specs.declared.monitor.Pollutant.TheVariants.{Ozone, Pm25}
 use Rattle.aq_base.specs.declared.monitor.Duration.TheVariants.{Hour, Day}
 use Rattle.aq_base.specs.declared.office.OfficeRecord.TheVariants.{Monitor, Primary, Makeup, Event, Concurrence}
+use Rattle.aq_base.specs.declared.reply.ListedLine.{ListedLine}
+use Rattle.aq_base.specs.declared.rule.Rule.TheVariants.{BadTag}
 use Rattle.aq_base.specs.declared.observation.ObsKey.{ObsKey}
 use Rattle.aq_base.specs.declared.observation.Observation.{Observation}
 use Rattle.aq_profile.specs.Office.{Office, nothing}
@@ -103,3 +105,7 @@ digest_a = replicate 32 1
 
 abbrev pub digest_b : List ℕ
 digest_b = replicate 32 2
+
+-- so many lines refused under one rule, from line 1 on
+abbrev pub refused_lines : ℕ → List ListedLine
+refused_lines count = map (λ line. record { line = line; rule = BadTag }) (range_with_len 1 count)

@@ -244,19 +244,31 @@ is_poc poc = nat_le 1 poc && nat_le poc 99
 abbrev pub is_day : ℕ → Bool
 is_day day = nat_le day LAST_DAY
 
--- a record that its line can spell
+-- a key that a line can spell
+abbrev pub is_key : OfficeKey → Bool
+is_key (MonitorKey id) = is_site id.site && is_poc id.poc
+is_key (PrimaryKey site pollutant from) = is_site site && is_day from
+is_key (ScheduleKey site pollutant from) = is_site site && has_parameter Xs pollutant && is_day from
+is_key (SeasonKey site year) = is_site site && is_year year
+is_key (MakeupKey site missed) = is_site site && is_day missed
+is_key (EventKey number) = is_event_number number
+is_key (ConcurrenceKey number) = is_event_number number
+is_key (ApprovedKey site day) = is_site site && is_day day
+
+-- what a line can spell beside a key
+abbrev pub is_content_of : OfficeRecord → Bool
+is_content_of (Monitor id duration eligible) = has_duration id.pollutant duration
+is_content_of (Primary site pollutant from poc) = nat_le poc 99
+is_content_of (Schedule site pollutant from interval anchor) = is_interval interval && is_day anchor
+is_content_of (Season site year first last) = is_day first && is_day last && is_season year first last
+is_content_of (Makeup site missed makeup) = is_day makeup && is_makeup missed makeup
+is_content_of (Event number site pollutant first last code) =
+    is_site site && nat_le last LAST_HOUR && is_span first last && is_event_code code
+is_content_of (Concurrence number agreed) = true
+is_content_of (Approved site day) = true
+
 abbrev pub is_record : OfficeRecord → Bool
-is_record (Monitor id duration eligible) = is_site id.site && is_poc id.poc && has_duration id.pollutant duration
-is_record (Primary site pollutant from poc) = is_site site && is_day from && nat_le poc 99
-is_record (Schedule site pollutant from interval anchor) =
-    is_site site && has_parameter Xs pollutant && is_day from && is_interval interval && is_day anchor
-is_record (Season site year first last) =
-    is_site site && is_year year && is_day first && is_day last && is_season year first last
-is_record (Makeup site missed makeup) = is_site site && is_day missed && is_day makeup && is_makeup missed makeup
-is_record (Event number site pollutant first last code) =
-    is_event_number number && is_site site && nat_le last LAST_HOUR && is_span first last && is_event_code code
-is_record (Concurrence number agreed) = is_event_number number
-is_record (Approved site day) = is_site site && is_day day
+is_record r = is_key (key_of r) && is_content_of r
 
 -- a record that stands with the others
 abbrev pub fits_records : Office → OfficeRecord → Bool
@@ -325,15 +337,19 @@ is_load load =
     nat_le 1 load.number && nat_le load.number LAST_LOAD_NUMBER && (load.reply.number == load.number)
     && (length load.digest == 32) && list_all (λ byte. nat_lt byte 256) load.digest && is_reply load.reply
 
+-- the keys of each list rise, so none stands twice
+pub record KeysRise (office : Office) : Type 0 where
+  pub records : IsTrue (rises record_rank office.records)
+  pub observations : IsTrue (rises observation_rank office.observations)
+  pub loads : IsTrue (rises load_rank office.loads)
+
 -- a valid office
 pub record IsOffice (office : Office) : Type 0 where
-  pub records_rise : IsTrue (rises record_rank office.records)
+  pub keys_rise : KeysRise office
   pub records_fit : IsTrue (list_all (fits_records office) office.records)
   pub makeup_days_differ : IsTrue (list_all (has_own_makeup_day office) office.records)
   pub few_sites : length (sites_of office.records) ≤ MOST_SITES
-  pub observations_rise : IsTrue (rises observation_rank office.observations)
   pub observations_fit : IsTrue (list_all (fits_monitors office) office.observations)
   pub few_observations : length office.observations ≤ MOST_OBSERVATIONS
-  pub loads_rise : IsTrue (rises load_rank office.loads)
   pub loads_fit : IsTrue (list_all is_load office.loads)
   pub few_loads : length office.loads ≤ MOST_LOADS

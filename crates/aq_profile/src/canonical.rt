@@ -1,16 +1,17 @@
 //! Lines and their values, both ways.
-ghost use Rattle.std.specs.Prelude.{◌≡◌, ◌∷◌, [], Some, None, codes, true, false, pos, neg_ℤ, option_and_then};
+ghost use Rattle.std.specs.Prelude.{◌≡◌, ℕ, ◌∷◌, [], List, Some, None, codes, true, false, pos, neg_ℤ, option_and_then, IsTrue};
 ghost use Rattle.aq_base.specs.declared.monitor.MonitorId.{MonitorId};
 ghost use Rattle.aq_base.specs.declared.monitor.Pollutant.TheVariants.{Ozone, Pm25, Pm10};
 ghost use Rattle.aq_base.specs.declared.monitor.Duration.TheVariants.{Hour, Day};
 ghost use Rattle.aq_base.specs.declared.office.OfficeRecord.TheVariants.{Monitor, Primary, Schedule, Season, Makeup, Event, Concurrence, Approved};
 ghost use Rattle.aq_base.specs.declared.office.OfficeKey.TheVariants.{Monitor as MonitorKey, Primary as PrimaryKey, Season as SeasonKey, Makeup as MakeupKey, Event as EventKey, Approved as ApprovedKey};
+ghost use Rattle.aq_base.specs.declared.office.OfficeLine.{OfficeLine};
 ghost use Rattle.aq_base.specs.declared.office.OfficeLine.TheVariants.{Put as PutRecord, Change as ChangeRecord, Drop as DropKey};
 ghost use Rattle.aq_profile.specs.LineExamples.{home, ozone_monitor, particle_monitor, new_year, noon, code_rt};
 ghost use Rattle.aq_profile.specs.Spellings.{unit_in, value_in};
-ghost use Rattle.aq_profile.specs.RdForm.{Put, Delete};
-ghost use Rattle.aq_profile.specs.Reading.{OfRd, OfOffice, line_value};
-ghost use Rattle.aq_profile.specs.Canonical.{canonical_rd, canonical_office, printed_key};
+ghost use Rattle.aq_profile.specs.RdForm.{Put, Delete, RdValue};
+ghost use Rattle.aq_profile.specs.Reading.{LineValue, OfRd, OfOffice, line_value};
+ghost use Rattle.aq_profile.specs.Canonical.{canonical_rd, canonical_office, is_line_value, is_office_line, is_rd_value, printed_key};
 
 /// Digits beyond thousandths of a ppm, or tenths of a µg/m3, are dropped, toward zero for negative
 /// values too; a value in ppb is cut to whole ppb.
@@ -77,4 +78,19 @@ pub fn office_lines_are_written()
     ensures monitor_key { printed_key (MonitorKey ozone_monitor) ≡ codes "06|037|1103|44201|01" }
     ensures makeup_key { printed_key (MakeupKey home 8772) ≡ codes "06|037|1103|20240107" }
     ensures event_key { printed_key (EventKey 12) ≡ codes "000012" }
+{}
+
+/// The canonical line of an office line is read as that line, for each that a body's line can spell.
+pub fn canonical_office_lines_are_read_back()
+    ensures { (line : OfficeLine) → IsTrue (is_office_line line) → line_value (canonical_office line) ≡ Some (OfOffice line) }
+{}
+
+/// The canonical line of a sample is read as that sample, for each that a body's line can spell.
+pub fn canonical_samples_are_read_back()
+    ensures { (value : RdValue) → IsTrue (is_rd_value value) → line_value (canonical_rd value) ≡ Some (OfRd value) }
+{}
+
+/// What a line spells is one of the values whose canonical lines are read back.
+pub fn what_a_line_spells_is_in_range()
+    ensures { (line : List ℕ) (value : LineValue) → line_value line ≡ Some value → IsTrue (is_line_value value) }
 {}

@@ -15,6 +15,7 @@ pub mod lines;
 pub mod lists;
 pub mod load;
 pub mod monitors;
+pub mod office;
 pub mod office_records;
 pub mod ozone_day;
 pub mod ozone_verdict;

@@ -1,10 +1,14 @@
 //! Which office rule a line breaks, against what stands.
-ghost use Rattle.std.specs.Prelude.{◌≡◌, false, Some, None, codes, All};
+ghost use Rattle.std.specs.Prelude.{◌≡◌, ℕ, false, Some, None, codes, All, IsFalse, length};
 ghost use Rattle.aq_base.specs.declared.rule.Rule.TheVariants.{BadDuration, BadInterval, BadSeason, BadSpan, BadCode, UnknownMonitor, WrongDuration, AlreadyThere, NotThere, ObservationsFull, SitesFull, MonitorsFull, MakeupsFull, UnknownEvent, EventsFull, ListFull};
 ghost use Rattle.aq_base.specs.declared.rule.Rule.{Rule};
-ghost use Rattle.aq_profile.specs.Office.{Office};
-ghost use Rattle.aq_profile.specs.Reading.{LineValue};
-ghost use Rattle.aq_profile.specs.Refusal.{broken, breaks_office, office_rules};
+ghost use Rattle.aq_profile.specs.Office.{Office, duration_at};
+ghost use Rattle.aq_base.specs.declared.monitor.MonitorId.{MonitorId};
+ghost use Rattle.aq_base.specs.declared.monitor.Duration.{Duration};
+ghost use Rattle.aq_base.specs.declared.observation.Observation.{Observation};
+ghost use Rattle.aq_profile.specs.RdForm.{Put};
+ghost use Rattle.aq_profile.specs.Reading.{LineValue, OfRd};
+ghost use Rattle.aq_profile.specs.Refusal.{broken, breaks_office, office_rules, sample_stands};
 ghost use Rattle.aq_profile.specs.Least.{IsLeastBroken};
 ghost use Rattle.aq_profile.specs.Load.{refusal};
 ghost use Rattle.aq_profile.specs.LineExamples.{one_monitor, one_hour, one_sample, many_monitors, many_sites, many_primaries, many_makeups, many_events};
@@ -66,4 +70,9 @@ pub fn full_lists()
 pub fn the_least_office_rule_is_named()
     ensures rule { (office : Office) (value : LineValue) (rule : Rule) → broken office value ≡ Some rule → IsLeastBroken (λ r. breaks_office r office value) (office_rules value) rule }
     ensures none { (office : Office) (value : LineValue) → broken office value ≡ None → All (λ r. breaks_office r office value ≡ false) (office_rules value) }
+{}
+
+/// A new sample of a registered monitor is refused where 4,000,000 observations stand.
+pub fn observations_are_full()
+    ensures { (office : Office) (monitor : MonitorId) (duration : Duration) (method hour : ℕ) (content : Observation) → duration_at office monitor ≡ Some duration → IsFalse (sample_stands office monitor hour) → length office.observations ≡ 4000000 → broken office (OfRd (Put false monitor duration method hour content)) ≡ Some ObservationsFull }
 {}

@@ -1,4 +1,4 @@
-use Rattle.aq_profile.proofs.Valid.{valid-is_office, office-is_valid}
+use Rattle.aq_profile.proofs.ValidOffice.{valid-is_office, office-is_valid}
 use Rattle.aq_profile.proofs.tables.valid_offices_pass_the_test.Goals as goal
 
 pub returns : goal.returns
