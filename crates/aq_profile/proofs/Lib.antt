@@ -41,3 +41,4 @@ pub mod Samples
 pub mod ValidLines
 pub mod Spans
 pub mod ValidOffice
+pub mod Quarters

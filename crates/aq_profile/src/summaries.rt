@@ -1,10 +1,8 @@
 //! The verdicts on what is kept are the verdicts on the lists of values.
 #![tactic(auto)]
 
-ghost use Rattle.std.specs.Prelude.{◌≡◌, ℕ, ◌+◌, ◌<◌, ◌≤◌, List, ℤ, pos, map, filter_map, length, min, slice_get, nat_le, is_some, IsTrue, All};
-ghost use Rattle.aq_base.specs.Calendar.{days_in_quarter, days_in_year, quarter_first, quarter_of, year_first, year_of};
+ghost use Rattle.std.specs.Prelude.{◌≡◌, ℕ, List, ℤ, pos, map, filter_map, length, min, slice_get, nat_le, is_some, IsTrue, All};
 ghost use Rattle.aq_base.specs.Site.{Site};
-ghost use Rattle.aq_base.specs.declared.day.TheConstants.{LAST_DAY};
 ghost use Rattle.aq_profile.specs.Office.{IsOffice, Office};
 ghost use Rattle.aq_profile.specs.Lists.{greatest, total};
 ghost use Rattle.aq_profile.specs.OzoneYear.{ozone_year};
@@ -29,12 +27,10 @@ pub fn eight_greatest_are_enough_for_the_daily_verdict()
         → kept_daily_dv (map summary_of_year years) ≡ daily_dv years }
 {}
 
-/// What is kept of an ozone year of a valid office keeps its facts, where a year's days are those from its
-/// first on, as the calendar has it.
+/// What is kept of an ozone year of a valid office keeps its facts.
 pub fn ozone_years_keep_their_facts()
     ensures { (office : Office) (site : Site) (year : ℕ)
         → IsOffice office
-        → ((n : ℕ) → n ≤ LAST_DAY → year_of n ≡ year → (year_first year ≤ n) × (n < year_first year + days_in_year year))
         → KeepsOzoneYear (ozone_year office site year) }
 {}
 
@@ -44,16 +40,13 @@ pub fn pm10_quarters_keep_their_facts()
     ensures year { (office : Office) (site : Site) (year : ℕ) → KeepsPm10Year (pm10_year office site year) }
 {}
 
-/// What is kept of a PM2.5 quarter and year of a valid office keeps its facts, where a quarter's days are
-/// those from its first on, as the calendar has it.
+/// What is kept of a PM2.5 quarter and year of a valid office keeps its facts.
 pub fn pm25_quarters_keep_their_facts()
     ensures quarter { (office : Office) (site : Site) (quarter : ℕ)
         → IsOffice office
-        → ((n : ℕ) → n ≤ LAST_DAY → quarter_of n ≡ quarter → (quarter_first quarter ≤ n) × (n < quarter_first quarter + days_in_quarter quarter))
         → KeepsPmQuarter (summary_of_quarter (pm25_quarter office site quarter)) }
     ensures year { (office : Office) (site : Site) (year : ℕ)
         → IsOffice office
-        → ((quarter n : ℕ) → n ≤ LAST_DAY → quarter_of n ≡ quarter → (quarter_first quarter ≤ n) × (n < quarter_first quarter + days_in_quarter quarter))
         → KeepsPmYear (pm25_summary office site year) }
 {}
 
