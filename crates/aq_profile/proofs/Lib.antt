@@ -42,3 +42,4 @@ pub mod ValidLines
 pub mod Spans
 pub mod ValidOffice
 pub mod Quarters
+pub mod OfficeVerdicts

@@ -6,11 +6,11 @@ ghost use Rattle.aq_base.specs.Site.{Site};
 ghost use Rattle.aq_profile.specs.Office.{IsOffice, Office};
 ghost use Rattle.aq_profile.specs.Lists.{greatest, total};
 ghost use Rattle.aq_profile.specs.OzoneYear.{ozone_year};
-ghost use Rattle.aq_profile.specs.QuarterCounts.{QuarterDays, pm25_quarter, values_in};
+ghost use Rattle.aq_profile.specs.QuarterCounts.{QuarterDays, pm25_quarter, values_in, years_to};
 ghost use Rattle.aq_profile.specs.Pm10Estimate.{pm10_quarter, pm10_year};
 ghost use Rattle.aq_profile.specs.Substitution.{least};
-ghost use Rattle.aq_profile.specs.AnnualVerdict.{annual_dv};
-ghost use Rattle.aq_profile.specs.DailyVerdict.{daily_dv};
+ghost use Rattle.aq_profile.specs.AnnualVerdict.{annual_design, annual_dv};
+ghost use Rattle.aq_profile.specs.DailyVerdict.{daily_design, daily_dv};
 ghost use Rattle.aq_profile.specs.Summaries.{KeepsOzoneYear, KeepsPm10Quarter, KeepsPm10Year, KeepsPmQuarter, KeepsPmYear, PmQuarter, days_in, eight_greatest, falls, is_sum_within, pm25_summary, summary_of_quarter, summary_of_year};
 ghost use Rattle.aq_profile.specs.SummaryVerdicts.{kept_annual_dv, kept_daily_dv};
 
@@ -25,6 +25,15 @@ pub fn eight_greatest_are_enough_for_the_daily_verdict()
     ensures { (years : List (List QuarterDays))
         → All (λ year. KeepsPmYear (summary_of_year year)) years
         → kept_daily_dv (map summary_of_year years) ≡ daily_dv years }
+{}
+
+/// The PM2.5 verdicts of a valid office are those on what is kept of its years.
+pub fn office_verdicts_read_what_is_kept()
+    ensures annual { (level : ℤ) (office : Office) (site : Site) (year : ℕ)
+        → annual_design level office site year ≡ kept_annual_dv level (map (pm25_summary office site) (years_to year)) }
+    ensures daily { (office : Office) (site : Site) (year : ℕ)
+        → IsOffice office
+        → daily_design office site year ≡ kept_daily_dv (map (pm25_summary office site) (years_to year)) }
 {}
 
 /// What is kept of an ozone year of a valid office keeps its facts.
