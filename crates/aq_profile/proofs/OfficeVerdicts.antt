@@ -1,13 +1,13 @@
 -- The PM2.5 verdicts of a valid office are those on what is kept of its years.
-use Rattle.std.proofs.Common.{◌≡◌, ℕ, ◌-◌, List, [], ◌∷◌, map, refl, sym, ◌∙◌}
+use Rattle.std.proofs.Common.{◌≡◌, ℕ, ◌-◌, List, [], ◌∷◌, map, sym}
 use Rattle.std.specs.Prelude.{ℤ, All}
 use Rattle.std.proofs.lemmas.List.Elements.{All-cons, All-nil}
 use Rattle.aq_base.specs.Calendar.{quarter_number}
 use Rattle.aq_base.specs.Site.{Site}
 use Rattle.aq_profile.specs.Office.{Office, IsOffice}
 use Rattle.aq_profile.specs.QuarterCounts.{QuarterDays, pm25_year, years_to}
-use Rattle.aq_profile.specs.AnnualVerdict.{annual_dv, annual_design}
-use Rattle.aq_profile.specs.DailyVerdict.{daily_dv, daily_design}
+use Rattle.aq_profile.specs.AnnualVerdict.{annual_design}
+use Rattle.aq_profile.specs.DailyVerdict.{daily_design}
 use Rattle.aq_profile.specs.Summaries.{KeepsPmYear, pm25_summary, summary_of_year}
 use Rattle.aq_profile.specs.SummaryVerdicts.{kept_annual_dv, kept_daily_dv}
 use Rattle.aq_profile.proofs.Kept.{kept_annual-same}

@@ -1,6 +1,6 @@
 -- What is kept of an ozone year keeps its facts.
-use Rattle.std.proofs.Common.{◌≡◌, ℕ, zero, suc, ◌+◌, ◌-◌, ◌*◌, ◌/◌, ◌%◌, ◌<◌, ◌≤◌, Bool, true, false, not, ◌&&◌, ◌||◌, cond, List, [], ◌∷◌, length, map, refl, sym, ap, subst, ◌∙◌, arith}
-use Rattle.std.specs.Prelude.{ℤ, pos, negsuc, neg_ℤ, ◌+ℤ◌, ◌≤ℤ◌, int_le, int_lt, Option, Some, None, is_some, option_map, IsTrue, ⊤, ◌==◌, slice_get, nat_le, unwrap_or}
+use Rattle.std.proofs.Common.{◌≡◌, ℕ, zero, suc, ◌+◌, ◌*◌, ◌/◌, ◌%◌, ◌<◌, ◌≤◌, Bool, true, false, not, ◌&&◌, cond, List, [], ◌∷◌, length, map, refl, subst, ◌∙◌, arith}
+use Rattle.std.specs.Prelude.{ℤ, pos, negsuc, neg_ℤ, ◌≤ℤ◌, int_le, int_lt, Option, Some, None, is_some, option_map, IsTrue, ⊤, ◌==◌, slice_get, nat_le, unwrap_or}
 use Rattle.std.specs.List.{filter, filter_map, cons_option, find, list_all, count_by, range_with_len}
 use Rattle.std.proofs.lemmas.Int.{ints}
 use Rattle.std.proofs.lemmas.List.{length-map}
@@ -21,17 +21,16 @@ use Rattle.aq_base.specs.declared.office.OfficeRecord.{OfficeRecord}
 use Rattle.aq_base.specs.declared.office.OfficeRecord.TheVariants.{Monitor, Primary, Schedule, Season as SeasonRecord, Makeup, Event, Concurrence, Approved}
 use Rattle.aq_profile.specs.Spellings.{is_in_range}
 use Rattle.aq_profile.specs.OfficeForms.{is_season}
-use Rattle.aq_profile.specs.Office.{Office, IsOffice, is_site, is_day, is_record, fits_records, has_its_monitor, has_its_event, group_size, most_in_group, is_measured, fits_monitors}
-use Rattle.aq_profile.specs.Lists.{total, greater, greatest, ranked, ranked_in}
+use Rattle.aq_profile.specs.Office.{Office, IsOffice, is_site, is_day, is_record, fits_records, is_measured, fits_monitors}
+use Rattle.aq_profile.specs.Lists.{total, greatest, ranked, ranked_in}
 use Rattle.aq_profile.specs.Monitors.{is_same_site, is_same_pollutant, is_eligible}
 use Rattle.aq_profile.specs.Exclusion.{excluded}
 use Rattle.aq_profile.specs.Designation.{primary_on}
 use Rattle.aq_profile.specs.Season.{Season, season_by, whole_year, season_of, is_in_season}
-use Rattle.aq_profile.specs.Approval.{is_approved}
 use Rattle.aq_profile.specs.SiteHour.{Cell, Sample, sample_of, samples_at, mean_of, chosen, is_of_poc, site_hour}
-use Rattle.aq_profile.specs.EightHour.{average, average_of, eight_hours, cells_from, full_values, net_values, WindowRow, row_of, window}
-use Rattle.aq_profile.specs.OzoneDay.{OzoneDay, starts_of, windows, net_averages, day_of_windows, ozone_day}
-use Rattle.aq_profile.specs.OzoneYear.{OzoneYear, days_of, ozone_days, ranked_maximum, ranked_maxima, fourth_of, is_season_day, counts_as_valid, ozone_year}
+use Rattle.aq_profile.specs.EightHour.{average, eight_hours, cells_from, full_values, net_values, window}
+use Rattle.aq_profile.specs.OzoneDay.{OzoneDay, starts_of, windows, net_averages, ozone_day}
+use Rattle.aq_profile.specs.OzoneYear.{days_of, ozone_days, ranked_maximum, is_season_day, counts_as_valid, ozone_year}
 use Rattle.aq_profile.specs.Summaries.{is_value, KeepsOzoneYear}
 use Rattle.aq_profile.proofs.Sameness.{same_pollutant}
 use Rattle.aq_profile.proofs.Sums.{total-cons, greater_of, greatest-some}
@@ -94,15 +93,15 @@ IfValue (Some v) = InRange v
 
 average-in_range : (n : ℕ) (t : ℤ) → Between n t → IfValue (average n t)
 average-in_range n t h = by_tests (nat_le 6 n) (int_le (pos 568) t) refl refl
-    where
-      by_tests : (a b : Bool) → nat_le 6 n ≡ a → int_le (pos 568) t ≡ b
-          → IfValue (cond a (Some (truncated t (pos n))) (cond b (Some (truncated t (pos 8))) None))
-      by_tests true b e f = let many : 6 ≤ n = grind (arith, nat_tests) in trunc-in_range t n (omega arith) h
-      by_tests false true e f =
-          let few : n ≤ 5 = grind (arith, nat_tests) in
-          let high : pos 568 ≤ℤ t = grind (arith, ints) in
-          eighth-in_range t n few high h
-      by_tests false false e f = tt
+  where
+    by_tests : (a b : Bool) → nat_le 6 n ≡ a → int_le (pos 568) t ≡ b
+        → IfValue (cond a (Some (truncated t (pos n))) (cond b (Some (truncated t (pos 8))) None))
+    by_tests true b e f = let many : 6 ≤ n = grind (arith, nat_tests) in trunc-in_range t n (omega arith) h
+    by_tests false true e f =
+        let few : n ≤ 5 = grind (arith, nat_tests) in
+        let high : pos 568 ≤ℤ t = grind (arith, ints) in
+        eighth-in_range t n few high h
+    by_tests false false e f = tt
 
 -- ---- hours
 
@@ -127,15 +126,15 @@ of_value poc out pollutant (Some v) null is h =
 sample-in_range : (office : Office) (site : Site) (hour : ℕ) (entry : ObsKey × Observation) → fits_monitors office entry ≡ true → IfSample (sample_of office site hour entry)
 sample-in_range office site hour entry fits =
     by_test (is_same_pollutant entry.0.monitor.pollutant Ozone) (is_same_site entry.0.monitor.site site) (entry.0.hour == hour) (is_eligible office.records entry.0.monitor) refl
-    where
-      by_test : (a b c d : Bool) → is_same_pollutant entry.0.monitor.pollutant Ozone ≡ a
-          → IfSample (cond (a && b && c && d) (option_map (λ value. record { poc = entry.0.monitor.poc; cell = record { value = value; excluded = excluded office.records entry.0 entry.1.quals } }) entry.1.value) None)
-      by_test false b c d e = tt
-      by_test true false c d e = tt
-      by_test true true false d e = tt
-      by_test true true true false e = tt
-      by_test true true true true e =
-          of_value entry.0.monitor.poc (excluded office.records entry.0 entry.1.quals) entry.0.monitor.pollutant entry.1.value entry.1.null (same_pollutant entry.0.monitor.pollutant Ozone e) (measured-of office entry fits)
+  where
+    by_test : (a b c d : Bool) → is_same_pollutant entry.0.monitor.pollutant Ozone ≡ a
+        → IfSample (cond (a && b && c && d) (option_map (λ value. record { poc = entry.0.monitor.poc; cell = record { value = value; excluded = excluded office.records entry.0 entry.1.quals } }) entry.1.value) None)
+    by_test false b c d e = tt
+    by_test true false c d e = tt
+    by_test true true false d e = tt
+    by_test true true true false e = tt
+    by_test true true true true e =
+        of_value entry.0.monitor.poc (excluded office.records entry.0 entry.1.quals) entry.0.monitor.pollutant entry.1.value entry.1.null (same_pollutant entry.0.monitor.pollutant Ozone e) (measured-of office entry fits)
 
 sample-onto : (o : Option Sample) (samples : List Sample) → IfSample o → Every SampleIn samples → Every SampleIn (cons_option o samples)
 sample-onto None samples h every = every
@@ -287,18 +286,18 @@ same a b h = grind (arith, nat_tests)
 module _ (site : Site) (year : ℕ) (holds : HoldsYear year) where
   season-begins : (r : OfficeRecord) → is_record r ≡ true → IfBegins year (season_by site year r)
   season-begins (SeasonRecord other y first last) is = by_test (is_same_site other site) (y == year) refl
-      where
-        by_test : (a b : Bool) → (y == year) ≡ b → IfBegins year (cond (a && b) (Some (record { first = first; last = last })) None)
-        by_test false b e = tt
-        by_test true false e = tt
-        by_test true true e =
-            let d = both (is_site other && is_year y) (is_day first && is_day last && is_season y first last) is in
-            let c = both (is_day first && is_day last) (is_season y first last) d.1 in
-            let b = both (is_day first) (is_day last) c.0 in
-            let s = both _ (nat_le first last) c.1 in
-            let t = both (year_of first == y) (year_of last == y) s.0 in
-            let span = holds first (within first LAST_DAY b.0) (same (year_of first) y t.0 ∙ same y year e) in
-            record { low = span.0; high = span.1; rises = within first last s.1 }
+    where
+      by_test : (a b : Bool) → (y == year) ≡ b → IfBegins year (cond (a && b) (Some (record { first = first; last = last })) None)
+      by_test false b e = tt
+      by_test true false e = tt
+      by_test true true e =
+          let d = both (is_site other && is_year y) (is_day first && is_day last && is_season y first last) is in
+          let c = both (is_day first && is_day last) (is_season y first last) d.1 in
+          let b = both (is_day first) (is_day last) c.0 in
+          let s = both _ (nat_le first last) c.1 in
+          let t = both (year_of first == y) (year_of last == y) s.0 in
+          let span = holds first (within first LAST_DAY b.0) (same (year_of first) y t.0 ∙ same y year e) in
+          record { low = span.0; high = span.1; rises = within first last s.1 }
   season-begins (Monitor id duration eligible) is = tt
   season-begins (Primary other pollutant from poc) is = tt
   season-begins (Schedule other pollutant from interval anchor) is = tt

@@ -1,8 +1,7 @@
 -- The days of a quarter and of a year are those from its first on, as many as it has.
-use Rattle.std.proofs.Common.{◌≡◌, ℕ, zero, suc, ◌+◌, ◌-◌, ◌*◌, ◌/◌, ◌%◌, ◌<◌, ◌≤◌, refl, sym, ap, ◌∙◌, arith}
-use Rattle.aq_base.specs.Calendar.{days_in_year, days_in_month, days_in_quarter, days_of_years, days_of_months, year_first, year_of, month_of, quarter_first, quarter_number, quarter_of, quarter_year}
-use Rattle.aq_base.specs.declared.day.TheConstants.{LAST_DAY}
-use Rattle.aq_profile.proofs.Days.{IsDate, InYear, date_of, in_year, months_next, years_next, years_count, months_count}
+use Rattle.std.proofs.Common.{◌≡◌, ℕ, ◌+◌, ◌-◌, ◌*◌, ◌/◌, ◌%◌, ◌<◌, ◌≤◌, refl, sym, ◌∙◌, arith}
+use Rattle.aq_base.specs.Calendar.{days_in_month, days_in_quarter, days_of_years, days_of_months, quarter_first, quarter_number, quarter_of, quarter_year}
+use Rattle.aq_profile.proofs.Days.{IsDate, date_of, in_year, months_next, years_next, years_count}
 use Rattle.aq_profile.proofs.KeyOrder.{months_in_order}
 use Rattle.aq_profile.proofs.Pm25Counts.{HoldsDays}
 use Rattle.aq_profile.proofs.OzoneFacts.{HoldsYear}
