@@ -43,3 +43,4 @@ pub mod Spans
 pub mod ValidOffice
 pub mod Quarters
 pub mod OfficeVerdicts
+pub mod RowTexts
