@@ -44,3 +44,4 @@ pub mod ValidOffice
 pub mod Quarters
 pub mod OfficeVerdicts
 pub mod RowTexts
+pub mod RowsBack

@@ -1,5 +1,5 @@
 -- The texts in rows are read back as what they were written from.
-use Rattle.std.proofs.Common.{◌≡◌, ℕ, zero, suc, ◌+◌, ◌-◌, ◌^◌, ◌<◌, ◌≤◌, Bool, true, false, not, ◌&&◌, ◌||◌, cond, List, [], ◌∷◌, ◌++◌, length, take, drop, map, refl, sym, ap, subst, ◌∙◌, arith}
+use Rattle.std.proofs.Common.{◌≡◌, ℕ, zero, suc, ◌+◌, ◌-◌, ◌^◌, ◌<◌, ◌≤◌, Bool, true, false, not, ◌&&◌, ◌||◌, cond, List, [], ◌∷◌, ◌++◌, length, take, drop, map, refl, sym, ap, subst, ◌∙◌, arith, append_assoc}
 use Rattle.std.specs.Prelude.{Option, Some, None, option_map, ◌==◌, nat_le, decimal, codes, pos, ⊤}
 use Rattle.std.specs.List.{list_all, slice_split, onto_first, join_with_byte, before_first, after_first, position_or_len, prefix_len, find}
 use Rattle.std.specs.Char.{digit_value, is_ascii_digit}
@@ -199,3 +199,104 @@ colon-after (c ∷ ds) rest h =
     let plain = digit_no_colon c parts.0 in
     let more : prefix_len (λ b. not (is_colon b)) ((c ∷ ds) ++ 58 ∷ rest) + 1 ≡ suc (prefix_len (λ b. not (is_colon b)) (ds ++ 58 ∷ rest) + 1) = rw plain (omega arith) in
     rw more (colon-after ds rest parts.1)
+
+-- ---- pairs of numbers
+
+pair-split : (a b : ℕ) → pair_text a b ≡ decimal a ++ 58 ∷ decimal b
+pair-split a b = append_assoc (decimal a) (58 ∷ []) (decimal b)
+
+pub pair-before : (a b : ℕ) → a < 2 ^ 64 → before_first is_colon (pair_text a b) ≡ decimal a
+pair-before a b small =
+    ap (before_first is_colon) (pair-split a b) ∙ colon-before (decimal a) (decimal b) (digits_are (decimal a) (decimal_is_IsNumeral a small).0.1)
+
+pub pair-after : (a b : ℕ) → a < 2 ^ 64 → after_first is_colon (pair_text a b) ≡ decimal b
+pair-after a b small =
+    ap (after_first is_colon) (pair-split a b) ∙ colon-after (decimal a) (decimal b) (digits_are (decimal a) (decimal_is_IsNumeral a small).0.1)
+
+some-front : (xs ys : List ℕ) → is_empty xs ≡ false → is_empty (xs ++ ys) ≡ false
+some-front [] ys h = cc
+some-front (x ∷ xs) ys h = refl
+
+pub pair-word : (a b : ℕ) → a < 2 ^ 64 → b < 2 ^ 64 → IsWord (pair_text a b)
+pair-word a b small_a small_b =
+    let first = (decimal_is_IsNumeral a small_a).0 in
+    let second = (decimal_is_IsNumeral b small_b).0 in
+    let digits_a = digits_unspaced (decimal a) (digits_are (decimal a) first.1) in
+    let digits_b = digits_unspaced (decimal b) (digits_are (decimal b) second.1) in
+    (
+      some-front (decimal a ++ codes ":") (decimal b) (some-front (decimal a) (codes ":") (some_text (decimal a) first.0)),
+      unspaced-append (decimal a ++ codes ":") (decimal b) (unspaced-append (decimal a) (codes ":") digits_a refl) digits_b,
+    )
+
+-- ---- rules
+
+pub rule-read : (rule : Rule) → nat_le (rule_number rule) 34 ≡ true → rule_with (rule_number rule) ≡ Some rule
+rule-read BadBytes h = refl
+rule-read BadTag h = refl
+rule-read FieldCount h = refl
+rule-read BadAction h = refl
+rule-read BadSite h = refl
+rule-read ParameterOutOfProfile h = refl
+rule-read BadPoc h = refl
+rule-read BadDuration h = refl
+rule-read BadUnit h = refl
+rule-read BadMethod h = refl
+rule-read BadDate h = refl
+rule-read BadTime h = refl
+rule-read ValueAndNull h = refl
+rule-read NeitherValueNorNull h = refl
+rule-read BadValue h = refl
+rule-read ValueOutOfRange h = refl
+rule-read BadNull h = refl
+rule-read BadQualifier h = refl
+rule-read UnknownMonitor h = refl
+rule-read WrongDuration h = refl
+rule-read AlreadyThere h = refl
+rule-read NotThere h = refl
+rule-read ObservationsFull h = refl
+rule-read SitesFull h = refl
+rule-read MonitorsFull h = refl
+rule-read BadSpan h = refl
+rule-read BadInterval h = refl
+rule-read BadSeason h = refl
+rule-read BadMakeup h = refl
+rule-read MakeupsFull h = refl
+rule-read UnknownEvent h = refl
+rule-read EventsFull h = refl
+rule-read BadCode h = refl
+rule-read ListFull h = refl
+rule-read NotBuilt h = cc
+
+rule_small : (rule : Rule) → nat_le (rule_number rule) 34 ≡ true → rule_number rule < 2 ^ 64
+rule_small rule h = let low : rule_number rule ≤ 34 = grind (arith, nat_tests) in omega arith
+
+abbrev pub listed_write : ListedLine → List ℕ
+listed_write l = pair_text l.line (rule_number l.rule)
+
+abbrev pub rest_write : RestRule → List ℕ
+rest_write r = pair_text (rule_number r.rule) r.count
+
+pub listed-read : (l : ListedLine) → l.line < 2 ^ 64 → nat_le (rule_number l.rule) 34 ≡ true → listed_in (listed_write l) ≡ Some l
+unfolding listed_in
+listed-read l small known =
+    let n = rule_number l.rule in
+    let before : number_in (before_first is_colon (pair_text l.line n)) ≡ Some l.line = ap number_in (pair-before l.line n small) ∙ number-read l.line small in
+    let after : number_in (after_first is_colon (pair_text l.line n)) ≡ Some n = ap number_in (pair-after l.line n small) ∙ number-read n (rule_small l.rule known) in
+    let rule = rule-read l.rule known in
+    rw before (rw after (rw rule refl))
+
+pub rest-read : (r : RestRule) → r.count < 2 ^ 64 → nat_le (rule_number r.rule) 34 ≡ true → rest_in (rest_write r) ≡ Some r
+unfolding rest_in
+rest-read r small known =
+    let n = rule_number r.rule in
+    let low = rule_small r.rule known in
+    let before : number_in (before_first is_colon (pair_text n r.count)) ≡ Some n = ap number_in (pair-before n r.count low) ∙ number-read n low in
+    let after : number_in (after_first is_colon (pair_text n r.count)) ≡ Some r.count = ap number_in (pair-after n r.count low) ∙ number-read r.count small in
+    let rule = rule-read r.rule known in
+    rw before (rw rule (rw after refl))
+
+pub listed-word : (l : ListedLine) → l.line < 2 ^ 64 → nat_le (rule_number l.rule) 34 ≡ true → IsWord (listed_write l)
+listed-word l small known = pair-word l.line (rule_number l.rule) small (rule_small l.rule known)
+
+pub rest-word : (r : RestRule) → r.count < 2 ^ 64 → nat_le (rule_number r.rule) 34 ≡ true → IsWord (rest_write r)
+rest-word r small known = pair-word (rule_number r.rule) r.count (rule_small r.rule known) small
