@@ -45,3 +45,4 @@ pub mod Quarters
 pub mod OfficeVerdicts
 pub mod RowTexts
 pub mod RowsBack
+pub mod OfficeBack

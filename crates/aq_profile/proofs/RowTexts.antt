@@ -1,9 +1,9 @@
 -- The texts in rows are read back as what they were written from.
-use Rattle.std.proofs.Common.{◌≡◌, ℕ, zero, suc, ◌+◌, ◌-◌, ◌^◌, ◌<◌, ◌≤◌, Bool, true, false, not, ◌&&◌, ◌||◌, cond, List, [], ◌∷◌, ◌++◌, length, take, drop, map, refl, sym, ap, subst, ◌∙◌, arith, append_assoc}
-use Rattle.std.specs.Prelude.{Option, Some, None, option_map, ◌==◌, nat_le, decimal, codes, pos, ⊤}
-use Rattle.std.specs.List.{list_all, slice_split, onto_first, join_with_byte, before_first, after_first, position_or_len, prefix_len, find}
+use Rattle.std.proofs.Common.{◌≡◌, ℕ, suc, ◌+◌, ◌^◌, ◌<◌, ◌≤◌, Bool, true, false, not, ◌&&◌, ◌||◌, cond, List, [], ◌∷◌, ◌++◌, length, map, refl, ap, subst, ◌∙◌, arith, append_assoc}
+use Rattle.std.specs.Prelude.{Option, Some, None, option_map, ◌==◌, nat_le, decimal, codes}
+use Rattle.std.specs.List.{list_all, slice_split, onto_first, join_with_byte, before_first, after_first, prefix_len}
 use Rattle.std.specs.Char.{digit_value, is_ascii_digit}
-use Rattle.std.specs.Str.Parse.{AllDigits, digits_value}
+use Rattle.std.specs.Str.Parse.{AllDigits}
 use Rattle.std.proofs.lemmas.Fmt.{decimal_is_IsNumeral}
 use Rattle.std.proofs.lemmas.Bool.Decides.{nat_tests}
 use Rattle.aq_base.specs.Decimal.{are_digits}
@@ -14,10 +14,10 @@ use Rattle.aq_base.specs.declared.reply.RestRule.{RestRule}
 use Rattle.aq_base.specs.declared.rule.Rule.{Rule}
 use Rattle.aq_base.specs.declared.rule.Rule.TheVariants.{BadBytes, BadTag, FieldCount, BadAction, BadSite, ParameterOutOfProfile, BadPoc, BadDuration, BadUnit, BadMethod, BadDate, BadTime, ValueAndNull, NeitherValueNorNull, BadValue, ValueOutOfRange, BadNull, BadQualifier, UnknownMonitor, WrongDuration, AlreadyThere, NotThere, ObservationsFull, SitesFull, MonitorsFull, BadSpan, BadInterval, BadSeason, BadMakeup, MakeupsFull, UnknownEvent, EventsFull, BadCode, ListFull, NotBuilt}
 use Rattle.aq_profile.specs.Fields.{is_empty, is_space}
-use Rattle.aq_profile.specs.Spellings.{◌>>=◌, is_code_byte, null_in, qualifier_in}
+use Rattle.aq_profile.specs.Spellings.{◌>>=◌, is_code_byte, qualifier_in}
 use Rattle.aq_profile.specs.Canonical.{code_text}
 use Rattle.aq_profile.specs.Office.{is_null_code, is_qualifier}
-use Rattle.aq_profile.specs.Export.{null_text, codes_text}
+use Rattle.aq_profile.specs.Export.{codes_text}
 use Rattle.aq_profile.specs.Rows.{pair_text, words, each, null_of, number_in, is_colon, rule_with, listed_in, rest_in}
 use Rattle.aq_profile.proofs.Spans.{Every}
 
@@ -45,10 +45,10 @@ split-space (b ∷ text) rest h =
     let plain : is_space b ≡ false = not_true (is_space b) parts.0 in
     ap (λ s. cond s ([] ∷ slice_split is_space (text ++ 32 ∷ rest)) (onto_first b (slice_split is_space (text ++ 32 ∷ rest)))) plain
     ∙ ap (onto_first b) (split-space text rest parts.1)
-    where
-      not_true : (a : Bool) → not a ≡ true → a ≡ false
-      not_true true h = cc
-      not_true false h = refl
+  where
+    not_true : (a : Bool) → not a ≡ true → a ≡ false
+    not_true true h = cc
+    not_true false h = refl
 
 split-end : (text : List ℕ) → unspaced text ≡ true → slice_split is_space text ≡ text ∷ []
 split-end [] h = refl
@@ -56,10 +56,10 @@ split-end (b ∷ text) h =
     let parts = both (not (is_space b)) (unspaced text) h in
     let plain : is_space b ≡ false = not_true (is_space b) parts.0 in
     ap (λ s. cond s ([] ∷ slice_split is_space text) (onto_first b (slice_split is_space text))) plain ∙ ap (onto_first b) (split-end text parts.1)
-    where
-      not_true : (a : Bool) → not a ≡ true → a ≡ false
-      not_true true h = cc
-      not_true false h = refl
+  where
+    not_true : (a : Bool) → not a ≡ true → a ≡ false
+    not_true true h = cc
+    not_true false h = refl
 
 split-joined : (text : List ℕ) (texts : List (List ℕ)) → IsWord text → Every IsWord texts → slice_split is_space (join_with_byte 32 (text ∷ texts)) ≡ text ∷ texts
 split-joined text [] h every = split-end text h.1
@@ -91,45 +91,45 @@ every-map P f (x ∷ xs) every = (every.0, every-map P f xs every.1)
 
 code_plain : (b : ℕ) → is_code_byte b ≡ true → not (is_space b) ≡ true
 code_plain b h = by_test (is_space b) refl
-    where
-      by_test : (a : Bool) → is_space b ≡ a → not a ≡ true
-      by_test false e = refl
-      by_test true e =
-          let is : b ≡ 32 = grind (arith, nat_tests) in
-          let P : ℕ → Type 0 = λ n. is_code_byte n ≡ true in
-          let bad : is_code_byte 32 ≡ true = subst P is h in
-          cc
+  where
+    by_test : (a : Bool) → is_space b ≡ a → not a ≡ true
+    by_test false e = refl
+    by_test true e =
+        let is : b ≡ 32 = grind (arith, nat_tests) in
+        let P : ℕ → Type 0 = λ n. is_code_byte n ≡ true in
+        let bad : is_code_byte 32 ≡ true = subst P is h in
+        cc
 
 pub qualifier-word : (code : Code) → is_qualifier code ≡ true → IsWord (code_text code)
 qualifier-word code h =
     let parts = both (is_code_byte code.first) ((code.second == 0) || is_code_byte code.second) h in
     by_test (code.second == 0) refl (code_plain code.first parts.0) parts.1
-    where
-      by_test : (a : Bool) → (code.second == 0) ≡ a → not (is_space code.first) ≡ true → (a || is_code_byte code.second) ≡ true
-          → IsWord (cond a (code.first ∷ []) (code.first ∷ code.second ∷ []))
-      by_test true e first second = (refl, joined (not (is_space code.first)) true first refl)
-      by_test false e first second = (refl, joined (not (is_space code.first)) (not (is_space code.second) && true) first (joined (not (is_space code.second)) true (code_plain code.second second) refl))
+  where
+    by_test : (a : Bool) → (code.second == 0) ≡ a → not (is_space code.first) ≡ true → (a || is_code_byte code.second) ≡ true
+        → IsWord (cond a (code.first ∷ []) (code.first ∷ code.second ∷ []))
+    by_test true e first second = (refl, joined (not (is_space code.first)) true first refl)
+    by_test false e first second = (refl, joined (not (is_space code.first)) (not (is_space code.second) && true) first (joined (not (is_space code.second)) true (code_plain code.second second) refl))
 
 pub qualifier-read : (code : Code) → is_qualifier code ≡ true → qualifier_in (code_text code) ≡ Some code
 qualifier-read code h =
     let parts = both (is_code_byte code.first) ((code.second == 0) || is_code_byte code.second) h in
     by_test (code.second == 0) refl parts.0 parts.1
-    where
-      by_test : (a : Bool) → (code.second == 0) ≡ a → is_code_byte code.first ≡ true → (a || is_code_byte code.second) ≡ true
-          → qualifier_in (cond a (code.first ∷ []) (code.first ∷ code.second ∷ [])) ≡ Some code
-      by_test true e first second =
-          let zero_second : 0 ≡ code.second = grind (arith, nat_tests) in
-          rw first (λ i. Some (record { first = code.first; second = zero_second i }))
-      by_test false e first second = rw (first, second) refl
+  where
+    by_test : (a : Bool) → (code.second == 0) ≡ a → is_code_byte code.first ≡ true → (a || is_code_byte code.second) ≡ true
+        → qualifier_in (cond a (code.first ∷ []) (code.first ∷ code.second ∷ [])) ≡ Some code
+    by_test true e first second =
+        let zero_second : 0 ≡ code.second = grind (arith, nat_tests) in
+        rw first (λ i. Some (record { first = code.first; second = zero_second i }))
+    by_test false e first second = rw (first, second) refl
 
 null-qualifier : (code : Code) → is_null_code code ≡ true → is_qualifier code ≡ true
 null-qualifier code h =
     let parts = both (is_code_byte code.first) (is_code_byte code.second) h in
     joined (is_code_byte code.first) ((code.second == 0) || is_code_byte code.second) parts.0 (or_second (code.second == 0) (is_code_byte code.second) parts.1)
-    where
-      or_second : (a b : Bool) → b ≡ true → (a || b) ≡ true
-      or_second true b h = refl
-      or_second false b h = h
+  where
+    or_second : (a b : Bool) → b ≡ true → (a || b) ≡ true
+    or_second true b h = refl
+    or_second false b h = h
 
 pub null-read : (code : Code) → is_null_code code ≡ true → null_of (code_text code) ≡ Some (Some code)
 null-read code h =
@@ -222,8 +222,7 @@ pair-word a b small_a small_b =
     let first = (decimal_is_IsNumeral a small_a).0 in
     let second = (decimal_is_IsNumeral b small_b).0 in
     let digits_a = digits_unspaced (decimal a) (digits_are (decimal a) first.1) in
-    let digits_b = digits_unspaced (decimal b) (digits_are (decimal b) second.1) in
-    (
+    let digits_b = digits_unspaced (decimal b) (digits_are (decimal b) second.1) in (
       some-front (decimal a ++ codes ":") (decimal b) (some-front (decimal a) (codes ":") (some_text (decimal a) first.0)),
       unspaced-append (decimal a ++ codes ":") (decimal b) (unspaced-append (decimal a) (codes ":") digits_a refl) digits_b,
     )

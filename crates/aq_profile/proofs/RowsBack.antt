@@ -1,34 +1,22 @@
 -- The rows of a valid office give the office back.
-use Rattle.std.proofs.Common.{◌≡◌, ℕ, zero, suc, ◌+◌, ◌-◌, ◌*◌, ◌/◌, ◌%◌, ◌^◌, ◌<◌, ◌≤◌, Bool, true, false, not, ◌&&◌, ◌||◌, cond, List, [], ◌∷◌, ◌++◌, length, map, refl, sym, ap, subst, ◌∙◌, arith}
-use Rattle.std.specs.Prelude.{ℤ, pos, Option, Some, None, is_some, option_map, ◌==◌, nat_le, nat_lt, find, sum_by, bytes_eq, ⊤, IsTrue}
-use Rattle.std.specs.List.{list_all, filter_map, cons_option}
-use Rattle.std.specs.Option.{option_eq}
+use Rattle.std.proofs.Common.{◌≡◌, ℕ, ◌+◌, ◌^◌, ◌<◌, ◌≤◌, Bool, true, false, ◌&&◌, ◌||◌, cond, List, [], ◌∷◌, length, map, refl, sym, ap, ◌∙◌, arith}
+use Rattle.std.specs.Prelude.{ℤ, Option, Some, None, ◌==◌, nat_le, nat_lt, sum_by, bytes_eq}
+use Rattle.std.specs.List.{list_all}
 use Rattle.std.specs.Ordering.{int_eq}
 use Rattle.std.proofs.lemmas.List.Sums.{sum_by-cons}
 use Rattle.std.proofs.lemmas.Bool.Decides.{nat_tests, Decides-int_eq}
 use Rattle.std.proofs.lemmas.Slice.Eq.{bytes_eq-Decides}
 use Rattle.aq_base.specs.Rule.{rule_number}
-use Rattle.aq_base.specs.Site.{Site}
-use Rattle.aq_base.specs.declared.code.Code.{Code}
-use Rattle.aq_base.specs.declared.monitor.Duration.{Duration}
-use Rattle.aq_base.specs.declared.monitor.MonitorId.{MonitorId}
-use Rattle.aq_base.specs.declared.monitor.Pollutant.{Pollutant}
-use Rattle.aq_base.specs.declared.monitor.Pollutant.TheVariants.{Ozone, Pm25, Pm10}
-use Rattle.aq_base.specs.declared.observation.ObsKey.{ObsKey}
-use Rattle.aq_base.specs.declared.observation.Observation.{Observation}
 use Rattle.aq_base.specs.declared.office.OfficeRecord.{OfficeRecord}
 use Rattle.aq_base.specs.declared.office.OfficeRecord.TheVariants.{Monitor, Primary, Schedule, Season, Makeup, Event, Concurrence, Approved}
-use Rattle.aq_base.specs.declared.office.OfficeLine.TheVariants.{Put, Change, Drop}
-use Rattle.aq_base.specs.declared.reply.LoadReply.{LoadReply}
 use Rattle.aq_base.specs.declared.reply.ListedLine.{ListedLine}
 use Rattle.aq_base.specs.declared.reply.RestRule.{RestRule}
 use Rattle.aq_profile.specs.Limits.{MOST_LINES, MOST_LISTED}
-use Rattle.aq_profile.specs.Spellings.{◌>>=◌, qualifier_in}
-use Rattle.aq_profile.specs.Reading.{LineValue, OfOffice, line_value}
-use Rattle.aq_profile.specs.Canonical.{canonical_office, record_line, printed_key, is_office_line}
-use Rattle.aq_profile.specs.Office.{Office, StoredLoad, IsOffice, is_record, is_reply, is_load, is_listed, is_rest, listed_rank, rest_rank, rises, pollutant_number, kind_of, key_of}
-use Rattle.aq_profile.specs.Export.{null_text, codes_text}
-use Rattle.aq_profile.specs.Rows.{Row, OfficeRow, ObsRow, LoadRow, OfOfficeRow, OfObsRow, OfLoadRow, office_row, load_row, listed_text, rest_text, record_in, only_if, is_office_row, is_load_row, record_of_row, load_of_row, words, each, listed_in, rest_in}
+use Rattle.aq_profile.specs.Spellings.{◌>>=◌}
+use Rattle.aq_profile.specs.Reading.{LineValue, OfOffice}
+use Rattle.aq_profile.specs.Canonical.{record_line, is_office_line}
+use Rattle.aq_profile.specs.Office.{StoredLoad, is_record, is_reply, is_load, is_listed, is_rest, listed_rank, rest_rank, rises}
+use Rattle.aq_profile.specs.Rows.{OfficeRow, LoadRow, office_row, load_row, listed_text, rest_text, record_in, only_if, is_office_row, is_load_row, record_of_row, load_of_row, words, each, listed_in, rest_in}
 use Rattle.aq_profile.proofs.RoundTrip.{round-office}
 use Rattle.aq_profile.proofs.Spans.{Every}
 use Rattle.aq_profile.proofs.RowTexts.{IsWord, words-joined, each-read, every-map, listed_write, rest_write, listed-read, rest-read, listed-word, rest-word}

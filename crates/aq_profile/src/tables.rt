@@ -48,3 +48,9 @@ pub fn first_damaged_row_is_named()
     ensures place { (rows : List Row) (place : Place) → damage rows ≡ Some place → FirstDamaged rows place }
     ensures none { (rows : List Row) → damage rows ≡ None → are_office_rows rows ≡ true }
 {}
+
+/// The rows of a valid office are an office's, and give that office back.
+pub fn valid_offices_come_back()
+    ensures rows { (office : Office) → IsOffice office → are_office_rows (rows_of office) ≡ true }
+    ensures office { (office : Office) → IsOffice office → office_of_rows (rows_of office) ≡ Some office }
+{}
