@@ -46,3 +46,4 @@ pub mod OfficeVerdicts
 pub mod RowTexts
 pub mod RowsBack
 pub mod OfficeBack
+pub mod Fronts
