@@ -1,7 +1,12 @@
 -- Each front of the records of a valid office is the records of one.
-use Rattle.std.proofs.Common.{◌≡◌, ℕ, zero, suc, ◌+◌, ◌-◌, ◌<◌, ◌≤◌, Bool, true, false, not, ◌&&◌, ◌||◌, cond, List, [], ◌∷◌, ◌++◌, length, map, refl, sym, ap, subst, ◌∙◌, ◌⊎◌, inl, inr, arith}
+use Rattle.std.proofs.Common.{◌≡◌, ℕ, zero, suc, ◌+◌, ◌-◌, ◌<◌, ◌≤◌, Bool, true, false, not, ◌&&◌, ◌||◌, cond, List, [], ◌∷◌, ◌++◌, length, map, refl, sym, ap, subst, ◌∙◌, arith, append_assoc, length-append}
 use Rattle.std.specs.Prelude.{Option, Some, None, is_some, ◌==◌, nat_le, nat_lt, find, count_by, sum_by, bytes_eq, ⊤}
 use Rattle.std.specs.Option.{option_or}
+use Rattle.std.specs.Bool.{Decides, one_answer}
+use Rattle.std.specs.Cmp.{IsEquivalence, decided}
+use Rattle.std.specs.Set.{is_member}
+use Rattle.std.specs.List.{IsDistinct, AllByRecursion}
+use Rattle.std.proofs.lemmas.Map.Made.{length-le_from_is_member}
 use Rattle.std.specs.List.{list_all, list_any}
 use Rattle.std.proofs.lemmas.List.Sums.{sum_by-cons, sum_by-append}
 use Rattle.std.proofs.lemmas.List.Folds.{list_any-append, find-append}
@@ -13,12 +18,14 @@ use Rattle.aq_base.specs.declared.monitor.Duration.{Duration}
 use Rattle.aq_base.specs.declared.monitor.MonitorId.{MonitorId}
 use Rattle.aq_base.specs.declared.monitor.Pollutant.{Pollutant}
 use Rattle.aq_base.specs.declared.monitor.Pollutant.TheVariants.{Ozone, Pm25, Pm10}
+use Rattle.aq_base.specs.declared.observation.ObsKey.{ObsKey}
+use Rattle.aq_base.specs.declared.observation.Observation.{Observation}
 use Rattle.aq_base.specs.declared.office.OfficeRecord.{OfficeRecord}
 use Rattle.aq_base.specs.declared.office.OfficeRecord.TheVariants.{Monitor, Primary, Schedule, Season, Makeup, Event, Concurrence, Approved}
 use Rattle.aq_base.specs.declared.office.OfficeKey.{OfficeKey}
 use Rattle.aq_base.specs.declared.office.OfficeKey.TheVariants.{Monitor as MonitorKey, Event as EventKey}
 use Rattle.aq_profile.specs.Spellings.{◌>>=◌}
-use Rattle.aq_profile.specs.Office.{Office, IsOffice, KeysRise, is_same, comes_before, rises_from, rises, key_numbers, part_numbers, kind_of, key_of, record_rank, record_at, monitor_duration, duration_at, registers, has_monitor, has_its_monitor, event_stands, has_its_event, group_of, group_size, most_in_group, is_record, fits_records, site_numbers, makes_up_on, makeups_on, has_own_makeup_day, with_site, sites_of}
+use Rattle.aq_profile.specs.Office.{Office, StoredLoad, IsOffice, observation_rank, load_rank, fits_monitors, is_load, is_same, comes_before, rises_from, rises, key_numbers, part_numbers, kind_of, key_of, record_rank, record_at, monitor_duration, duration_at, registers, has_monitor, has_its_monitor, event_stands, has_its_event, group_of, group_size, most_in_group, is_record, fits_records, site_numbers, makes_up_on, makeups_on, has_own_makeup_day, with_site, sites_of}
 use Rattle.aq_profile.proofs.Rising.{before-trans}
 use Rattle.aq_profile.proofs.Spans.{Every}
 
@@ -190,3 +197,214 @@ module _ (office : Office) (xs ys : List OfficeRecord) (is : office.records ≡ 
   all-fit (r ∷ rs) every fits =
       let parts = both (fits_records office r) (list_all (fits_records office) rs) fits in
       joined (fits_records front r) (list_all (fits_records front) rs) (fits-front r every.0 parts.0) (all-fit rs every.1 parts.1)
+
+-- ---- the sites of a front are no more than all
+
+abbrev same_sites : Site → Site → Bool
+same_sites a b = is_same (site_numbers a) (site_numbers b)
+
+same_site-is : (a b : Site) → site_numbers a ≡ site_numbers b → a ≡ b
+same_site-is a b e =
+    let state : a.state ≡ b.state = cc in
+    let county : a.county ≡ b.county = cc in
+    let number : a.number ≡ b.number = cc in
+    λ i. record { state = state i; county = county i; number = number i }
+
+sites_decided : (a b : Site) → Decides (same_sites a b) (a ≡ b)
+sites_decided a b =
+    let numbers = bytes_eq-Decides (site_numbers a) (site_numbers b) in
+    (λ h. same_site-is a b (numbers.0 h), λ e. numbers.1 (ap site_numbers e))
+
+sites_laws : IsEquivalence same_sites
+sites_laws = decided same_sites sites_decided
+
+turned : (a b : Site) → same_sites a b ≡ same_sites b a
+turned a b = one_answer (same_sites a b) (same_sites b a) (sites_decided a b) (
+  λ h. sym ((sites_decided b a).0 h),
+  λ e. (sites_decided b a).1 (sym e),
+)
+
+-- no site of these is this one
+apart : (site : Site) (sites : List Site) → list_any (λ other. is_same (site_numbers other) (site_numbers site)) sites ≡ false → AllByRecursion (λ y. same_sites site y ≡ false) sites
+apart site [] none = tt
+apart site (other ∷ sites) none = by_test (is_same (site_numbers other) (site_numbers site)) refl none (λ h. apart site sites h)
+    where
+      by_test : (b : Bool) → is_same (site_numbers other) (site_numbers site) ≡ b → (b || list_any (λ o. is_same (site_numbers o) (site_numbers site)) sites) ≡ false
+          → (list_any (λ o. is_same (site_numbers o) (site_numbers site)) sites ≡ false → AllByRecursion (λ y. is_same (site_numbers site) (site_numbers y) ≡ false) sites)
+          → AllByRecursion (λ y. is_same (site_numbers site) (site_numbers y) ≡ false) (other ∷ sites)
+      by_test true e h rest = cc
+      by_test false e h rest = (turned site other ∙ e, rest h)
+
+distinct-with : (site : Site) (sites : List Site) → IsDistinct same_sites sites → IsDistinct same_sites (with_site site sites)
+unfolding IsDistinct
+distinct-with site sites d = by_test (list_any (λ other. is_same (site_numbers other) (site_numbers site)) sites) refl
+    where
+      by_test : (b : Bool) → list_any (λ other. is_same (site_numbers other) (site_numbers site)) sites ≡ b → IsDistinct same_sites (cond b sites (site ∷ sites))
+      by_test true e = d
+      by_test false e = (apart site sites e, d)
+
+distinct-sites : (records : List OfficeRecord) → IsDistinct same_sites (sites_of records)
+unfolding IsDistinct
+distinct-sites [] = tt
+distinct-sites (Monitor id duration eligible ∷ records) = distinct-with id.site (sites_of records) (distinct-sites records)
+distinct-sites (Primary a b c d ∷ records) = distinct-sites records
+distinct-sites (Schedule a b c d e ∷ records) = distinct-sites records
+distinct-sites (Season a b c d ∷ records) = distinct-sites records
+distinct-sites (Makeup a b c ∷ records) = distinct-sites records
+distinct-sites (Event a b c d e f ∷ records) = distinct-sites records
+distinct-sites (Concurrence a b ∷ records) = distinct-sites records
+distinct-sites (Approved a b ∷ records) = distinct-sites records
+
+-- a site that is there stays when another is put before
+member-with : (site q : Site) (small large : List Site) → ((p : Site) → is_member same_sites small p ≡ true → is_member same_sites large p ≡ true)
+    → is_member same_sites (with_site site small) q ≡ true → is_member same_sites (with_site site large) q ≡ true
+member-with site q small large sub there =
+    by_test (list_any (λ other. is_same (site_numbers other) (site_numbers site)) small) (list_any (λ other. is_same (site_numbers other) (site_numbers site)) large) refl there
+    where
+      or_keeps : (a b c : Bool) → (b ≡ true → c ≡ true) → (a || b) ≡ true → (a || c) ≡ true
+      or_keeps true b c h k = refl
+      or_keeps false b c h k = h k
+      held : (sites : List Site) → list_any (λ other. is_same (site_numbers other) (site_numbers site)) sites ≡ true → same_sites q site ≡ true → is_member same_sites sites q ≡ true
+      held [] h e = cc
+      held (o ∷ sites) h e = by_first (is_same (site_numbers o) (site_numbers site)) refl h (λ k. held sites k e)
+          where
+            by_first : (b : Bool) → is_same (site_numbers o) (site_numbers site) ≡ b → (b || list_any (λ p. is_same (site_numbers p) (site_numbers site)) sites) ≡ true
+                → (list_any (λ p. is_same (site_numbers p) (site_numbers site)) sites ≡ true → list_any (λ p. is_same (site_numbers q) (site_numbers p)) sites ≡ true)
+                → (is_same (site_numbers q) (site_numbers o) || list_any (λ p. is_same (site_numbers q) (site_numbers p)) sites) ≡ true
+            by_first true f k next =
+                let one : site_numbers o ≡ site_numbers site = (bytes_eq-Decides (site_numbers o) (site_numbers site)).0 f in
+                let two : site_numbers q ≡ site_numbers site = (bytes_eq-Decides (site_numbers q) (site_numbers site)).0 e in
+                let three : is_same (site_numbers q) (site_numbers o) ≡ true = (bytes_eq-Decides (site_numbers q) (site_numbers o)).1 (two ∙ sym one) in
+                rw three refl
+            by_first false f k next = or_right (is_same (site_numbers q) (site_numbers o)) (next k)
+                where
+                  or_right : (a : Bool) {b : Bool} → b ≡ true → (a || b) ≡ true
+                  or_right true h = refl
+                  or_right false h = h
+      by_test : (a b : Bool) → list_any (λ other. is_same (site_numbers other) (site_numbers site)) large ≡ b
+          → is_member same_sites (cond a small (site ∷ small)) q ≡ true → is_member same_sites (cond b large (site ∷ large)) q ≡ true
+      by_test true true e h = sub q h
+      by_test true false e h = or_keeps (same_sites q site) true (is_member same_sites large q) (λ _. sub q h) (or_true (same_sites q site))
+          where
+            or_true : (a : Bool) → (a || true) ≡ true
+            or_true true = refl
+            or_true false = refl
+      by_test false true e h = first_or (same_sites q site) refl h
+          where
+            first_or : (a : Bool) → same_sites q site ≡ a → (a || is_member same_sites small q) ≡ true → is_member same_sites large q ≡ true
+            first_or true f k = held large e f
+            first_or false f k = sub q k
+      by_test false false e h = or_keeps (same_sites q site) (is_member same_sites small q) (is_member same_sites large q) (sub q) h
+
+member-front : (xs ys : List OfficeRecord) (q : Site) → is_member same_sites (sites_of xs) q ≡ true → is_member same_sites (sites_of (xs ++ ys)) q ≡ true
+member-front [] ys q h = cc
+member-front (Monitor id duration eligible ∷ xs) ys q h = member-with id.site q (sites_of xs) (sites_of (xs ++ ys)) (member-front xs ys) h
+member-front (Primary a b c d ∷ xs) ys q h = member-front xs ys q h
+member-front (Schedule a b c d e ∷ xs) ys q h = member-front xs ys q h
+member-front (Season a b c d ∷ xs) ys q h = member-front xs ys q h
+member-front (Makeup a b c ∷ xs) ys q h = member-front xs ys q h
+member-front (Event a b c d e f ∷ xs) ys q h = member-front xs ys q h
+member-front (Concurrence a b ∷ xs) ys q h = member-front xs ys q h
+member-front (Approved a b ∷ xs) ys q h = member-front xs ys q h
+
+sites-front : (xs ys : List OfficeRecord) → length (sites_of xs) ≤ length (sites_of (xs ++ ys))
+sites-front xs ys = length-le_from_is_member sites_laws (sites_of xs) (sites_of (xs ++ ys)) (distinct-sites xs) (member-front xs ys)
+
+-- ---- make-up days of a front
+
+module _ (office : Office) (xs ys : List OfficeRecord) (is : office.records ≡ xs ++ ys) where
+  here : (before : List OfficeRecord) (r : OfficeRecord) (rest : List OfficeRecord) (p : OfficeRecord → Bool) → xs ≡ before ++ r ∷ rest → p r ≡ true → 1 ≤ count_by p xs
+  here before r rest p split passes =
+      let all : count_by p xs ≡ count_by p before + count_by p (r ∷ rest) = ap (count_by p) split ∙ sum_by-append (λ s. cond (p s) 1 0) before (r ∷ rest) in
+      let one : count_by p (r ∷ rest) ≡ 1 + count_by p rest = sum_by-cons (λ s. cond (p s) 1 0) r rest ∙ rw passes refl in
+      omega (arith, all, one)
+
+  number_is : (a b : ℕ) → (a == b) ≡ true → a ≡ b
+  number_is a b h = grind (arith, nat_tests)
+
+  number-test : (a b : ℕ) → a ≡ b → (a == b) ≡ true
+  number-test a b h = grind (arith, nat_tests)
+
+  own-front : (before : List OfficeRecord) (r : OfficeRecord) (rest : List OfficeRecord) → xs ≡ before ++ r ∷ rest → has_own_makeup_day office r ≡ true → has_own_makeup_day (front office xs ys is) r ≡ true
+  own-front before (Makeup site missed makeup) rest split own =
+      let p : OfficeRecord → Bool = makes_up_on site makeup in
+      let itself : p (Makeup site missed makeup) ≡ true =
+      joined (is_same (site_numbers site) (site_numbers site)) (makeup == makeup) ((bytes_eq-Decides (site_numbers site) (site_numbers site)).1 refl) (number-test makeup makeup refl)
+      in
+      let one : makeups_on office site makeup ≡ 1 = number_is (makeups_on office site makeup) 1 own in
+      let few = count-front office xs ys is p in
+      let some = here before (Makeup site missed makeup) rest p split itself in
+      number-test (count_by p xs) 1 (omega (arith, one, few, some))
+  own-front before (Monitor a b c) rest split own = refl
+  own-front before (Primary a b c d) rest split own = refl
+  own-front before (Schedule a b c d e) rest split own = refl
+  own-front before (Season a b c d) rest split own = refl
+  own-front before (Event a b c d e f) rest split own = refl
+  own-front before (Concurrence a b) rest split own = refl
+  own-front before (Approved a b) rest split own = refl
+
+  all-own : (before rest : List OfficeRecord) → xs ≡ before ++ rest → list_all (has_own_makeup_day office) rest ≡ true → list_all (has_own_makeup_day (front office xs ys is)) rest ≡ true
+  all-own before [] split own = refl
+  all-own before (r ∷ rest) split own =
+      let parts = both (has_own_makeup_day office r) (list_all (has_own_makeup_day office) rest) own in
+      joined (has_own_makeup_day (front office xs ys is) r) (list_all (has_own_makeup_day (front office xs ys is)) rest) (own-front before r rest split parts.0)
+      (all-own (before ++ r ∷ []) rest (split ∙ sym (append_assoc before (r ∷ []) rest)) parts.1)
+
+all-front : {X : Type 0} (p : X → Bool) (xs ys : List X) → list_all p (xs ++ ys) ≡ true → list_all p xs ≡ true
+all-front p [] ys h = refl
+all-front p (x ∷ xs) ys h = let parts = both (p x) (list_all p (xs ++ ys)) h in joined (p x) (list_all p xs) parts.0 (all-front p xs ys parts.1)
+
+length-front : {X : Type 0} (xs ys : List X) → length xs ≤ length (xs ++ ys)
+length-front xs ys = omega (arith, length-append xs ys)
+
+-- ---- the three kinds of front
+
+pub records-front : (office : Office) (xs ys : List OfficeRecord) → office.records ≡ xs ++ ys → IsOffice office → IsOffice (record { records = xs; observations = []; loads = [] })
+records-front office xs ys is valid =
+    let rising : rises record_rank (xs ++ ys) ≡ true = ap (rises record_rank) (sym is) ∙ valid.keys_rise.records in
+    let fit : list_all (fits_records office) (xs ++ ys) ≡ true = ap (list_all (fits_records office)) (sym is) ∙ valid.records_fit in
+    let own : list_all (has_own_makeup_day office) (xs ++ ys) ≡ true = ap (list_all (has_own_makeup_day office)) (sym is) ∙ valid.makeup_days_differ in
+    let sites : length (sites_of office.records) ≤ 256 = valid.few_sites in
+    let all : length (sites_of office.records) ≡ length (sites_of (xs ++ ys)) = ap (λ (l : List OfficeRecord). length (sites_of l)) is in
+    record {
+      keys_rise = record { records = rises-front record_rank xs ys rising; observations = refl; loads = refl };
+      records_fit = all-fit office xs ys is xs (front-kinds xs ys rising) (all-front (fits_records office) xs ys fit);
+      makeup_days_differ = all-own office xs ys is [] xs refl (all-front (has_own_makeup_day office) xs ys own);
+      few_sites = omega (arith, sites, all, sites-front xs ys);
+      observations_fit = refl;
+      few_observations = omega arith;
+      loads_fit = refl;
+      few_loads = omega arith;
+    }
+
+pub observations-front : (office : Office) (xs ys : List (ObsKey × Observation)) → office.observations ≡ xs ++ ys → IsOffice office → IsOffice (record { records = office.records; observations = xs; loads = [] })
+observations-front office xs ys is valid =
+    let rising : rises observation_rank (xs ++ ys) ≡ true = ap (rises observation_rank) (sym is) ∙ valid.keys_rise.observations in
+    let fit : list_all (fits_monitors office) (xs ++ ys) ≡ true = ap (list_all (fits_monitors office)) (sym is) ∙ valid.observations_fit in
+    let few : length office.observations ≤ 4000000 = valid.few_observations in
+    record {
+      keys_rise = record { records = valid.keys_rise.records; observations = rises-front observation_rank xs ys rising; loads = refl };
+      records_fit = valid.records_fit;
+      makeup_days_differ = valid.makeup_days_differ;
+      few_sites = valid.few_sites;
+      observations_fit = all-front (fits_monitors office) xs ys fit;
+      few_observations = omega (arith, few, ap length is, length-front xs ys);
+      loads_fit = refl;
+      few_loads = omega arith;
+    }
+
+pub loads-front : (office : Office) (xs ys : List StoredLoad) → office.loads ≡ xs ++ ys → IsOffice office → IsOffice (record { records = office.records; observations = office.observations; loads = xs })
+loads-front office xs ys is valid =
+    let rising : rises load_rank (xs ++ ys) ≡ true = ap (rises load_rank) (sym is) ∙ valid.keys_rise.loads in
+    let fit : list_all is_load (xs ++ ys) ≡ true = ap (list_all is_load) (sym is) ∙ valid.loads_fit in
+    let few : length office.loads ≤ 100000 = valid.few_loads in
+    record {
+      keys_rise = record { records = valid.keys_rise.records; observations = valid.keys_rise.observations; loads = rises-front load_rank xs ys rising };
+      records_fit = valid.records_fit;
+      makeup_days_differ = valid.makeup_days_differ;
+      few_sites = valid.few_sites;
+      observations_fit = valid.observations_fit;
+      few_observations = valid.few_observations;
+      loads_fit = all-front is_load xs ys fit;
+      few_loads = omega (arith, few, ap length is, length-front xs ys);
+    }
