@@ -47,3 +47,4 @@ pub mod RowTexts
 pub mod RowsBack
 pub mod OfficeBack
 pub mod Fronts
+pub mod Undamaged

@@ -49,8 +49,9 @@ pub fn first_damaged_row_is_named()
     ensures none { (rows : List Row) → damage rows ≡ None → are_office_rows rows ≡ true }
 {}
 
-/// The rows of a valid office are an office's, and give that office back.
+/// The rows of a valid office are an office's, give that office back, and have no damaged one.
 pub fn valid_offices_come_back()
     ensures rows { (office : Office) → IsOffice office → are_office_rows (rows_of office) ≡ true }
     ensures office { (office : Office) → IsOffice office → office_of_rows (rows_of office) ≡ Some office }
+    ensures undamaged { (office : Office) → IsOffice office → damage (rows_of office) ≡ None }
 {}
