@@ -48,3 +48,4 @@ pub mod RowsBack
 pub mod OfficeBack
 pub mod Fronts
 pub mod Undamaged
+pub mod Rewritten

@@ -5,7 +5,7 @@ ghost use Rattle.std.specs.Prelude.{◌≡◌, ◌↔◌, IsTrue, true, List, �
 ghost use Rattle.aq_base.specs.declared.monitor.Pollutant.TheVariants.{Pm25};
 ghost use Rattle.aq_base.specs.declared.monitor.Duration.TheVariants.{Day};
 ghost use Rattle.aq_profile.specs.Office.{IsOffice, Office};
-ghost use Rattle.aq_profile.specs.Rows.{FirstDamaged, Place, Row, are_office_rows, damage, is_valid, load_row, obs_row, office_row, office_of_rows, rows_of};
+ghost use Rattle.aq_profile.specs.Rows.{FirstDamaged, Place, Row, are_office_rows, damage, is_valid, load_row, obs_row, office_in, office_of_rows, office_row, rows_of};
 ghost use Rattle.aq_profile.specs.ParticleExamples.{empty_load, exported, first_sampler, load_of_three_lines, primary_of, sample_at, sampler, stray_designation};
 
 /// A monitor's row, a sample's, and a load's with a listed line and the rest.
@@ -42,11 +42,17 @@ pub fn valid_offices_pass_the_test()
     ensures { (office : Office) → IsTrue (is_valid office) ↔ IsOffice office }
 {}
 
-/// A place that is found is that of the first row with which the rows up to it are no office's, and where
-/// none is found the rows are an office's.
+/// A place that is found is that of the first row with which the rows up to it are no office's, and none is
+/// found exactly where the rows are an office's.
 pub fn first_damaged_row_is_named()
     ensures place { (rows : List Row) (place : Place) → damage rows ≡ Some place → FirstDamaged rows place }
-    ensures none { (rows : List Row) → damage rows ≡ None → are_office_rows rows ≡ true }
+    ensures none { (rows : List Row) → (damage rows ≡ None) ↔ IsTrue (are_office_rows rows) }
+{}
+
+/// Rows that are an office's are the rows of that office, which is a valid one.
+pub fn rows_are_those_of_their_office()
+    ensures rows { (rows : List Row) → IsTrue (are_office_rows rows) → rows_of (office_in rows) ≡ rows }
+    ensures valid { (rows : List Row) → IsTrue (are_office_rows rows) → IsOffice (office_in rows) }
 {}
 
 /// The rows of a valid office are an office's, give that office back, and have no damaged one.
