@@ -1,6 +1,6 @@
 -- Each front of the records of a valid office is the records of one.
-use Rattle.std.proofs.Common.{◌≡◌, ℕ, zero, suc, ◌+◌, ◌-◌, ◌<◌, ◌≤◌, Bool, true, false, not, ◌&&◌, ◌||◌, cond, List, [], ◌∷◌, ◌++◌, length, map, refl, sym, ap, subst, ◌∙◌, arith, append_assoc, length-append}
-use Rattle.std.specs.Prelude.{Option, Some, None, is_some, ◌==◌, nat_le, nat_lt, find, count_by, sum_by, bytes_eq, ⊤}
+use Rattle.std.proofs.Common.{◌≡◌, ℕ, ◌+◌, ◌<◌, ◌≤◌, Bool, true, false, ◌&&◌, ◌||◌, cond, List, [], ◌∷◌, ◌++◌, length, refl, sym, ap, ◌∙◌, arith, append_assoc, length-append}
+use Rattle.std.specs.Prelude.{Option, Some, None, is_some, ◌==◌, nat_le, nat_lt, find, count_by}
 use Rattle.std.specs.Option.{option_or}
 use Rattle.std.specs.Bool.{Decides, one_answer}
 use Rattle.std.specs.Cmp.{IsEquivalence, decided}
@@ -14,19 +14,14 @@ use Rattle.std.proofs.lemmas.Bool.Decides.{nat_tests}
 use Rattle.std.proofs.lemmas.Slice.Eq.{bytes_eq-Decides}
 use Rattle.std.proofs.Math.Bool.{or-false}
 use Rattle.aq_base.specs.Site.{Site}
-use Rattle.aq_base.specs.declared.monitor.Duration.{Duration}
-use Rattle.aq_base.specs.declared.monitor.MonitorId.{MonitorId}
 use Rattle.aq_base.specs.declared.monitor.Pollutant.{Pollutant}
-use Rattle.aq_base.specs.declared.monitor.Pollutant.TheVariants.{Ozone, Pm25, Pm10}
+use Rattle.aq_base.specs.declared.monitor.Pollutant.TheVariants.{Ozone, Pm25}
 use Rattle.aq_base.specs.declared.observation.ObsKey.{ObsKey}
 use Rattle.aq_base.specs.declared.observation.Observation.{Observation}
 use Rattle.aq_base.specs.declared.office.OfficeRecord.{OfficeRecord}
 use Rattle.aq_base.specs.declared.office.OfficeRecord.TheVariants.{Monitor, Primary, Schedule, Season, Makeup, Event, Concurrence, Approved}
-use Rattle.aq_base.specs.declared.office.OfficeKey.{OfficeKey}
-use Rattle.aq_base.specs.declared.office.OfficeKey.TheVariants.{Monitor as MonitorKey, Event as EventKey}
 use Rattle.aq_profile.specs.Spellings.{◌>>=◌}
-use Rattle.aq_profile.specs.Office.{Office, StoredLoad, IsOffice, observation_rank, load_rank, fits_monitors, is_load, is_same, comes_before, rises_from, rises, key_numbers, part_numbers, kind_of, key_of, record_rank, record_at, monitor_duration, duration_at, registers, has_monitor, has_its_monitor, event_stands, has_its_event, group_of, group_size, most_in_group, is_record, fits_records, site_numbers, makes_up_on, makeups_on, has_own_makeup_day, with_site, sites_of}
-use Rattle.aq_profile.proofs.Rising.{before-trans}
+use Rattle.aq_profile.specs.Office.{Office, StoredLoad, IsOffice, observation_rank, load_rank, fits_monitors, is_load, is_same, comes_before, rises_from, rises, part_numbers, kind_of, key_of, record_rank, monitor_duration, registers, has_monitor, has_its_monitor, has_its_event, group_of, group_size, most_in_group, is_record, fits_records, site_numbers, makes_up_on, makeups_on, has_own_makeup_day, with_site, sites_of}
 use Rattle.aq_profile.proofs.Spans.{Every}
 
 both : (a b : Bool) → (a && b) ≡ true → (a ≡ true) × (b ≡ true)
@@ -50,11 +45,11 @@ kind r = kind_of (key_of r)
 
 kind-before : (a b : ℕ) (xs ys : List ℕ) → comes_before (a ∷ xs) (b ∷ ys) ≡ true → a ≤ b
 kind-before a b xs ys h = by_test (nat_lt a b) (a == b) refl refl h
-    where
-      by_test : (l e : Bool) → nat_lt a b ≡ l → (a == b) ≡ e → (l || (e && comes_before xs ys)) ≡ true → a ≤ b
-      by_test true e p q k = let low : a < b = grind (arith, nat_tests) in omega arith
-      by_test false true p q k = let same : a ≡ b = grind (arith, nat_tests) in omega arith
-      by_test false false p q k = cc
+  where
+    by_test : (l e : Bool) → nat_lt a b ≡ l → (a == b) ≡ e → (l || (e && comes_before xs ys)) ≡ true → a ≤ b
+    by_test true e p q k = let low : a < b = grind (arith, nat_tests) in omega arith
+    by_test false true p q k = let same : a ≡ b = grind (arith, nat_tests) in omega arith
+    by_test false false p q k = cc
 
 kinds : (r s : OfficeRecord) → comes_before (record_rank r) (record_rank s) ≡ true → kind r ≤ kind s
 kinds r s h = kind-before (kind r) (kind s) (part_numbers (key_of r)) (part_numbers (key_of s)) h
@@ -65,10 +60,10 @@ behind r (s ∷ records) rising =
     let parts = both (comes_before (record_rank r) (record_rank s)) (rises_from record_rank s records) rising in
     let low = kinds r s parts.0 in
     (low, higher r s records low (behind s records parts.1))
-    where
-      higher : (r s : OfficeRecord) (ts : List OfficeRecord) → kind r ≤ kind s → Every (λ t. kind s ≤ kind t) ts → Every (λ t. kind r ≤ kind t) ts
-      higher r s [] low every = tt
-      higher r s (t ∷ ts) low every = (omega (arith, low, every.0), higher r s ts low every.1)
+  where
+    higher : (r s : OfficeRecord) (ts : List OfficeRecord) → kind r ≤ kind s → Every (λ t. kind s ≤ kind t) ts → Every (λ t. kind r ≤ kind t) ts
+    higher r s [] low every = tt
+    higher r s (t ∷ ts) low every = (omega (arith, low, every.0), higher r s ts low every.1)
 
 rises-rest : (r : OfficeRecord) (records : List OfficeRecord) → rises_from record_rank r records ≡ true → rises record_rank records ≡ true
 rises-rest r [] rising = refl
@@ -111,13 +106,13 @@ every-to P Q h (x ∷ xs) every = (h x every.0, every-to P Q h xs every.1)
 -- a rank of another kind
 other_kind : (k : ℕ) (rest : List ℕ) (s : OfficeRecord) → k < kind s → is_same (record_rank s) (k ∷ rest) ≡ false
 other_kind k rest s less = by_test (is_same (record_rank s) (k ∷ rest)) refl
-    where
-      by_test : (b : Bool) → is_same (record_rank s) (k ∷ rest) ≡ b → b ≡ false
-      by_test false e = refl
-      by_test true e =
-          let same : record_rank s ≡ k ∷ rest = (bytes_eq-Decides (record_rank s) (k ∷ rest)).0 e in
-          let kinds_same : kind s ≡ k = cc in
-          absurd (omega (arith, kinds_same, less))
+  where
+    by_test : (b : Bool) → is_same (record_rank s) (k ∷ rest) ≡ b → b ≡ false
+    by_test false e = refl
+    by_test true e =
+        let same : record_rank s ≡ k ∷ rest = (bytes_eq-Decides (record_rank s) (k ∷ rest)).0 e in
+        let kinds_same : kind s ≡ k = cc in
+        absurd (omega (arith, kinds_same, less))
 
 not_registers : (site : Site) (pollutant : Pollutant) (s : OfficeRecord) → 1 < kind s → registers site pollutant s ≡ false
 not_registers site pollutant (Monitor id duration eligible) h = absurd (omega arith)
@@ -228,20 +223,20 @@ turned a b = one_answer (same_sites a b) (same_sites b a) (sites_decided a b) (
 apart : (site : Site) (sites : List Site) → list_any (λ other. is_same (site_numbers other) (site_numbers site)) sites ≡ false → AllByRecursion (λ y. same_sites site y ≡ false) sites
 apart site [] none = tt
 apart site (other ∷ sites) none = by_test (is_same (site_numbers other) (site_numbers site)) refl none (λ h. apart site sites h)
-    where
-      by_test : (b : Bool) → is_same (site_numbers other) (site_numbers site) ≡ b → (b || list_any (λ o. is_same (site_numbers o) (site_numbers site)) sites) ≡ false
-          → (list_any (λ o. is_same (site_numbers o) (site_numbers site)) sites ≡ false → AllByRecursion (λ y. is_same (site_numbers site) (site_numbers y) ≡ false) sites)
-          → AllByRecursion (λ y. is_same (site_numbers site) (site_numbers y) ≡ false) (other ∷ sites)
-      by_test true e h rest = cc
-      by_test false e h rest = (turned site other ∙ e, rest h)
+  where
+    by_test : (b : Bool) → is_same (site_numbers other) (site_numbers site) ≡ b → (b || list_any (λ o. is_same (site_numbers o) (site_numbers site)) sites) ≡ false
+        → (list_any (λ o. is_same (site_numbers o) (site_numbers site)) sites ≡ false → AllByRecursion (λ y. is_same (site_numbers site) (site_numbers y) ≡ false) sites)
+        → AllByRecursion (λ y. is_same (site_numbers site) (site_numbers y) ≡ false) (other ∷ sites)
+    by_test true e h rest = cc
+    by_test false e h rest = (turned site other ∙ e, rest h)
 
 distinct-with : (site : Site) (sites : List Site) → IsDistinct same_sites sites → IsDistinct same_sites (with_site site sites)
 unfolding IsDistinct
 distinct-with site sites d = by_test (list_any (λ other. is_same (site_numbers other) (site_numbers site)) sites) refl
-    where
-      by_test : (b : Bool) → list_any (λ other. is_same (site_numbers other) (site_numbers site)) sites ≡ b → IsDistinct same_sites (cond b sites (site ∷ sites))
-      by_test true e = d
-      by_test false e = (apart site sites e, d)
+  where
+    by_test : (b : Bool) → list_any (λ other. is_same (site_numbers other) (site_numbers site)) sites ≡ b → IsDistinct same_sites (cond b sites (site ∷ sites))
+    by_test true e = d
+    by_test false e = (apart site sites e, d)
 
 distinct-sites : (records : List OfficeRecord) → IsDistinct same_sites (sites_of records)
 unfolding IsDistinct
@@ -260,41 +255,43 @@ member-with : (site q : Site) (small large : List Site) → ((p : Site) → is_m
     → is_member same_sites (with_site site small) q ≡ true → is_member same_sites (with_site site large) q ≡ true
 member-with site q small large sub there =
     by_test (list_any (λ other. is_same (site_numbers other) (site_numbers site)) small) (list_any (λ other. is_same (site_numbers other) (site_numbers site)) large) refl there
-    where
-      or_keeps : (a b c : Bool) → (b ≡ true → c ≡ true) → (a || b) ≡ true → (a || c) ≡ true
-      or_keeps true b c h k = refl
-      or_keeps false b c h k = h k
-      held : (sites : List Site) → list_any (λ other. is_same (site_numbers other) (site_numbers site)) sites ≡ true → same_sites q site ≡ true → is_member same_sites sites q ≡ true
-      held [] h e = cc
-      held (o ∷ sites) h e = by_first (is_same (site_numbers o) (site_numbers site)) refl h (λ k. held sites k e)
+  where
+    or_keeps : (a b c : Bool) → (b ≡ true → c ≡ true) → (a || b) ≡ true → (a || c) ≡ true
+    or_keeps true b c h k = refl
+    or_keeps false b c h k = h k
+
+    held : (sites : List Site) → list_any (λ other. is_same (site_numbers other) (site_numbers site)) sites ≡ true → same_sites q site ≡ true → is_member same_sites sites q ≡ true
+    held [] h e = cc
+    held (o ∷ sites) h e = by_first (is_same (site_numbers o) (site_numbers site)) refl h (λ k. held sites k e)
+      where
+        by_first : (b : Bool) → is_same (site_numbers o) (site_numbers site) ≡ b → (b || list_any (λ p. is_same (site_numbers p) (site_numbers site)) sites) ≡ true
+            → (list_any (λ p. is_same (site_numbers p) (site_numbers site)) sites ≡ true → list_any (λ p. is_same (site_numbers q) (site_numbers p)) sites ≡ true)
+            → (is_same (site_numbers q) (site_numbers o) || list_any (λ p. is_same (site_numbers q) (site_numbers p)) sites) ≡ true
+        by_first true f k next =
+            let one : site_numbers o ≡ site_numbers site = (bytes_eq-Decides (site_numbers o) (site_numbers site)).0 f in
+            let two : site_numbers q ≡ site_numbers site = (bytes_eq-Decides (site_numbers q) (site_numbers site)).0 e in
+            let three : is_same (site_numbers q) (site_numbers o) ≡ true = (bytes_eq-Decides (site_numbers q) (site_numbers o)).1 (two ∙ sym one) in
+            rw three refl
+        by_first false f k next = or_right (is_same (site_numbers q) (site_numbers o)) (next k)
           where
-            by_first : (b : Bool) → is_same (site_numbers o) (site_numbers site) ≡ b → (b || list_any (λ p. is_same (site_numbers p) (site_numbers site)) sites) ≡ true
-                → (list_any (λ p. is_same (site_numbers p) (site_numbers site)) sites ≡ true → list_any (λ p. is_same (site_numbers q) (site_numbers p)) sites ≡ true)
-                → (is_same (site_numbers q) (site_numbers o) || list_any (λ p. is_same (site_numbers q) (site_numbers p)) sites) ≡ true
-            by_first true f k next =
-                let one : site_numbers o ≡ site_numbers site = (bytes_eq-Decides (site_numbers o) (site_numbers site)).0 f in
-                let two : site_numbers q ≡ site_numbers site = (bytes_eq-Decides (site_numbers q) (site_numbers site)).0 e in
-                let three : is_same (site_numbers q) (site_numbers o) ≡ true = (bytes_eq-Decides (site_numbers q) (site_numbers o)).1 (two ∙ sym one) in
-                rw three refl
-            by_first false f k next = or_right (is_same (site_numbers q) (site_numbers o)) (next k)
-                where
-                  or_right : (a : Bool) {b : Bool} → b ≡ true → (a || b) ≡ true
-                  or_right true h = refl
-                  or_right false h = h
-      by_test : (a b : Bool) → list_any (λ other. is_same (site_numbers other) (site_numbers site)) large ≡ b
-          → is_member same_sites (cond a small (site ∷ small)) q ≡ true → is_member same_sites (cond b large (site ∷ large)) q ≡ true
-      by_test true true e h = sub q h
-      by_test true false e h = or_keeps (same_sites q site) true (is_member same_sites large q) (λ _. sub q h) (or_true (same_sites q site))
-          where
-            or_true : (a : Bool) → (a || true) ≡ true
-            or_true true = refl
-            or_true false = refl
-      by_test false true e h = first_or (same_sites q site) refl h
-          where
-            first_or : (a : Bool) → same_sites q site ≡ a → (a || is_member same_sites small q) ≡ true → is_member same_sites large q ≡ true
-            first_or true f k = held large e f
-            first_or false f k = sub q k
-      by_test false false e h = or_keeps (same_sites q site) (is_member same_sites small q) (is_member same_sites large q) (sub q) h
+            or_right : (a : Bool) {b : Bool} → b ≡ true → (a || b) ≡ true
+            or_right true h = refl
+            or_right false h = h
+
+    by_test : (a b : Bool) → list_any (λ other. is_same (site_numbers other) (site_numbers site)) large ≡ b
+        → is_member same_sites (cond a small (site ∷ small)) q ≡ true → is_member same_sites (cond b large (site ∷ large)) q ≡ true
+    by_test true true e h = sub q h
+    by_test true false e h = or_keeps (same_sites q site) true (is_member same_sites large q) (λ _. sub q h) (or_true (same_sites q site))
+      where
+        or_true : (a : Bool) → (a || true) ≡ true
+        or_true true = refl
+        or_true false = refl
+    by_test false true e h = first_or (same_sites q site) refl h
+      where
+        first_or : (a : Bool) → same_sites q site ≡ a → (a || is_member same_sites small q) ≡ true → is_member same_sites large q ≡ true
+        first_or true f k = held large e f
+        first_or false f k = sub q k
+    by_test false false e h = or_keeps (same_sites q site) (is_member same_sites small q) (is_member same_sites large q) (sub q) h
 
 member-front : (xs ys : List OfficeRecord) (q : Site) → is_member same_sites (sites_of xs) q ≡ true → is_member same_sites (sites_of (xs ++ ys)) q ≡ true
 member-front [] ys q h = cc

@@ -1,6 +1,6 @@
 -- Rows that are an office's are the rows of that office; so rows are an office's exactly where none is damaged.
 use Rattle.std.proofs.Common.{◌≡◌, ℕ, ◌+◌, ◌≤◌, Bool, true, false, ◌&&◌, cond, List, [], ◌∷◌, ◌++◌, map, refl, sym, ap, subst, ◌∙◌, arith}
-use Rattle.std.specs.Prelude.{ℤ, Option, Some, None, is_some, nat_le, bytes_eq, sum_by, length, ⊤}
+use Rattle.std.specs.Prelude.{ℤ, Option, Some, None, is_some, nat_le, bytes_eq, sum_by, length}
 use Rattle.std.specs.Option.{option_eq}
 use Rattle.std.specs.Ordering.{int_eq}
 use Rattle.std.specs.List.{list_all, filter_map, cons_option}
@@ -12,7 +12,7 @@ use Rattle.aq_base.specs.declared.office.OfficeRecord.{OfficeRecord}
 use Rattle.aq_base.specs.declared.reply.RestRule.{RestRule}
 use Rattle.aq_profile.specs.Reading.{line_value}
 use Rattle.aq_profile.specs.Spellings.{◌>>=◌, qualifier_in}
-use Rattle.aq_profile.specs.Office.{Office, StoredLoad, IsOffice}
+use Rattle.aq_profile.specs.Office.{StoredLoad, IsOffice}
 use Rattle.aq_profile.specs.Rows.{whole, record_in, site_with, pollutant_with, words, each, null_of, listed_in, rest_in, Row, OfficeRow, ObsRow, LoadRow, OfOfficeRow, OfObsRow, OfLoadRow, office_row, obs_row, load_row, rows_of, only_if, is_office_row, is_obs_row, is_load_row, record_of_row, observation_of_row, load_of_row, record_in_row, observation_in_row, load_in_row, says_something, office_in, table_of, tables_follow, is_valid, are_office_rows, damage}
 use Rattle.aq_profile.proofs.Spans.{Every}
 use Rattle.aq_profile.proofs.ValidOffice.{valid-is_office}
@@ -27,19 +27,19 @@ both false b h = cc
 -- the last test of a reading holds of what is read
 last-test : {X : Type 0} (test : X → Bool) (x y : X) → only_if test x ≡ Some y → test y ≡ true
 last-test {X = X} test x y h = by_test (test x) refl h
-    where
-      by_test : (b : Bool) → test x ≡ b → cond b (Some x) None ≡ Some y → test y ≡ true
-      by_test true e k =
-          let same : x ≡ y = cc in
-          let P : X → Type 0 = λ z. test z ≡ true in
-          subst P same e
-      by_test false e k = cc
+  where
+    by_test : (b : Bool) → test x ≡ b → cond b (Some x) None ≡ Some y → test y ≡ true
+    by_test true e k =
+        let same : x ≡ y = cc in
+        let P : X → Type 0 = λ z. test z ≡ true in
+        subst P same e
+    by_test false e k = cc
 
 through : {A B : Type 0} (o : Option A) (next : A → Option B) (b : B) (P : Type 0) → (o >>= next) ≡ Some b → ((a : A) → next a ≡ Some b → P) → P
 through None next b P h go = absurd (no_value h)
-    where
-      no_value : None ≡ Some b → ⊥
-      no_value e = cc
+  where
+    no_value : None ≡ Some b → ⊥
+    no_value e = cc
 through (Some a) next b P h go = go a h
 
 text-is : (a b : List ℕ) → bytes_eq a b ≡ true → a ≡ b
@@ -104,25 +104,25 @@ observation-row : (row : ObsRow) (o : ObsKey × Observation) → observation_of_
 unfolding observation_of_row
 observation-row row o h =
     through (whole row.site) _ o (obs_row o ≡ row) h (λ a ha.
-        through (whole row.pollutant) _ o (obs_row o ≡ row) ha (λ b hb.
-            through (pollutant_with b) _ o (obs_row o ≡ row) hb (λ c hc.
-                through (whole row.poc) _ o (obs_row o ≡ row) hc (λ d hd.
-                    through (whole row.hour) _ o (obs_row o ≡ row) hd (λ e he.
-                        through (null_of row.null) _ o (obs_row o ≡ row) he (λ f hf.
-                            through (each qualifier_in (words row.quals)) _ o (obs_row o ≡ row) hf (λ g hg.
-                                let x : ObsKey × Observation = (record { monitor = record { site = site_with a; pollutant = c; poc = d }; hour = e }, record { value = row.value; null = f; quals = g }) in
-                                obs_row-is (obs_row o) row (last-test (λ q. is_obs_row (obs_row q) row) x o hg))))))))
+    through (whole row.pollutant) _ o (obs_row o ≡ row) ha (λ b hb.
+    through (pollutant_with b) _ o (obs_row o ≡ row) hb (λ c hc.
+    through (whole row.poc) _ o (obs_row o ≡ row) hc (λ d hd.
+    through (whole row.hour) _ o (obs_row o ≡ row) hd (λ e he.
+    through (null_of row.null) _ o (obs_row o ≡ row) he (λ f hf.
+    through (each qualifier_in (words row.quals)) _ o (obs_row o ≡ row) hf (λ g hg.
+    let x : ObsKey × Observation = (record { monitor = record { site = site_with a; pollutant = c; poc = d }; hour = e }, record { value = row.value; null = f; quals = g }) in
+    obs_row-is (obs_row o) row (last-test (λ q. is_obs_row (obs_row q) row) x o hg))))))))
 
 load-row : (row : LoadRow) (l : StoredLoad) → load_of_row row ≡ Some l → load_row l ≡ row
 unfolding load_of_row
 load-row row l h =
     through (whole row.number) _ l (load_row l ≡ row) h (λ a ha.
-        through (whole row.lines) _ l (load_row l ≡ row) ha (λ b hb.
-            through (whole row.accepted) _ l (load_row l ≡ row) hb (λ c hc.
-                through (each listed_in (words row.listed)) _ l (load_row l ≡ row) hc (λ d hd.
-                    through (each rest_in (words row.rest)) _ l (load_row l ≡ row) hd (λ e he.
-                        let x : StoredLoad = record { number = a; digest = row.digest; reply = record { number = a; lines = b; accepted = c; refused = length d + sum_by (λ (r : RestRule). r.count) e; listed = d; rest = e } } in
-                        load_row-is (load_row l) row (last-test (λ q. is_load_row (load_row q) row) x l he))))))
+    through (whole row.lines) _ l (load_row l ≡ row) ha (λ b hb.
+    through (whole row.accepted) _ l (load_row l ≡ row) hb (λ c hc.
+    through (each listed_in (words row.listed)) _ l (load_row l ≡ row) hc (λ d hd.
+    through (each rest_in (words row.rest)) _ l (load_row l ≡ row) hd (λ e he.
+    let x : StoredLoad = record { number = a; digest = row.digest; reply = record { number = a; lines = b; accepted = c; refused = length d + sum_by (λ (r : RestRule). r.count) e; listed = d; rest = e } } in
+    load_row-is (load_row l) row (last-test (λ q. is_load_row (load_row q) row) x l he))))))
 
 -- ---- all rows
 
