@@ -1,0 +1,62 @@
+-- The test of a valid office is the facts of one.
+use Rattle.std.proofs.Common.{◌≡◌, ℕ, ◌≤◌, Bool, true, false, ◌&&◌, length, refl, arith}
+use Rattle.std.specs.Prelude.{nat_le}
+use Rattle.std.specs.List.{list_all}
+use Rattle.std.proofs.lemmas.Bool.Decides.{nat_tests}
+use Rattle.aq_profile.specs.Limits.{MOST_SITES, MOST_OBSERVATIONS, MOST_LOADS}
+use Rattle.aq_profile.specs.Office.{Office, IsOffice, record_rank, observation_rank, load_rank, rises, fits_records, has_own_makeup_day, sites_of, fits_monitors, is_load}
+use Rattle.aq_profile.specs.Rows.{is_valid}
+
+both : (a b : Bool) → (a && b) ≡ true → (a ≡ true) × (b ≡ true)
+both true b h = (refl, h)
+both false b h = cc
+
+joined : (a b : Bool) → a ≡ true → b ≡ true → (a && b) ≡ true
+joined true b h k = k
+joined false b h k = cc
+
+within : (a b : ℕ) → nat_le a b ≡ true → a ≤ b
+within a b h = grind (arith, nat_tests)
+
+is_within : (a b : ℕ) → a ≤ b → nat_le a b ≡ true
+is_within a b h = grind (arith, nat_tests)
+
+pub valid-is_office : (office : Office) → is_valid office ≡ true → IsOffice office
+valid-is_office office valid =
+    let j = both _ (nat_le (length office.loads) MOST_LOADS) valid in
+    let i = both _ (list_all is_load office.loads) j.0 in
+    let h = both _ (rises load_rank office.loads) i.0 in
+    let g = both _ (nat_le (length office.observations) MOST_OBSERVATIONS) h.0 in
+    let f = both _ (list_all (fits_monitors office) office.observations) g.0 in
+    let e = both _ (rises observation_rank office.observations) f.0 in
+    let d = both _ (nat_le (length (sites_of office.records)) MOST_SITES) e.0 in
+    let c = both _ (list_all (has_own_makeup_day office) office.records) d.0 in
+    let b = both (rises record_rank office.records) (list_all (fits_records office) office.records) c.0 in
+    record {
+      keys_rise = record { records = b.0; observations = e.1; loads = h.1 };
+      records_fit = b.1;
+      makeup_days_differ = c.1;
+      few_sites = within (length (sites_of office.records)) MOST_SITES d.1;
+      observations_fit = f.1;
+      few_observations = within (length office.observations) MOST_OBSERVATIONS g.1;
+      loads_fit = i.1;
+      few_loads = within (length office.loads) MOST_LOADS j.1;
+    }
+
+pub office-is_valid : (office : Office) → IsOffice office → is_valid office ≡ true
+office-is_valid office is =
+    joined _ _
+    (joined _ _
+    (joined _ _
+    (joined _ _
+    (joined _ _
+    (joined _ _
+    (joined _ _
+    (joined _ _ (joined (rises record_rank office.records) (list_all (fits_records office) office.records) is.keys_rise.records is.records_fit) is.makeup_days_differ)
+    (is_within (length (sites_of office.records)) MOST_SITES is.few_sites))
+    is.keys_rise.observations)
+    is.observations_fit)
+    (is_within (length office.observations) MOST_OBSERVATIONS is.few_observations))
+    is.keys_rise.loads)
+    is.loads_fit)
+    (is_within (length office.loads) MOST_LOADS is.few_loads)
