@@ -36,6 +36,7 @@ impl<'a> FieldList<'a> {
     ghost use Rattle.aq_rd.specs.FieldPlaces.{has_text};
 
     /// The fields of a line.
+    #[inline(never)]
     pub(crate) fn new(line: &'a [u8]) -> FieldList<'a>
         ensures { result ≡ fields line.now }
     {
