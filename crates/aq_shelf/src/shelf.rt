@@ -100,6 +100,7 @@ impl Shelf {
         ensures keys { OnOk result (ChangesOnly key (Some content) self.old self.new) }
         ensures not_there { OnErr result (observation_at key self.old ≡ None) }
         ensures unchanged { OnErr result (self.new ≡ self.old) }
+        ensures shelf { IsShelf self.old }
     {
         let Some(place) = self.entries.get_mut(&key) else {
             return Err(NotThere);
@@ -116,6 +117,7 @@ impl Shelf {
         ensures keys { OnOk result (ChangesOnly key None self.old self.new) }
         ensures not_there { OnErr result (observation_at key self.old ≡ None) }
         ensures unchanged { OnErr result (self.new ≡ self.old) }
+        ensures shelf { IsShelf self.old }
     {
         match self.entries.remove(&key) {
             Some(before) => Ok(before),
