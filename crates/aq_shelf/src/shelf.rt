@@ -9,7 +9,7 @@ use crate::span::Span;
 use aq_base::{Hour, LAST_HOUR, MonitorId, ObsKey, Observation, Steps};
 use std::alloc::Global;
 use std::collections::BTreeMap;
-use std::collections::btree_map::Range;
+use std::collections::btree_map::{Entry, Range};
 use std::marker::Model;
 use std::mem;
 use std::sync::ledger::Ledger;
@@ -70,15 +70,22 @@ impl Shelf {
     {
         // The proof learns the range of the hour.
         let _ = key.hour.number();
-        if self.entries.contains_key(&key) {
-            return Err(ShelfFault::AlreadyThere);
-        }
-        if self.entries.len() == MOST_OBSERVATIONS as usize {
-            return Err(ShelfFault::Full);
-        }
-        match self.entries.insert(key, content) {
-            Ok(_) => Ok(()),
-            Err(_) => Err(ShelfFault::Memory),
+        let full = self.entries.len() == MOST_OBSERVATIONS as usize;
+        match self.entries.entry(key) {
+            // Named, so that the proof learns that it goes back as it was.
+            Ok(Entry::Occupied(_standing)) => Err(ShelfFault::AlreadyThere),
+            Ok(Entry::Vacant(place)) => {
+                if full {
+                    return Err(ShelfFault::Full);
+                }
+                place.insert(content);
+                Ok(())
+            }
+            Err(_) => Err(if full {
+                ShelfFault::Full
+            } else {
+                ShelfFault::Memory
+            }),
         }
     }
 
@@ -93,6 +100,7 @@ impl Shelf {
         ensures keys { OnOk result (ChangesOnly key (Some content) self.old self.new) }
         ensures not_there { OnErr result (observation_at key self.old ≡ None) }
         ensures unchanged { OnErr result (self.new ≡ self.old) }
+        ensures shelf { IsShelf self.old }
     {
         let Some(place) = self.entries.get_mut(&key) else {
             return Err(NotThere);
@@ -109,6 +117,7 @@ impl Shelf {
         ensures keys { OnOk result (ChangesOnly key None self.old self.new) }
         ensures not_there { OnErr result (observation_at key self.old ≡ None) }
         ensures unchanged { OnErr result (self.new ≡ self.old) }
+        ensures shelf { IsShelf self.old }
     {
         match self.entries.remove(&key) {
             Some(before) => Ok(before),
