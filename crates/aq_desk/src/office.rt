@@ -211,8 +211,6 @@ impl Office {
             hour,
         };
         if update {
-            // The proof learns that the shelf is in order.
-            let _ = self.shelf.count();
             match self.shelf.update(key, *content) {
                 Ok(_) => Ok(()),
                 Err(_) => Err(Refusal::Broken(Rule::NotThere)),
@@ -241,8 +239,6 @@ impl Office {
             monitor: *monitor,
             hour,
         };
-        // The proof learns that the shelf is in order.
-        let _ = self.shelf.count();
         match self.shelf.remove(key) {
             Ok(_) => Ok(()),
             Err(_) => Err(Refusal::Broken(Rule::NotThere)),

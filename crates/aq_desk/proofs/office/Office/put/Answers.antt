@@ -26,7 +26,7 @@ pub returns-after-update-clause-after : goal.returns-after-update-clause-after
 returns-after-update-clause-after c =
     let at : IsAt c.args.self.now c.self.inside.monitor c.self.inside.shelf c.args.monitor.now = record { view = c.self.view_is; known = known_from c.is_registered.result _ c.is_registered.ensures c.if-not-is_registered.false } in
     elim c.match-update.branch [
-      | in-Ok w ↦ rw w.result-is (λ method. after-update c.args.self.now c.self.inside.monitor c.self.inside.shelf c.args.monitor.now at c.args.hour c.args.update c.args.duration method c.args.content.now _ c.update.new.self c.count.ensures.shelf w.in-Ok.ensures.before w.in-Ok.ensures.ok)
+      | in-Ok w ↦ rw w.result-is (λ method. after-update c.args.self.now c.self.inside.monitor c.self.inside.shelf c.args.monitor.now at c.args.hour c.args.update c.args.duration method c.args.content.now _ c.update.new.self c.update.ensures.shelf w.in-Ok.ensures.before w.in-Ok.ensures.ok)
       | in-Err w ↦ rw w.result-is tt
     ]
 
