@@ -184,9 +184,15 @@ fn five_hundred_refused_lines_are_listed_and_the_others_counted(
         }
         let outcome = run_over(alloc, &SCAN, body.as_bytes(), &[], &[])?;
         assert_eq!(rt; outcome.status, 12);
-        assert!(rt; outcome.output[7..].starts_with(counts.as_bytes()), "{counts}");
+        assert!(rt;
+            outcome.output[7..].starts_with(counts.as_bytes()),
+            "{counts}"
+        );
         assert!(rt; outcome.output.ends_with(end.as_bytes()), "{end}");
-        assert_eq!(rt; outcome.output.split(|byte| *byte == b'\n').count(), 506 + unknown.min(1) as usize + 1);
+        assert_eq!(rt;
+            outcome.output.split(|byte| *byte == b'\n').count(),
+            506 + unknown.min(1) as usize + 1
+        );
     }
     Ok(())
 }
@@ -195,10 +201,8 @@ fn five_hundred_refused_lines_are_listed_and_the_others_counted(
 fn has_no_other_average(output: &[u8], row: Option<usize>) -> bool {
     let mut lines = output.split(|byte| *byte == b'\n');
     lines.any(|line| line.starts_with(b"hour "))
-        && lines
-            .take(17)
-            .enumerate()
-            .all(|(index, line)| Some(index) == row || line.ends_with(b" - 0 - 0"))
+        && lines.take(17).enumerate().all(|(index, line)| Some(index) == row
+            || line.ends_with(b" - 0 - 0"))
 }
 
 #[test]
@@ -214,8 +218,7 @@ fn an_hour_before_seven_counts_for_the_day_before(rt: HostRuntime) -> Result<(),
     ];
     for (time, words, row, line) in cases {
         let mut body = String::from_str(alloc, MONITOR)?;
-        let hour =
-            format!(in alloc; "RD|I|06|037|1103|44201|1|1|007|087|20240101|{time}|0.568\n")?;
+        let hour = format!(in alloc; "RD|I|06|037|1103|44201|1|1|007|087|20240101|{time}|0.568\n")?;
         body.push_str(hour.as_str())?;
         let outcome = run_over(alloc, &words, body.as_bytes(), &[], &[])?;
         assert_eq!(rt; outcome.status, 0);
@@ -234,7 +237,8 @@ fn an_hour_is_updated_deleted_and_inserted_again(rt: HostRuntime) -> Result<(), 
     )?;
     let outcome = run_over(alloc, &SCAN, body.as_bytes(), &[], &[])?;
     assert_eq!(rt; outcome.status, 0);
-    let reply = "load 0\nlines 10\naccepted 6\nrefused 4\nline rule name count\n2 22 NotThere 1\n3 22 NotThere 1\n8 22 NotThere 1\n9 16 ValueOutOfRange 1\nsite 06-037-1103\n";
+    let reply =
+        "load 0\nlines 10\naccepted 6\nrefused 4\nline rule name count\n2 22 NotThere 1\n3 22 NotThere 1\n8 22 NotThere 1\n9 16 ValueOutOfRange 1\nsite 06-037-1103\n";
     assert!(rt; outcome.output.starts_with(reply.as_bytes()));
     assert!(rt; has_line(&outcome.output, "13:00 0.072 1 0.072 1"));
     assert!(rt; has_line(&outcome.output, "14:00 - 0 - 0"));
@@ -274,7 +278,8 @@ fn a_leap_year_is_taken_whole(rt: HostRuntime) -> Result<(), Fail> {
     let words = ["scan", "06-037-1103", "2024-02-29"];
     let outcome = run_over(alloc, &words, body.as_bytes(), &[], &[])?;
     assert_eq!(rt; outcome.status, 0);
-    let reply = "load 0\nlines 8787\naccepted 8785\nrefused 1\nline rule name count\n8787 6 ParameterOutOfProfile 1\nsite 06-037-1103\nday 2024-02-29\n";
+    let reply =
+        "load 0\nlines 8787\naccepted 8785\nrefused 1\nline rule name count\n8787 6 ParameterOutOfProfile 1\nsite 06-037-1103\nday 2024-02-29\n";
     assert!(rt; outcome.output.starts_with(reply.as_bytes()));
     assert!(rt; has_line(&outcome.output, "07:00 0.071 8 0.071 8"));
     // The hours from 20:00 to 03:00 of the next day have one null code.
