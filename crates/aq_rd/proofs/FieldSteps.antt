@@ -1,12 +1,23 @@
 -- The fields of a line, byte by byte.
-use Rattle.std.proofs.Common.{◌≡◌, ◌≢◌, ℕ, zero, suc, ◌+◌, ◌-◌, ◌<◌, ◌≤◌, Bool, true, false, cond, not, ◌&&◌, ◌||◌, List, [], ◌∷◌, ◌++◌, length, take, drop, get_or, map, refl, sym, ap, ◌∙◌, arith}
-use Rattle.std.specs.List.{slice_split, onto_first, list_all}
-use Rattle.std.proofs.lemmas.Bool.{false≢true}
+use Rattle.std.proofs.Common.{◌≡◌, ◌≢◌, inl, inr, ◌⊎◌, ℕ, zero, suc, ◌+◌, ◌-◌, ◌<◌, ◌≤◌, Bool, true, false, cond, not, ◌&&◌, ◌||◌, List, [], ◌∷◌, ◌++◌, length, take, drop, get_or, map, refl, sym, ap, ◌∙◌, arith}
+use Rattle.std.specs.List.{slice_split, onto_first, list_all, list_any}
+use Rattle.std.proofs.lemmas.Bool.{false≢true, cases_lt}
 use Rattle.std.proofs.lemmas.Bool.Decides.{nat_tests}
 use Rattle.std.proofs.lemmas.List.{take_more}
 use Rattle.std.proofs.lemmas.List.Splits.{slice_split-cons_yes, slice_split-cons_no}
 use Rattle.aq_profile.specs.Fields.{fields, field, trimmed, without_front, without_back, onto_text, is_bar, is_space, is_empty}
 use Rattle.aq_rd.specs.FieldPlaces.{has_text}
+
+pub same_or_other : (a b : ℕ) → (a ≡ b) ⊎ (a ≢ b)
+same_or_other a b =
+    elim (cases_lt a b) [
+      | inl less ↦ inr (λ e. absurd (omega arith))
+      | inr more ↦
+          elim (cases_lt b a) [
+            | inl less ↦ inr (λ e. absurd (omega arith))
+            | inr most ↦ inl (omega arith)
+          ]
+    ]
 
 -- ---- the parts of a text
 
@@ -165,6 +176,19 @@ has_text-more byte text other =
     ap (λ parts. has_text (map trimmed parts)) (split-text byte text other)
     ∙ has_text-parts byte (get_or (slice_split is_bar text) 0 []) (drop 1 (slice_split is_bar text))
     ∙ sym (ap (λ parts. not (is_space byte) || has_text (map trimmed parts)) (parts-cons text))
+
+-- a field holds a text where a byte is neither a bar nor a space
+pub has_text-bytes : (text : List ℕ) → has_text (fields text) ≡ list_any (λ byte. not (is_bar byte) && not (is_space byte)) text
+has_text-bytes [] = refl
+has_text-bytes (byte ∷ text) =
+    elim (same_or_other byte 124) [
+      | inl e ↦
+          ap has_text (fields-bar byte text e) ∙ has_text-bytes text
+          ∙ sym (ap (λ b. list_any (λ byte. not (is_bar byte) && not (is_space byte)) (b ∷ text)) e)
+      | inr ne ↦
+          has_text-more byte text ne ∙ ap (λ b. not (is_space byte) || b) (has_text-bytes text)
+          ∙ sym (ap (λ b. (not b && not (is_space byte)) || list_any (λ byte. not (is_bar byte) && not (is_space byte)) text) (not_bar byte ne))
+    ]
 
 pub fields-cons : (text : List ℕ) → 1 ≤ length (fields text)
 fields-cons text = let some : length (fields text) ≡ suc (length (map trimmed (drop 1 (slice_split is_bar text)))) = ap (λ parts. length (map trimmed parts)) (parts-cons text) in omega arith

@@ -1,16 +1,22 @@
--- Where the fields of a line start.
-use Rattle.std.specs.Prelude.{◌≡◌, ℕ, ◌+◌, ◌<◌, ◌≤◌, Bool, not, List, length, drop, slice_index_or}
+-- Where the fields of a line start and end.
+use Rattle.std.specs.Prelude.{◌≡◌, ℕ, ◌-◌, ◌<◌, ◌≤◌, Bool, not, List, length, take, drop, slice_index_or}
 use Rattle.std.specs.List.{list_any}
-use Rattle.aq_profile.specs.Fields.{fields, field, is_empty}
+use Rattle.aq_profile.specs.Fields.{fields, field, trimmed, is_empty}
 use Rattle.aq_rd.specs.declared.fields.TheConstants.{MOST_FIELDS}
 
 -- whether a text stands among these
 abbrev pub has_text : List (List ℕ) → Bool
 has_text texts = list_any (λ text. not (is_empty text)) texts
 
--- the first fields start at these places, the fields are counted, and it is known whether a text stands behind the first ones
-pub record HoldsFields (line : List ℕ) (starts : List ℕ) (count : ℕ) (is_longer : Bool) : Type 0 where
-  pub within : (k : ℕ) → k < MOST_FIELDS → slice_index_or starts k 0 ≤ length line
-  pub begun : (k : ℕ) → k < MOST_FIELDS → field 1 (fields (drop (slice_index_or starts k 0) line)) ≡ field (k + 1) (fields line)
+-- a field stands between these places
+abbrev pub StandsAt : List ℕ → ℕ → ℕ → ℕ → Type 0
+StandsAt line number start end = trimmed (take (end - start) (drop start line)) ≡ field number (fields line)
+
+-- the fields are counted, and the first ones, and the one behind them, start at these places
+pub record HoldsFields (line : List ℕ) (starts : List ℕ) (count : ℕ) : Type 0 where
+  pub within : (k : ℕ) → k ≤ MOST_FIELDS → slice_index_or starts k 0 ≤ length line
+  pub rising : (number : ℕ) → 1 ≤ number → number ≤ MOST_FIELDS → number < count → slice_index_or starts (number - 1) 0 < slice_index_or starts number 0
+  pub ended : (number : ℕ) → 1 ≤ number → number ≤ MOST_FIELDS → number < count → StandsAt line number (slice_index_or starts (number - 1) 0) (slice_index_or starts number 0 - 1)
+  pub last : (number : ℕ) → 1 ≤ number → number ≤ MOST_FIELDS → count ≤ number → StandsAt line number (slice_index_or starts (number - 1) 0) (length line)
   pub counted : count ≡ length (fields line)
-  pub behind : is_longer ≡ has_text (drop MOST_FIELDS (fields line))
+  pub behind : MOST_FIELDS < count → drop MOST_FIELDS (fields line) ≡ fields (drop (slice_index_or starts MOST_FIELDS 0) line)

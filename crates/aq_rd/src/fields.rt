@@ -1,21 +1,24 @@
 //! The fields of a line.
-ghost use Rattle.std.specs.Prelude.{◌≡◌};
-ghost use Rattle.aq_profile.specs.Fields.{fields, field, trimmed, without_front, without_back};
+ghost use Rattle.std.specs.Prelude.{◌≡◌, not, ◌&&◌};
+ghost use Rattle.std.specs.List.{list_any};
+ghost use Rattle.aq_profile.specs.Fields.{fields, field, trimmed, without_front, without_back, is_bar, is_space};
 
 use std::marker::Model;
 
 /// An RD line has at most this many fields.
 pub(crate) const MOST_FIELDS: usize = 28;
 
+const MOST_STARTS: usize = MOST_FIELDS + 1;
+
 /// The fields of a line, without the spaces round each. Contracts see their list. It takes no
 /// memory.
 #[derive(Drop)]
 pub(crate) struct FieldList<'a> {
     line: &'a [u8],
-    // where the first fields start; a field that the line has not starts at its end
-    starts: [usize; MOST_FIELDS],
+    // Where the first fields start, and the one behind them. One that the line has not starts at its
+    // end.
+    starts: [usize; MOST_STARTS],
     count: usize,
-    has_text_behind: bool,
 }
 
 impl<'a> Model for FieldList<'a> {
@@ -27,7 +30,7 @@ impl<'a> Model for FieldList<'a> {
 
     ghost view = { λ list. fields list.line.now };
 
-    ghost invariant = { λ list. HoldsFields list.line.now list.starts list.count list.has_text_behind };
+    ghost invariant = { λ list. HoldsFields list.line.now list.starts list.count };
 }
 
 impl<'a> FieldList<'a> {
@@ -40,25 +43,21 @@ impl<'a> FieldList<'a> {
     pub(crate) fn new(line: &'a [u8]) -> FieldList<'a>
         ensures { result ≡ fields line.now }
     {
-        let mut starts = [line.len(); MOST_FIELDS];
+        let mut starts = [line.len(); MOST_STARTS];
         starts[0] = 0;
         let mut count = 1;
-        let mut has_text_behind = false;
         for (place, &byte) in line.iter().enumerate() {
             if byte == b'|' {
-                if count < MOST_FIELDS {
+                if count < MOST_STARTS {
                     starts[count] = place + 1;
                 }
                 count += 1;
-            } else if byte != b' ' && count > MOST_FIELDS {
-                has_text_behind = true;
             }
         }
         FieldList {
             line,
             starts,
             count,
-            has_text_behind,
         }
     }
 
@@ -73,7 +72,7 @@ impl<'a> FieldList<'a> {
     pub(crate) fn has_text_behind(&self) -> bool
         ensures { result ≡ has_text (drop MOST_FIELDS self.now) }
     {
-        self.has_text_behind
+        self.count > MOST_FIELDS && has_other_byte(&self.line[self.starts[MOST_FIELDS]..])
     }
 
     /// A field by its number from 1, empty where the line has none.
@@ -82,8 +81,20 @@ impl<'a> FieldList<'a> {
         requires to { number ≤ MOST_FIELDS }
         ensures { result.now ≡ field number self.now }
     {
-        first_field(&self.line[self.starts[number - 1]..])
+        let end = if number < self.count {
+            self.starts[number] - 1
+        } else {
+            self.line.len()
+        };
+        trim(&self.line[self.starts[number - 1]..end])
     }
+}
+
+// Whether a byte is neither a bar nor a space.
+fn has_other_byte(text: &[u8]) -> bool
+    ensures { result ≡ list_any (λ byte. not (is_bar byte) && not (is_space byte)) text.now }
+{
+    text.iter().any(|byte| *byte != b'|' && *byte != b' ')
 }
 
 /// The field with which a text begins.

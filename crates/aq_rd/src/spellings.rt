@@ -194,7 +194,7 @@ pub(crate) fn qualifiers(texts: &FieldList<'_>) -> Option<Quals>
     ensures characters { IfSome result (λ codes. list_all is_qualifier codes ≡ true) }
 {
     let mut quals = Quals::new();
-    for number in 17..27 {
+    for number in 17..texts.count().min(26) + 1 {
         let text = texts.field(number);
         if !text.is_empty() {
             quals.add(qualifier(text)?);

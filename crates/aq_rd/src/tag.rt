@@ -63,7 +63,12 @@ pub fn has_office_tag(line: &[u8]) -> bool
 pub(crate) fn is_plain(line: &[u8]) -> bool
     ensures { result ≡ is_plain line.now }
 {
-    line.iter().all(|byte| matches!(byte, 0x20..=0x7E))
+    // To the end in any case, so that many bytes are tested at once.
+    let mut is_plain = true;
+    for byte in line {
+        is_plain &= matches!(*byte, 0x20..=0x7E);
+    }
+    is_plain
 }
 
 fn form_of(text: &[u8]) -> Option<Tag>

@@ -2,4 +2,4 @@ use Rattle.aq_rd.proofs.Scans.{Scanned}
 use Rattle.aq_rd.proofs.fields.FieldList.new.Given as goal
 
 abbrev pub invariant-loop-place : goal.invariant-loop-place
-invariant-loop-place l = Scanned l.line l.place l.count l.starts l.has_text_behind
+invariant-loop-place l = Scanned l.line l.place l.count l.starts
