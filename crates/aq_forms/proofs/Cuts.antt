@@ -1,10 +1,11 @@
 -- The definitions of a body's lines, as the code computes them.
 use Rattle.std.proofs.Common.{◌≡◌, ℕ, ◌+◌, ◌-◌, ◌<◌, Bool, true, false, not, cond, ◌&&◌, ◌==◌, List, [], ◌∷◌, length, get_or, take, drop, refl, ap, ◌∙◌, arith, sub-one, add-one, one-add, count_by, map, filter, suc, Option, Some, None}
-use Rattle.std.proofs.lemmas.List.Sums.{sum_by-cons}
+use Rattle.std.proofs.lemmas.List.Sums.{sum_by-cons, position_or_len_is}
 use Rattle.std.proofs.lemmas.List.{at_drop_more, at_drop_all, take_all, drop_all, length-map, length-drop}
-use Rattle.std.proofs.lemmas.Bool.{ltb-false}
+use Rattle.std.proofs.lemmas.Bool.{ltb-false, le-ltb, lt-ltb, false_from_ne_true}
 use Rattle.std.specs.Prelude.{bytes_eq, slice_get, position, nat_lt, ◌≤◌}
 use Rattle.std.specs.List.{onto_first, position_or_len}
+use Rattle.memchr.specs.Find.{IsFirstByte, is_byte}
 use Rattle.aq_profile.specs.Lines.{NumberedLine, cut_at_ends, without_return, is_skipped, texts, numbered, body_lines, line_count, without_mark, BYTE_ORDER_MARK}
 
 abbrev pub is_end : ℕ → Bool
@@ -25,6 +26,17 @@ onto_cut byte (next ∷ bytes) = ap (onto_first byte) (cut_step next (position_o
 pub cut_first : (bytes : List ℕ) → 0 < length bytes → let end = position_or_len is_end bytes in cut_at_ends bytes ≡ take end bytes ∷ cut_at_ends (drop (end + 1) bytes)
 cut_first [] some = absurd (omega arith)
 cut_first (byte ∷ bytes) some = cut_step byte (position_or_len is_end bytes) bytes (is_end byte) (onto_cut byte bytes)
+
+-- the place that a search gives is that of the first LF
+pub first_place : (bytes : List ℕ) (place : Option ℕ) → IsFirstByte (is_byte 10) bytes place → position is_end bytes ≡ place
+first_place bytes None nowhere =
+    let fails = λ (k : ℕ) (within : k < length bytes). false_from_ne_true _ (nowhere k (omega arith) within) in
+    let end = position_or_len_is is_end bytes (length bytes) 0 (omega arith) fails (λ within. absurd (omega arith)) in
+    rw (end, le-ltb (length bytes) (length bytes) (omega arith)) refl
+first_place bytes (Some place) (before, passes) =
+    let fails = λ (k : ℕ) (earlier : k < place). false_from_ne_true _ (before.before k (omega arith) earlier) in
+    let end = position_or_len_is is_end bytes place 0 (omega (arith, before.high)) fails (λ within. passes) in
+    rw (end, lt-ltb place (length bytes) before.high) refl
 
 choice_some : (found : Bool) (place end : ℕ) → cond found (Some place) None ≡ Some end → place ≡ end
 choice_some true place end is = cc

@@ -1,7 +1,8 @@
-ghost use Rattle.std.specs.Prelude.{◌≡◌, ◌≤◌, ◌<◌, [], ◌∷◌, length, MatchOption, IfSome, position, ◌==◌};
+ghost use Rattle.std.specs.Prelude.{◌≡◌, ◌≤◌, ◌<◌, [], ◌∷◌, length, MatchOption, IfSome, position, count_by, ◌==◌};
 ghost use Rattle.aq_profile.specs.Lines as book;
 ghost use Rattle.aq_profile.specs.Lines.{body_lines, line_count, cut_at_ends, without_mark};
 
+use memchr::memchr;
 use std::marker::Model;
 
 /// A load's body has at most this many bytes.
@@ -88,11 +89,23 @@ pub fn count_lines(body: &[u8]) -> u32
     ensures { result ≡ line_count body.now }
 {
     let rest = without_mark(body);
-    let ends = rest.iter().filter(|byte| **byte == b'\n').count() as u32;
+    let ends = count_ends(rest);
     match rest.last() {
         Some(last) => ends + u32::from(*last != b'\n'),
         None => ends,
     }
+}
+
+// The number of LF bytes. No step branches, so that several bytes are counted at once.
+fn count_ends(bytes: &[u8]) -> u32
+    requires { length bytes.now ≤ MOST_BYTES }
+    ensures { result ≡ count_by (λ byte. byte == 10) bytes.now }
+{
+    let mut ends = 0;
+    for byte in bytes {
+        ends += u32::from(*byte == b'\n');
+    }
+    ends
 }
 
 // What stands behind the byte order mark, if the body begins with it.
@@ -119,10 +132,11 @@ fn cut_line(rest: &[u8]) -> Option<(&[u8], &[u8])>
 }
 
 // The place of the first LF.
+#[tactic(auto, using(crate::proofs::Cuts::first_place))]
 fn first_end(rest: &[u8]) -> Option<usize>
     ensures { result ≡ position (λ byte. byte == 10) rest.now }
 {
-    rest.iter().position(|byte| *byte == b'\n')
+    memchr(b'\n', rest)
 }
 
 #[tactic(auto, using(crate::proofs::Cuts::without_last))]
