@@ -14,7 +14,7 @@ const BLANK: Code = Code {
 #[derive(Clone, Copy, Debug, PartialEq, Eq)]
 pub struct Quals {
     places: [Code; MOST_QUALIFIERS],
-    count: usize,
+    count: u8,
 }
 
 impl Model for Quals {
@@ -56,7 +56,7 @@ impl Quals {
         ensures { self.new ≡ with_code self.old code }
     {
         if !self.codes().contains(&code) {
-            self.places[self.count] = code;
+            self.places[usize::from(self.count)] = code;
             self.count += 1;
         }
     }
@@ -67,6 +67,6 @@ impl Quals {
         ensures few { length result.now ≤ MOST_QUALIFIERS }
         ensures distinct { IsTrue (all_distinct result.now) }
     {
-        &self.places[..self.count]
+        &self.places[..usize::from(self.count)]
     }
 }

@@ -2,6 +2,7 @@
 ghost use Rattle.std.specs.Prelude.{◌≡◌, ◌<◌, ◌≤◌, ◌↔◌, ◌++◌, true, false, length, IsNone, IfErr, IfSome, IsTrue, OnOk, map, string_bytes};
 ghost use Rattle.std.specs.Option.{option_map};
 ghost use Rattle.aq_base.specs.declared.monitor.Pollutant.TheVariants.{Ozone};
+ghost use Rattle.aq_profile.specs.Lines.{line_count};
 ghost use Rattle.aq_profile.specs.Office.{has_monitor};
 ghost use Rattle.aq_profile.specs.OzoneDay.{windows};
 ghost use Rattle.aq_profile.specs.Sheet.{text_of};
@@ -135,22 +136,24 @@ fn answer<O: Sink>(
     if lines > MOST_LINES {
         return Err(Ending::TooManyLines(lines));
     }
-    answer_lines(alloc, site, day, body, output)
+    answer_lines(alloc, site, day, body, lines, output)
 }
 
-/// Takes the body as a load, and prints the reply and then the windows.
+/// Takes the body, which has so many lines, as a load, and prints the reply and then the windows.
 fn answer_lines<O: Sink>(
     alloc: Global,
     site: SiteId,
     day: Day,
     body: &[u8],
+    lines: u32,
     output: &mut O,
 ) -> Result<(), Ending>
-    requires { length body.now ≤ MOST_BYTES }
+    requires bytes { length body.now ≤ MOST_BYTES }
+    requires lines { lines ≡ line_count body.now }
     ensures told { Follows (scan_answer body.now site day) (status_of (ending_from result)) (O.written output.old) (O.written output.new) }
     ensures reason { IfErr result (HasReason ⊥ ⊥ (HasRisen (O.faults output.old) (O.faults output.new)) ⊥ (Unit {0})) }
 {
-    let taken = take_load(alloc, body)?;
+    let taken = take_load(alloc, body, lines)?;
     let printed = print_reply(alloc, &taken.reply, output);
     if printed.is_err() {
         return printed;

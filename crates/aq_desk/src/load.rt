@@ -2,7 +2,7 @@
 ghost use Rattle.std.specs.Prelude.{◌≡◌, ◌<◌, ◌≤◌, ◌++◌, ◌^◌, [], ◌∷◌, length, count_by, ◌==◌, filter_map, IfOk, OnOk};
 ghost use Rattle.std.specs.Option.{option_to_list};
 ghost use Rattle.aq_base.specs.Rule.{rule_number};
-ghost use Rattle.aq_profile.specs.Lines.{body_lines};
+ghost use Rattle.aq_profile.specs.Lines.{body_lines, line_count};
 ghost use Rattle.aq_profile.specs.Load.{refused_under, rest_for};
 ghost use Rattle.aq_profile.specs.Office.{nothing};
 ghost use Rattle.aq_desk.specs.Built.{built_after, built_after_all, built_reply, built_reply_for, counted, listed_for_line};
@@ -10,7 +10,7 @@ ghost use Rattle.aq_forms.specs.declared.lines.TheConstants.{MOST_BYTES};
 
 use crate::office::{Office, Refusal};
 use aq_base::{Listed, ListedLine, LoadReply, Memory, Rest, RestRule, Rule};
-use aq_forms::{count_lines, lines_of};
+use aq_forms::lines_of;
 use std::alloc::Global;
 
 /// At most this many refused lines are listed in a reply; the others are counted by rule.
@@ -62,9 +62,10 @@ pub(crate) struct Taken {
     pub(crate) reply: LoadReply,
 }
 
-/// Takes the lines of a body over an office of which nothing stands.
-pub(crate) fn take_load(alloc: Global, body: &[u8]) -> Result<Taken, Memory>
-    requires { length body.now ≤ MOST_BYTES }
+/// Takes the lines of a body, of which there are so many, over an office of which nothing stands.
+pub(crate) fn take_load(alloc: Global, body: &[u8], lines: u32) -> Result<Taken, Memory>
+    requires bytes { length body.now ≤ MOST_BYTES }
+    requires lines { lines ≡ line_count body.now }
     ensures office { IfOk result (λ taken. taken.office ≡ built_after_all nothing (body_lines body.now)) }
     ensures reply { IfOk result (λ taken. taken.reply ≡ built_reply nothing 0 body.now) }
 {
@@ -75,7 +76,7 @@ pub(crate) fn take_load(alloc: Global, body: &[u8]) -> Result<Taken, Memory>
         take_line(&mut office, &mut refused, line.number, line.text)?;
         taken += 1;
     }
-    let reply = reply_of(alloc, count_lines(body), taken, &refused)?;
+    let reply = reply_of(alloc, lines, taken, &refused)?;
     Ok(Taken { office, reply })
 }
 

@@ -23,4 +23,4 @@ returns-clause-reply c =
     let taken : c.loop-line.taken ≡ length (body_lines c.args.body.now) =
     omega (arith, ap length c.in-None.ensures.steps.0, c.loop-line.invariant.count)
     in
-    c.in_ok-reply.ensures ∙ reply_for-same c.count_lines.result _ c.loop-line.taken _ c.deref.result.now _ c.count_lines.ensures taken refused
+    c.in_ok-reply.ensures ∙ reply_for-same c.args.lines _ c.loop-line.taken _ c.deref.result.now _ c.requires.lines taken refused
