@@ -1,5 +1,5 @@
 -- A change of one monitor's hours is the change of the list of all entries.
-use Rattle.std.proofs.Common.{Option, ◌≡◌, ℕ, ◌+◌, ◌≤◌, Bool, true, false, ◌&&◌, nat_eq, List, [], ◌∷◌, ◌++◌, map, cond, Some, None, unwrap_or, refl, ap, sym, subst, ◌∙◌}
+use Rattle.std.proofs.Common.{Option, ◌≡◌, ℕ, ◌+◌, ◌≤◌, Bool, true, false, ◌&&◌, nat_eq, List, [], ◌∷◌, ◌++◌, map, cond, Some, None, is_some, unwrap_or, refl, ap, sym, subst, ◌∙◌}
 use Rattle.std.specs.Prelude.{nat_le, nat_lt, filter, IsSome}
 use Rattle.std.specs.declared.cmp.Ordering.{Ordering}
 use Rattle.std.specs.declared.cmp.Ordering.TheVariants.{Less, Equal, Greater}
@@ -16,9 +16,11 @@ use Rattle.aq_base.specs.declared.day.TheConstants.{LAST_HOUR}
 use Rattle.aq_base.specs.declared.monitor.MonitorId.{MonitorId}
 use Rattle.aq_base.specs.declared.observation.ObsKey.{ObsKey}
 use Rattle.aq_base.specs.declared.observation.Observation.{Observation}
+use Rattle.aq_shelf.specs.declared.fault.ShelfFault.{ShelfFault}
+use Rattle.aq_shelf.specs.declared.fault.ShelfFault.TheVariants.{AlreadyThere, Full, Memory}
 use Rattle.aq_shelf.specs.Keys.{key_cmp, monitor_cmp, same_key, same_monitor}
 use Rattle.aq_shelf.specs.Entries.{IsStanding, in_span, hour_content, observation_at, observations_in}
-use Rattle.aq_shelf.specs.Monitors.{at_hour, in_hours, of_monitor, flat, hours_of, AreRising}
+use Rattle.aq_shelf.specs.Monitors.{at_hour, in_hours, IsHourFault, IsPutFault, of_monitor, flat, hours_of, AreRising}
 use Rattle.aq_shelf.proofs.Order.{derived_cmp, same_test, monitor_total, is_eq-monitor_cmp, monitor_test, monitor_from_same}
 use Rattle.aq_shelf.proofs.MapLemmas.{not_found, below_all}
 
@@ -85,6 +87,12 @@ pub lookup-flat-found : (key : ObsKey) (ms : List (MonitorId × List (ℕ × Obs
 lookup-flat-found key ms hs rising found =
     lookup-flat key ms rising
     ∙ ap (λ (o : Option (List (ℕ × Observation))). at_hour key.hour (unwrap_or o [])) found
+
+-- why an observation is not put
+pub IsPutFault-from_hour : (fault : ShelfFault) (full : Bool) (key : ObsKey) (hs : List (ℕ × Observation)) (es : List (ObsKey × Observation)) → observation_at key es ≡ at_hour key.hour hs → IsHourFault fault full key.hour hs → IsPutFault fault full key es
+IsPutFault-from_hour AlreadyThere full key hs es same h = ap is_some same ∙ h
+IsPutFault-from_hour Full full key hs es same h = (same ∙ h.0, h.1)
+IsPutFault-from_hour Memory full key hs es same h = (same ∙ h.0, h.1)
 
 -- what the map answers, by the order that the code derives
 pub found-derived : (monitor : MonitorId) (ms : List (MonitorId × List (ℕ × Observation))) (o : Option (List (ℕ × Observation))) → o ≡ lookup (is_at (derived_cmp monitor)) ms → lookup (same_monitor monitor) ms ≡ o
