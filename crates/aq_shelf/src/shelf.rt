@@ -101,10 +101,10 @@ impl Shelf {
         ensures unchanged { OnErr result (self.new ≡ self.old) }
         ensures shelf { IsShelf self.old }
     {
-        match change(&mut self.monitors, &key, content) {
-            Some(before) => Ok(before),
-            None => Err(NotThere),
-        }
+        let Some(before) = change(&mut self.monitors, &key, content) else {
+            return Err(NotThere);
+        };
+        Ok(before)
     }
 
     /// Takes the observation at a key away, and answers it. It takes no memory. It is refused where
@@ -118,9 +118,7 @@ impl Shelf {
         ensures unchanged { OnErr result (self.new ≡ self.old) }
         ensures shelf { IsShelf self.old }
     {
-        let Some(before) = take_out(&mut self.monitors, &key) else {
-            return Err(NotThere);
-        };
+        let before = take_out(&mut self.monitors, &key).ok_or(NotThere)?;
         self.count -= 1;
         Ok(before)
     }
