@@ -1,57 +1,29 @@
 -- What holds of the entries after each change.
-use Rattle.std.proofs.Common.{Option, ◌≡◌, ℕ, ◌+◌, ◌<◌, ◌≤◌, Bool, true, false, ◌&&◌, nat_eq, List, [], ◌∷◌, length, map, cond, Some, refl, ap, sym, subst, ◌∙◌, arith}
-use Rattle.std.specs.Prelude.{nat_le, nat_lt, filter, IfSome}
+use Rattle.std.proofs.Common.{◌≡◌, ℕ, ◌+◌, ◌<◌, ◌≤◌, Bool, true, false, ◌&&◌, nat_eq, List, [], ◌∷◌, length, map, cond, Some, None, is_some, refl, ap, sym, subst, ◌∙◌, arith}
+use Rattle.std.specs.Prelude.{nat_le, nat_lt, filter, IfSome, IsSome}
 use Rattle.std.specs.declared.cmp.Ordering.{Ordering}
 use Rattle.std.specs.declared.cmp.Ordering.TheVariants.{Less, Equal, Greater}
-use Rattle.std.specs.Ordering.{is_eq, match_ordering}
+use Rattle.std.specs.Ordering.{is_eq, match_ordering, eq_by_cmp}
 use Rattle.std.specs.List.{AllByRecursion}
-use Rattle.std.specs.List.Sorted.{IsStrictlySortedBy}
 use Rattle.std.specs.Map.{lookup, keys_of, set_value, remove_entry}
 use Rattle.std.specs.BTreeMap.{insert_entry, is_at}
-use Rattle.std.specs.BTreeMap.Range.{range_contains}
-use Rattle.std.specs.declared.ops.Bound.{Bound}
-use Rattle.std.specs.declared.ops.Bound.TheVariants.{Included, Excluded}
-use Rattle.std.proofs.lemmas.Bool.{false≢true}
-use Rattle.std.proofs.lemmas.Bool.Decides.{nat_tests}
-use Rattle.std.proofs.lemmas.Map.{keys-set_value, length-set_value}
-use Rattle.aq_base.specs.declared.day.TheConstants.{LAST_HOUR}
-use Rattle.aq_base.specs.declared.monitor.Pollutant.{Pollutant}
-use Rattle.aq_base.specs.declared.monitor.Pollutant.TheVariants.{Ozone, Pm25, Pm10}
+use Rattle.std.proofs.lemmas.Cmp.{eq_by_cmp_equiv}
+use Rattle.std.proofs.lemmas.Map.{keys-set_value, length-set_value, lookup-set_value, lookup-remove_entry}
+use Rattle.std.proofs.lemmas.Map.Keys.{IsDistinct-from_sorted}
 use Rattle.aq_base.specs.declared.monitor.MonitorId.{MonitorId}
 use Rattle.aq_base.specs.declared.observation.ObsKey.{ObsKey}
 use Rattle.aq_base.specs.declared.observation.Observation.{Observation}
 use Rattle.aq_shelf.specs.declared.shelf.TheConstants.{MOST_OBSERVATIONS}
-use Rattle.aq_shelf.specs.Keys.{key_cmp, same_key, same_monitor, same_site, pollutant_place}
+use Rattle.aq_shelf.specs.Keys.{key_cmp, same_key, same_monitor}
 use Rattle.aq_base.specs.Values.{HasValueInRange}
-use Rattle.aq_shelf.specs.Entries.{IsStanding, IsShelf, in_span, hour_content, observations_in, observation_at, with_entry, with_content, without_key}
-use Rattle.aq_shelf.proofs.Order.{derived_cmp, same_order, same_test, is_eq-key_cmp, half_open, closed}
+use Rattle.aq_shelf.specs.Entries.{ChangesOnly, IsStanding, IsShelf, in_span, hour_content, observations_in, observation_at, with_entry, with_content, without_key}
+use Rattle.aq_shelf.proofs.Order.{first_of_both, monitor_from_same, key_cmp_total, key_test, is_eq-key_cmp}
+use Rattle.aq_shelf.proofs.MapLemmas.{lookup-insert_entry, sorted-insert_entry, sorted-remove_entry, length-insert_entry}
 
 -- ---- keys and pollutants
 
-first_of_both : (a b : Bool) → (a && b) ≡ true → a ≡ true
-first_of_both true b h = refl
-first_of_both false b h = absurd (false≢true h)
-
-second_of_both : (a b : Bool) → (a && b) ≡ true → b ≡ true
-second_of_both true b h = h
-second_of_both false b h = absurd (false≢true h)
-
-pollutant_from_place : (p q : Pollutant) → (nat_eq (pollutant_place p) (pollutant_place q)) ≡ true → p ≡ q
-pollutant_from_place Ozone Ozone h = refl
-pollutant_from_place Ozone Pm25 h = absurd (false≢true h)
-pollutant_from_place Ozone Pm10 h = absurd (false≢true h)
-pollutant_from_place Pm25 Ozone h = absurd (false≢true h)
-pollutant_from_place Pm25 Pm25 h = refl
-pollutant_from_place Pm25 Pm10 h = absurd (false≢true h)
-pollutant_from_place Pm10 Ozone h = absurd (false≢true h)
-pollutant_from_place Pm10 Pm25 h = absurd (false≢true h)
-pollutant_from_place Pm10 Pm10 h = refl
-
 pollutant_from_monitor : (a b : MonitorId) → same_monitor a b ≡ true → a.pollutant ≡ b.pollutant
-pollutant_from_monitor a b h =
-    let places = nat_eq (pollutant_place a.pollutant) (pollutant_place b.pollutant) in
-    pollutant_from_place a.pollutant b.pollutant
-    (second_of_both (same_site a.site b.site) places (first_of_both (same_site a.site b.site && places) (nat_eq a.poc b.poc) h))
+pollutant_from_monitor a b h = ap (λ (m : MonitorId). m.pollutant) (monitor_from_same a b h)
 
 -- another content in the range of the key's pollutant
 IsStanding-same_key : (key : ObsKey) (content : Observation) (entry : ObsKey × Observation) → HasValueInRange key.monitor.pollutant content → same_key key entry.0 ≡ true → IsStanding entry → IsStanding (entry.0, content)
@@ -92,68 +64,65 @@ all-insert_entry key content (e ∷ es) new h =
     in
     at (key_cmp key e.0) refl
 
-length-insert_entry-le : (key : ObsKey) (content : Observation) (es : List (ObsKey × Observation)) → length (insert_entry key_cmp es key content) ≤ length es + 1
-length-insert_entry-le key content [] = omega arith
-length-insert_entry-le key content (e ∷ es) =
-    let h = length-insert_entry-le key content es in
-    elim (key_cmp key e.0) as (λ o. length (match_ordering o ((key, content) ∷ e ∷ es) ((e.0, content) ∷ es) (e ∷ insert_entry key_cmp es key content)) ≤ length (e ∷ es) + 1) [
-      | Less ↦ omega arith
-      | Equal ↦ omega arith
-      | Greater ↦ omega arith
-    ]
-
 -- ---- the shelf's facts after a change
 
-rising_from_derived : (es : List (ObsKey × Observation)) → IsStrictlySortedBy derived_cmp (keys_of es) → IsStrictlySortedBy key_cmp (keys_of es)
-rising_from_derived es h = subst (λ (R : ObsKey → ObsKey → Ordering). IsStrictlySortedBy R (keys_of es)) same_order h
-
-pub IsShelf-nil : (es : List (ObsKey × Observation)) → es ≡ [] → IsStrictlySortedBy derived_cmp (keys_of es) → IsShelf es
-IsShelf-nil es none sorted = record {
-  rising = rising_from_derived es sorted;
-  few = rw none (omega arith);
-  standing = rw none tt;
+pub IsShelf-remove : (key : ObsKey) (es fs : List (ObsKey × Observation)) → IsShelf es → fs ≡ without_key key es → IsShelf fs
+IsShelf-remove key es fs old new = record {
+  rising = rw new (sorted-remove_entry key_cmp key_cmp_total (same_key key) es old.rising);
+  few = let few = old.few in rw new (omega (arith, length-remove_entry-le (same_key key) es));
+  standing = rw new (all-remove_entry (same_key key) es old.standing);
 }
 
-pub IsShelf-remove : (key : ObsKey) (es fs : List (ObsKey × Observation)) → IsShelf es → fs ≡ remove_entry (is_at (derived_cmp key)) es → IsStrictlySortedBy derived_cmp (keys_of fs) → IsShelf fs
-IsShelf-remove key es fs old new sorted = record {
-  rising = rising_from_derived fs sorted;
-  few = let few = old.few in rw new (omega (arith, length-remove_entry-le (is_at (derived_cmp key)) es));
-  standing = rw new (all-remove_entry (is_at (derived_cmp key)) es old.standing);
+pub IsShelf-update : (key : ObsKey) (content : Observation) (es fs : List (ObsKey × Observation)) → HasValueInRange key.monitor.pollutant content → IsShelf es → fs ≡ with_content key content es → IsShelf fs
+IsShelf-update key content es fs range old new = record {
+  rising = rw (new, keys-set_value (same_key key) es content) old.rising;
+  few = rw (new, length-set_value (same_key key) es content) old.few;
+  standing = rw new (all-set_value key content es range old.standing);
 }
 
-pub IsShelf-update : (key : ObsKey) (content : Observation) (es fs : List (ObsKey × Observation)) → HasValueInRange key.monitor.pollutant content → IsShelf es → fs ≡ set_value (is_at (derived_cmp key)) es content → IsShelf fs
-IsShelf-update key content es fs range old new =
-    let is : fs ≡ set_value (same_key key) es content =
-    new ∙ ap (λ (t : ObsKey → Bool). set_value t es content) (same_test key)
-    in
-    record {
-      rising = rw (is, keys-set_value (same_key key) es content) old.rising;
-      few = rw (is, length-set_value (same_key key) es content) old.few;
-      standing = rw is (all-set_value key content es range old.standing);
-    }
+-- one more stands
+pub length-with_entry : (key : ObsKey) (content : Observation) (es : List (ObsKey × Observation)) → observation_at key es ≡ None → length (with_entry key content es) ≡ length es + 1
+length-with_entry key content es absent =
+    length-insert_entry key_cmp key_cmp_total key content es (ap (λ (t : ObsKey → Bool). lookup t es) (key_test key) ∙ absent)
 
-pub IsShelf-insert : (key : ObsKey) (content : Observation) (es fs : List (ObsKey × Observation)) → IsStanding (key, content) → length es < MOST_OBSERVATIONS → IsShelf es → fs ≡ insert_entry derived_cmp es key content → IsStrictlySortedBy derived_cmp (keys_of fs) → IsShelf fs
-IsShelf-insert key content es fs entry room old new sorted =
-    let is : fs ≡ insert_entry key_cmp es key content =
-    new ∙ ap (λ (R : ObsKey → ObsKey → Ordering). insert_entry R es key content) same_order
-    in
+pub IsShelf-insert : (key : ObsKey) (content : Observation) (es fs : List (ObsKey × Observation)) → IsStanding (key, content) → observation_at key es ≡ None → length es < MOST_OBSERVATIONS → IsShelf es → fs ≡ with_entry key content es → IsShelf fs
+IsShelf-insert key content es fs entry absent room old new =
+    let more = length-with_entry key content es absent in
     record {
-      rising = rising_from_derived fs sorted;
-      few = rw is (omega (arith, length-insert_entry-le key content es));
-      standing = rw is (all-insert_entry key content es entry old.standing);
+      rising = rw new (sorted-insert_entry key_cmp key_cmp_total key content es old.rising);
+      few = rw new (omega arith);
+      standing = rw new (all-insert_entry key content es entry old.standing);
     }
 
 -- ---- what a look-up finds
 
-pub lookup-derived : (key : ObsKey) (es : List (ObsKey × Observation)) → lookup (is_at (derived_cmp key)) es ≡ observation_at key es
-lookup-derived key es = ap (λ (t : ObsKey → Bool). lookup t es) (same_test key)
+pub ChangesOnly-insert : (key : ObsKey) (content : Observation) (es : List (ObsKey × Observation)) → ChangesOnly key (Some content) es (with_entry key content es)
+ChangesOnly-insert key content es other =
+    ap (λ (t : ObsKey → Bool). lookup t (with_entry key content es)) (sym (key_test other))
+    ∙ lookup-insert_entry key_cmp key_cmp_total key other content es
+    ∙ ap (λ (t : ObsKey → Bool). cond (t other) (Some content) (lookup (is_at (key_cmp other)) es)) (key_test key)
+    ∙ ap (λ (t : ObsKey → Bool). cond (same_key key other) (Some content) (lookup t es)) (key_test other)
 
--- what the map says of its keys, by the order that the code derives
-pub observation_at-changed : (key other : ObsKey) (content : Option Observation) (es fs : List (ObsKey × Observation)) → lookup (is_at (derived_cmp other)) fs ≡ cond (is_at (derived_cmp key) other) content (lookup (is_at (derived_cmp other)) es) → observation_at other fs ≡ cond (same_key key other) content (observation_at other es)
-observation_at-changed key other content es fs changed =
-    sym (lookup-derived other fs) ∙ changed
-    ∙ ap (λ (t : ObsKey → Bool). cond (t other) content (lookup (is_at (derived_cmp other)) es)) (same_test key)
-    ∙ ap (cond (same_key key other) content) (lookup-derived other es)
+-- the keys that a key's test finds are those of its order
+one_key : (key x y : ObsKey) → is_at (key_cmp key) x ≡ true → is_at (key_cmp key) y ≡ eq_by_cmp key_cmp x y
+one_key key x y h = (eq_by_cmp_equiv key_cmp_total).congr key x y h
+
+pub ChangesOnly-update : (key : ObsKey) (content : Observation) (es : List (ObsKey × Observation)) → IsSome (observation_at key es) → ChangesOnly key (Some content) es (with_content key content es)
+ChangesOnly-update key content es stands other =
+    let found : IsSome (lookup (is_at (key_cmp key)) es) = ap (λ (t : ObsKey → Bool). is_some (lookup t es)) (key_test key) ∙ stands in
+    ap (λ (t : ObsKey → Bool). lookup t (with_content key content es)) (sym (key_test other))
+    ∙ ap (λ (t : ObsKey → Bool). lookup (is_at (key_cmp other)) (set_value t es content)) (sym (key_test key))
+    ∙ lookup-set_value (eq_by_cmp_equiv key_cmp_total) (is_at (key_cmp key)) (one_key key) other content es found
+    ∙ ap (λ (t : ObsKey → Bool). cond (t other) (Some content) (lookup (is_at (key_cmp other)) es)) (key_test key)
+    ∙ ap (λ (t : ObsKey → Bool). cond (same_key key other) (Some content) (lookup t es)) (key_test other)
+
+pub ChangesOnly-remove : (key : ObsKey) (es : List (ObsKey × Observation)) → IsShelf es → ChangesOnly key None es (without_key key es)
+ChangesOnly-remove key es shelf other =
+    ap (λ (t : ObsKey → Bool). lookup t (without_key key es)) (sym (key_test other))
+    ∙ ap (λ (t : ObsKey → Bool). lookup (is_at (key_cmp other)) (remove_entry t es)) (sym (key_test key))
+    ∙ lookup-remove_entry (eq_by_cmp_equiv key_cmp_total) (is_at (key_cmp key)) (one_key key) other es (IsDistinct-from_sorted key_cmp (keys_of es) shelf.rising)
+    ∙ ap (λ (t : ObsKey → Bool). cond (t other) None (lookup (is_at (key_cmp other)) es)) (key_test key)
+    ∙ ap (λ (t : ObsKey → Bool). cond (same_key key other) None (lookup t es)) (key_test other)
 
 pub IfSome-observation_at : (key : ObsKey) (es : List (ObsKey × Observation)) → AllByRecursion IsStanding es → IfSome (observation_at key es) (HasValueInRange key.monitor.pollutant)
 IfSome-observation_at key [] h = tt
@@ -173,30 +142,6 @@ HasValueInRange-found key content es shelf found =
 
 -- ---- a monitor's hours
 
-filter_agree_where : (p q : ObsKey × Observation → Bool) → ((e : ObsKey × Observation) → IsStanding e → p e ≡ q e) → (es : List (ObsKey × Observation)) → AllByRecursion IsStanding es → filter p es ≡ filter q es
-filter_agree_where p q same [] h = refl
-filter_agree_where p q same (e ∷ es) h =
-    let first = same e h.0 in
-    let rest = filter_agree_where p q same es h.1 in
-    rw first (ap (λ fs. cond (q e) (e ∷ fs) fs) rest)
-
-between_derived : (lo hi : Bound ObsKey) (es : List (ObsKey × Observation)) → filter (λ e. range_contains derived_cmp lo hi e.0) es ≡ filter (λ e. range_contains key_cmp lo hi e.0) es
-between_derived lo hi es =
-    ap (λ (R : ObsKey → ObsKey → Ordering). filter (λ e. range_contains R lo hi e.0) es) same_order
-
-pub filter-half_open : (m : MonitorId) (from hours : ℕ) (es : List (ObsKey × Observation)) → IsShelf es → filter (λ e. range_contains derived_cmp (Included (record { monitor = m; hour = from })) (Excluded (record { monitor = m; hour = from + hours })) e.0) es ≡ filter (in_span m from hours) es
-filter-half_open m from hours es shelf =
-    between_derived (Included (record { monitor = m; hour = from })) (Excluded (record { monitor = m; hour = from + hours })) es
-    ∙ filter_agree_where _ _ (λ e _. half_open m from (from + hours) e.0) es shelf.standing
-
-within_last : (x : Bool) (from hours hour : ℕ) → LAST_HOUR < from + hours → hour ≤ LAST_HOUR → (x && nat_le from hour && nat_le hour LAST_HOUR) ≡ (x && nat_le from hour && nat_lt hour (from + hours))
-within_last x from hours hour past within = grind (arith, nat_tests)
-
-pub filter-closed : (m : MonitorId) (from hours : ℕ) (es : List (ObsKey × Observation)) → LAST_HOUR < from + hours → IsShelf es → filter (λ e. range_contains derived_cmp (Included (record { monitor = m; hour = from })) (Included (record { monitor = m; hour = LAST_HOUR })) e.0) es ≡ filter (in_span m from hours) es
-filter-closed m from hours es past shelf =
-    between_derived (Included (record { monitor = m; hour = from })) (Included (record { monitor = m; hour = LAST_HOUR })) es
-    ∙ filter_agree_where _ _ (λ e standing. closed m from LAST_HOUR e.0 ∙ within_last (same_monitor m e.0.monitor) from hours e.0.hour past standing.0) es shelf.standing
-
 pub all-observations_in : (m : MonitorId) (from hours : ℕ) (es : List (ObsKey × Observation)) → AllByRecursion IsStanding es → AllByRecursion (λ (item : ℕ × Observation). HasValueInRange m.pollutant item.1) (observations_in m from hours es)
 all-observations_in m from hours [] h = tt
 all-observations_in m from hours (e ∷ es) h =
@@ -211,15 +156,3 @@ all-observations_in m from hours (e ∷ es) h =
     ]
     in
     at (in_span m from hours e) refl
-
--- ---- the map's own changes, by the order that the code derives
-
-pub remove_entry-derived : (key : ObsKey) (es : List (ObsKey × Observation)) → remove_entry (is_at (derived_cmp key)) es ≡ without_key key es
-remove_entry-derived key es = ap (λ (t : ObsKey → Bool). remove_entry t es) (same_test key)
-
-pub set_value-derived : (key : ObsKey) (content : Observation) (es : List (ObsKey × Observation)) → set_value (is_at (derived_cmp key)) es content ≡ with_content key content es
-set_value-derived key content es = ap (λ (t : ObsKey → Bool). set_value t es content) (same_test key)
-
-pub insert_entry-derived : (key : ObsKey) (content : Observation) (es : List (ObsKey × Observation)) → insert_entry derived_cmp es key content ≡ with_entry key content es
-insert_entry-derived key content es =
-    ap (λ (R : ObsKey → ObsKey → Ordering). insert_entry R es key content) same_order

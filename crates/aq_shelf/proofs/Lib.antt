@@ -1,3 +1,7 @@
--- Lemmas on the order of keys and on lists of entries.
+-- Lemmas on the order of keys, on lists of entries, on monitors and on their hours.
 pub mod Order
+pub mod MapLemmas
+pub mod FlatLemmas
 pub mod EntryLemmas
+pub mod HourLemmas
+pub mod Cases

@@ -1,13 +1,11 @@
 -- The order of keys, by their parts, is the one that the code derives.
-use Rattle.std.proofs.Common.{◌≡◌, ℕ, Bool, ◌&&◌, ◌==◌, not, refl, ap, ◌∙◌, arith}
+use Rattle.std.proofs.Common.{◌≡◌, ℕ, Bool, true, false, ◌&&◌, ◌==◌, nat_eq, eqb-true, refl, ap, ◌∙◌, arith}
+use Rattle.std.proofs.lemmas.Bool.{false≢true}
 use Rattle.std.specs.declared.cmp.Ordering.{Ordering}
 use Rattle.std.specs.declared.cmp.Ordering.TheVariants.{Less, Equal, Greater}
-use Rattle.std.specs.Ordering.{nat_cmp, ordering_then, is_eq, is_le, is_lt}
+use Rattle.std.specs.Ordering.{nat_cmp, ordering_then, is_eq}
 use Rattle.std.specs.Cmp.{IsTotalOrder}
-use Rattle.std.specs.Prelude.{nat_le, nat_lt}
 use Rattle.std.specs.BTreeMap.{is_at}
-use Rattle.std.specs.BTreeMap.Range.{range_contains}
-use Rattle.std.specs.declared.ops.Bound.TheVariants.{Included, Excluded}
 use mathlib.Core.Path.{fun_ext}
 use Rattle.std.proofs.lemmas.Cmp.{nat_cmp_total, on_total, then_total}
 use Rattle.std.proofs.lemmas.Bool.Decides.{nat_tests}
@@ -15,13 +13,13 @@ use Rattle.aq_base.specs.declared.monitor.Pollutant.{Pollutant}
 use Rattle.aq_base.specs.declared.monitor.Pollutant.TheVariants.{Ozone, Pm25, Pm10}
 use Rattle.aq_base.specs.declared.monitor.MonitorId.{MonitorId}
 use Rattle.aq_base.specs.declared.observation.ObsKey.{ObsKey}
-use Rattle.aq_base.specs.contracts.observation.ObsKeyOrd.TheImpl as derived
+use Rattle.aq_base.specs.contracts.monitor.MonitorIdOrd.TheImpl as derived
 use Rattle.aq_base.specs.contracts.monitor.PollutantOrd.TheImpl as pollutant_derived
 use Rattle.aq_base.specs.Site.{Site}
 use Rattle.aq_shelf.specs.Keys.{key_cmp, monitor_cmp, site_cmp, same_key, same_monitor, same_site, pollutant_place}
 
--- the order that the code derives
-abbrev pub derived_cmp : ObsKey → ObsKey → Ordering
+-- the order of monitors that the code derives
+abbrev pub derived_cmp : MonitorId → MonitorId → Ordering
 derived_cmp = (derived.ghosts).cmp
 
 -- pollutants in the order of their places, case by case
@@ -36,15 +34,16 @@ pollutant_cmp-is Pm10 Ozone = refl
 pollutant_cmp-is Pm10 Pm25 = refl
 pollutant_cmp-is Pm10 Pm10 = refl
 
-pub derived_cmp-is : (a b : ObsKey) → derived_cmp a b ≡ key_cmp a b
-derived_cmp-is a b = ap (λ o. ordering_then (ordering_then (site_cmp a.monitor.site b.monitor.site) (ordering_then o (nat_cmp a.monitor.poc b.monitor.poc))) (nat_cmp a.hour b.hour)) (pollutant_cmp-is a.monitor.pollutant b.monitor.pollutant)
+derived_cmp-is : (a b : MonitorId) → derived_cmp a b ≡ monitor_cmp a b
+derived_cmp-is a b =
+    ap (λ o. ordering_then (site_cmp a.site b.site) (ordering_then o (nat_cmp a.poc b.poc))) (pollutant_cmp-is a.pollutant b.pollutant)
 
 site_total : IsTotalOrder site_cmp
 site_total =
     then_total (on_total (λ (s : Site). s.state) nat_cmp_total)
     (then_total (on_total (λ (s : Site). s.county) nat_cmp_total) (on_total (λ (s : Site). s.number) nat_cmp_total))
 
-monitor_total : IsTotalOrder monitor_cmp
+pub monitor_total : IsTotalOrder monitor_cmp
 monitor_total =
     then_total (on_total (λ (m : MonitorId). m.site) site_total)
     (then_total (on_total (λ (m : MonitorId). pollutant_place m.pollutant) nat_cmp_total) (on_total (λ (m : MonitorId). m.poc) nat_cmp_total))
@@ -82,37 +81,56 @@ is_eq-key_cmp a b =
     is_eq-then (monitor_cmp a.monitor b.monitor) (nat_cmp a.hour b.hour) _ _ (is_eq-monitor_cmp a.monitor b.monitor) (is_eq-nat_cmp a.hour b.hour)
 
 -- the same of the whole functions
-pub same_order : derived_cmp ≡ key_cmp
+pub same_order : derived_cmp ≡ monitor_cmp
 same_order = fun_ext (λ a. fun_ext (λ b. derived_cmp-is a b))
 
-pub same_test : (key : ObsKey) → is_at (derived_cmp key) ≡ same_key key
-same_test key = fun_ext (λ k. ap is_eq (derived_cmp-is key k) ∙ is_eq-key_cmp key k)
+pub same_test : (monitor : MonitorId) → is_at (derived_cmp monitor) ≡ same_monitor monitor
+same_test monitor = fun_ext (λ m. ap is_eq (derived_cmp-is monitor m) ∙ is_eq-monitor_cmp monitor m)
 
--- between two hours of one monitor, where o is the order of the monitors
-until_end : (from end hour : ℕ) → (is_le (nat_cmp from hour) && not (is_le (nat_cmp end hour))) ≡ (nat_le from hour && nat_lt hour end)
-until_end from end hour = grind (arith, nat_tests)
+pub monitor_test : (monitor : MonitorId) → is_at (monitor_cmp monitor) ≡ same_monitor monitor
+monitor_test monitor = fun_ext (λ m. is_eq-monitor_cmp monitor m)
 
-upto_last : (from last hour : ℕ) → (is_le (nat_cmp from hour) && not (is_lt (nat_cmp last hour))) ≡ (nat_le from hour && nat_le hour last)
-upto_last from last hour = grind (arith, nat_tests)
+pub hour_test : (hour : ℕ) → is_at (nat_cmp hour) ≡ nat_eq hour
+hour_test hour = fun_ext (λ h. is_eq-nat_cmp hour h)
 
-of_monitor_until : (o : Ordering) (x : Bool) (from end hour : ℕ) → is_eq o ≡ x → (is_le (ordering_then o (nat_cmp from hour)) && not (is_le (ordering_then o (nat_cmp end hour)))) ≡ (x && nat_le from hour && nat_lt hour end)
-of_monitor_until Less x from end hour e = ap (λ b. b && nat_le from hour && nat_lt hour end) e
-of_monitor_until Equal x from end hour e =
-    until_end from end hour ∙ ap (λ b. b && nat_le from hour && nat_lt hour end) e
-of_monitor_until Greater x from end hour e = ap (λ b. b && nat_le from hour && nat_lt hour end) e
+pub key_test : (key : ObsKey) → is_at (key_cmp key) ≡ same_key key
+key_test key = fun_ext (λ k. is_eq-key_cmp key k)
 
-of_monitor_upto : (o : Ordering) (x : Bool) (from last hour : ℕ) → is_eq o ≡ x → (is_le (ordering_then o (nat_cmp from hour)) && not (is_lt (ordering_then o (nat_cmp last hour)))) ≡ (x && nat_le from hour && nat_le hour last)
-of_monitor_upto Less x from last hour e = ap (λ b. b && nat_le from hour && nat_le hour last) e
-of_monitor_upto Equal x from last hour e =
-    upto_last from last hour ∙ ap (λ b. b && nat_le from hour && nat_le hour last) e
-of_monitor_upto Greater x from last hour e = ap (λ b. b && nat_le from hour && nat_le hour last) e
+-- ---- what the same parts say
 
--- the monitor's hours from `from` on and before `end`, by the order of keys
-pub half_open : (m : MonitorId) (from end : ℕ) (k : ObsKey) → range_contains key_cmp (Included (record { monitor = m; hour = from })) (Excluded (record { monitor = m; hour = end })) k ≡ (same_monitor m k.monitor && nat_le from k.hour && nat_lt k.hour end)
-half_open m from end k =
-    of_monitor_until (monitor_cmp m k.monitor) (same_monitor m k.monitor) from end k.hour (is_eq-monitor_cmp m k.monitor)
+pub first_of_both : (a b : Bool) → (a && b) ≡ true → a ≡ true
+first_of_both true b h = refl
+first_of_both false b h = absurd (false≢true h)
 
--- the same up to `last`
-pub closed : (m : MonitorId) (from last : ℕ) (k : ObsKey) → range_contains key_cmp (Included (record { monitor = m; hour = from })) (Included (record { monitor = m; hour = last })) k ≡ (same_monitor m k.monitor && nat_le from k.hour && nat_le k.hour last)
-closed m from last k =
-    of_monitor_upto (monitor_cmp m k.monitor) (same_monitor m k.monitor) from last k.hour (is_eq-monitor_cmp m k.monitor)
+pub second_of_both : (a b : Bool) → (a && b) ≡ true → b ≡ true
+second_of_both true b h = h
+second_of_both false b h = absurd (false≢true h)
+
+pollutant_from_place : (p q : Pollutant) → (nat_eq (pollutant_place p) (pollutant_place q)) ≡ true → p ≡ q
+pollutant_from_place Ozone Ozone h = refl
+pollutant_from_place Ozone Pm25 h = absurd (false≢true h)
+pollutant_from_place Ozone Pm10 h = absurd (false≢true h)
+pollutant_from_place Pm25 Ozone h = absurd (false≢true h)
+pollutant_from_place Pm25 Pm25 h = refl
+pollutant_from_place Pm25 Pm10 h = absurd (false≢true h)
+pollutant_from_place Pm10 Ozone h = absurd (false≢true h)
+pollutant_from_place Pm10 Pm25 h = absurd (false≢true h)
+pollutant_from_place Pm10 Pm10 h = refl
+
+site_from_same : (a b : Site) → same_site a b ≡ true → a ≡ b
+site_from_same a b h =
+    let front = first_of_both (nat_eq a.state b.state && nat_eq a.county b.county) (nat_eq a.number b.number) h in
+    let state = eqb-true a.state b.state (first_of_both (nat_eq a.state b.state) (nat_eq a.county b.county) front) in
+    let county = eqb-true a.county b.county (second_of_both (nat_eq a.state b.state) (nat_eq a.county b.county) front) in
+    let number = eqb-true a.number b.number (second_of_both (nat_eq a.state b.state && nat_eq a.county b.county) (nat_eq a.number b.number) h) in
+    λ i. record { state = state i; county = county i; number = number i }
+
+-- a monitor is the same where its parts are
+pub monitor_from_same : (a b : MonitorId) → same_monitor a b ≡ true → a ≡ b
+monitor_from_same a b h =
+    let places = nat_eq (pollutant_place a.pollutant) (pollutant_place b.pollutant) in
+    let front = first_of_both (same_site a.site b.site && places) (nat_eq a.poc b.poc) h in
+    let site = site_from_same a.site b.site (first_of_both (same_site a.site b.site) places front) in
+    let pollutant = pollutant_from_place a.pollutant b.pollutant (second_of_both (same_site a.site b.site) places front) in
+    let poc = eqb-true a.poc b.poc (second_of_both (same_site a.site b.site && places) (nat_eq a.poc b.poc) h) in
+    λ i. record { site = site i; pollutant = pollutant i; poc = poc i }

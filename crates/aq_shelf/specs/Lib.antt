@@ -2,3 +2,4 @@
 pub mod Keys
 pub mod Entries
 pub mod Faults
+pub mod Monitors

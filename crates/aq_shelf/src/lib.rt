@@ -3,6 +3,7 @@
 #![tactic(auto)]
 
 mod fault;
+mod hours;
 mod shelf;
 mod span;
 

@@ -1,17 +1,21 @@
 //! The standing observations.
-ghost use Rattle.std.specs.Prelude.{◌≡◌, ◌+◌, ◌<◌, ◌≤◌, Some, None, [], length, filter, IfSome, IfOk, IfErr, OnOk, OnErr};
+ghost use Rattle.std.specs.Prelude.{◌≡◌, ◌+◌, ◌<◌, ◌≤◌, false, Some, None, [], length, IfSome, IfNone, IfOk, IfErr, OnSome, OnOk, OnErr};
 ghost use Rattle.std.specs.List.{AllByRecursion};
+ghost use Rattle.std.specs.Map.{lookup};
 ghost use Rattle.aq_base.specs.Values.{HasValueInRange};
-ghost use Rattle.aq_shelf.specs.Entries.{ChangesOnly, observation_at, with_entry, with_content, without_key, in_span, observations_in, IsShelf, IsInsertFault};
+ghost use Rattle.aq_shelf.specs.declared.fault.ShelfFault.TheVariants.{Memory};
+ghost use Rattle.aq_shelf.specs.Keys.{same_monitor};
+ghost use Rattle.aq_shelf.specs.Entries.{ChangesOnly, observation_at, with_entry, with_content, without_key, observations_in, IsShelf, IsInsertFault};
+ghost use Rattle.aq_shelf.specs.Monitors.{flat, hours_of, AreRising, IsPutFault};
 
 use crate::fault::{NotThere, ShelfFault};
+use crate::hours::Hours;
 use crate::span::Span;
-use aq_base::{Hour, LAST_HOUR, MonitorId, ObsKey, Observation, Steps};
+use aq_base::{Hour, MonitorId, ObsKey, Observation, Steps};
 use std::alloc::Global;
 use std::collections::BTreeMap;
-use std::collections::btree_map::{Entry, Range};
+use std::collections::btree_map::Range;
 use std::marker::Model;
-use std::mem;
 use std::sync::ledger::Ledger;
 
 /// As many observations may stand (own).
@@ -21,20 +25,25 @@ pub const MOST_OBSERVATIONS: u32 = 4_000_000;
 /// of keys: by state, county, site number, pollutant, POC and hour.
 #[derive(Drop)]
 pub struct Shelf {
-    entries: BTreeMap<ObsKey, Observation>,
+    monitors: BTreeMap<MonitorId, Hours>,
+    /// How many observations stand.
+    count: u32,
+    /// The hours of a monitor that is not among the monitors.
+    none: Hours,
+    alloc: Global,
 }
 
 impl Model for Shelf {
-    ghost use Rattle.std.specs.Prelude.{List};
+    ghost use Rattle.std.specs.Prelude.{◌≡◌, List, []};
     ghost use Rattle.aq_base.specs.declared.observation.ObsKey.{ObsKey};
     ghost use Rattle.aq_base.specs.declared.observation.Observation.{Observation};
-    ghost use Rattle.aq_shelf.specs.Entries.{IsShelf};
+    ghost use Rattle.aq_shelf.specs.Monitors.{flat, AreMonitors};
 
     ghost Value = { List (ObsKey × Observation) };
 
-    ghost view = { λ shelf. shelf.entries.entries };
+    ghost view = { λ shelf. flat shelf.monitors.entries };
 
-    ghost invariant = { λ shelf. IsShelf shelf.entries.entries };
+    ghost invariant = { λ shelf. AreMonitors shelf.monitors.entries shelf.count × (shelf.none ≡ []) };
 }
 
 impl Shelf {
@@ -43,7 +52,10 @@ impl Shelf {
         ensures { result ≡ [] }
     {
         Shelf {
-            entries: BTreeMap::new(alloc),
+            monitors: BTreeMap::new(alloc),
+            count: 0,
+            none: Hours::new(alloc),
+            alloc,
         }
     }
 
@@ -53,7 +65,7 @@ impl Shelf {
         ensures most { result ≤ MOST_OBSERVATIONS }
         ensures shelf { IsShelf self.now }
     {
-        self.entries.len() as u32
+        self.count
     }
 
     /// Puts an observation at a key. It is refused where one stands there, and else where
@@ -70,23 +82,10 @@ impl Shelf {
     {
         // The proof learns the range of the hour.
         let _ = key.hour.number();
-        let full = self.entries.len() == MOST_OBSERVATIONS as usize;
-        match self.entries.entry(key) {
-            // Named, so that the proof learns that it goes back as it was.
-            Ok(Entry::Occupied(_standing)) => Err(ShelfFault::AlreadyThere),
-            Ok(Entry::Vacant(place)) => {
-                if full {
-                    return Err(ShelfFault::Full);
-                }
-                place.insert(content);
-                Ok(())
-            }
-            Err(_) => Err(if full {
-                ShelfFault::Full
-            } else {
-                ShelfFault::Memory
-            }),
-        }
+        let full = self.count == MOST_OBSERVATIONS;
+        put(&mut self.monitors, self.alloc, &key, content, full)?;
+        self.count += 1;
+        Ok(())
     }
 
     /// Gives the observation at a key another content, and answers the one before. It takes no
@@ -102,10 +101,10 @@ impl Shelf {
         ensures unchanged { OnErr result (self.new ≡ self.old) }
         ensures shelf { IsShelf self.old }
     {
-        let Some(place) = self.entries.get_mut(&key) else {
+        let Some(before) = change(&mut self.monitors, &key, content) else {
             return Err(NotThere);
         };
-        Ok(mem::replace(place, content))
+        Ok(before)
     }
 
     /// Takes the observation at a key away, and answers it. It takes no memory. It is refused where
@@ -119,10 +118,9 @@ impl Shelf {
         ensures unchanged { OnErr result (self.new ≡ self.old) }
         ensures shelf { IsShelf self.old }
     {
-        match self.entries.remove(&key) {
-            Some(before) => Ok(before),
-            None => Err(NotThere),
-        }
+        let before = take_out(&mut self.monitors, &key).ok_or(NotThere)?;
+        self.count -= 1;
+        Ok(before)
     }
 
     /// The observation at a key, if one stands there, in one step.
@@ -133,7 +131,7 @@ impl Shelf {
         ensures shelf { IsShelf self.now }
     {
         steps.tick();
-        self.entries.get(&key).copied()
+        find(&self.monitors, &self.none, &key.monitor).at(key.hour)
     }
 
     /// The monitor's observations that start in the `hours` hours from `from` on, in order, each with
@@ -151,51 +149,111 @@ impl Shelf {
         ensures steps { steps.new ≡ steps.old + 1 + length result }
         ensures shelf { IsShelf self.now }
     {
-        let entries = &self.entries;
-        let monitor = &monitor;
-        count_steps(entries_in(entries, monitor, from, hours), steps);
-        Span::new(entries_in(entries, monitor, from, hours))
+        let found = find(&self.monitors, &self.none, &monitor);
+        count_steps(found.range(from, hours), steps);
+        Span::new(found.range(from, hours))
+    }
+}
+
+/// Puts an observation at a key. It is refused where one stands there, and else where the shelf is
+/// full.
+fn put(
+    monitors: &mut BTreeMap<MonitorId, Hours>,
+    alloc: Global,
+    key: &ObsKey,
+    content: Observation,
+    full: bool,
+) -> Result<(), ShelfFault>
+    requires { AreRising monitors.old.entries }
+    ensures ok { OnOk result (flat monitors.new.entries ≡ with_entry key.now content (flat monitors.old.entries)) }
+    ensures absent { OnOk result (observation_at key.now (flat monitors.old.entries) ≡ None) }
+    ensures room { OnOk result (full ≡ false) }
+    ensures refused { IfErr result (λ fault. IsPutFault fault full key.now (flat monitors.old.entries)) }
+    ensures unchanged { OnErr result (flat monitors.new.entries ≡ flat monitors.old.entries) }
+    ensures rising { AreRising monitors.new.entries }
+{
+    match monitors.get_mut(&key.monitor) {
+        Some(hours) => hours.insert(key.hour, content, full),
+        None => {
+            if full {
+                return Err(ShelfFault::Full);
+            }
+            put_first(monitors, alloc, key, content)
+        }
+    }
+}
+
+/// Puts the first observation of a monitor. Only want of memory refuses it.
+fn put_first(
+    monitors: &mut BTreeMap<MonitorId, Hours>,
+    alloc: Global,
+    key: &ObsKey,
+    content: Observation,
+) -> Result<(), ShelfFault>
+    requires rising { AreRising monitors.old.entries }
+    requires absent { lookup (same_monitor key.now.monitor) monitors.old.entries ≡ None }
+    ensures ok { OnOk result (flat monitors.new.entries ≡ with_entry key.now content (flat monitors.old.entries)) }
+    ensures refused { IfErr result (λ fault. fault ≡ Memory) }
+    ensures unchanged { OnErr result (flat monitors.new.entries ≡ flat monitors.old.entries) }
+    ensures rising { AreRising monitors.new.entries }
+{
+    let mut hours = Hours::new(alloc);
+    hours.insert(key.hour, content, false)?;
+    match monitors.insert(key.monitor, hours) {
+        Ok(_) => Ok(()),
+        Err(_) => Err(ShelfFault::Memory),
+    }
+}
+
+/// Gives the observation at a key another content, and answers the one before.
+fn change(
+    monitors: &mut BTreeMap<MonitorId, Hours>,
+    key: &ObsKey,
+    content: Observation,
+) -> Option<Observation>
+    requires { AreRising monitors.old.entries }
+    ensures before { result ≡ observation_at key.now (flat monitors.old.entries) }
+    ensures ok { OnSome result (flat monitors.new.entries ≡ with_content key.now content (flat monitors.old.entries)) }
+    ensures unchanged { IfNone result (flat monitors.new.entries ≡ flat monitors.old.entries) }
+    ensures rising { AreRising monitors.new.entries }
+{
+    let hours = monitors.get_mut(&key.monitor)?;
+    hours.update(key.hour, content)
+}
+
+/// Takes the observation at a key away, and answers it.
+fn take_out(monitors: &mut BTreeMap<MonitorId, Hours>, key: &ObsKey) -> Option<Observation>
+    requires { AreRising monitors.old.entries }
+    ensures before { result ≡ observation_at key.now (flat monitors.old.entries) }
+    ensures ok { OnSome result (flat monitors.new.entries ≡ without_key key.now (flat monitors.old.entries)) }
+    ensures unchanged { IfNone result (flat monitors.new.entries ≡ flat monitors.old.entries) }
+    ensures rising { AreRising monitors.new.entries }
+{
+    let hours = monitors.get_mut(&key.monitor)?;
+    hours.remove(key.hour)
+}
+
+/// The hours of a monitor, and `none` where it is not among the monitors.
+fn find<'a>(
+    monitors: &'a BTreeMap<MonitorId, Hours>,
+    none: &'a Hours,
+    monitor: &MonitorId,
+) -> &'a Hours
+    requires { none.now ≡ [] }
+    ensures { result.now ≡ hours_of monitor.now monitors.now.entries }
+{
+    match monitors.get(monitor) {
+        Some(hours) => hours,
+        None => none,
     }
 }
 
 /// Counts one step, and one for each entry.
-fn count_steps<L: Ledger>(entries: Range<'_, ObsKey, Observation>, counter: &mut Steps<L>)
+fn count_steps<L: Ledger>(entries: Range<'_, Hour, Observation>, counter: &mut Steps<L>)
     ensures { counter.new ≡ counter.old + 1 + length entries.entry }
 {
     counter.tick();
     for _ in entries {
         counter.tick();
-    }
-}
-
-/// The monitor's entries in the `hours` hours from `from` on.
-fn entries_in<'a>(
-    entries: &'a BTreeMap<ObsKey, Observation>,
-    monitor: &MonitorId,
-    from: Hour,
-    hours: u32,
-) -> Range<'a, ObsKey, Observation>
-    requires hours { hours ≤ 1000000 }
-    requires standing { IsShelf entries.now.entries }
-    ensures { result ≡ filter (in_span monitor.now from hours) entries.now.entries }
-{
-    let first = key_at(monitor, from);
-    let end = from.number() + hours;
-    if end <= LAST_HOUR {
-        let last = key_at(monitor, Hour::new(end));
-        entries.range(first..last)
-    } else {
-        let last = key_at(monitor, Hour::new(LAST_HOUR));
-        entries.range(first..=last)
-    }
-}
-
-/// The key of a monitor's hour.
-fn key_at(monitor: &MonitorId, hour: Hour) -> ObsKey
-    ensures { result ≡ record { monitor = monitor.now; hour = hour } }
-{
-    ObsKey {
-        monitor: *monitor,
-        hour,
     }
 }

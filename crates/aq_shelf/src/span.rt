@@ -1,7 +1,7 @@
 //! A monitor's observations in some hours.
 ghost use Rattle.std.specs.Iterator.{YieldsFirst, item_count};
 
-use aq_base::{Hour, ObsKey, Observation};
+use aq_base::{Hour, Observation};
 use std::collections::btree_map::Range;
 use std::iter::Iterator;
 use std::marker::Model;
@@ -10,25 +10,23 @@ use std::marker::Model;
 /// see the list of what is left.
 #[derive(Drop)]
 pub struct Span<'a> {
-    entries: Range<'a, ObsKey, Observation>,
+    entries: Range<'a, Hour, Observation>,
 }
 
 impl<'a> Model for Span<'a> {
-    ghost use Rattle.std.specs.Prelude.{ℕ, List, map};
+    ghost use Rattle.std.specs.Prelude.{ℕ, List};
     ghost use Rattle.aq_base.specs.declared.observation.Observation.{Observation};
-    ghost use Rattle.aq_shelf.specs.Entries.{hour_content};
 
     ghost Value = { List (ℕ × Observation) };
 
-    ghost view = { λ span. map hour_content span.entries };
+    ghost view = { λ span. span.entries };
 }
 
 impl<'a> Span<'a> {
-    ghost use Rattle.std.specs.Prelude.{◌≡◌, map};
-    ghost use Rattle.aq_shelf.specs.Entries.{hour_content};
+    ghost use Rattle.std.specs.Prelude.{◌≡◌};
 
-    pub(crate) fn new(entries: Range<'a, ObsKey, Observation>) -> Span<'a>
-        ensures { result ≡ map hour_content entries.entry }
+    pub(crate) fn new(entries: Range<'a, Hour, Observation>) -> Span<'a>
+        ensures { result ≡ entries.entry }
     {
         Span { entries }
     }
@@ -42,7 +40,7 @@ impl<'a> Iterator for Span<'a> {
     ghost remaining = { item_count (λ rest. rest) };
 
     fn next(&mut self) -> Option<(Hour, Observation)> {
-        let (key, content) = self.entries.next()?;
-        Some((key.hour, *content))
+        let (hour, content) = self.entries.next()?;
+        Some((*hour, *content))
     }
 }

@@ -1,5 +1,14 @@
-use Rattle.aq_shelf.proofs.EntryLemmas.{IsShelf-nil}
+use Rattle.std.proofs.Common.{◌≡◌, [], refl, ap, sym, subst, arith}
+use Rattle.std.specs.List.Sorted.{IsStrictlySortedBy}
+use Rattle.std.proofs.Common.{List}
+use Rattle.aq_base.specs.declared.monitor.MonitorId.{MonitorId}
+use Rattle.aq_base.specs.declared.observation.Observation.{Observation}
+use Rattle.std.proofs.Common.{ℕ}
+use Rattle.aq_shelf.specs.Monitors.{AreMonitors}
 use Rattle.aq_shelf.proofs.shelf.Shelf.new.Goals as goal
 
 pub invariant_of-result : goal.invariant_of-result
-invariant_of-result c = IsShelf-nil c.new.result.entries c.new.ensures.empty c.new.ensures.ordered
+unfolding IsStrictlySortedBy
+invariant_of-result c =
+    let none : AreMonitors [] 0 = record { rising = tt; shelf = record { rising = tt; few = omega arith; standing = tt }; counted = refl } in
+    (subst (λ (ms : List (MonitorId × List (ℕ × Observation))). AreMonitors ms 0) (sym c.new.ensures.empty) none, c.new-2.ensures)

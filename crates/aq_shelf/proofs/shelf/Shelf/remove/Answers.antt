@@ -1,54 +1,41 @@
-use Rattle.std.proofs.Common.{None, ◌≡◌, ◌∙◌, ap, sym}
-use Rattle.aq_shelf.specs.Entries.{observation_at, without_key}
-use Rattle.aq_shelf.proofs.EntryLemmas.{observation_at-changed, HasValueInRange-found, IsShelf-remove, lookup-derived, remove_entry-derived}
+use Rattle.std.proofs.Common.{◌≡◌, ◌∙◌, ◌+◌, ◌-◌, ap, sym, subst, Some, None, List, length, arith}
+use Rattle.aq_base.specs.declared.observation.ObsKey.{ObsKey}
+use Rattle.aq_base.specs.declared.observation.Observation.{Observation}
+use Rattle.aq_shelf.specs.Keys.{same_key}
+use Rattle.aq_shelf.specs.Entries.{ChangesOnly, observation_at, without_key}
+use Rattle.aq_shelf.specs.Monitors.{flat}
+use Rattle.aq_shelf.proofs.MapLemmas.{length-remove_entry}
+use Rattle.aq_shelf.proofs.EntryLemmas.{IsShelf-remove, ChangesOnly-remove, HasValueInRange-found}
 use Rattle.aq_shelf.proofs.shelf.Shelf.remove.Goals as goal
-use Rattle.aq_shelf.proofs.shelf.Shelf.remove.Goals.{in-Some, in-None}
 
-pub invariant_of-self : goal.invariant_of-self
-invariant_of-self c =
-    IsShelf-remove c.args.key c.self.inside.entries.entries c.remove.new.self.entries c.self.invariant c.remove.ensures.entries c.remove.ensures.ordered
+-- what stood at the key
+found : (c : goal.After-self-1) → observation_at c.args.key (flat c.self.inside.monitors.entries) ≡ Some c.in_ok-before.before
+found c = sym c.take_out.ensures.before ∙ c.in_ok-before.ensures.ok_part
 
--- what the map answers
-answer : (c : goal.Joined-remove) → c.remove.result ≡ observation_at c.args.key c.args.self.now
-answer c =
-    c.remove.ensures.value ∙ lookup-derived c.args.key c.self.inside.entries.entries
-    ∙ ap (observation_at c.args.key) c.self.view_is
+taken : (c : goal.After-self-1) → flat c.take_out.new.monitors.entries ≡ without_key c.args.key (flat c.self.inside.monitors.entries)
+taken c = rw c.in_ok-before.ensures.ok_part at c.take_out.ensures.ok
 
-pub returns-clause-before : goal.returns-clause-before
-returns-clause-before c =
-    elim c.match-remove.branch [
-      | in-Some w ↦ rw w.result-is (sym (answer c) ∙ w.in-Some.is)
-      | in-None w ↦ rw w.result-is tt
-    ]
-
-pub returns-clause-not_there : goal.returns-clause-not_there
-returns-clause-not_there c =
-    elim c.match-remove.branch [
-      | in-Some w ↦ rw w.result-is tt
-      | in-None w ↦ rw w.result-is (sym (answer c) ∙ w.in-None.is)
-    ]
-
-pub returns-clause-ok : goal.returns-clause-ok
-returns-clause-ok c =
-    let new : c.remove.new.self.entries ≡ without_key c.args.key c.args.self.now =
-    c.remove.ensures.entries ∙ remove_entry-derived c.args.key c.self.inside.entries.entries
-    ∙ ap (without_key c.args.key) c.self.view_is
-    in
-    elim c.match-remove.branch [ in-Some w ↦ rw w.result-is new | in-None w ↦ rw w.result-is tt ]
+pub invariant_of-self-2 : goal.invariant_of-self-2
+invariant_of-self-2 c =
+    let was = c.self.invariant.0 in
+    let es = flat c.self.inside.monitors.entries in
+    let counted = was.counted in
+    let fewer = length-remove_entry (same_key c.args.key) es c.in_ok-before.before (found c) in
+    let left = ap length (taken c) in
+    (record {
+      rising = c.take_out.ensures.rising;
+      shelf = IsShelf-remove c.args.key es (flat c.take_out.new.monitors.entries) was.shelf (taken c);
+      counted = omega arith;
+    }, c.self.invariant.1)
 
 pub returns-clause-range : goal.returns-clause-range
 returns-clause-range c =
-    let stood = c.remove.ensures.value ∙ lookup-derived c.args.key c.self.inside.entries.entries in
-    elim c.match-remove.branch [
-      | in-Some w ↦
-          rw w.result-is (HasValueInRange-found c.args.key w.in-Some.before c.self.inside.entries.entries c.self.invariant (sym stood ∙ w.in-Some.is))
-      | in-None w ↦ rw w.result-is tt
-    ]
+    HasValueInRange-found c.args.key c.in_ok-before.before (flat c.self.inside.monitors.entries) c.self.invariant.0.shelf (found c)
 
 pub returns-clause-keys : goal.returns-clause-keys
 returns-clause-keys c =
-    elim c.match-remove.branch [
-      | in-Some w ↦
-          rw (w.result-is, ← c.self.view_is) (λ other. observation_at-changed c.args.key other None c.self.inside.entries.entries c.remove.new.self.entries (c.remove.ensures.updates.0 other))
-      | in-None w ↦ rw w.result-is tt
-    ]
+    let es = flat c.self.inside.monitors.entries in
+    let changes : ChangesOnly c.args.key None es (flat c.take_out.new.monitors.entries) =
+    subst (λ (fs : List (ObsKey × Observation)). ChangesOnly c.args.key None es fs) (sym (taken c)) (ChangesOnly-remove c.args.key es c.self.invariant.0.shelf)
+    in
+    subst (λ (fs : List (ObsKey × Observation)). ChangesOnly c.args.key None fs (flat c.take_out.new.monitors.entries)) c.self.view_is changes

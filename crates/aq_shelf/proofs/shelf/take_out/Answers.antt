@@ -1,0 +1,40 @@
+use Rattle.std.proofs.Common.{◌≡◌, ◌∙◌, ap, sym, Some, None, nat_eq, is_some}
+use Rattle.std.specs.Map.{lookup, set_value}
+use Rattle.std.proofs.lemmas.Map.Steps.{set_value_same}
+use Rattle.aq_shelf.specs.Keys.{same_monitor}
+use Rattle.aq_shelf.specs.Monitors.{flat}
+use Rattle.aq_shelf.proofs.Cases.{some_then, if_none}
+use Rattle.aq_shelf.proofs.FlatLemmas.{lookup-flat-none, lookup-flat-found, found-derived, set_value-derived, remove-flat}
+use Rattle.aq_shelf.proofs.shelf.take_out.Goals as goal
+
+pub returns-in_err-hours-clause-before : goal.returns-in_err-hours-clause-before
+returns-in_err-hours-clause-before c =
+    c.from_residual.ensures
+    ∙ sym (lookup-flat-none c.args.key.now c.args.monitors.now.entries (found-derived c.args.key.now.monitor c.args.monitors.now.entries None c.in_err-hours.ensures.value))
+
+pub returns-clause-before : goal.returns-clause-before
+returns-clause-before c =
+    let found = found-derived c.args.key.now.monitor c.args.monitors.now.entries (Some c.in_ok-hours.hours.now) c.in_ok-hours.ensures.value in
+    c.remove.ensures.before
+    ∙ sym (lookup-flat-found c.args.key.now c.args.monitors.now.entries c.in_ok-hours.hours.now c.requires found)
+
+pub returns-clause-ok : goal.returns-clause-ok
+returns-clause-ok c =
+    let key = c.args.key.now in
+    let ms = c.args.monitors.now.entries in
+    let hs = c.in_ok-hours.hours.now in
+    let found = found-derived key.monitor ms (Some hs) c.in_ok-hours.ensures.value in
+    let written = set_value-derived key.monitor ms (c.get_mut.follows.lender c.remove.new.self).entries c.remove.new.self (c.get_mut.follows.holds c.remove.new.self).0 in
+    some_then c.remove.result
+    (λ stands. ap flat (written ∙ ap (set_value (same_monitor key.monitor) ms) c.remove.ensures.after) ∙ remove-flat key ms hs found (ap is_some (sym c.remove.ensures.before) ∙ stands))
+
+pub returns-clause-unchanged : goal.returns-clause-unchanged
+returns-clause-unchanged c =
+    let key = c.args.key.now in
+    let ms = c.args.monitors.now.entries in
+    let hs = c.in_ok-hours.hours.now in
+    let found = found-derived key.monitor ms (Some hs) c.in_ok-hours.ensures.value in
+    let written = set_value-derived key.monitor ms (c.get_mut.follows.lender c.remove.new.self).entries c.remove.new.self (c.get_mut.follows.holds c.remove.new.self).0 in
+    if_none c.remove.result
+    (λ stays. ap flat (written ∙ ap (set_value (same_monitor key.monitor) ms) stays ∙ set_value_same (same_monitor key.monitor) ms hs found))
+    c.remove.ensures.unchanged
