@@ -1,5 +1,5 @@
 -- A change of one monitor's hours is the change of the list of all entries.
-use Rattle.std.proofs.Common.{Option, ◌≡◌, ℕ, ◌+◌, ◌≤◌, Bool, true, false, ◌&&◌, nat_eq, List, [], ◌∷◌, ◌++◌, map, cond, Some, None, is_some, unwrap_or, refl, ap, sym, subst, ◌∙◌}
+use Rattle.std.proofs.Common.{Option, ◌≡◌, ℕ, ◌+◌, ◌≤◌, Bool, true, false, ◌&&◌, nat_eq, List, [], ◌∷◌, ◌++◌, map, cond, Some, None, is_some, unwrap_or, refl, ap, sym, ◌∙◌}
 use Rattle.std.specs.Prelude.{nat_le, nat_lt, filter, IsSome}
 use Rattle.std.specs.declared.cmp.Ordering.{Ordering}
 use Rattle.std.specs.declared.cmp.Ordering.TheVariants.{Less, Equal, Greater}

@@ -1,5 +1,5 @@
 -- One monitor's hours between two bounds.
-use Rattle.std.proofs.Common.{◌≡◌, ℕ, ◌+◌, ◌<◌, ◌≤◌, Bool, ◌&&◌, not, List, [], ◌∷◌, cond, refl, ap, ◌∙◌, arith}
+use Rattle.std.proofs.Common.{◌≡◌, ℕ, ◌+◌, ◌<◌, ◌≤◌, Bool, ◌&&◌, List, [], ◌∷◌, cond, refl, ap, ◌∙◌, arith}
 use Rattle.std.specs.Prelude.{nat_le, nat_lt, filter}
 use Rattle.std.specs.Ordering.{nat_cmp}
 use Rattle.std.specs.List.{AllByRecursion}

@@ -1,9 +1,8 @@
-use Rattle.std.proofs.Common.{◌≡◌, ◌∙◌, ap, sym, Some, None, nat_eq, is_some}
-use Rattle.std.specs.Map.{lookup, set_value}
+use Rattle.std.proofs.Common.{◌∙◌, ap, sym, Some, None, is_some}
+use Rattle.std.specs.Map.{set_value}
 use Rattle.std.proofs.lemmas.Map.Steps.{set_value_same}
 use Rattle.aq_shelf.specs.Keys.{same_monitor}
-use Rattle.aq_shelf.specs.Entries.{observation_at, with_content}
-use Rattle.aq_shelf.specs.Monitors.{flat, at_hour}
+use Rattle.aq_shelf.specs.Monitors.{flat}
 use Rattle.aq_shelf.proofs.Cases.{on_some, if_none}
 use Rattle.aq_shelf.proofs.FlatLemmas.{lookup-flat-none, lookup-flat-found, found-derived, set_value-derived, set-flat}
 use Rattle.aq_shelf.proofs.shelf.change.Goals as goal

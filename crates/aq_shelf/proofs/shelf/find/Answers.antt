@@ -1,8 +1,7 @@
-use Rattle.std.proofs.Common.{◌≡◌, ◌∙◌, ap, sym, Bool, List, ℕ, [], unwrap_or, Option}
+use Rattle.std.proofs.Common.{◌∙◌, ap, Bool, List, ℕ, [], unwrap_or, Option}
 use Rattle.std.specs.Map.{lookup}
 use Rattle.aq_base.specs.declared.monitor.MonitorId.{MonitorId}
 use Rattle.aq_base.specs.declared.observation.Observation.{Observation}
-use Rattle.aq_shelf.specs.Keys.{same_monitor}
 use Rattle.aq_shelf.proofs.Order.{same_test}
 use Rattle.aq_shelf.proofs.shelf.find.Goals as goal
 

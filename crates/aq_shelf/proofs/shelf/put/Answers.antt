@@ -1,12 +1,11 @@
-use Rattle.std.proofs.Common.{◌≡◌, ◌∙◌, ap, sym, subst, Some, None, List, ℕ, BTreeMap}
+use Rattle.std.proofs.Common.{◌∙◌, ap, sym, subst, Some, None, List, ℕ, BTreeMap}
 use Rattle.std.specs.Map.{lookup, set_value}
 use Rattle.std.proofs.lemmas.Map.Steps.{set_value_same}
 use Rattle.aq_base.specs.declared.monitor.MonitorId.{MonitorId}
 use Rattle.aq_base.specs.declared.observation.Observation.{Observation}
 use Rattle.aq_shelf.specs.declared.fault.ShelfFault.{ShelfFault}
 use Rattle.aq_shelf.specs.Keys.{same_monitor}
-use Rattle.aq_shelf.specs.Entries.{observation_at}
-use Rattle.aq_shelf.specs.Monitors.{flat, at_hour, IsPutFault}
+use Rattle.aq_shelf.specs.Monitors.{flat, IsPutFault}
 use Rattle.aq_shelf.proofs.Cases.{on_ok, on_err, if_err}
 use Rattle.aq_shelf.proofs.FlatLemmas.{lookup-flat-none, lookup-flat-found, IsPutFault-from_hour, found-derived, set_value-derived, insert-flat}
 use Rattle.aq_shelf.proofs.shelf.put.Goals as goal

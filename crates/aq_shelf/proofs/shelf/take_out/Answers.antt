@@ -1,5 +1,5 @@
-use Rattle.std.proofs.Common.{◌≡◌, ◌∙◌, ap, sym, Some, None, nat_eq, is_some}
-use Rattle.std.specs.Map.{lookup, set_value}
+use Rattle.std.proofs.Common.{◌∙◌, ap, sym, Some, None, is_some}
+use Rattle.std.specs.Map.{set_value}
 use Rattle.std.proofs.lemmas.Map.Steps.{set_value_same}
 use Rattle.aq_shelf.specs.Keys.{same_monitor}
 use Rattle.aq_shelf.specs.Monitors.{flat}

@@ -1,4 +1,4 @@
-use Rattle.std.proofs.Common.{◌≡◌, ◌∙◌, ap, sym, subst, Option}
+use Rattle.std.proofs.Common.{◌∙◌, ap, sym, subst, Option}
 use Rattle.std.specs.Prelude.{IfSome}
 use Rattle.aq_base.specs.Values.{HasValueInRange}
 use Rattle.aq_base.specs.declared.observation.Observation.{Observation}

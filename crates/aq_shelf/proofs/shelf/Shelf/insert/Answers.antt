@@ -1,9 +1,9 @@
-use Rattle.std.proofs.Common.{◌≡◌, ◌∙◌, ◌+◌, ◌<◌, ◌≤◌, ℕ, ap, sym, subst, nat_eq, false, Some, List, length, arith}
+use Rattle.std.proofs.Common.{◌≡◌, ◌∙◌, ◌<◌, ◌≤◌, ℕ, ap, sym, subst, nat_eq, false, Some, List, length, arith}
 use Rattle.std.proofs.lemmas.Bool.Decides.{nat_tests}
 use Rattle.aq_base.specs.declared.observation.ObsKey.{ObsKey}
 use Rattle.aq_base.specs.declared.observation.Observation.{Observation}
 use Rattle.aq_shelf.specs.declared.shelf.TheConstants.{MOST_OBSERVATIONS}
-use Rattle.aq_shelf.specs.Entries.{ChangesOnly, with_entry}
+use Rattle.aq_shelf.specs.Entries.{ChangesOnly}
 use Rattle.aq_shelf.specs.Monitors.{flat}
 use Rattle.aq_shelf.proofs.EntryLemmas.{IsShelf-insert, length-with_entry, ChangesOnly-insert}
 use Rattle.aq_shelf.proofs.shelf.Shelf.insert.Goals as goal
@@ -23,12 +23,14 @@ invariant_of-self-2 c =
     let within : c.self.inside.count ≤ MOST_OBSERVATIONS = omega arith in
     let less = room c.self.inside.count within c.in_ok-put.ensures.room in
     let short : length es < MOST_OBSERVATIONS = omega arith in
-    let more = ap length ok ∙ length-with_entry c.args.key c.args.content es absent in
-    (record {
-      rising = c.put.ensures.rising;
-      shelf = IsShelf-insert c.args.key c.args.content es (flat c.put.new.monitors.entries) (rw c.number-full.ensures.value at c.number-full.ensures.range, c.requires) absent short was.shelf ok;
-      counted = omega arith;
-    }, c.self.invariant.1)
+    let more = ap length ok ∙ length-with_entry c.args.key c.args.content es absent in (
+      record {
+        rising = c.put.ensures.rising;
+        shelf = IsShelf-insert c.args.key c.args.content es (flat c.put.new.monitors.entries) (rw c.number-full.ensures.value at c.number-full.ensures.range, c.requires) absent short was.shelf ok;
+        counted = omega arith;
+      },
+      c.self.invariant.1,
+    )
 
 pub returns-clause-keys : goal.returns-clause-keys
 returns-clause-keys c =

@@ -1,9 +1,7 @@
-use Rattle.std.proofs.Common.{◌≡◌, [], refl, ap, sym, subst, arith}
+use Rattle.std.proofs.Common.{ℕ, List, [], refl, sym, subst, arith}
 use Rattle.std.specs.List.Sorted.{IsStrictlySortedBy}
-use Rattle.std.proofs.Common.{List}
 use Rattle.aq_base.specs.declared.monitor.MonitorId.{MonitorId}
 use Rattle.aq_base.specs.declared.observation.Observation.{Observation}
-use Rattle.std.proofs.Common.{ℕ}
 use Rattle.aq_shelf.specs.Monitors.{AreMonitors}
 use Rattle.aq_shelf.proofs.shelf.Shelf.new.Goals as goal
 

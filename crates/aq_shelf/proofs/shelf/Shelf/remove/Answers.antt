@@ -1,4 +1,4 @@
-use Rattle.std.proofs.Common.{◌≡◌, ◌∙◌, ◌+◌, ◌-◌, ap, sym, subst, Some, None, List, length, arith}
+use Rattle.std.proofs.Common.{◌≡◌, ◌∙◌, ap, sym, subst, Some, None, List, length, arith}
 use Rattle.aq_base.specs.declared.observation.ObsKey.{ObsKey}
 use Rattle.aq_base.specs.declared.observation.Observation.{Observation}
 use Rattle.aq_shelf.specs.Keys.{same_key}
@@ -21,12 +21,14 @@ invariant_of-self-2 c =
     let es = flat c.self.inside.monitors.entries in
     let counted = was.counted in
     let fewer = length-remove_entry (same_key c.args.key) es c.in_ok-before.before (found c) in
-    let left = ap length (taken c) in
-    (record {
-      rising = c.take_out.ensures.rising;
-      shelf = IsShelf-remove c.args.key es (flat c.take_out.new.monitors.entries) was.shelf (taken c);
-      counted = omega arith;
-    }, c.self.invariant.1)
+    let left = ap length (taken c) in (
+      record {
+        rising = c.take_out.ensures.rising;
+        shelf = IsShelf-remove c.args.key es (flat c.take_out.new.monitors.entries) was.shelf (taken c);
+        counted = omega arith;
+      },
+      c.self.invariant.1,
+    )
 
 pub returns-clause-range : goal.returns-clause-range
 returns-clause-range c =

@@ -1,4 +1,4 @@
-use Rattle.std.proofs.Common.{◌≡◌, ◌∙◌, ap, sym, subst, is_some, Some, List, length, refl}
+use Rattle.std.proofs.Common.{◌∙◌, ap, sym, subst, is_some, Some, List, length}
 use Rattle.std.specs.Prelude.{IsSome}
 use Rattle.std.proofs.lemmas.Map.{length-set_value}
 use Rattle.aq_base.specs.declared.observation.ObsKey.{ObsKey}
@@ -13,12 +13,14 @@ pub invariant_of-self-2 : goal.invariant_of-self-2
 invariant_of-self-2 c =
     let was = c.self.invariant.0 in
     let es = flat c.self.inside.monitors.entries in
-    let ok = c.in-Some.ensures.ok in
-    (record {
-      rising = c.change.ensures.rising;
-      shelf = IsShelf-update c.args.key c.args.content es (flat c.change.new.monitors.entries) c.requires was.shelf ok;
-      counted = was.counted ∙ sym (ap length ok ∙ length-set_value (same_key c.args.key) es c.args.content);
-    }, c.self.invariant.1)
+    let ok = c.in-Some.ensures.ok in (
+      record {
+        rising = c.change.ensures.rising;
+        shelf = IsShelf-update c.args.key c.args.content es (flat c.change.new.monitors.entries) c.requires was.shelf ok;
+        counted = was.counted ∙ sym (ap length ok ∙ length-set_value (same_key c.args.key) es c.args.content);
+      },
+      c.self.invariant.1,
+    )
 
 pub returns-clause-range : goal.returns-clause-range
 returns-clause-range c =
