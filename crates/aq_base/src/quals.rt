@@ -38,7 +38,7 @@ impl Model for Quals {
 
 impl Quals {
     ghost use Rattle.std.specs.Prelude.{◌≡◌, ◌≤◌, [], length, IsTrue};
-    ghost use Rattle.aq_base.specs.Quals.{with_code, all_distinct};
+    ghost use Rattle.aq_base.specs.Quals.{has_code, with_code, all_distinct};
 
     /// No codes.
     pub fn new() -> Quals
@@ -55,10 +55,17 @@ impl Quals {
         requires { length (with_code self.old code) ≤ MOST_QUALIFIERS }
         ensures { self.new ≡ with_code self.old code }
     {
-        if !self.codes().contains(&code) {
+        if !self.has(code) {
             self.places[usize::from(self.count)] = code;
             self.count += 1;
         }
+    }
+
+    // Whether a code is there.
+    fn has(&self, code: Code) -> bool
+        ensures { result ≡ has_code code self.now }
+    {
+        self.codes().iter().any(|other| *other == code)
     }
 
     /// The codes, in order.
