@@ -1,12 +1,13 @@
 -- The fields of a line, byte by byte.
-use Rattle.std.proofs.Common.{◌≡◌, ◌≢◌, inl, inr, ◌⊎◌, ℕ, zero, suc, ◌+◌, ◌-◌, ◌<◌, ◌≤◌, Bool, true, false, cond, not, ◌&&◌, ◌||◌, List, [], ◌∷◌, ◌++◌, length, take, drop, get_or, map, refl, sym, ap, ◌∙◌, arith}
+use Rattle.std.proofs.Common.{◌≡◌, ◌≢◌, inl, inr, ◌⊎◌, ℕ, zero, suc, ◌+◌, ◌-◌, ◌<◌, ◌≤◌, Bool, true, false, cond, nat_le, not, ◌&&◌, ◌||◌, List, [], ◌∷◌, ◌++◌, length, take, drop, get_or, map, refl, sym, ap, ◌∙◌, arith}
 use Rattle.std.specs.List.{slice_split, onto_first, list_all, list_any}
 use Rattle.std.proofs.lemmas.Bool.{false≢true, cases_lt}
 use Rattle.std.proofs.lemmas.Bool.Decides.{nat_tests}
 use Rattle.std.proofs.lemmas.List.{take_more}
 use Rattle.std.proofs.lemmas.List.Splits.{slice_split-cons_yes, slice_split-cons_no}
 use Rattle.aq_profile.specs.Fields.{fields, field, trimmed, without_front, without_back, onto_text, is_bar, is_space, is_empty}
-use Rattle.aq_rd.specs.FieldPlaces.{has_text}
+use Rattle.aq_profile.specs.Reading.{is_plain, is_plain_byte}
+use Rattle.aq_rd.specs.FieldPlaces.{has_text, are_between}
 
 pub same_or_other : (a b : ℕ) → (a ≡ b) ⊎ (a ≢ b)
 same_or_other a b =
@@ -176,6 +177,55 @@ has_text-more byte text other =
     ap (λ parts. has_text (map trimmed parts)) (split-text byte text other)
     ∙ has_text-parts byte (get_or (slice_split is_bar text) 0 []) (drop 1 (slice_split is_bar text))
     ∙ sym (ap (λ parts. not (is_space byte) || has_text (map trimmed parts)) (parts-cons text))
+
+-- ---- a text without spaces
+
+no_space : (byte : ℕ) → (nat_le 0x21 byte && nat_le byte 0x7E) ≡ true → is_space byte ≡ false
+no_space byte h = grind (arith, nat_tests)
+
+without_front-dense : (text : List ℕ) → are_between 0x21 text ≡ true → without_front text ≡ text
+without_front-dense [] h = refl
+without_front-dense (byte ∷ text) h =
+    let parts = both (nat_le 0x21 byte && nat_le byte 0x7E) (are_between 0x21 text) h in
+    ap (λ b. cond b (without_front text) (byte ∷ text)) (no_space byte parts.0)
+
+onto_text-dense : (byte : ℕ) (text : List ℕ) → is_space byte ≡ false → onto_text byte text ≡ byte ∷ text
+onto_text-dense byte [] e = ap (λ b. cond b [] (byte ∷ [])) e
+onto_text-dense byte (next ∷ text) e = refl
+
+without_back-dense : (text : List ℕ) → are_between 0x21 text ≡ true → without_back text ≡ text
+without_back-dense [] h = refl
+without_back-dense (byte ∷ text) h =
+    let parts = both (nat_le 0x21 byte && nat_le byte 0x7E) (are_between 0x21 text) h in
+    ap (onto_text byte) (without_back-dense text parts.1) ∙ onto_text-dense byte text (no_space byte parts.0)
+
+dense-drop : (n : ℕ) (text : List ℕ) → are_between 0x21 text ≡ true → are_between 0x21 (drop n text) ≡ true
+dense-drop zero text h = h
+dense-drop (suc n) [] h = refl
+dense-drop (suc n) (byte ∷ text) h = dense-drop n text (both (nat_le 0x21 byte && nat_le byte 0x7E) (are_between 0x21 text) h).1
+
+dense-take : (n : ℕ) (text : List ℕ) → are_between 0x21 text ≡ true → are_between 0x21 (take n text) ≡ true
+dense-take zero text h = refl
+dense-take (suc n) [] h = refl
+dense-take (suc n) (byte ∷ text) h =
+    let parts = both (nat_le 0x21 byte && nat_le byte 0x7E) (are_between 0x21 text) h in
+    ap (λ b. b && are_between 0x21 (take n text)) parts.0 ∙ dense-take n text parts.1
+
+plain-byte : (byte : ℕ) → (nat_le 0x21 byte && nat_le byte 0x7E) ≡ true → is_plain_byte byte ≡ true
+plain-byte byte h = grind (arith, nat_tests)
+
+pub dense-plain : (text : List ℕ) → are_between 0x21 text ≡ true → is_plain text ≡ true
+dense-plain [] h = refl
+dense-plain (byte ∷ text) h =
+    let parts = both (nat_le 0x21 byte && nat_le byte 0x7E) (are_between 0x21 text) h in
+    ap (λ b. b && is_plain text) (plain-byte byte parts.0) ∙ dense-plain text parts.1
+
+-- a part of it is as it is without the spaces round it
+pub trimmed-dense : (start count : ℕ) (line : List ℕ) → are_between 0x21 line ≡ true → trimmed (take count (drop start line)) ≡ take count (drop start line)
+trimmed-dense start count line h =
+    let text = take count (drop start line) in
+    let dense = dense-take count (drop start line) (dense-drop start line h) in
+    ap without_back (without_front-dense text dense) ∙ without_back-dense text dense
 
 -- a field holds a text where a byte is neither a bar nor a space
 pub has_text-bytes : (text : List ℕ) → has_text (fields text) ≡ list_any (λ byte. not (is_bar byte) && not (is_space byte)) text

@@ -19,28 +19,30 @@ pub(crate) struct FieldList<'a> {
     // end.
     starts: [usize; MOST_STARTS],
     count: usize,
+    has_spaces: bool,
 }
 
 impl<'a> Model for FieldList<'a> {
     ghost use Rattle.std.specs.Prelude.{List, ℕ};
     ghost use Rattle.aq_profile.specs.Fields.{fields};
-    ghost use Rattle.aq_rd.specs.FieldPlaces.{HoldsFields};
+    ghost use Rattle.aq_rd.specs.FieldPlaces.{HoldsFields, HasSpaces};
 
     ghost Value = { List (List ℕ) };
 
     ghost view = { λ list. fields list.line.now };
 
-    ghost invariant = { λ list. HoldsFields list.line.now list.starts list.count };
+    ghost invariant = { λ list. HoldsFields list.line.now list.starts list.count × HasSpaces list.has_spaces list.line.now };
 }
 
 impl<'a> FieldList<'a> {
     ghost use Rattle.std.specs.Prelude.{◌≡◌, ◌≤◌, length, drop};
     ghost use Rattle.aq_profile.specs.Fields.{fields, field};
-    ghost use Rattle.aq_rd.specs.FieldPlaces.{has_text};
+    ghost use Rattle.aq_rd.specs.FieldPlaces.{has_text, HasSpaces};
 
-    /// The fields of a line.
+    /// The fields of a line, of which it is known whether it may have spaces.
     #[inline(never)]
-    pub(crate) fn new(line: &'a [u8]) -> FieldList<'a>
+    pub(crate) fn new(line: &'a [u8], has_spaces: bool) -> FieldList<'a>
+        requires { HasSpaces has_spaces line.now }
         ensures { result ≡ fields line.now }
     {
         let mut starts = [line.len(); MOST_STARTS];
@@ -58,6 +60,7 @@ impl<'a> FieldList<'a> {
             line,
             starts,
             count,
+            has_spaces,
         }
     }
 
@@ -86,7 +89,8 @@ impl<'a> FieldList<'a> {
         } else {
             self.line.len()
         };
-        trim(&self.line[self.starts[number - 1]..end])
+        let text = &self.line[self.starts[number - 1]..end];
+        if self.has_spaces { trim(text) } else { text }
     }
 }
 

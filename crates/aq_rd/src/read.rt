@@ -14,7 +14,7 @@ use crate::line::RdLine;
 use crate::spellings::{
     date, duration, method, null_code, parameter, poc, qualifiers, site, time, unit_places, value,
 };
-use crate::tag::is_plain;
+use crate::tag::has_spaces;
 use aq_base::{Hour, MonitorId, Observation, Pollutant, Rule};
 use aq_cal::hour_of;
 
@@ -39,10 +39,8 @@ fn read_line(line: &[u8]) -> Result<RdLine, Rule>
     ensures value { result ≡ rd_reading line.now }
     ensures spelled { IfOk result IsSpelled }
 {
-    if !is_plain(line) {
-        return Err(Rule::BadBytes);
-    }
-    let texts = FieldList::new(line);
+    let has_spaces = has_spaces(line)?;
+    let texts = FieldList::new(line, has_spaces);
     if texts.field(1) != b"RD".as_slice() {
         return Err(Rule::BadTag);
     }

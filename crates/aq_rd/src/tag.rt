@@ -4,6 +4,8 @@ ghost use Rattle.std.specs.List.{list_all};
 ghost use Rattle.aq_profile.specs.Spellings.{tag_in};
 ghost use Rattle.aq_profile.specs.Reading.{is_plain, is_plain_byte, reading_rule};
 ghost use Rattle.aq_profile.specs.Reading as reading;
+ghost use Rattle.aq_base.specs.declared.rule.Rule.TheVariants.{BadBytes};
+ghost use Rattle.aq_rd.specs.FieldPlaces.{HasSpaces, are_between};
 ghost use Rattle.aq_rd.specs.Tags.{tag_value, tag_rule, has_office_tag};
 
 use crate::fields::first_field;
@@ -59,16 +61,39 @@ pub fn has_office_tag(line: &[u8]) -> bool
     }
 }
 
+/// Whether a line may have spaces. `BadBytes` exactly where a byte is outside 20 to 7E
+/// (hexadecimal).
+pub(crate) fn has_spaces(line: &[u8]) -> Result<bool, Rule>
+    ensures spaces { IfOk result (λ has_spaces. HasSpaces has_spaces line.now) }
+    ensures plain { OnOk result (is_plain line.now ≡ true) }
+    ensures rule { IfErr result (λ r. r ≡ BadBytes) }
+    ensures bytes { OnErr result (is_plain line.now ≡ false) }
+{
+    if are_between(0x21, line) {
+        Ok(false)
+    } else if is_plain(line) {
+        Ok(true)
+    } else {
+        Err(Rule::BadBytes)
+    }
+}
+
 /// Whether a line is of printed ASCII and spaces.
-pub(crate) fn is_plain(line: &[u8]) -> bool
+fn is_plain(line: &[u8]) -> bool
     ensures { result ≡ is_plain line.now }
 {
-    // To the end in any case, so that many bytes are tested at once.
-    let mut is_plain = true;
+    are_between(0x20, line)
+}
+
+// Whether all bytes are from one to 7E. All are tested in any case, so that many are tested at once.
+fn are_between(least: u8, line: &[u8]) -> bool
+    ensures { result ≡ are_between least line.now }
+{
+    let mut are_between = true;
     for byte in line {
-        is_plain &= matches!(*byte, 0x20..=0x7E);
+        are_between &= least <= *byte && *byte <= 0x7E;
     }
-    is_plain
+    are_between
 }
 
 fn form_of(text: &[u8]) -> Option<Tag>

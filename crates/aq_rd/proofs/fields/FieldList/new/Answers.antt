@@ -19,4 +19,4 @@ loop-place-preserved c =
     ]
 
 pub invariant_of-result : goal.invariant_of-result
-invariant_of-result c = scanned-end _ _ _ _ c.loop-place.invariant (omega (arith, c.loop-place-test.false))
+invariant_of-result c = (scanned-end _ _ _ _ c.loop-place.invariant (omega (arith, c.loop-place-test.false)), c.requires)
