@@ -1,9 +1,10 @@
-use Rattle.std.proofs.Common.{◌≡◌, ◌<◌, ◌+◌, length, take}
-use Rattle.aq_profile.specs.Fields.{fields}
+use Rattle.std.proofs.Common.{◌≡◌, ◌<◌, take}
+use Rattle.std.specs.Prelude.{count_by}
+use Rattle.aq_profile.specs.Fields.{is_bar}
 use Rattle.aq_rd.proofs.reader.first_fields.Given as goal
 
 abbrev pub invariant-loop-place : goal.invariant-loop-place
 invariant-loop-place l = record {
-  counted : length (fields (take l.place l.line)) ≡ l.count + 1;
+  counted : l.count ≡ count_by is_bar (take l.place l.line);
   few : l.count < 10;
 }
