@@ -271,7 +271,7 @@ scanned-end line i c starts s over =
             | inr beyond ↦ field-missing line (number - 1) (get_or starts (number - 1) 0) (omega arith) (s.missing (number - 1) (omega arith) beyond)
           ]);
       counted = counted;
-      behind = λ many. s.begun 28 (omega arith) many;
+      behind = λ k few less. s.begun k (omega arith) less;
     }
 
 pub scanned-same : {line : List ℕ} {i c c' : ℕ} {starts starts' : List ℕ} → c' ≡ c → starts' ≡ starts → Scanned line i c starts → Scanned line i c' starts'

@@ -27,4 +27,4 @@ pub record HoldsFields (line : List ℕ) (starts : List ℕ) (count : ℕ) : Typ
   pub ended : (number : ℕ) → 1 ≤ number → number ≤ MOST_FIELDS → number < count → StandsAt line number (slice_index_or starts (number - 1) 0) (slice_index_or starts number 0 - 1)
   pub last : (number : ℕ) → 1 ≤ number → number ≤ MOST_FIELDS → count ≤ number → StandsAt line number (slice_index_or starts (number - 1) 0) (length line)
   pub counted : count ≡ length (fields line)
-  pub behind : MOST_FIELDS < count → drop MOST_FIELDS (fields line) ≡ fields (drop (slice_index_or starts MOST_FIELDS 0) line)
+  pub behind : (k : ℕ) → k ≤ MOST_FIELDS → k < count → drop k (fields line) ≡ fields (drop (slice_index_or starts k 0) line)

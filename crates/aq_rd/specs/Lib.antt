@@ -6,3 +6,4 @@ pub mod FieldPlaces
 pub mod RdReading
 pub mod Printing
 pub mod Spelled
+pub mod Fronts

@@ -8,6 +8,9 @@ use std::marker::Model;
 /// An RD line has at most this many fields.
 pub(crate) const MOST_FIELDS: usize = 28;
 
+/// Of a line to be put, the fields up to the method.
+pub(crate) const HEAD_FIELDS: usize = 10;
+
 const MOST_STARTS: usize = MOST_FIELDS + 1;
 
 /// The fields of a line, without the spaces round each. Contracts see their list. It takes no
@@ -71,11 +74,12 @@ impl<'a> FieldList<'a> {
         self.count
     }
 
-    /// Whether a field behind the first `MOST_FIELDS` is not empty.
-    pub(crate) fn has_text_behind(&self) -> bool
-        ensures { result ≡ has_text (drop MOST_FIELDS self.now) }
+    /// Whether a field behind the first so many is not empty.
+    pub(crate) fn has_text_behind(&self, number: usize) -> bool
+        requires { number ≤ MOST_FIELDS }
+        ensures { result ≡ has_text (drop number self.now) }
     {
-        self.count > MOST_FIELDS && has_other_byte(&self.line[self.starts[MOST_FIELDS]..])
+        self.count > number && has_other_byte(&self.line[self.starts[number]..])
     }
 
     /// A field by its number from 1, empty where the line has none.

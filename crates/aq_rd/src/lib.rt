@@ -5,10 +5,12 @@
 mod cursor;
 mod digits;
 mod fields;
+mod head;
 mod line;
 mod plain;
 mod print;
 mod read;
+mod reader;
 mod spellings;
 mod tag;
 
@@ -17,6 +19,7 @@ pub use line::RdLine;
 pub use plain::ozone_monitor;
 pub use print::print_rd;
 pub use read::read_rd;
+pub use reader::Reader;
 pub use tag::{Tag, has_office_tag, tag_of};
 
 #[cfg(test)]

@@ -7,21 +7,23 @@ use Rattle.aq_rd.specs.FieldPlaces.{has_text}
 use Rattle.aq_rd.proofs.FieldSteps.{has_text-bytes}
 use Rattle.aq_rd.proofs.fields.FieldList.has_text_behind.Goals as goal
 
-pub returns-then-self-gt-MOST_FIELDS : goal.returns-then-self-gt-MOST_FIELDS
-returns-then-self-gt-MOST_FIELDS c =
+pub returns-then-self-number : goal.returns-then-self-number
+returns-then-self-number c =
     let line = c.self.inside.line.now in
-    let start = get_or c.self.inside.starts 28 0 in
+    let number = c.args.number in
+    let start = get_or c.self.inside.starts number 0 in
     let text = drop start line in
     let long = length-drop start line in
     let whole : take (length line - start) text ≡ text = take_all (length line - start) text (omega (arith, long)) in
     c.has_other_byte.ensures ∙ ap (list_any (λ byte. not (is_bar byte) && not (is_space byte))) whole ∙ sym (has_text-bytes text)
-    ∙ sym (ap has_text (c.self.invariant.0.behind c.if-self-gt-MOST_FIELDS.true))
-    ∙ ap (λ texts. has_text (drop 28 texts)) c.self.view_is
+    ∙ sym (ap has_text (c.self.invariant.0.behind number c.requires c.if-self-number.true))
+    ∙ ap (λ texts. has_text (drop number texts)) c.self.view_is
 
-pub returns-else-self-gt-MOST_FIELDS : goal.returns-else-self-gt-MOST_FIELDS
-returns-else-self-gt-MOST_FIELDS c =
+pub returns-else-self-number : goal.returns-else-self-number
+returns-else-self-number c =
     let line = c.self.inside.line.now in
-    let few : length (fields line) ≤ 28 = omega (arith, c.self.invariant.0.counted, c.if-self-gt-MOST_FIELDS.false) in
-    let none : drop 28 (fields line) ≡ [] = drop_all 28 (fields line) few in
-    let no : nat_lt 28 c.self.inside.count ≡ false = grind (arith, nat_tests) in
-    no ∙ sym (ap has_text none) ∙ ap (λ texts. has_text (drop 28 texts)) c.self.view_is
+    let number = c.args.number in
+    let few : length (fields line) ≤ number = omega (arith, c.self.invariant.0.counted, c.if-self-number.false) in
+    let none : drop number (fields line) ≡ [] = drop_all number (fields line) few in
+    let no : nat_lt number c.self.inside.count ≡ false = grind (arith, nat_tests) in
+    no ∙ sym (ap has_text none) ∙ ap (λ texts. has_text (drop number texts)) c.self.view_is

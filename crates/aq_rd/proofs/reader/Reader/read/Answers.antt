@@ -1,0 +1,19 @@
+use Rattle.aq_profile.specs.Reading.{line_value, reading_rule}
+use Rattle.aq_rd.proofs.ReadingOrder.{reads-line, ok-line, unbroken-line, rule-line, refused-line}
+use Rattle.aq_rd.proofs.reader.Reader.read.Goals as goal
+
+pub returns-clause-ok : goal.returns-clause-ok
+returns-clause-ok c =
+    ok-line _ (line_value c.args.line.now) (reading_rule c.args.line.now) (rw c.read_line.ensures.value (reads-line c.args.line.now c.requires))
+
+pub returns-clause-unbroken : goal.returns-clause-unbroken
+returns-clause-unbroken c =
+    unbroken-line _ (line_value c.args.line.now) (reading_rule c.args.line.now) (rw c.read_line.ensures.value (reads-line c.args.line.now c.requires))
+
+pub returns-clause-rule : goal.returns-clause-rule
+returns-clause-rule c =
+    rule-line _ (line_value c.args.line.now) (reading_rule c.args.line.now) (rw c.read_line.ensures.value (reads-line c.args.line.now c.requires))
+
+pub returns-clause-refused : goal.returns-clause-refused
+returns-clause-refused c =
+    refused-line _ (line_value c.args.line.now) (reading_rule c.args.line.now) (rw c.read_line.ensures.value (reads-line c.args.line.now c.requires))
