@@ -3,5 +3,6 @@ pub mod Order
 pub mod MapLemmas
 pub mod FlatLemmas
 pub mod EntryLemmas
+pub mod LatestLemmas
 pub mod HourLemmas
 pub mod Cases

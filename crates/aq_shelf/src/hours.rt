@@ -5,29 +5,36 @@ ghost use Rattle.std.specs.Map.{set_value, remove_entry};
 ghost use Rattle.std.specs.Ordering.{nat_cmp};
 ghost use Rattle.std.specs.BTreeMap.{insert_entry};
 ghost use Rattle.aq_base.specs.declared.day.TheConstants.{LAST_HOUR};
+ghost use Rattle.aq_shelf.specs.Latest.{rising};
 ghost use Rattle.aq_shelf.specs.Monitors.{at_hour, in_hours, IsHourFault};
 
 use crate::fault::ShelfFault;
 use aq_base::{Hour, LAST_HOUR, Observation};
 use std::alloc::Global;
+use std::cmp::Reverse;
 use std::collections::BTreeMap;
 use std::collections::btree_map::{Entry, Range};
 use std::marker::Model;
 use std::mem;
+use std::ops::Bound;
 
 /// The observations of one monitor. Contracts see the list of them, rising by hour.
+///
+/// The map has them latest first: a load mostly brings later and later hours, and a search of the map
+/// goes through each node from its front, so that it finds the place of a later hour at once.
 #[derive(Drop)]
 pub(crate) struct Hours {
-    entries: BTreeMap<Hour, Observation>,
+    entries: BTreeMap<Reverse<Hour>, Observation>,
 }
 
 impl Model for Hours {
     ghost use Rattle.std.specs.Prelude.{List, ℕ};
     ghost use Rattle.aq_base.specs.declared.observation.Observation.{Observation};
+    ghost use Rattle.aq_shelf.specs.Latest.{rising};
 
     ghost Value = { List (ℕ × Observation) };
 
-    ghost view = { λ hours. hours.entries.entries };
+    ghost view = { λ hours. rising hours.entries.entries };
 }
 
 impl Hours {
@@ -54,7 +61,7 @@ impl Hours {
         ensures refused { IfErr result (λ fault. IsHourFault fault full hour self.old) }
         ensures unchanged { OnErr result (self.new ≡ self.old) }
     {
-        match self.entries.entry(hour) {
+        match self.entries.entry(Reverse(hour)) {
             // Named, so that the proof learns that it goes back as it was.
             Ok(Entry::Occupied(_standing)) => Err(ShelfFault::AlreadyThere),
             Ok(Entry::Vacant(place)) => {
@@ -78,7 +85,7 @@ impl Hours {
         ensures ok { OnSome result (self.new ≡ set_value (nat_eq hour) self.old content) }
         ensures unchanged { IfNone result (self.new ≡ self.old) }
     {
-        let place = self.entries.get_mut(&hour)?;
+        let place = self.entries.get_mut(&Reverse(hour))?;
         Some(mem::replace(place, content))
     }
 
@@ -88,27 +95,33 @@ impl Hours {
         ensures after { self.new ≡ remove_entry (nat_eq hour) self.old }
         ensures unchanged { IfNone result (self.new ≡ self.old) }
     {
-        self.entries.remove(&hour)
+        // The proof learns that the hours are in order.
+        let _ = self.entries.len();
+        self.entries.remove(&Reverse(hour))
     }
 
     /// The observation at an hour.
     pub(crate) fn at(&self, hour: Hour) -> Option<Observation>
         ensures { result ≡ at_hour hour self.now }
     {
-        self.entries.get(&hour).copied()
+        // The proof learns that the hours are in order.
+        let _ = self.entries.len();
+        self.entries.get(&Reverse(hour)).copied()
     }
 
-    /// The observations in the `hours` hours from `from` on.
-    pub(crate) fn range(&self, from: Hour, hours: u32) -> Range<'_, Hour, Observation>
+    /// The observations in the `hours` hours from `from` on, latest first.
+    pub(crate) fn range(&self, from: Hour, hours: u32) -> Range<'_, Reverse<Hour>, Observation>
         requires hours { hours ≤ 1000000 }
         requires profile { AllByRecursion (λ entry. entry.0 ≤ LAST_HOUR) self.now }
-        ensures { result ≡ filter (in_hours from hours) self.now }
+        ensures { rising result ≡ filter (in_hours from hours) self.now }
     {
         let end = from.number() + hours;
+        let back_to = Bound::Included(Reverse(from));
         if end <= LAST_HOUR {
-            self.entries.range(from..Hour::new(end))
+            let before = Bound::Excluded(Reverse(Hour::new(end)));
+            self.entries.range((before, back_to))
         } else {
-            self.entries.range(from..=Hour::new(LAST_HOUR))
+            self.entries.range((Bound::Unbounded, back_to))
         }
     }
 }

@@ -13,6 +13,7 @@ use crate::hours::Hours;
 use crate::span::Span;
 use aq_base::{Hour, MonitorId, ObsKey, Observation, Steps};
 use std::alloc::Global;
+use std::cmp::Reverse;
 use std::collections::BTreeMap;
 use std::collections::btree_map::Range;
 use std::marker::Model;
@@ -249,7 +250,7 @@ fn find<'a>(
 }
 
 /// Counts one step, and one for each entry.
-fn count_steps<L: Ledger>(entries: Range<'_, Hour, Observation>, counter: &mut Steps<L>)
+fn count_steps<L: Ledger>(entries: Range<'_, Reverse<Hour>, Observation>, counter: &mut Steps<L>)
     ensures { counter.new ≡ counter.old + 1 + length entries.entry }
 {
     counter.tick();
