@@ -1,4 +1,4 @@
-use Rattle.std.proofs.Common.{sym, ◌∙◌, arith}
+use Rattle.std.proofs.Common.{arith}
 use Rattle.aq_rd.proofs.Fronts.{ten-at}
 use Rattle.aq_rd.proofs.reader.first_fields.Goals as goal
 
