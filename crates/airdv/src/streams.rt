@@ -11,7 +11,11 @@ pub struct Reading<R: Read> {
 }
 
 impl<R: Read> Reading<R> {
-    pub fn new(reader: R) -> Reading<R> {
+    ghost use Rattle.std.specs.Prelude.{◌≡◌};
+
+    pub fn new(reader: R) -> Reading<R>
+        ensures { result ≡ record { reader = reader; faults = 0 } }
+    {
         Reading { reader, faults: 0 }
     }
 }
@@ -42,7 +46,11 @@ pub struct Writing<W: Write> {
 }
 
 impl<W: Write> Writing<W> {
-    pub fn new(writer: W) -> Writing<W> {
+    ghost use Rattle.std.specs.Prelude.{◌≡◌};
+
+    pub fn new(writer: W) -> Writing<W>
+        ensures { result ≡ record { writer = writer; faults = 0 } }
+    {
         Writing { writer, faults: 0 }
     }
 }

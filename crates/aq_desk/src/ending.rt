@@ -53,6 +53,15 @@ impl Ending {
     }
 }
 
+/// Ends a program that had no memory to read its words: tells so, and answers the status.
+pub fn end_without_memory<E: Sink>(errors: &mut E) -> u8
+    ensures { result ≡ 7 }
+{
+    let ending = Ending::Memory;
+    ending.tell(errors);
+    ending.status()
+}
+
 fn tell_lines<E: Sink>(lines: u32, errors: &mut E) -> Result<(), Failed> {
     write_all(errors, b"airdv: 10 ")?;
     tell_number(lines, errors)?;

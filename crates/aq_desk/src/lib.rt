@@ -16,6 +16,7 @@ mod words;
 mod writing;
 
 pub use command::run;
+pub use ending::end_without_memory;
 pub use memory_sink::MemorySink;
 pub use memory_source::MemorySource;
 pub use outside::{Sink, Source};

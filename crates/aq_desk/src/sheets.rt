@@ -8,14 +8,11 @@ ghost use Rattle.aq_profile.specs.Sheets.{load_sheet, listed_row, rest_row, wind
 ghost use Rattle.aq_desk.specs.WindowView.{row_view};
 
 use crate::text::{hour_text, site_text};
-use crate::windows::WindowRow;
+use crate::windows::{FIRST_START, WindowRow};
 use aq_base::{Day, ListedLine, LoadReply, Memory, RestRule, Rule, SiteId};
 use aq_cal::write_day;
 use aq_num::write_fixed;
 use std::alloc::Global;
-
-/// The hour of a day's first window.
-const FIRST_HOUR: u16 = 7;
 
 /// The text of a load's sheet.
 pub(crate) fn load_text(alloc: Global, reply: &LoadReply) -> Result<Vec<u8>, Memory>
@@ -111,7 +108,7 @@ fn write_windows(out: &mut Vec<u8>, rows: &[WindowRow]) -> Result<(), Memory>
     requires { length rows.now ≤ 17 }
     ensures { OnOk result (out.new.items ≡ out.old.items ++ flat_map row_text (map window_cells (enumerate_from 7 (map row_view rows.now)))) }
 {
-    let mut hour = FIRST_HOUR;
+    let mut hour = FIRST_START;
     for row in rows {
         write_window(out, hour, row)?;
         hour += 1;

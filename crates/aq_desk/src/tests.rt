@@ -356,3 +356,12 @@ fn words_are_commands_or_none(rt: HostRuntime) -> Result<(), Fail> {
     }
     Ok(())
 }
+
+#[test]
+fn words_without_memory_end_with_7(rt: HostRuntime) -> Result<(), Fail> {
+    let alloc = rt.alloc();
+    let mut errors = MemorySink::new(alloc, 1_000, Vec::new(alloc))?;
+    assert_eq!(rt; end_without_memory(&mut errors), 7);
+    assert_eq!(rt; errors.written(), b"airdv: 7 memory\n".as_slice());
+    Ok(())
+}

@@ -14,7 +14,8 @@ use std::sync::ledger::Ledger;
 /// A day has the averages that start at 07:00 to 23:00.
 pub(crate) const WINDOWS: usize = 17;
 
-const FIRST_START: u32 = 7;
+/// The hour at which the first of them starts.
+pub(crate) const FIRST_START: u16 = 7;
 
 /// Fewer hours than six give an average only where their sum, divided by eight, is above 0.070 ppm.
 const FEW_HOURS: u8 = 6;
@@ -131,7 +132,7 @@ pub(crate) fn day_windows<L: Ledger>(
         full_hours: 0,
     };
     let mut rows = [empty; WINDOWS];
-    let first = 24 * u32::from(day.number()) + FIRST_START;
+    let first = 24 * u32::from(day.number()) + u32::from(FIRST_START);
     for i in 0..WINDOWS {
         rows[i] = window(office, site, first + i as u32, steps);
     }
