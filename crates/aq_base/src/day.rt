@@ -2,7 +2,6 @@
 ghost use Rattle.std.specs.Prelude.{◌≡◌, ℕ, ◌<◌, ◌≤◌};
 ghost use Rattle.aq_base.specs.declared.day.TheConstants.{LAST_DAY, LAST_HOUR, QUARTERS};
 
-use std::cmp::Ordering;
 use std::marker::Model;
 
 /// The profile begins on 1 January of this year, which is day 0 (own).
@@ -56,7 +55,7 @@ impl Day {
 
 /// An hour of the profile, which starts at a full hour, by the number of hours since the profile's
 /// first. Contracts see the number.
-#[derive(Clone, Copy, Debug, PartialEq, Eq, Hash)]
+#[derive(Clone, Copy, Debug, PartialEq, Eq, PartialOrd, Ord, Hash)]
 pub struct Hour {
     number: u32,
 }
@@ -86,46 +85,6 @@ impl Hour {
         ensures range { result ≤ LAST_HOUR }
     {
         self.number
-    }
-}
-
-impl PartialOrd for Hour {
-    ghost use Rattle.std.specs.Prelude.{Some};
-    ghost use Rattle.std.specs.Ordering.{nat_cmp};
-    ghost use Rattle.std.specs.Cmp.Rules.{comparing};
-    ghost use Rattle.std.proofs.Common.{rules};
-
-    ghost partial_cmp = { λ a b. Some (nat_cmp a b) };
-
-    ghost laws = { Prim.search (comparing, rules) };
-
-    fn partial_cmp(&self, other: &Hour) -> Option<Ordering> {
-        Some(self.cmp(other))
-    }
-}
-
-impl Ord for Hour {
-    ghost use Rattle.std.specs.Ordering.{nat_cmp};
-    ghost use Rattle.std.specs.Cmp.Rules.{comparing};
-    ghost use Rattle.std.proofs.Common.{rules};
-
-    ghost cmp = { nat_cmp };
-
-    ghost total = { Prim.search (comparing, rules) };
-
-    ghost matches_partial_cmp = { Prim.search (comparing, rules) };
-
-    ghost matches_eq = { Prim.search (comparing, rules) };
-
-    // What a search of a map asks first comes first, and is then all that is compiled of it.
-    fn cmp(&self, other: &Hour) -> Ordering {
-        if self.number > other.number {
-            Ordering::Greater
-        } else if self.number < other.number {
-            Ordering::Less
-        } else {
-            Ordering::Equal
-        }
     }
 }
 
