@@ -61,10 +61,14 @@ primary_of pollutant poc = Primary site pollutant 0 poc
 abbrev pub makeup_on : ℕ → Makeup
 makeup_on day = record { missed = day_number 2024 1 7; makeup = day_number 2024 1 day }
 
-abbrev pub with_makeups : Office
-with_makeups =
-    office_of (sampler Pm25 Day 1 ∷ Schedule site Pm25 (day_number 2024 1 1) 6 (day_number 2024 1 1) ∷ [])
+-- samples on four days, where every so manyth day is scheduled
+abbrev pub makeups_every : ℕ → Office
+makeups_every interval =
+    office_of (sampler Pm25 Day 1 ∷ Schedule site Pm25 (day_number 2024 1 1) interval (day_number 2024 1 1) ∷ [])
     (map (λ day. particle_sample Pm25 1 100 (day_number 2024 1 day)) (9 ∷ 12 ∷ 13 ∷ 14 ∷ []))
+
+abbrev pub with_makeups : Office
+with_makeups = makeups_every 6
 
 -- ---- quarters and years of PM2.5: scheduled days, samples (all creditable and counted) and their values in tenths
 

@@ -9,3 +9,6 @@ returns-clause-too_few c = refl
 
 pub returns-clause-none : goal.returns-clause-none
 returns-clause-none c = refl
+
+pub returns-clause-excluded : goal.returns-clause-excluded
+returns-clause-excluded c = refl

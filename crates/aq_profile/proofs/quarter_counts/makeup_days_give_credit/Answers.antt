@@ -25,3 +25,7 @@ returns-clause-scheduled c = refl
 pub returns-clause-not_sampled : goal.returns-clause-not_sampled
 unfolding days_of_years days_of_months excluded primary_on samplers_of monitor_day site_day is_scheduled
 returns-clause-not_sampled c = refl
+
+pub returns-clause-scheduled_a_week_later : goal.returns-clause-scheduled_a_week_later
+unfolding days_of_years days_of_months excluded primary_on samplers_of monitor_day site_day is_scheduled
+returns-clause-scheduled_a_week_later c = refl
