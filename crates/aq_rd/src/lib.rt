@@ -3,6 +3,7 @@
 #![tactic(auto)]
 
 mod cursor;
+mod dates;
 mod digits;
 mod fields;
 mod head;

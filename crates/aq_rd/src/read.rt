@@ -10,11 +10,12 @@ ghost use Rattle.aq_rd.specs.RdReading.{monitor_reading, start_reading, content_
 ghost use Rattle.aq_rd.specs.Spelled.{IsSpelled, HasPoc, IsReported, is_qualifier};
 ghost use Rattle.aq_rd.specs.Tags.{has_office_tag};
 
+use crate::dates::Dates;
 use crate::fields::{FieldList, HEAD_FIELDS, MOST_FIELDS};
 use crate::head::Head;
 use crate::line::RdLine;
 use crate::spellings::{
-    date, duration, method, null_code, parameter, poc, qualifiers, site, time, unit_places, value,
+    duration, method, null_code, parameter, poc, qualifiers, site, time, unit_places, value,
 };
 use crate::tag::has_spaces;
 use aq_base::{Hour, MonitorId, Observation, Pollutant, Rule};
@@ -33,13 +34,17 @@ pub fn read_rd(line: &[u8]) -> Result<RdLine, Rule>
     ensures spelled { IfOk result IsSpelled }
 {
     let mut head = None;
-    read_line(line, &mut head)
+    read_line(line, &mut head, &mut Dates::new())
 }
 
 /// Reads a line in the order of the rules, and notes its fields up to the method where they are
 /// those of a line to be put.
 #[tactic(auto, unfolding(crate::specs::RdReading::rd_reading))]
-pub(crate) fn read_line(line: &[u8], head: &mut Option<Head>) -> Result<RdLine, Rule>
+pub(crate) fn read_line<'a>(
+    line: &'a [u8],
+    head: &mut Option<Head>,
+    dates: &mut Dates<'a>,
+) -> Result<RdLine, Rule>
     requires { head.old ≡ None }
     ensures value { result ≡ rd_reading line.now }
     ensures spelled { IfOk result IsSpelled }
@@ -50,11 +55,15 @@ pub(crate) fn read_line(line: &[u8], head: &mut Option<Head>) -> Result<RdLine, 
     if texts.field(1) != b"RD".as_slice() {
         return Err(Rule::BadTag);
     }
-    read_form(&texts, head)
+    read_form(&texts, head, dates)
 }
 
 #[tactic(auto, unfolding(crate::specs::RdReading::form_reading))]
-fn read_form(texts: &FieldList<'_>, head: &mut Option<Head>) -> Result<RdLine, Rule>
+fn read_form<'a>(
+    texts: &FieldList<'a>,
+    head: &mut Option<Head>,
+    dates: &mut Dates<'a>,
+) -> Result<RdLine, Rule>
     requires { head.old ≡ None }
     ensures spelled { IfOk result IsSpelled }
     ensures value { result ≡ form_reading texts.now }
@@ -64,9 +73,9 @@ fn read_form(texts: &FieldList<'_>, head: &mut Option<Head>) -> Result<RdLine, R
         return Err(Rule::FieldCount);
     }
     match texts.field(2) {
-        b"I" => read_put(false, texts, head),
-        b"U" => read_put(true, texts, head),
-        b"D" => read_delete(texts),
+        b"I" => read_put(false, texts, head, dates),
+        b"U" => read_put(true, texts, head, dates),
+        b"D" => read_delete(texts, dates),
         _ => Err(Rule::BadAction),
     }
 }
@@ -84,7 +93,12 @@ fn has_wrong_count(texts: &FieldList<'_>) -> bool
 }
 
 #[tactic(auto, unfolding(crate::specs::RdReading::put_reading))]
-fn read_put(update: bool, texts: &FieldList<'_>, head: &mut Option<Head>) -> Result<RdLine, Rule>
+fn read_put<'a>(
+    update: bool,
+    texts: &FieldList<'a>,
+    head: &mut Option<Head>,
+    dates: &mut Dates<'a>,
+) -> Result<RdLine, Rule>
     requires { head.old ≡ None }
     ensures spelled { IfOk result IsSpelled }
     ensures value { result ≡ put_reading update texts.now }
@@ -93,7 +107,7 @@ fn read_put(update: bool, texts: &FieldList<'_>, head: &mut Option<Head>) -> Res
     ensures spells { IfSome head.new IsHead }
 {
     let read = read_head(update, texts)?;
-    let line = read_tail(&read, 0, texts);
+    let line = read_tail(&read, 0, texts, dates);
     *head = Some(read);
     line
 }
@@ -120,7 +134,11 @@ fn read_head(update: bool, texts: &FieldList<'_>) -> Result<Head, Rule>
 
 /// Reads what stands behind the first fields of a line to be put.
 #[tactic(auto, unfolding(crate::specs::Fronts::behind_reading))]
-pub(crate) fn read_behind(head: &Head, rest: &[u8]) -> Result<RdLine, Rule>
+pub(crate) fn read_behind<'a>(
+    head: &Head,
+    rest: &'a [u8],
+    dates: &mut Dates<'a>,
+) -> Result<RdLine, Rule>
     requires { IsHead head.now }
     ensures spelled { IfOk result IsSpelled }
     ensures value { result ≡ behind_reading head.now rest.now }
@@ -130,7 +148,7 @@ pub(crate) fn read_behind(head: &Head, rest: &[u8]) -> Result<RdLine, Rule>
     if has_wrong_rest(&texts) {
         return Err(Rule::FieldCount);
     }
-    read_tail(head, HEAD_FIELDS, &texts)
+    read_tail(head, HEAD_FIELDS, &texts, dates)
 }
 
 fn has_wrong_rest(texts: &FieldList<'_>) -> bool
@@ -142,13 +160,18 @@ fn has_wrong_rest(texts: &FieldList<'_>) -> bool
 // The fields from the eleventh on are read of a whole line, or of what stands behind its first
 // fields: `behind` is how many fields stand before these.
 #[tactic(auto, unfolding(crate::specs::RdReading::tail_reading))]
-fn read_tail(head: &Head, behind: usize, texts: &FieldList<'_>) -> Result<RdLine, Rule>
+fn read_tail<'a>(
+    head: &Head,
+    behind: usize,
+    texts: &FieldList<'a>,
+    dates: &mut Dates<'a>,
+) -> Result<RdLine, Rule>
     requires head { IsHead head.now }
     requires behind { behind ≤ HEAD_FIELDS }
     ensures spelled { IfOk result IsSpelled }
     ensures value { result ≡ tail_reading head.now behind texts.now }
 {
-    let hour = read_start(behind, texts)?;
+    let hour = read_start(behind, texts, dates)?;
     let content = read_content(head.monitor.pollutant, head.places, behind, texts)?;
     Ok(RdLine::Put {
         update: head.update,
@@ -162,12 +185,12 @@ fn read_tail(head: &Head, behind: usize, texts: &FieldList<'_>) -> Result<RdLine
 
 // Of a deletion, only the monitor and the start are read.
 #[tactic(auto, unfolding(crate::specs::RdReading::delete_reading))]
-fn read_delete(texts: &FieldList<'_>) -> Result<RdLine, Rule>
+fn read_delete<'a>(texts: &FieldList<'a>, dates: &mut Dates<'a>) -> Result<RdLine, Rule>
     ensures spelled { IfOk result IsSpelled }
     ensures value { result ≡ delete_reading texts.now }
 {
     let monitor = read_monitor(texts)?;
-    let hour = read_start(0, texts)?;
+    let hour = read_start(0, texts, dates)?;
     Ok(RdLine::Delete { monitor, hour })
 }
 
@@ -187,11 +210,11 @@ fn read_monitor(texts: &FieldList<'_>) -> Result<MonitorId, Rule>
 }
 
 #[tactic(auto, unfolding(crate::specs::RdReading::start_reading))]
-fn read_start(behind: usize, texts: &FieldList<'_>) -> Result<Hour, Rule>
+fn read_start<'a>(behind: usize, texts: &FieldList<'a>, dates: &mut Dates<'a>) -> Result<Hour, Rule>
     requires { behind ≤ HEAD_FIELDS }
     ensures { result ≡ start_reading behind texts.now }
 {
-    let day = date(texts.field(11 - behind)).ok_or(Rule::BadDate)?;
+    let day = dates.read(texts.field(11 - behind)).ok_or(Rule::BadDate)?;
     let hour = time(texts.field(12 - behind)).ok_or(Rule::BadTime)?;
     Ok(hour_of(day, hour))
 }

@@ -7,6 +7,7 @@ ghost use Rattle.aq_rd.specs.RdReading.{rd_reading, value_of};
 ghost use Rattle.aq_rd.specs.Spelled.{IsSpelled};
 ghost use Rattle.aq_rd.specs.Tags.{has_office_tag};
 
+use crate::dates::Dates;
 use crate::fields::HEAD_FIELDS;
 use crate::head::Head;
 use crate::line::RdLine;
@@ -14,10 +15,12 @@ use crate::read::{read_behind, read_line};
 use aq_base::Rule;
 
 /// Reads RD lines one after another. The lines of one monitor begin alike, up to the method: these
-/// fields are read once for all lines that begin with the same bytes.
+/// fields are read once for all lines that begin with the same bytes, and a date once for all lines
+/// in a row that have it.
 #[derive(Drop)]
 pub struct Reader<'a> {
     front: Option<Front<'a>>,
+    dates: Dates<'a>,
 }
 
 /// The first fields of a line to be put, with the bar behind each, and what they say.
@@ -31,7 +34,10 @@ struct Front<'a> {
 impl<'a> Reader<'a> {
     /// A reader that has read no line.
     pub fn new() -> Reader<'a> {
-        Reader { front: None }
+        Reader {
+            front: None,
+            dates: Dates::new(),
+        }
     }
 
     /// Reads a line of the AQS raw data transaction format (RD) as `read_rd` does. It takes no
@@ -54,11 +60,11 @@ impl<'a> Reader<'a> {
     {
         if let Some(front) = &self.front {
             if let Some(rest) = line.strip_prefix(front.text) {
-                return read_behind(&front.head, rest);
+                return read_behind(&front.head, rest, &mut self.dates);
             }
         }
         let mut head = None;
-        let read = read_line(line, &mut head);
+        let read = read_line(line, &mut head, &mut self.dates);
         if let Some(head) = head {
             self.front = front_of(line, head);
         }
