@@ -1,5 +1,5 @@
 -- A change of one monitor's hours is the change of the list of all entries.
-use Rattle.std.proofs.Common.{Option, ◌≡◌, ℕ, ◌+◌, ◌≤◌, Bool, true, false, ◌&&◌, nat_eq, List, [], ◌∷◌, ◌++◌, map, cond, Some, None, is_some, unwrap_or, refl, ap, sym, ◌∙◌}
+use Rattle.std.proofs.Common.{Option, ◌≡◌, ℕ, ◌+◌, Bool, true, false, ◌&&◌, nat_eq, List, [], ◌∷◌, ◌++◌, map, cond, Some, None, is_some, unwrap_or, refl, ap, sym, ◌∙◌}
 use Rattle.std.specs.Prelude.{nat_le, nat_lt, filter, IsSome}
 use Rattle.std.specs.declared.cmp.Ordering.{Ordering}
 use Rattle.std.specs.declared.cmp.Ordering.TheVariants.{Less, Equal, Greater}
@@ -12,14 +12,13 @@ use Rattle.std.proofs.lemmas.Cmp.{eq_by_cmp_equiv, tied_itself}
 use Rattle.std.proofs.lemmas.Map.{lookup-none}
 use Rattle.std.proofs.lemmas.Map.Entries.{none_past_head, none_below_head}
 use Rattle.std.proofs.lemmas.Map.Keys.{IsDistinct-from_sorted, sorted_head, sorted_tail}
-use Rattle.aq_base.specs.declared.day.TheConstants.{LAST_HOUR}
 use Rattle.aq_base.specs.declared.monitor.MonitorId.{MonitorId}
 use Rattle.aq_base.specs.declared.observation.ObsKey.{ObsKey}
 use Rattle.aq_base.specs.declared.observation.Observation.{Observation}
 use Rattle.aq_shelf.specs.declared.fault.ShelfFault.{ShelfFault}
 use Rattle.aq_shelf.specs.declared.fault.ShelfFault.TheVariants.{AlreadyThere, Full, Memory}
 use Rattle.aq_shelf.specs.Keys.{key_cmp, monitor_cmp, same_key, same_monitor}
-use Rattle.aq_shelf.specs.Entries.{IsStanding, in_span, hour_content, observation_at, observations_in}
+use Rattle.aq_shelf.specs.Entries.{in_span, hour_content, observation_at, observations_in}
 use Rattle.aq_shelf.specs.Monitors.{at_hour, in_hours, IsHourFault, IsPutFault, of_monitor, flat, hours_of, AreRising}
 use Rattle.aq_shelf.proofs.Order.{derived_cmp, same_test, monitor_total, is_eq-monitor_cmp, monitor_test, monitor_from_same}
 use Rattle.aq_shelf.proofs.MapLemmas.{not_found, below_all}
@@ -312,21 +311,3 @@ span-flat monitor from hours (m ∷ ms) rising =
     ]
     in
     at (same_monitor monitor m.0) refl
-
--- ---- each hour is one of the profile
-
-profile_here : (m : MonitorId) (hs : List (ℕ × Observation)) (es : List (ObsKey × Observation)) → AllByRecursion IsStanding (of_monitor m hs ++ es) → AllByRecursion (λ (h : ℕ × Observation). h.0 ≤ LAST_HOUR) hs
-profile_here m [] es h = tt
-profile_here m (x ∷ hs) es h = (h.0.0, profile_here m hs es h.1)
-
-profile_past : (m : MonitorId) (hs : List (ℕ × Observation)) (es : List (ObsKey × Observation)) → AllByRecursion IsStanding (of_monitor m hs ++ es) → AllByRecursion IsStanding es
-profile_past m [] es h = h
-profile_past m (x ∷ hs) es h = profile_past m hs es h.1
-
-pub profile-flat : (monitor : MonitorId) (ms : List (MonitorId × List (ℕ × Observation))) → AllByRecursion IsStanding (flat ms) → AllByRecursion (λ (h : ℕ × Observation). h.0 ≤ LAST_HOUR) (hours_of monitor ms)
-profile-flat monitor [] h = tt
-profile-flat monitor (m ∷ ms) h =
-    elim (same_monitor monitor m.0) as (λ b. AllByRecursion (λ (h : ℕ × Observation). h.0 ≤ LAST_HOUR) (unwrap_or (cond b (Some m.1) (lookup (same_monitor monitor) ms)) [])) [
-      | true ↦ profile_here m.0 m.1 (flat ms) h
-      | false ↦ profile-flat monitor ms (profile_past m.0 m.1 (flat ms) h)
-    ]

@@ -21,6 +21,7 @@ use Rattle.std.proofs.lemmas.Map.{NonePasses}
 use Rattle.std.proofs.lemmas.Map.Keys.{sorted_head, sorted_tail}
 use Rattle.aq_shelf.specs.Latest.{rising}
 use Rattle.aq_shelf.proofs.Order.{hour_test}
+use Rattle.aq_shelf.proofs.PartLemmas.{lookup_past, lookup_before, set_past, set_before, remove_past, remove_before, insert_past, insert_before, all_append}
 
 -- the opposite order
 abbrev pub back : {K : Type 0} → (K → K → Ordering) → Reverse K → Reverse K → Ordering
@@ -31,46 +32,7 @@ module _ {K X : Type 0} where
   pub rising-cons : (e : Reverse K × X) (es : List (Reverse K × X)) → rising (e ∷ es) ≡ rising es ++ ((e.0.0, e.1) ∷ [])
   rising-cons e es = reverse_onto (map (λ (e : Reverse K × X). (e.0.0, e.1)) es) (e.0.0, e.1) []
 
-  -- ---- a front that a test does not pass, and an end
-
   module _ (test : K → Bool) where
-    lookup_past : (es fs : List (K × X)) → NonePasses test es → lookup test (es ++ fs) ≡ lookup test fs
-    lookup_past [] fs none = refl
-    lookup_past (e ∷ es) fs none = ap (λ b. cond b (Some e.1) (lookup test (es ++ fs))) none.0 ∙ lookup_past es fs none.1
-
-    set_past : (es fs : List (K × X)) (v : X) → NonePasses test es → set_value test (es ++ fs) v ≡ es ++ set_value test fs v
-    set_past [] fs v none = refl
-    set_past (e ∷ es) fs v none =
-        ap (λ b. cond b ((e.0, v) ∷ es ++ fs) (e ∷ set_value test (es ++ fs) v)) none.0
-        ∙ ap (λ (l : List (K × X)). e ∷ l) (set_past es fs v none.1)
-
-    remove_past : (es fs : List (K × X)) → NonePasses test es → remove_entry test (es ++ fs) ≡ es ++ remove_entry test fs
-    remove_past [] fs none = refl
-    remove_past (e ∷ es) fs none =
-        ap (λ b. cond b (es ++ fs) (e ∷ remove_entry test (es ++ fs))) none.0
-        ∙ ap (λ (l : List (K × X)). e ∷ l) (remove_past es fs none.1)
-
-    module _ (f : K × X) (apart : test f.0 ≡ false) where
-      lookup_front : (es : List (K × X)) → lookup test (es ++ (f ∷ [])) ≡ lookup test es
-      lookup_front [] = ap (λ b. cond b (Some f.1) None) apart
-      lookup_front (e ∷ es) = ap (cond (test e.0) (Some e.1)) (lookup_front es)
-
-      set_front : (es : List (K × X)) (v : X) → set_value test (es ++ (f ∷ [])) v ≡ set_value test es v ++ (f ∷ [])
-      set_front [] v = ap (λ b. cond b ((f.0, v) ∷ []) (f ∷ [])) apart
-      set_front (e ∷ es) v =
-          let at : (b : Bool) → cond b ((e.0, v) ∷ es ++ (f ∷ [])) (e ∷ set_value test (es ++ (f ∷ [])) v) ≡ cond b ((e.0, v) ∷ es) (e ∷ set_value test es v) ++ (f ∷ []) =
-          elim [ true ↦ refl | false ↦ ap (λ (l : List (K × X)). e ∷ l) (set_front es v) ]
-          in
-          at (test e.0)
-
-      remove_front : (es : List (K × X)) → remove_entry test (es ++ (f ∷ [])) ≡ remove_entry test es ++ (f ∷ [])
-      remove_front [] = ap (λ b. cond b [] (f ∷ [])) apart
-      remove_front (e ∷ es) =
-          let at : (b : Bool) → cond b (es ++ (f ∷ [])) (e ∷ remove_entry test (es ++ (f ∷ []))) ≡ cond b es (e ∷ remove_entry test es) ++ (f ∷ []) =
-          elim [ true ↦ refl | false ↦ ap (λ (l : List (K × X)). e ∷ l) (remove_front es) ]
-          in
-          at (test e.0)
-
     -- ---- a test that passes at most one key
 
     abbrev pub PassesOnce : List (Reverse K × X) → Type 0
@@ -83,8 +45,8 @@ module _ {K X : Type 0} where
         let f : K × X = (e.0.0, e.1) in
         let at : (b : Bool) → test e.0.0 ≡ b → cond b (Some e.1) (lookup (λ (k : Reverse K). test k.0) es) ≡ lookup test (rising es ++ (f ∷ [])) =
         elim [
-          | true ↦ λ same. sym (lookup_past (rising es) (f ∷ []) (once.0 same) ∙ ap (λ b. cond b (Some e.1) None) same)
-          | false ↦ λ apart. lookup-rising es once.1 ∙ sym (lookup_front f apart (rising es))
+          | true ↦ λ same. sym (lookup_past test (rising es) (f ∷ []) (once.0 same) ∙ ap (λ b. cond b (Some e.1) None) same)
+          | false ↦ λ apart. lookup-rising es once.1 ∙ sym (lookup_before test (rising es) (f ∷ []) (apart, tt))
         ]
         in
         at (test e.0.0) refl ∙ ap (lookup test) (sym (rising-cons e es))
@@ -97,11 +59,11 @@ module _ {K X : Type 0} where
         elim [
           | true ↦ λ same.
               rising-cons (e.0, v) es
-              ∙ sym (set_past (rising es) (f ∷ []) v (once.0 same) ∙ ap (λ b. rising es ++ cond b ((e.0.0, v) ∷ []) (f ∷ [])) same)
+              ∙ sym (set_past test (rising es) (f ∷ []) v (once.0 same) ∙ ap (λ b. rising es ++ cond b ((e.0.0, v) ∷ []) (f ∷ [])) same)
           | false ↦ λ apart.
               rising-cons e (set_value (λ (k : Reverse K). test k.0) es v)
               ∙ ap (λ (l : List (K × X)). l ++ (f ∷ [])) (set_value-rising es v once.1)
-              ∙ sym (set_front f apart (rising es) v)
+              ∙ sym (set_before test (rising es) (f ∷ []) v (apart, tt))
         ]
         in
         at (test e.0.0) refl ∙ ap (λ (l : List (K × X)). set_value test l v) (sym (rising-cons e es))
@@ -113,11 +75,11 @@ module _ {K X : Type 0} where
         let at : (b : Bool) → test e.0.0 ≡ b → rising (cond b es (e ∷ remove_entry (λ (k : Reverse K). test k.0) es)) ≡ remove_entry test (rising es ++ (f ∷ [])) =
         elim [
           | true ↦ λ same.
-              sym (remove_past (rising es) (f ∷ []) (once.0 same) ∙ ap (λ b. rising es ++ cond b [] (f ∷ [])) same ∙ append-nil (rising es))
+              sym (remove_past test (rising es) (f ∷ []) (once.0 same) ∙ ap (λ b. rising es ++ cond b [] (f ∷ [])) same ∙ append-nil (rising es))
           | false ↦ λ apart.
               rising-cons e (remove_entry (λ (k : Reverse K). test k.0) es)
               ∙ ap (λ (l : List (K × X)). l ++ (f ∷ [])) (remove_entry-rising es once.1)
-              ∙ sym (remove_front f apart (rising es))
+              ∙ sym (remove_before test (rising es) (f ∷ []) (apart, tt))
         ]
         in
         at (test e.0.0) refl ∙ ap (remove_entry test) (sym (rising-cons e es))
@@ -139,15 +101,11 @@ module _ {K X : Type 0} where
 
   -- ---- what holds of each key
 
-  all_append : (P : K → Type 0) (es fs : List (K × X)) → AllByRecursion (λ (e : K × X). P e.0) es → AllByRecursion (λ (e : K × X). P e.0) fs → AllByRecursion (λ (e : K × X). P e.0) (es ++ fs)
-  all_append P [] fs all more = more
-  all_append P (e ∷ es) fs all more = (all.0, all_append P es fs all.1 more)
-
   all-rising : (P Q : K → Type 0) (es : List (Reverse K × X)) → ((k : K) → P k → Q k) → AllByRecursion (λ (k : Reverse K). P k.0) (keys_of es) → AllByRecursion (λ (e : K × X). Q e.0) (rising es)
   all-rising P Q [] so all = tt
   all-rising P Q (e ∷ es) so all =
       subst (λ (l : List (K × X)). AllByRecursion (λ (e : K × X). Q e.0) l) (sym (rising-cons e es))
-      (all_append Q (rising es) ((e.0.0, e.1) ∷ []) (all-rising P Q es so all.1) (so e.0.0 all.0, tt))
+      (all_append (λ (e : K × X). Q e.0) (rising es) ((e.0.0, e.1) ∷ []) (all-rising P Q es so all.1) (so e.0.0 all.0, tt))
 
 equal_from_is_eq : (r : Ordering) → is_eq r ≡ true → r ≡ Equal
 equal_from_is_eq Less h = absurd (false≢true h)
@@ -173,20 +131,6 @@ module _ {K X : Type 0} (R : K → K → Ordering) (o : IsTotalOrder R) where
 
   -- ---- a new entry
 
-  insert_past : (k : K) (v : X) (es fs : List (K × X)) → AllByRecursion (λ (e : K × X). R k e.0 ≡ Greater) es → insert_entry R (es ++ fs) k v ≡ es ++ insert_entry R fs k v
-  insert_past k v [] fs above = refl
-  insert_past k v (e ∷ es) fs above =
-      ap (λ r. match_ordering r ((k, v) ∷ e ∷ es ++ fs) ((e.0, v) ∷ es ++ fs) (e ∷ insert_entry R (es ++ fs) k v)) above.0
-      ∙ ap (λ (l : List (K × X)). e ∷ l) (insert_past k v es fs above.1)
-
-  insert_front : (k : K) (v : X) (f : K × X) (es : List (K × X)) → R k f.0 ≡ Less → insert_entry R (es ++ (f ∷ [])) k v ≡ insert_entry R es k v ++ (f ∷ [])
-  insert_front k v f [] below = ap (λ r. match_ordering r ((k, v) ∷ f ∷ []) ((f.0, v) ∷ []) (f ∷ (k, v) ∷ [])) below
-  insert_front k v f (e ∷ es) below =
-      let at : (r : Ordering) → match_ordering r ((k, v) ∷ e ∷ es ++ (f ∷ [])) ((e.0, v) ∷ es ++ (f ∷ [])) (e ∷ insert_entry R (es ++ (f ∷ [])) k v) ≡ match_ordering r ((k, v) ∷ e ∷ es) ((e.0, v) ∷ es) (e ∷ insert_entry R es k v) ++ (f ∷ []) =
-      elim [ Less ↦ refl | Equal ↦ refl | Greater ↦ ap (λ (l : List (K × X)). e ∷ l) (insert_front k v f es below) ]
-      in
-      at (R k e.0)
-
   pub insert_entry-rising : (k : Reverse K) (v : X) (es : List (Reverse K × X)) → IsStrictlySortedBy (back R) (keys_of es) → rising (insert_entry (back R) es k v) ≡ insert_entry R (rising es) k.0 v
   insert_entry-rising k v [] sorted = refl
   insert_entry-rising k v (e ∷ es) sorted =
@@ -200,16 +144,16 @@ module _ {K X : Type 0} (R : K → K → Ordering) (o : IsTotalOrder R) where
             rising-cons (k, v) (e ∷ es)
             ∙ ap (λ (l : List (K × X)). l ++ ((k.0, v) ∷ [])) (rising-cons e es)
             ∙ append_assoc (rising es) (f ∷ []) ((k.0, v) ∷ [])
-            ∙ sym (insert_past k.0 v (rising es) (f ∷ []) earlier ∙ ap (λ r. rising es ++ match_ordering r ((k.0, v) ∷ f ∷ []) ((f.0, v) ∷ []) (f ∷ (k.0, v) ∷ [])) above)
+            ∙ sym (insert_past R k.0 v (rising es) (f ∷ []) earlier ∙ ap (λ r. rising es ++ match_ordering r ((k.0, v) ∷ f ∷ []) ((f.0, v) ∷ []) (f ∷ (k.0, v) ∷ [])) above)
         | Equal ↦ λ tied.
             let same = tied_back o e.0.0 k.0 tied in
             let earlier = all-rising (λ q. R q e.0.0 ≡ Less) (λ q. R k.0 q ≡ Greater) es (λ q h. o.congr k.0 e.0.0 q same ∙ above_from_less R o q e.0.0 h) below in
             rising-cons (e.0, v) es
-            ∙ sym (insert_past k.0 v (rising es) (f ∷ []) earlier ∙ ap (λ r. rising es ++ match_ordering r ((k.0, v) ∷ f ∷ []) ((f.0, v) ∷ []) (f ∷ (k.0, v) ∷ [])) same)
+            ∙ sym (insert_past R k.0 v (rising es) (f ∷ []) earlier ∙ ap (λ r. rising es ++ match_ordering r ((k.0, v) ∷ f ∷ []) ((f.0, v) ∷ []) (f ∷ (k.0, v) ∷ [])) same)
         | Greater ↦ λ earlier.
             rising-cons e (insert_entry (back R) es k v)
             ∙ ap (λ (l : List (K × X)). l ++ (f ∷ [])) (insert_entry-rising k v es (sorted_tail (back R) e.0 (keys_of es) sorted))
-            ∙ sym (insert_front k.0 v f (rising es) (o.antisymm k.0 e.0.0 ∙ ap ordering_reverse earlier))
+            ∙ sym (insert_before R k.0 v (rising es) (f ∷ []) (o.antisymm k.0 e.0.0 ∙ ap ordering_reverse earlier, tt))
       ]
       in
       at (R e.0.0 k.0) refl ∙ ap (λ (l : List (K × X)). insert_entry R l k.0 v) (sym (rising-cons e es))

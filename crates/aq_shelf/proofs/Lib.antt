@@ -3,6 +3,8 @@ pub mod Order
 pub mod MapLemmas
 pub mod FlatLemmas
 pub mod EntryLemmas
+pub mod PartLemmas
 pub mod LatestLemmas
-pub mod HourLemmas
 pub mod Cases
+pub mod PlaceLemmas
+pub mod StretchLemmas

@@ -4,3 +4,5 @@ pub mod Latest
 pub mod Entries
 pub mod Faults
 pub mod Monitors
+pub mod Places
+pub mod Stretches

@@ -16,9 +16,13 @@ use Rattle.aq_shelf.specs.Entries.{IsShelf, observation_at}
 abbrev pub at_hour : ℕ → List (ℕ × Observation) → Option Observation
 at_hour hour hours = lookup (nat_eq hour) hours
 
+-- an observation that starts at `from` or later, and before `end`
+abbrev pub between : ℕ → ℕ → ℕ × Observation → Bool
+between from end entry = nat_le from entry.0 && nat_lt entry.0 end
+
 -- an observation that starts in the hours from `from` on
 abbrev pub in_hours : ℕ → ℕ → ℕ × Observation → Bool
-in_hours from hours entry = nat_le from entry.0 && nat_lt entry.0 (from + hours)
+in_hours from hours entry = between from (from + hours) entry
 
 -- when an observation is not put among a monitor's hours, where the shelf is full or not
 abbrev pub IsHourFault : ShelfFault → Bool → ℕ → List (ℕ × Observation) → Type 0

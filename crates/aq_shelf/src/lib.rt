@@ -6,6 +6,7 @@ mod fault;
 mod hours;
 mod shelf;
 mod span;
+mod stretch;
 
 pub use fault::{NotThere, ShelfFault};
 pub use shelf::{MOST_OBSERVATIONS, Shelf};

@@ -13,9 +13,7 @@ use crate::hours::Hours;
 use crate::span::Span;
 use aq_base::{Hour, MonitorId, ObsKey, Observation, Steps};
 use std::alloc::Global;
-use std::cmp::Reverse;
 use std::collections::BTreeMap;
-use std::collections::btree_map::Range;
 use std::marker::Model;
 use std::sync::ledger::Ledger;
 
@@ -152,7 +150,7 @@ impl Shelf {
     {
         let found = find(&self.monitors, &self.none, &monitor);
         count_steps(found.range(from, hours), steps);
-        Span::new(found.range(from, hours))
+        found.range(from, hours)
     }
 }
 
@@ -250,7 +248,7 @@ fn find<'a>(
 }
 
 /// Counts one step, and one for each entry.
-fn count_steps<L: Ledger>(entries: Range<'_, Reverse<Hour>, Observation>, counter: &mut Steps<L>)
+fn count_steps<L: Ledger>(entries: Span<'_>, counter: &mut Steps<L>)
     ensures { counter.new ≡ counter.old + 1 + length entries.entry }
 {
     counter.tick();

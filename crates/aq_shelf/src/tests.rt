@@ -4,6 +4,7 @@ ghost use Rattle.aq_base.specs.declared.monitor.Pollutant.{Pollutant};
 ghost use Rattle.aq_base.specs.declared.day.TheConstants.{LAST_HOUR};
 ghost use Rattle.aq_base.specs.Values.{HasValueInRange};
 
+use crate::stretch::STRETCH_HOURS;
 use crate::*;
 use aq_base::{Hour, LAST_HOUR, MonitorId, ObsKey, Observation, Pollutant, Quals, SiteId, Steps};
 use std::alloc::Global;
@@ -119,11 +120,17 @@ fn compare_span<L: Ledger>(
     assert_eq!(rt; span.next(), None);
 }
 
-/// Some hundred changes of sixty keys.
-fn compare_changes<L: Ledger>(rt: &impl Abort, alloc: Global, blank: Blank) -> Result<(), Fail>
+/// Some hundred changes of sixty keys, at five hours from `first` on.
+fn compare_changes<L: Ledger>(
+    rt: &impl Abort,
+    alloc: Global,
+    blank: Blank,
+    first: u32,
+) -> Result<(), Fail>
     requires name { blank.name ≡ L.name }
     requires parts { blank.parts ≡ L.parts }
     requires some { 0 < L.parts }
+    requires first { first ≤ 1000 }
 {
     let mut steps = Steps::<L>::new(blank);
     let mut shelf = Shelf::new(alloc);
@@ -134,7 +141,7 @@ fn compare_changes<L: Ledger>(rt: &impl Abort, alloc: Global, blank: Blank) -> R
         let monitor = monitor_of(draw / 65_536 % 12)?;
         let key = ObsKey {
             monitor,
-            hour: Hour::new(100 + draw / 1_048_576 % 5),
+            hour: Hour::new(first + draw / 1_048_576 % 5),
         };
         change(rt, &mut shelf, &mut plain, &key, turn, draw / 8_388_608 % 4)?;
         let key = &key;
@@ -145,7 +152,7 @@ fn compare_changes<L: Ledger>(rt: &impl Abort, alloc: Global, blank: Blank) -> R
             &shelf,
             plain.as_slice(),
             &key.monitor,
-            (100, 5),
+            (first, 5),
             &mut steps,
         );
         compare_span(
@@ -153,7 +160,7 @@ fn compare_changes<L: Ledger>(rt: &impl Abort, alloc: Global, blank: Blank) -> R
             &shelf,
             plain.as_slice(),
             &key.monitor,
-            (101, 2),
+            (first + 1, 2),
             &mut steps,
         );
     }
@@ -162,7 +169,12 @@ fn compare_changes<L: Ledger>(rt: &impl Abort, alloc: Global, blank: Blank) -> R
 
 #[test]
 fn changes_are_those_of_a_plain_list(rt: HostRuntime) -> Result<(), Fail> {
-    compare_changes::<Brand>(&rt, rt.alloc(), Blank::new(1))
+    compare_changes::<Brand>(&rt, rt.alloc(), Blank::new(1), 100)
+}
+
+#[test]
+fn changes_on_both_sides_of_an_end_are_those_of_a_plain_list(rt: HostRuntime) -> Result<(), Fail> {
+    compare_changes::<Brand>(&rt, rt.alloc(), Blank::new(1), STRETCH_HOURS - 2)
 }
 
 /// The hours of a span, one after another.
@@ -227,4 +239,44 @@ fn compare_ends<L: Ledger>(rt: &impl Abort, alloc: Global, blank: Blank) -> Resu
 #[test]
 fn spans_end_with_their_hours_and_their_monitor(rt: HostRuntime) -> Result<(), Fail> {
     compare_ends::<Brand>(&rt, rt.alloc(), Blank::new(1))
+}
+
+/// A monitor's hours in three stretches, put in falling order, and one of them taken away.
+fn compare_stretches<L: Ledger>(rt: &impl Abort, alloc: Global, blank: Blank) -> Result<(), Fail>
+    requires name { blank.name ≡ L.name }
+    requires parts { blank.parts ≡ L.parts }
+    requires some { 0 < L.parts }
+{
+    let mut steps = Steps::<L>::new(blank);
+    let mut shelf = Shelf::new(alloc);
+    let monitor = monitor_of(0)?;
+    let monitor = &monitor;
+    let all = [0, 766, 767, 768, 1_000, 1_535, 1_536, 2_303];
+    for hour in [2_303, 1_536, 1_535, 1_000, 768, 767, 766, 0] {
+        let key = ObsKey {
+            monitor: *monitor,
+            hour: Hour::new(hour),
+        };
+        assert_eq!(rt; shelf.insert(key, content_of(70)), Ok(()));
+    }
+    assert_hours(rt, &shelf, monitor, 0, 2_304, &all, &mut steps);
+    assert_hours(rt, &shelf, monitor, 767, 770, &all[2..7], &mut steps);
+    assert_hours(rt, &shelf, monitor, 767, 769, &all[2..6], &mut steps);
+    assert_hours(rt, &shelf, monitor, 768, 768, &all[3..6], &mut steps);
+    assert_hours(rt, &shelf, monitor, 1, 767, &all[1..3], &mut steps);
+    let key = &ObsKey {
+        monitor: *monitor,
+        hour: Hour::new(1_000),
+    };
+    assert_eq!(rt; shelf.remove(*key), Ok(content_of(70)));
+    assert_eq!(rt; shelf.remove(*key), Err(NotThere));
+    assert_hours(rt, &shelf, monitor, 768, 767, &[768], &mut steps);
+    assert_hours(rt, &shelf, monitor, 769, 766, &[], &mut steps);
+    assert_hours(rt, &shelf, monitor, 769, 767, &[1_535], &mut steps);
+    Ok(())
+}
+
+#[test]
+fn stretches_follow_one_another(rt: HostRuntime) -> Result<(), Fail> {
+    compare_stretches::<Brand>(&rt, rt.alloc(), Blank::new(1))
 }

@@ -6,25 +6,17 @@ use Rattle.aq_base.specs.declared.observation.Observation.{Observation}
 use Rattle.aq_shelf.specs.Entries.{observations_in}
 use Rattle.aq_shelf.specs.Monitors.{flat, in_hours}
 use Rattle.aq_shelf.proofs.EntryLemmas.{all-observations_in}
-use Rattle.aq_shelf.proofs.FlatLemmas.{span-flat, profile-flat}
+use Rattle.aq_shelf.proofs.FlatLemmas.{span-flat}
 use Rattle.aq_shelf.proofs.shelf.Shelf.span.Goals as goal
-
-pub range-requires-clause-profile : goal.range-requires-clause-profile
-range-requires-clause-profile g c =
-    rw c.find-found.ensures (profile-flat c.args.monitor c.self.inside.monitors.entries c.self.invariant.0.shelf.standing)
-
-pub range-requires-2-clause-profile : goal.range-requires-2-clause-profile
-range-requires-2-clause-profile g c =
-    rw c.find-found.ensures (profile-flat c.args.monitor c.self.inside.monitors.entries c.self.invariant.0.shelf.standing)
 
 pub returns-clause-observations : goal.returns-clause-observations
 returns-clause-observations g c =
-    c.new.ensures ∙ c.range-2.ensures ∙ ap (filter (in_hours c.args.from c.args.hours)) c.find-found.ensures
+    c.range-2.ensures ∙ ap (filter (in_hours c.args.from c.args.hours)) c.find-found.ensures
     ∙ sym (span-flat c.args.monitor c.args.from c.args.hours c.self.inside.monitors.entries c.self.invariant.0.rising)
     ∙ ap (observations_in c.args.monitor c.args.from c.args.hours) c.self.view_is
 
 pub returns-clause-ranges : goal.returns-clause-ranges
 returns-clause-ranges g c =
-    let given = c.new.ensures ∙ c.range-2.ensures ∙ ap (filter (in_hours c.args.from c.args.hours)) c.find-found.ensures ∙ sym (span-flat c.args.monitor c.args.from c.args.hours c.self.inside.monitors.entries c.self.invariant.0.rising) in
+    let given = c.range-2.ensures ∙ ap (filter (in_hours c.args.from c.args.hours)) c.find-found.ensures ∙ sym (span-flat c.args.monitor c.args.from c.args.hours c.self.inside.monitors.entries c.self.invariant.0.rising) in
     subst (λ (l : List (ℕ × Observation)). AllByRecursion (λ (item : ℕ × Observation). HasValueInRange c.args.monitor.pollutant item.1) l) (sym given)
     (all-observations_in c.args.monitor c.args.from c.args.hours (flat c.self.inside.monitors.entries) c.self.invariant.0.shelf.standing)
