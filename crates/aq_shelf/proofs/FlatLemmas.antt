@@ -9,7 +9,7 @@ use Rattle.std.specs.Map.{lookup, keys_of, set_value, remove_entry}
 use Rattle.std.specs.BTreeMap.{insert_entry, is_at}
 use Rattle.std.proofs.lemmas.Bool.{false≢true}
 use Rattle.std.proofs.lemmas.Cmp.{eq_by_cmp_equiv, tied_itself}
-use Rattle.std.proofs.lemmas.Map.{lookup-none}
+use Rattle.std.proofs.lemmas.Map.{NonePasses, lookup-none}
 use Rattle.std.proofs.lemmas.Map.Entries.{none_past_head, none_below_head}
 use Rattle.std.proofs.lemmas.Map.Keys.{IsDistinct-from_sorted, sorted_head, sorted_tail}
 use Rattle.aq_base.specs.declared.monitor.MonitorId.{MonitorId}
@@ -22,6 +22,7 @@ use Rattle.aq_shelf.specs.Entries.{in_span, hour_content, observation_at, observ
 use Rattle.aq_shelf.specs.Monitors.{at_hour, in_hours, IsHourFault, IsPutFault, of_monitor, flat, hours_of, AreRising}
 use Rattle.aq_shelf.proofs.Order.{derived_cmp, same_test, monitor_total, is_eq-monitor_cmp, monitor_test, monitor_from_same}
 use Rattle.aq_shelf.proofs.MapLemmas.{not_found, below_all}
+use Rattle.aq_shelf.proofs.PartLemmas.{lookup_past, set_past, remove_past, insert_past}
 
 -- ---- a monitor among rising monitors
 
@@ -43,11 +44,10 @@ same-from_order monitor m o h = sym (is_eq-monitor_cmp monitor m) ∙ ap is_eq h
 
 -- ---- a look-up
 
-lookup_past : (key : ObsKey) (m : MonitorId) (hs : List (ℕ × Observation)) (es : List (ObsKey × Observation)) → same_monitor key.monitor m ≡ false → observation_at key (of_monitor m hs ++ es) ≡ observation_at key es
-lookup_past key m [] es apart = refl
-lookup_past key m (h ∷ hs) es apart =
-    ap (λ b. cond (b && nat_eq key.hour h.0) (Some h.1) (observation_at key (of_monitor m hs ++ es))) apart
-    ∙ lookup_past key m hs es apart
+-- no key of a monitor is one of another
+none_of_other : (key : ObsKey) (m : MonitorId) (hs : List (ℕ × Observation)) → same_monitor key.monitor m ≡ false → NonePasses (same_key key) (of_monitor m hs)
+none_of_other key m [] apart = tt
+none_of_other key m (h ∷ hs) apart = (ap (λ b. b && nat_eq key.hour h.0) apart, none_of_other key m hs apart)
 
 lookup_here : (key : ObsKey) (m : MonitorId) (hs : List (ℕ × Observation)) (es : List (ObsKey × Observation)) → same_monitor key.monitor m ≡ true → observation_at key es ≡ None → observation_at key (of_monitor m hs ++ es) ≡ at_hour key.hour hs
 lookup_here key m [] es same none = none
@@ -62,7 +62,7 @@ lookup-flat-none key (m ∷ ms) none =
     let at : (b : Bool) → same_monitor key.monitor m.0 ≡ b → cond b (Some m.1) (lookup (same_monitor key.monitor) ms) ≡ None → observation_at key (of_monitor m.0 m.1 ++ flat ms) ≡ None =
     elim [
       | true ↦ λ _ found. not_found m.1 found
-      | false ↦ λ apart rest. lookup_past key m.0 m.1 (flat ms) apart ∙ lookup-flat-none key ms rest
+      | false ↦ λ apart rest. lookup_past (same_key key) (of_monitor m.0 m.1) (flat ms) (none_of_other key m.0 m.1 apart) ∙ lookup-flat-none key ms rest
     ]
     in
     at (same_monitor key.monitor m.0) refl none
@@ -76,7 +76,7 @@ lookup-flat key (m ∷ ms) rising =
       | true ↦ λ same.
           lookup_here key m.0 m.1 (flat ms) same (lookup-flat-none key ms (found_once key.monitor m ms rising same))
       | false ↦ λ apart.
-          lookup_past key m.0 m.1 (flat ms) apart
+          lookup_past (same_key key) (of_monitor m.0 m.1) (flat ms) (none_of_other key m.0 m.1 apart)
           ∙ lookup-flat key ms (sorted_tail monitor_cmp m.0 (keys_of ms) rising)
     ]
     in
@@ -107,13 +107,9 @@ insert_front key content [] below = refl
 insert_front key content (e ∷ es) below =
     ap (λ o. match_ordering o ((key, content) ∷ e ∷ es) ((e.0, content) ∷ es) (e ∷ insert_entry key_cmp es key content)) below.0
 
-insert_past : (key : ObsKey) (content : Observation) (m : MonitorId) (hs : List (ℕ × Observation)) (es : List (ObsKey × Observation)) → monitor_cmp key.monitor m ≡ Greater → insert_entry key_cmp (of_monitor m hs ++ es) key content ≡ of_monitor m hs ++ insert_entry key_cmp es key content
-insert_past key content m [] es above = refl
-insert_past key content m (h ∷ hs) es above =
-    let k : ObsKey = record { monitor = m; hour = h.0 } in
-    let more = of_monitor m hs ++ es in
-    ap (λ o. match_ordering (ordering_then o (nat_cmp key.hour h.0)) ((key, content) ∷ (k, h.1) ∷ more) ((k, content) ∷ more) ((k, h.1) ∷ insert_entry key_cmp more key content)) above
-    ∙ ap (λ (l : List (ObsKey × Observation)). (k, h.1) ∷ l) (insert_past key content m hs es above)
+all_before : (key : ObsKey) (m : MonitorId) (hs : List (ℕ × Observation)) → monitor_cmp key.monitor m ≡ Greater → AllByRecursion (λ (e : ObsKey × Observation). key_cmp key e.0 ≡ Greater) (of_monitor m hs)
+all_before key m [] above = tt
+all_before key m (h ∷ hs) above = (ap (λ o. ordering_then o (nat_cmp key.hour h.0)) above, all_before key m hs above)
 
 insert_here : (m : MonitorId) (hour : ℕ) (content : Observation) (hs : List (ℕ × Observation)) (es : List (ObsKey × Observation)) → AllByRecursion (λ k. key_cmp (record { monitor = m; hour = hour }) k ≡ Less) (keys_of es) → insert_entry key_cmp (of_monitor m hs ++ es) (record { monitor = m; hour = hour }) content ≡ of_monitor m (insert_entry nat_cmp hs hour content) ++ es
 insert_here m hour content [] es below = insert_front (record { monitor = m; hour = hour }) content es below
@@ -158,7 +154,7 @@ insert-flat key content (m ∷ ms) hs rising found =
           ∙ insert_first key content m ms rising (monitor_from_same key.monitor m.0 (same-from_order key.monitor m.0 Equal tied))
       | Greater ↦ λ above rest.
           ap (λ (l : List (ObsKey × Observation)). of_monitor m.0 m.1 ++ l) (insert-flat key content ms hs (sorted_tail monitor_cmp m.0 (keys_of ms) rising) rest)
-          ∙ sym (insert_past key content m.0 m.1 (flat ms) above)
+          ∙ sym (insert_past key_cmp key content (of_monitor m.0 m.1) (flat ms) (all_before key m.0 m.1 above))
     ]
     in
     let order = same-from_order key.monitor m.0 (monitor_cmp key.monitor m.0) refl in
@@ -177,21 +173,13 @@ insert-flat-new key content (m ∷ ms) rising none =
       | Equal ↦ λ _ found. not_found m.1 found
       | Greater ↦ λ above rest.
           ap (λ (l : List (ObsKey × Observation)). of_monitor m.0 m.1 ++ l) (insert-flat-new key content ms (sorted_tail monitor_cmp m.0 (keys_of ms) rising) rest)
-          ∙ sym (insert_past key content m.0 m.1 (flat ms) above)
+          ∙ sym (insert_past key_cmp key content (of_monitor m.0 m.1) (flat ms) (all_before key m.0 m.1 above))
     ]
     in
     let order = same-from_order key.monitor m.0 (monitor_cmp key.monitor m.0) refl in
     at (monitor_cmp key.monitor m.0) refl (ap (λ b. cond b (Some m.1) (lookup (same_monitor key.monitor) ms)) (sym order) ∙ none)
 
 -- ---- another content
-
-set_past : (key : ObsKey) (content : Observation) (m : MonitorId) (hs : List (ℕ × Observation)) (es : List (ObsKey × Observation)) → same_monitor key.monitor m ≡ false → set_value (same_key key) (of_monitor m hs ++ es) content ≡ of_monitor m hs ++ set_value (same_key key) es content
-set_past key content m [] es apart = refl
-set_past key content m (h ∷ hs) es apart =
-    let k : ObsKey = record { monitor = m; hour = h.0 } in
-    let more = of_monitor m hs ++ es in
-    ap (λ b. cond (b && nat_eq key.hour h.0) ((k, content) ∷ more) ((k, h.1) ∷ set_value (same_key key) more content)) apart
-    ∙ ap (λ (l : List (ObsKey × Observation)). (k, h.1) ∷ l) (set_past key content m hs es apart)
 
 set_here : (key : ObsKey) (content : Observation) (m : MonitorId) (hs : List (ℕ × Observation)) (es : List (ObsKey × Observation)) → same_monitor key.monitor m ≡ true → IsSome (at_hour key.hour hs) → of_monitor m (set_value (nat_eq key.hour) hs content) ++ es ≡ set_value (same_key key) (of_monitor m hs ++ es) content
 set_here key content m [] es same stands = absurd (false≢true stands)
@@ -219,20 +207,12 @@ set-flat key content (m ∷ ms) hs found stands =
           ∙ ap (λ (l : List (ℕ × Observation)). set_value (same_key key) (of_monitor m.0 l ++ flat ms) content) is
       | false ↦ λ apart rest.
           ap (λ (l : List (ObsKey × Observation)). of_monitor m.0 m.1 ++ l) (set-flat key content ms hs rest stands)
-          ∙ sym (set_past key content m.0 m.1 (flat ms) apart)
+          ∙ sym (set_past (same_key key) (of_monitor m.0 m.1) (flat ms) content (none_of_other key m.0 m.1 apart))
     ]
     in
     at (same_monitor key.monitor m.0) refl found
 
 -- ---- an entry taken away
-
-remove_past : (key : ObsKey) (m : MonitorId) (hs : List (ℕ × Observation)) (es : List (ObsKey × Observation)) → same_monitor key.monitor m ≡ false → remove_entry (same_key key) (of_monitor m hs ++ es) ≡ of_monitor m hs ++ remove_entry (same_key key) es
-remove_past key m [] es apart = refl
-remove_past key m (h ∷ hs) es apart =
-    let k : ObsKey = record { monitor = m; hour = h.0 } in
-    let more = of_monitor m hs ++ es in
-    ap (λ b. cond (b && nat_eq key.hour h.0) more ((k, h.1) ∷ remove_entry (same_key key) more)) apart
-    ∙ ap (λ (l : List (ObsKey × Observation)). (k, h.1) ∷ l) (remove_past key m hs es apart)
 
 remove_here : (key : ObsKey) (m : MonitorId) (hs : List (ℕ × Observation)) (es : List (ObsKey × Observation)) → same_monitor key.monitor m ≡ true → IsSome (at_hour key.hour hs) → of_monitor m (remove_entry (nat_eq key.hour) hs) ++ es ≡ remove_entry (same_key key) (of_monitor m hs ++ es)
 remove_here key m [] es same stands = absurd (false≢true stands)
@@ -260,7 +240,7 @@ remove-flat key (m ∷ ms) hs found stands =
           ∙ ap (λ (l : List (ℕ × Observation)). remove_entry (same_key key) (of_monitor m.0 l ++ flat ms)) is
       | false ↦ λ apart rest.
           ap (λ (l : List (ObsKey × Observation)). of_monitor m.0 m.1 ++ l) (remove-flat key ms hs rest stands)
-          ∙ sym (remove_past key m.0 m.1 (flat ms) apart)
+          ∙ sym (remove_past (same_key key) (of_monitor m.0 m.1) (flat ms) (none_of_other key m.0 m.1 apart))
     ]
     in
     at (same_monitor key.monitor m.0) refl found
