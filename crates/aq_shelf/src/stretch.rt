@@ -12,8 +12,9 @@ use aq_base::{Hour, Observation};
 use std::alloc::Global;
 use std::marker::Model;
 
-/// The hours of a stretch: 32 days.
-pub(crate) const STRETCH_HOURS: u32 = 768;
+/// The hours of a stretch. A load in falling order moves so many at each hour; a list that grows by
+/// doubling is full with it.
+pub(crate) const STRETCH_HOURS: u32 = 256;
 
 /// The observations of one monitor in one stretch. Contracts see the list of them, rising by hour.
 #[derive(Drop)]

@@ -251,28 +251,28 @@ fn compare_stretches<L: Ledger>(rt: &impl Abort, alloc: Global, blank: Blank) ->
     let mut shelf = Shelf::new(alloc);
     let monitor = monitor_of(0)?;
     let monitor = &monitor;
-    let all = [0, 766, 767, 768, 1_000, 1_535, 1_536, 2_303];
-    for hour in [2_303, 1_536, 1_535, 1_000, 768, 767, 766, 0] {
+    let all = [0, 254, 255, 256, 400, 511, 512, 767];
+    for hour in [767, 512, 511, 400, 256, 255, 254, 0] {
         let key = ObsKey {
             monitor: *monitor,
             hour: Hour::new(hour),
         };
         assert_eq!(rt; shelf.insert(key, content_of(70)), Ok(()));
     }
-    assert_hours(rt, &shelf, monitor, 0, 2_304, &all, &mut steps);
-    assert_hours(rt, &shelf, monitor, 767, 770, &all[2..7], &mut steps);
-    assert_hours(rt, &shelf, monitor, 767, 769, &all[2..6], &mut steps);
-    assert_hours(rt, &shelf, monitor, 768, 768, &all[3..6], &mut steps);
-    assert_hours(rt, &shelf, monitor, 1, 767, &all[1..3], &mut steps);
+    assert_hours(rt, &shelf, monitor, 0, 768, &all, &mut steps);
+    assert_hours(rt, &shelf, monitor, 255, 258, &all[2..7], &mut steps);
+    assert_hours(rt, &shelf, monitor, 255, 257, &all[2..6], &mut steps);
+    assert_hours(rt, &shelf, monitor, 256, 256, &all[3..6], &mut steps);
+    assert_hours(rt, &shelf, monitor, 1, 255, &all[1..3], &mut steps);
     let key = &ObsKey {
         monitor: *monitor,
-        hour: Hour::new(1_000),
+        hour: Hour::new(400),
     };
     assert_eq!(rt; shelf.remove(*key), Ok(content_of(70)));
     assert_eq!(rt; shelf.remove(*key), Err(NotThere));
-    assert_hours(rt, &shelf, monitor, 768, 767, &[768], &mut steps);
-    assert_hours(rt, &shelf, monitor, 769, 766, &[], &mut steps);
-    assert_hours(rt, &shelf, monitor, 769, 767, &[1_535], &mut steps);
+    assert_hours(rt, &shelf, monitor, 256, 255, &[256], &mut steps);
+    assert_hours(rt, &shelf, monitor, 257, 254, &[], &mut steps);
+    assert_hours(rt, &shelf, monitor, 257, 255, &[511], &mut steps);
     Ok(())
 }
 
