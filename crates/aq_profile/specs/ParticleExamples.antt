@@ -10,7 +10,7 @@ use Rattle.aq_base.specs.declared.monitor.Pollutant.TheVariants.{Pm25, Pm10}
 use Rattle.aq_base.specs.declared.observation.ObsKey.{ObsKey}
 use Rattle.aq_base.specs.declared.observation.Observation.{Observation}
 use Rattle.aq_base.specs.declared.office.OfficeRecord.{OfficeRecord}
-use Rattle.aq_base.specs.declared.office.OfficeRecord.TheVariants.{Monitor, Primary, Schedule, Event, Concurrence}
+use Rattle.aq_base.specs.declared.office.OfficeRecord.TheVariants.{Monitor, Primary, Schedule, Makeup as MakeupRecord, Event, Concurrence}
 use Rattle.aq_base.specs.declared.reply.LoadReply.{LoadReply}
 use Rattle.aq_base.specs.declared.rule.Rule.TheVariants.{AlreadyThere, ParameterOutOfProfile}
 use Rattle.aq_profile.specs.Office.{Office, StoredLoad}
@@ -69,6 +69,16 @@ makeups_every interval =
 
 abbrev pub with_makeups : Office
 with_makeups = makeups_every 6
+
+-- samples on four days: the second makes up for 7 January, and the last is excluded
+abbrev pub sampled_quarter : Office
+sampled_quarter =
+    office_of
+    (sampler Pm25 Day 1 ∷ Schedule site Pm25 (day_number 2024 1 1) 6 (day_number 2024 1 1)
+    ∷ MakeupRecord site (day_number 2024 1 7) (day_number 2024 1 9)
+    ∷ Event 1 site Pm25 (hour_number (day_number 2024 1 19) 0) (hour_number (day_number 2024 1 19) 23) smoke ∷ Concurrence 1 true ∷ [])
+    (map (λ day. particle_sample Pm25 1 100 (day_number 2024 1 day)) (1 ∷ 9 ∷ 13 ∷ [])
+    ++ (record { monitor = particle_id Pm25 1; hour = hour_number (day_number 2024 1 19) 0 }, record { value = Some (pos 100); null = None; quals = smoke ∷ [] }) ∷ [])
 
 -- ---- quarters and years of PM2.5: scheduled days, samples (all creditable and counted) and their values in tenths
 

@@ -14,7 +14,7 @@ use Rattle.aq_profile.specs.Monitors.{is_same_site, is_same_pollutant, is_eligib
 use Rattle.aq_profile.specs.Exclusion.{excluded}
 use Rattle.aq_profile.specs.Designation.{primary_on}
 
--- a value in thousandths of a ppm, and whether it is excluded
+-- a value, in thousandths of a ppm for ozone and in tenths of a µg/m3 for particles, and whether it is excluded
 pub record Cell : Type 0 where
   pub value : ℤ
   pub excluded : Bool

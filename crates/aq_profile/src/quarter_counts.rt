@@ -2,9 +2,10 @@
 #![tactic(auto)]
 
 ghost use Rattle.std.specs.Prelude.{◌≡◌, true, false};
-ghost use Rattle.aq_profile.specs.QuarterCounts.{capture, gives_credit};
+ghost use Rattle.aq_profile.specs.QuarterCounts.{capture, gives_credit, quarter_counts};
+ghost use Rattle.aq_base.specs.Calendar.{quarter_number};
 ghost use Rattle.aq_profile.specs.OzoneExamples.{site};
-ghost use Rattle.aq_profile.specs.ParticleExamples.{makeup_on, makeups_every, with_makeups};
+ghost use Rattle.aq_profile.specs.ParticleExamples.{makeup_on, makeups_every, sampled_quarter, with_makeups};
 
 /// 68 of 91 scheduled days are 75 percent, and 67 of 90 are 74. Days that are excluded take nothing
 /// away. Without a scheduled day it is 0.
@@ -25,4 +26,10 @@ pub fn makeup_days_give_credit()
     ensures scheduled { gives_credit with_makeups site (makeup_on 13) ≡ false }
     ensures scheduled_a_week_later { gives_credit (makeups_every 1) site (makeup_on 14) ≡ false }
     ensures not_sampled { gives_credit with_makeups site (makeup_on 8) ≡ false }
+{}
+
+/// Of the 91 days of the first quarter of 2024 every sixth, 16, is scheduled. Three of these have a
+/// sample, and the sample of another day makes up for a fourth; one sample is excluded.
+pub fn a_quarter_is_counted()
+    ensures { quarter_counts sampled_quarter site (quarter_number 2024 0) ≡ record { scheduled = 16; creditable = 4; counted = 3 } }
 {}
