@@ -12,10 +12,10 @@ use Rattle.aq_base.specs.declared.reply.ListedLine.{ListedLine}
 use Rattle.aq_base.specs.declared.rule.Rule.{Rule}
 use Rattle.aq_base.specs.declared.rule.Rule.TheVariants.{NotBuilt}
 use Rattle.std.specs.Bool.{if◌then◌else◌}
-use Rattle.aq_profile.specs.Reading.{line_value}
-use Rattle.aq_profile.specs.Lines.{NumberedLine}
-use Rattle.aq_profile.specs.Load.{after, changed_by, listed_for, refusal}
-use Rattle.aq_profile.specs.Office.{Office}
+use Rattle.aq_profile.specs.Lines.Reading.{line_value}
+use Rattle.aq_profile.specs.Lines.Lines.{NumberedLine}
+use Rattle.aq_profile.specs.Office.Load.{after, changed_by, listed_for, refusal}
+use Rattle.aq_profile.specs.Office.Office.{Office}
 use Rattle.aq_desk.specs.Built.{after_beside, built_after, built_after_all, built_refusal, built_refusals, built_reply_for, built_rest_of, monitor_for, refusal_beside}
 use Rattle.aq_rd.specs.Tags.{has_office_tag}
 

@@ -18,12 +18,12 @@ use Rattle.aq_base.specs.declared.observation.Observation.{Observation}
 use Rattle.aq_base.specs.declared.office.OfficeKey.TheVariants.{Monitor as MonitorKey}
 use Rattle.aq_base.specs.declared.rule.Rule.TheVariants.{UnknownMonitor, WrongDuration, AlreadyThere, NotThere, ObservationsFull}
 use Rattle.aq_profile.specs.Limits.{MOST_OBSERVATIONS}
-use Rattle.aq_profile.specs.Load.{changed}
-use Rattle.aq_profile.specs.Office.{Office, duration_at, is_same, key_numbers, monitor_duration, parameter_number, observation_numbers, observation_rank, with_row, without_row, observation_at as found_at}
-use Rattle.aq_profile.specs.RdForm.{Put as PutSample, Delete as DeleteSample}
-use Rattle.aq_profile.specs.Reading.{OfRd}
-use Rattle.aq_profile.specs.Refusal.{broken, is_other_duration, kept_at, sample_stands}
-use Rattle.aq_profile.specs.Spellings.{◌>>=◌}
+use Rattle.aq_profile.specs.Office.Load.{changed}
+use Rattle.aq_profile.specs.Office.Office.{Office, duration_at, is_same, key_numbers, monitor_duration, parameter_number, observation_numbers, observation_rank, with_row, without_row, observation_at as found_at}
+use Rattle.aq_profile.specs.Lines.RdForm.{Put as PutSample, Delete as DeleteSample}
+use Rattle.aq_profile.specs.Lines.Reading.{OfRd}
+use Rattle.aq_profile.specs.Office.Refusal.{broken, is_other_duration, kept_at, sample_stands}
+use Rattle.aq_profile.specs.Lines.Spellings.{◌>>=◌}
 use Rattle.aq_shelf.specs.Keys.{key_cmp, same_key, same_monitor, same_site, pollutant_place}
 use Rattle.aq_shelf.specs.Entries.{IsShelf, IsInsertFault, observation_at, with_entry, with_content, without_key}
 use Rattle.aq_shelf.specs.declared.fault.ShelfFault.{ShelfFault}

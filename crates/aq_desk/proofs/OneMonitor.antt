@@ -20,12 +20,12 @@ use Rattle.aq_base.specs.declared.monitor.Pollutant.{Pollutant}
 use Rattle.aq_base.specs.declared.monitor.Pollutant.TheVariants.{Ozone, Pm25, Pm10}
 use Rattle.aq_base.specs.declared.observation.ObsKey.{ObsKey}
 use Rattle.aq_base.specs.declared.observation.Observation.{Observation}
-use Rattle.aq_profile.specs.Designation.{primary_on}
-use Rattle.aq_profile.specs.Exclusion.{excluded}
+use Rattle.aq_profile.specs.Office.Designation.{primary_on}
+use Rattle.aq_profile.specs.Office.Exclusion.{excluded}
 use Rattle.aq_profile.specs.Lists.{total}
-use Rattle.aq_profile.specs.Monitors.{is_same_site, is_same_pollutant, is_same_monitor, is_eligible}
-use Rattle.aq_profile.specs.Office.{Office, has_monitor, is_same, series_numbers}
-use Rattle.aq_profile.specs.SiteHour.{Sample, chosen, is_of_poc, sample_of, site_hour}
+use Rattle.aq_profile.specs.Office.Monitors.{is_same_site, is_same_pollutant, is_same_monitor, is_eligible}
+use Rattle.aq_profile.specs.Office.Office.{Office, has_monitor, is_same, series_numbers}
+use Rattle.aq_profile.specs.Ozone.SiteHour.{Sample, chosen, is_of_poc, sample_of, site_hour}
 use Rattle.aq_profile.proofs.Exclusions.{excluded-unagreed}
 use Rattle.aq_profile.proofs.Sameness.{site_itself}
 use Rattle.aq_shelf.specs.Keys.{key_cmp, same_key, same_monitor, pollutant_place}

@@ -6,12 +6,12 @@ use Rattle.std.proofs.lemmas.List.{length-append, take-append-le}
 use Rattle.std.proofs.Math.Seq.{take-append-add}
 use Rattle.aq_base.specs.declared.reply.LoadReply.{LoadReply}
 use Rattle.aq_base.specs.Site.{Site}
-use Rattle.aq_profile.specs.Lines.{body_lines}
+use Rattle.aq_profile.specs.Lines.Lines.{body_lines}
 use Rattle.aq_base.specs.declared.monitor.Pollutant.TheVariants.{Ozone}
-use Rattle.aq_profile.specs.Office.{Office, has_monitor, nothing}
-use Rattle.aq_profile.specs.OzoneDay.{windows}
-use Rattle.aq_profile.specs.Sheet.{text_of}
-use Rattle.aq_profile.specs.Sheets.{load_sheet, windows_answer, windows_sheet}
+use Rattle.aq_profile.specs.Office.Office.{Office, has_monitor, nothing}
+use Rattle.aq_profile.specs.Ozone.OzoneDay.{windows}
+use Rattle.aq_profile.specs.Shown.Sheet.{text_of}
+use Rattle.aq_profile.specs.Shown.Sheets.{load_sheet, windows_answer, windows_sheet}
 use Rattle.aq_desk.specs.declared.ending.Ending.{Ending}
 use Rattle.aq_desk.specs.declared.ending.Ending.TheVariants.{Done, NoCommand, InputFailed, OutputFailed, Memory, TooManyBytes, TooManyLines, NoSite}
 use Rattle.aq_desk.specs.Built.{built_after_all, built_reply}

@@ -7,10 +7,10 @@ use Rattle.aq_base.specs.declared.reply.ListedLine.{ListedLine}
 use Rattle.aq_base.specs.declared.reply.LoadReply.{LoadReply}
 use Rattle.aq_base.specs.declared.reply.RestRule.{RestRule}
 use Rattle.aq_cal.specs.DayText as cal
-use Rattle.aq_profile.specs.EightHour.{WindowRow}
-use Rattle.aq_profile.specs.Sheet.{SheetCell, Head, text_of, head_text, head_of, row_text, line_of, cell_text, count_cell, ppm_cell, site_text, day_text, hour_text}
-use Rattle.aq_profile.specs.Sheet.SheetCell.{Text}
-use Rattle.aq_profile.specs.Sheets.{load_sheet, listed_row, rest_row, windows_sheet, window_cells}
+use Rattle.aq_profile.specs.Ozone.EightHour.{WindowRow}
+use Rattle.aq_profile.specs.Shown.Sheet.{SheetCell, Head, text_of, head_text, head_of, row_text, line_of, cell_text, count_cell, ppm_cell, site_text, day_text, hour_text}
+use Rattle.aq_profile.specs.Shown.Sheet.SheetCell.{Text}
+use Rattle.aq_profile.specs.Shown.Sheets.{load_sheet, listed_row, rest_row, windows_sheet, window_cells}
 
 -- pieces that are written one behind the other
 seven : (a b c d e f g : List ℕ) → (((((([] ++ a) ++ b) ++ c) ++ d) ++ e) ++ f) ++ g ≡ (a ++ (b ++ (c ++ (d ++ [])))) ++ (e ++ (f ++ g))

@@ -7,10 +7,10 @@ use Rattle.std.proofs.lemmas.List.FromFn.{fill_by_all}
 use Rattle.std.proofs.lemmas.List.Elements.{filter_map-append, filter-append}
 use Rattle.aq_base.specs.Site.{Site}
 use Rattle.aq_base.specs.declared.day.TheConstants.{LAST_HOUR}
-use Rattle.aq_profile.specs.EightHour.{WindowRow, average_of, average, eight_hours, full_values, row_of, window}
-use Rattle.aq_profile.specs.Office.{Office}
-use Rattle.aq_profile.specs.OzoneDay.{windows, starts_of}
-use Rattle.aq_profile.specs.SiteHour.{Cell, site_hour}
+use Rattle.aq_profile.specs.Ozone.EightHour.{WindowRow, average_of, average, eight_hours, full_values, row_of, window}
+use Rattle.aq_profile.specs.Office.Office.{Office}
+use Rattle.aq_profile.specs.Ozone.OzoneDay.{windows, starts_of}
+use Rattle.aq_profile.specs.Ozone.SiteHour.{Cell, site_hour}
 use Rattle.aq_profile.proofs.Exclusions.{row-unexcluded}
 use Rattle.aq_desk.specs.WindowView.{IsTally, cells_at, cells_of, row_view}
 use Rattle.aq_desk.specs.declared.windows.Tally.{Tally}

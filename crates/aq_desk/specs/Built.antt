@@ -10,9 +10,9 @@ use Rattle.aq_base.specs.declared.rule.Rule.{Rule}
 use Rattle.aq_base.specs.declared.rule.Rule.TheVariants.{NotBuilt}
 use Rattle.aq_base.specs.declared.reply.RestRule.{RestRule}
 use Rattle.aq_profile.specs.Limits.{MOST_LISTED}
-use Rattle.aq_profile.specs.Lines.{NumberedLine, line_count, body_lines}
-use Rattle.aq_profile.specs.Load.{after, all_rules, listed_for, refusal, rest_for}
-use Rattle.aq_profile.specs.Office.{Office}
+use Rattle.aq_profile.specs.Lines.Lines.{NumberedLine, line_count, body_lines}
+use Rattle.aq_profile.specs.Office.Load.{after, all_rules, listed_for, refusal, rest_for}
+use Rattle.aq_profile.specs.Office.Office.{Office}
 use Rattle.aq_rd.specs.Front.{◌>>=◌, after as behind, whole}
 use Rattle.aq_rd.specs.PlainForm.{ozone_monitor_at}
 use Rattle.aq_rd.specs.Tags.{has_office_tag}

@@ -1,7 +1,7 @@
 -- How a command ends, the status of each ending, and what it says of the input and the output (own).
 use Rattle.std.specs.Prelude.{◌≡◌, ℕ, ◌⊎◌, Bool, true, false, ◌&&◌, nat_le, length, List, Option, Result, Ok, Err, IfSome}
 use Rattle.aq_profile.specs.Limits.{MOST_BYTES, MOST_LINES}
-use Rattle.aq_profile.specs.Lines.{line_count}
+use Rattle.aq_profile.specs.Lines.Lines.{line_count}
 use Rattle.aq_desk.specs.declared.body.BodyFault.{BodyFault}
 use Rattle.aq_desk.specs.declared.body.BodyFault.TheVariants as fault
 use Rattle.aq_desk.specs.declared.ending.Ending.{Ending}

@@ -9,8 +9,8 @@ use Rattle.aq_base.specs.declared.office.OfficeRecord.{OfficeRecord}
 use Rattle.aq_base.specs.Values.{least_value, greatest_value}
 use Rattle.aq_base.specs.declared.rule.Rule.{Rule}
 use Rattle.aq_base.specs.declared.rule.Rule.TheVariants.{AlreadyThere, ObservationsFull}
-use Rattle.aq_profile.specs.Office.{Office}
-use Rattle.aq_profile.specs.SiteHour.{Cell}
+use Rattle.aq_profile.specs.Office.Office.{Office}
+use Rattle.aq_profile.specs.Ozone.SiteHour.{Cell}
 use Rattle.aq_shelf.specs.declared.fault.ShelfFault.{ShelfFault}
 use Rattle.aq_shelf.specs.declared.fault.ShelfFault.TheVariants as fault
 use Rattle.aq_desk.specs.Built.{registered}

@@ -3,10 +3,10 @@ use Rattle.std.specs.Prelude.{◌≡◌, ◌⊎◌, ℕ, if◌then◌else◌, Op
 use Rattle.std.specs.Option.{option_map}
 use Rattle.aq_base.specs.Site.{Site}
 use Rattle.aq_base.specs.declared.monitor.Pollutant.TheVariants.{Ozone}
-use Rattle.aq_profile.specs.Lines.{body_lines}
-use Rattle.aq_profile.specs.Office.{Office, nothing, has_monitor}
-use Rattle.aq_profile.specs.Sheet.{text_of}
-use Rattle.aq_profile.specs.Sheets.{load_sheet, windows_answer}
+use Rattle.aq_profile.specs.Lines.Lines.{body_lines}
+use Rattle.aq_profile.specs.Office.Office.{Office, nothing, has_monitor}
+use Rattle.aq_profile.specs.Shown.Sheet.{text_of}
+use Rattle.aq_profile.specs.Shown.Sheets.{load_sheet, windows_answer}
 use Rattle.aq_desk.specs.Built.{built_after_all, built_reply}
 use Rattle.aq_desk.specs.Ending.{is_within}
 use Rattle.aq_desk.specs.Writing.{WritesFront}

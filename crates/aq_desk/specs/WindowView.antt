@@ -3,10 +3,10 @@ use Rattle.std.specs.Prelude.{◌≡◌, ℕ, ◌≤◌, ◌*◌, false, nat_le,
 use Rattle.std.specs.List.{list_any}
 use Rattle.aq_base.specs.Site.{Site}
 use Rattle.aq_base.specs.declared.day.TheConstants.{LAST_HOUR}
-use Rattle.aq_profile.specs.EightHour.{WindowRow, full_values}
+use Rattle.aq_profile.specs.Ozone.EightHour.{WindowRow, full_values}
 use Rattle.aq_profile.specs.Lists.{total}
-use Rattle.aq_profile.specs.Office.{Office}
-use Rattle.aq_profile.specs.SiteHour.{Cell, site_hour}
+use Rattle.aq_profile.specs.Office.Office.{Office}
+use Rattle.aq_profile.specs.Ozone.SiteHour.{Cell, site_hour}
 use Rattle.aq_desk.specs.OfficeView.{plain_cell}
 use Rattle.aq_desk.specs.declared.windows.Tally.{Tally}
 use Rattle.aq_desk.specs.declared.windows.WindowRow.{WindowRow as Row}

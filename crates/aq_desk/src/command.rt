@@ -2,11 +2,11 @@
 ghost use Rattle.std.specs.Prelude.{◌≡◌, ◌<◌, ◌≤◌, ◌↔◌, ◌++◌, true, false, length, IsNone, IfErr, IfSome, IsTrue, OnOk, map, string_bytes};
 ghost use Rattle.std.specs.Option.{option_map};
 ghost use Rattle.aq_base.specs.declared.monitor.Pollutant.TheVariants.{Ozone};
-ghost use Rattle.aq_profile.specs.Lines.{line_count};
-ghost use Rattle.aq_profile.specs.Office.{has_monitor};
-ghost use Rattle.aq_profile.specs.OzoneDay.{windows};
-ghost use Rattle.aq_profile.specs.Sheet.{text_of};
-ghost use Rattle.aq_profile.specs.Sheets.{load_sheet};
+ghost use Rattle.aq_profile.specs.Lines.Lines.{line_count};
+ghost use Rattle.aq_profile.specs.Office.Office.{has_monitor};
+ghost use Rattle.aq_profile.specs.Ozone.OzoneDay.{windows};
+ghost use Rattle.aq_profile.specs.Shown.Sheet.{text_of};
+ghost use Rattle.aq_profile.specs.Shown.Sheets.{load_sheet};
 ghost use Rattle.aq_desk.specs.Ending.{HasReason, IsOutputFault, IsSilent, IsStatus, ReadsWhole, TellsFew, TellsMany, WritesNothing, ending_from, is_within, status_of};
 ghost use Rattle.aq_desk.specs.Outside.{HasRisen};
 ghost use Rattle.aq_desk.specs.Scan.{Follows, outcome_for, outcome_of, scan_answer, scan_outcome, windows_outcome};

@@ -2,9 +2,9 @@
 ghost use Rattle.std.specs.Prelude.{◌≡◌, ◌<◌, ◌≤◌, ◌++◌, ◌^◌, [], ◌∷◌, length, count_by, ◌==◌, filter_map, IfOk, OnOk};
 ghost use Rattle.std.specs.Option.{option_to_list};
 ghost use Rattle.aq_base.specs.Rule.{rule_number};
-ghost use Rattle.aq_profile.specs.Lines.{body_lines, line_count};
-ghost use Rattle.aq_profile.specs.Load.{refused_under, rest_for};
-ghost use Rattle.aq_profile.specs.Office.{nothing};
+ghost use Rattle.aq_profile.specs.Lines.Lines.{body_lines, line_count};
+ghost use Rattle.aq_profile.specs.Office.Load.{refused_under, rest_for};
+ghost use Rattle.aq_profile.specs.Office.Office.{nothing};
 ghost use Rattle.aq_desk.specs.Built.{built_after, built_after_all, built_reply, built_reply_for, counted, listed_for_line};
 ghost use Rattle.aq_forms.specs.declared.lines.TheConstants.{MOST_BYTES};
 

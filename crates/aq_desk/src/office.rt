@@ -55,7 +55,7 @@ fn read_monitor(line: &[u8]) -> Option<MonitorId>
 }
 
 impl Model for Office {
-    ghost use Rattle.aq_profile.specs.Office.{Office as OfficeLists};
+    ghost use Rattle.aq_profile.specs.Office.Office.{Office as OfficeLists};
     ghost use Rattle.aq_desk.specs.OfficeView.{office_of, IsBuilt};
 
     ghost Value = { OfficeLists };
@@ -70,17 +70,17 @@ impl Office {
     ghost use Rattle.aq_base.specs.declared.monitor.Duration.TheVariants.{Hour as ForHour};
     ghost use Rattle.aq_base.specs.declared.monitor.Pollutant.TheVariants.{Ozone};
     ghost use Rattle.aq_base.specs.declared.rule.Rule.TheVariants.{NotBuilt};
-    ghost use Rattle.aq_profile.specs.Load.{after, changed, refusal};
-    ghost use Rattle.aq_profile.specs.Office.{nothing, duration_at, has_monitor};
-    ghost use Rattle.aq_profile.specs.RdForm.{Put as PutSample, Delete as DeleteSample};
-    ghost use Rattle.aq_profile.specs.Reading.{OfRd};
-    ghost use Rattle.aq_profile.specs.Refusal.{broken};
+    ghost use Rattle.aq_profile.specs.Office.Load.{after, changed, refusal};
+    ghost use Rattle.aq_profile.specs.Office.Office.{nothing, duration_at, has_monitor};
+    ghost use Rattle.aq_profile.specs.Lines.RdForm.{Put as PutSample, Delete as DeleteSample};
+    ghost use Rattle.aq_profile.specs.Lines.Reading.{OfRd};
+    ghost use Rattle.aq_profile.specs.Office.Refusal.{broken};
     ghost use Rattle.aq_desk.specs.Built.{built_after, built_refusal, monitor_for, registered};
     ghost use Rattle.aq_desk.specs.declared.office.Refusal.TheVariants.{Broken};
     ghost use Rattle.aq_rd.specs.RdReading.{value_of};
     ghost use Rattle.aq_rd.specs.Tags.{has_office_tag};
     ghost use Rattle.std.specs.Option.{option_map};
-    ghost use Rattle.aq_profile.specs.SiteHour.{site_hour};
+    ghost use Rattle.aq_profile.specs.Ozone.SiteHour.{site_hour};
     ghost use Rattle.aq_desk.specs.OfficeView.{IsOzone, IsRefusal, IsRule, plain_cell};
 
     /// An office of which nothing stands.

@@ -2,9 +2,9 @@
 ghost use Rattle.std.specs.Prelude.{◌≡◌, ◌≤◌, [], ◌∷◌, ◌++◌, length, map, flat_map, codes, decimal, IfOk, OnOk};
 ghost use Rattle.std.specs.List.{enumerate_from, join_with_byte};
 ghost use Rattle.aq_base.specs.Rule.{rule_number, rule_name};
-ghost use Rattle.aq_profile.specs.Sheet.{text_of, head_text, head_of, row_text, cell_text, count_cell, ppm_cell};
-ghost use Rattle.aq_profile.specs.Sheet.SheetCell.{Text};
-ghost use Rattle.aq_profile.specs.Sheets.{load_sheet, listed_row, rest_row, windows_sheet, window_cells};
+ghost use Rattle.aq_profile.specs.Shown.Sheet.{text_of, head_text, head_of, row_text, cell_text, count_cell, ppm_cell};
+ghost use Rattle.aq_profile.specs.Shown.Sheet.SheetCell.{Text};
+ghost use Rattle.aq_profile.specs.Shown.Sheets.{load_sheet, listed_row, rest_row, windows_sheet, window_cells};
 ghost use Rattle.aq_desk.specs.WindowView.{row_view};
 
 use crate::text::{hour_text, site_text};

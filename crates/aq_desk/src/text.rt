@@ -1,6 +1,6 @@
 //! Parts of the sheets' text.
 ghost use Rattle.std.specs.Prelude.{◌≡◌, ◌+◌, ◌%◌};
-ghost use Rattle.aq_profile.specs.Sheet as book;
+ghost use Rattle.aq_profile.specs.Shown.Sheet as book;
 
 use aq_base::SiteId;
 

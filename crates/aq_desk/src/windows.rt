@@ -1,9 +1,9 @@
 //! The 8-hour averages of a day (40 CFR Part 50, Appendix U, 3).
 ghost use Rattle.std.specs.Prelude.{◌≡◌, ◌≤◌, ◌*◌, [], ◌∷◌, IfSome, IsTrue, map, unsigned_abs};
 ghost use Rattle.aq_base.specs.declared.monitor.Pollutant.TheVariants.{Ozone};
-ghost use Rattle.aq_profile.specs.Office.{has_monitor};
-ghost use Rattle.aq_profile.specs.EightHour as book;
-ghost use Rattle.aq_profile.specs.OzoneDay.{windows};
+ghost use Rattle.aq_profile.specs.Office.Office.{has_monitor};
+ghost use Rattle.aq_profile.specs.Ozone.EightHour as book;
+ghost use Rattle.aq_profile.specs.Ozone.OzoneDay.{windows};
 ghost use Rattle.aq_desk.specs.OfficeView.{IsOzone};
 ghost use Rattle.aq_desk.specs.WindowView.{cells_at, cells_of, row_view};
 
@@ -56,7 +56,7 @@ struct Tally {
 
 impl Tally {
     ghost use Rattle.std.specs.Prelude.{◌≤◌, ◌+◌, ◌*◌, ◌++◌, List, IfSome, unsigned_abs};
-    ghost use Rattle.aq_profile.specs.SiteHour.{Cell};
+    ghost use Rattle.aq_profile.specs.Ozone.SiteHour.{Cell};
     ghost use Rattle.aq_desk.specs.OfficeView.{IsOzone};
     ghost use Rattle.aq_desk.specs.WindowView.{IsTally, cells_of};
 

@@ -13,11 +13,11 @@ use Rattle.aq_base.specs.declared.office.OfficeRecord.TheVariants.{Season, Makeu
 use Rattle.aq_base.specs.declared.rule.Rule.{Rule}
 use Rattle.aq_base.specs.declared.rule.Rule.TheVariants.{BadBytes, BadTag, FieldCount, BadAction, BadSite, ParameterOutOfProfile, BadPoc, BadDuration, BadUnit, BadMethod, BadDate, BadTime, ValueAndNull, NeitherValueNorNull, BadValue, ValueOutOfRange, BadNull, BadQualifier, BadSpan, BadInterval, BadSeason, BadMakeup, BadCode}
 use Rattle.aq_profile.proofs.Least.{true_or_false}
-use Rattle.aq_profile.specs.Fields.{is_empty, field, fields}
-use Rattle.aq_profile.specs.Spellings.{◌>>=◌, Action, Insert, Update, Delete, action_in, Tag, Rd, Xm, Xp, Xs, Xo, Xu, Xe, Xc, Xa, parameter_in, parameter_of, poc_in, site_in, duration_in, unit_in, method_in, date_in, time_in, value_in, is_in_range, null_in, qualifiers_in, truth_in, primary_in, interval_in, year_in, event_number_in, event_code_in}
-use Rattle.aq_profile.specs.RdForm.{monitor_in, start_in, content_in, put_in, delete_in, qualifier_fields}
-use Rattle.aq_profile.specs.OfficeForms.{site_at, hour_in, is_season, is_makeup, is_span, xm_record, xp_record, xp_key, xs_record, xs_key, xo_record, xo_key, xu_record, xu_key, xe_record, xe_key, xc_record, xa_record, xa_key}
-use Rattle.aq_profile.specs.Reading.{breaks_in, rules_of, reported_value, fails, acts, value_for, action_for, form_value, has_wrong_count, is_deletion, breaks_parts, rules_for, line_value, reading_rule, is_plain, tag_of}
+use Rattle.aq_profile.specs.Lines.Fields.{is_empty, field, fields}
+use Rattle.aq_profile.specs.Lines.Spellings.{◌>>=◌, Action, Insert, Update, Delete, action_in, Tag, Rd, Xm, Xp, Xs, Xo, Xu, Xe, Xc, Xa, parameter_in, parameter_of, poc_in, site_in, duration_in, unit_in, method_in, date_in, time_in, value_in, is_in_range, null_in, qualifiers_in, truth_in, primary_in, interval_in, year_in, event_number_in, event_code_in}
+use Rattle.aq_profile.specs.Lines.RdForm.{monitor_in, start_in, content_in, put_in, delete_in, qualifier_fields}
+use Rattle.aq_profile.specs.Lines.OfficeForms.{site_at, hour_in, is_season, is_makeup, is_span, xm_record, xp_record, xp_key, xs_record, xs_key, xo_record, xo_key, xu_record, xu_key, xe_record, xe_key, xc_record, xa_record, xa_key}
+use Rattle.aq_profile.specs.Lines.Reading.{breaks_in, rules_of, reported_value, fails, acts, value_for, action_for, form_value, has_wrong_count, is_deletion, breaks_parts, rules_for, line_value, reading_rule, is_plain, tag_of}
 
 -- a part that spells something, exactly where its rule is not broken
 agree : {A B : Type 0} (part : Option A) (next : A → Option B) (is_broken : Bool) (rule : Rule) (rest : Option Rule)

@@ -13,16 +13,16 @@ use Rattle.aq_base.specs.declared.monitor.Pollutant.TheVariants.{Ozone}
 use Rattle.aq_base.specs.declared.observation.ObsKey.{ObsKey}
 use Rattle.aq_base.specs.declared.observation.Observation.{Observation}
 use Rattle.aq_base.specs.declared.office.OfficeRecord.{OfficeRecord}
-use Rattle.aq_profile.specs.Office.{Office}
+use Rattle.aq_profile.specs.Office.Office.{Office}
 use Rattle.aq_profile.specs.Lists.{total}
-use Rattle.aq_profile.specs.Monitors.{is_same_site, is_same_pollutant, is_same_key, is_eligible}
-use Rattle.aq_profile.specs.Designation.{primary_on}
-use Rattle.aq_profile.specs.SiteHour.{Cell, Sample, sample_of, samples_at, is_ozone_at, mean_of, is_of_poc, chosen, site_hour}
-use Rattle.aq_profile.specs.Season.{season_of, is_in_season}
-use Rattle.aq_profile.specs.Approval.{is_approved}
-use Rattle.aq_profile.specs.EightHour.{window}
-use Rattle.aq_profile.specs.OzoneDay.{OzoneDay, ozone_day}
-use Rattle.aq_profile.specs.OzoneYear.{OzoneYear, days_of, ozone_days, ranked_maxima, fourth_of, ozone_year}
+use Rattle.aq_profile.specs.Office.Monitors.{is_same_site, is_same_pollutant, is_same_key, is_eligible}
+use Rattle.aq_profile.specs.Office.Designation.{primary_on}
+use Rattle.aq_profile.specs.Ozone.SiteHour.{Cell, Sample, sample_of, samples_at, is_ozone_at, mean_of, is_of_poc, chosen, site_hour}
+use Rattle.aq_profile.specs.Office.Season.{season_of, is_in_season}
+use Rattle.aq_profile.specs.Office.Approval.{is_approved}
+use Rattle.aq_profile.specs.Ozone.EightHour.{window}
+use Rattle.aq_profile.specs.Ozone.OzoneDay.{OzoneDay, ozone_day}
+use Rattle.aq_profile.specs.Ozone.OzoneYear.{OzoneYear, days_of, ozone_days, ranked_maxima, fourth_of, ozone_year}
 use Rattle.aq_profile.proofs.Ranges.{window-same, ozone_day-same}
 use Rattle.aq_profile.proofs.Order.{fold_in_any_order, filter_map-moved, one_order}
 

@@ -7,10 +7,10 @@ use Rattle.std.proofs.lemmas.Bool.Decides.{nat_tests}
 use Rattle.aq_base.specs.Calendar.{quarter_first, days_in_quarter}
 use Rattle.aq_base.specs.Site.{Site}
 use Rattle.aq_base.specs.declared.monitor.Pollutant.TheVariants.{Pm10}
-use Rattle.aq_profile.specs.Office.{Office}
-use Rattle.aq_profile.specs.Schedule.{is_scheduled}
-use Rattle.aq_profile.specs.QuarterCounts.{days_of_quarter}
-use Rattle.aq_profile.specs.Strata.{begins, day_onto, strata_from, cut_into_strata, strata_of}
+use Rattle.aq_profile.specs.Office.Office.{Office}
+use Rattle.aq_profile.specs.Office.Schedule.{is_scheduled}
+use Rattle.aq_profile.specs.Particles.QuarterCounts.{days_of_quarter}
+use Rattle.aq_profile.specs.Particles.Strata.{begins, day_onto, strata_from, cut_into_strata, strata_of}
 
 -- ---- all days, in order
 

@@ -1,7 +1,7 @@
 -- Where damaged rows are found.
 use Rattle.std.proofs.Common.{◌≡◌, Bool, true, false, cond, List, [], ◌∷◌, ◌++◌, refl, sym, ◌∙◌, append_assoc, append-nil}
 use Rattle.std.specs.Prelude.{Some, None}
-use Rattle.aq_profile.specs.Rows.{Row, Place, are_office_rows, damage, damaged_at, place_of, FirstDamaged}
+use Rattle.aq_profile.specs.Kept.Rows.{Row, Place, are_office_rows, damage, damaged_at, place_of, FirstDamaged}
 
 same_place : (p q : Place) → Some p ≡ Some q → q ≡ p
 same_place p q e = cc

@@ -18,16 +18,16 @@ use Rattle.aq_base.specs.declared.monitor.Pollutant.TheVariants.{Ozone, Pm25, Pm
 use Rattle.aq_base.specs.declared.observation.ObsKey.{ObsKey}
 use Rattle.aq_base.specs.declared.observation.Observation.{Observation}
 use Rattle.aq_base.specs.declared.office.OfficeRecord.{OfficeRecord}
-use Rattle.aq_profile.specs.Office.{Office}
+use Rattle.aq_profile.specs.Office.Office.{Office}
 use Rattle.aq_profile.specs.Lists.{total}
-use Rattle.aq_profile.specs.Monitors.{is_same_monitor, is_same_key}
-use Rattle.aq_profile.specs.SiteHour.{Cell, Sample, mean_of, chosen, is_of_poc}
-use Rattle.aq_profile.specs.Designation.{primary_on}
-use Rattle.aq_profile.specs.Schedule.{is_scheduled}
-use Rattle.aq_profile.specs.ParticleDay.{Sampler, cell_of, mean_of_hours, mean_or_high_sum, day_cell, monitor_day, samplers_of, lowest_poc, site_day, unless_excluded}
-use Rattle.aq_profile.specs.QuarterCounts.{Makeup, makeup_by, QuarterDays, days_of_quarter, credits, quarter_counts, quarter_values, quarters_of, pm25_year}
-use Rattle.aq_profile.specs.Strata.{cut_into_strata, strata_of}
-use Rattle.aq_profile.specs.Pm10Estimate.{Pm10Quarter, exceeds, quarter_of_strata, pm10_quarter, pm10_year}
+use Rattle.aq_profile.specs.Office.Monitors.{is_same_monitor, is_same_key}
+use Rattle.aq_profile.specs.Ozone.SiteHour.{Cell, Sample, mean_of, chosen, is_of_poc}
+use Rattle.aq_profile.specs.Office.Designation.{primary_on}
+use Rattle.aq_profile.specs.Office.Schedule.{is_scheduled}
+use Rattle.aq_profile.specs.Particles.ParticleDay.{Sampler, cell_of, mean_of_hours, mean_or_high_sum, day_cell, monitor_day, samplers_of, lowest_poc, site_day, unless_excluded}
+use Rattle.aq_profile.specs.Particles.QuarterCounts.{Makeup, makeup_by, QuarterDays, days_of_quarter, credits, quarter_counts, quarter_values, quarters_of, pm25_year}
+use Rattle.aq_profile.specs.Particles.Strata.{cut_into_strata, strata_of}
+use Rattle.aq_profile.specs.Particles.Pm10Estimate.{Pm10Quarter, exceeds, quarter_of_strata, pm10_quarter, pm10_year}
 use Rattle.aq_profile.proofs.Order.{fold_in_any_order, filter_map-moved, one_order}
 use Rattle.aq_profile.proofs.Sums.{total-cons}
 

@@ -5,7 +5,7 @@ use Rattle.std.specs.List.{range_with_len, list_all}
 use Rattle.std.proofs.lemmas.Bool.{false≢true}
 use Rattle.std.proofs.lemmas.Bool.Decides.{nat_tests}
 use Rattle.aq_base.specs.Decimal.{last_digits}
-use Rattle.aq_profile.specs.Spellings.{digits_in}
+use Rattle.aq_profile.specs.Lines.Spellings.{digits_in}
 use Rattle.aq_profile.proofs.Least.{both}
 
 pub in_range : (p : ℕ → Bool) (start many n : ℕ) → list_all p (range_with_len start many) ≡ true → n < many → p (start + n) ≡ true

@@ -4,8 +4,8 @@ use Rattle.std.specs.Prelude.{ℤ, int_lt, Option, None, slice_get, ◌==◌}
 use Rattle.std.proofs.lemmas.List.{take-take}
 use Rattle.std.proofs.lemmas.List.Sorted.{IsPermutation-append_comm}
 use Rattle.aq_profile.specs.Lists.{ranked, ranked_in}
-use Rattle.aq_profile.specs.Percentile.{percentile, rank_of}
-use Rattle.aq_profile.specs.Summaries.{eight_greatest}
+use Rattle.aq_profile.specs.Particles.Percentile.{percentile, rank_of}
+use Rattle.aq_profile.specs.Kept.Summaries.{eight_greatest}
 use Rattle.aq_profile.proofs.Ranked.{ranked-in_any_order}
 use Rattle.aq_profile.proofs.Descent.{IsNext, Descends, ranked-descends}
 

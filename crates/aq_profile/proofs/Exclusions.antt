@@ -6,9 +6,9 @@ use Rattle.aq_base.specs.declared.code.Code.{Code}
 use Rattle.aq_base.specs.declared.observation.ObsKey.{ObsKey}
 use Rattle.aq_base.specs.declared.office.OfficeRecord.{OfficeRecord}
 use Rattle.aq_base.specs.declared.office.OfficeRecord.TheVariants.{Monitor, Primary, Schedule, Season, Makeup, Event, Concurrence, Approved}
-use Rattle.aq_profile.specs.Exclusion.{excluded, takes_out, agrees_to}
-use Rattle.aq_profile.specs.SiteHour.{Cell}
-use Rattle.aq_profile.specs.EightHour.{row_of, net_values, full_values}
+use Rattle.aq_profile.specs.Office.Exclusion.{excluded, takes_out, agrees_to}
+use Rattle.aq_profile.specs.Ozone.SiteHour.{Cell}
+use Rattle.aq_profile.specs.Ozone.EightHour.{row_of, net_values, full_values}
 
 none_of : {X : Type 0} (test : X → Bool) (xs : List X) → ((x : X) → test x ≡ false) → list_any test xs ≡ false
 none_of test [] none = refl

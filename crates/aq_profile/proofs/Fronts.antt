@@ -20,8 +20,8 @@ use Rattle.aq_base.specs.declared.observation.ObsKey.{ObsKey}
 use Rattle.aq_base.specs.declared.observation.Observation.{Observation}
 use Rattle.aq_base.specs.declared.office.OfficeRecord.{OfficeRecord}
 use Rattle.aq_base.specs.declared.office.OfficeRecord.TheVariants.{Monitor, Primary, Schedule, Season, Makeup, Event, Concurrence, Approved}
-use Rattle.aq_profile.specs.Spellings.{◌>>=◌}
-use Rattle.aq_profile.specs.Office.{Office, StoredLoad, IsOffice, observation_rank, load_rank, fits_monitors, is_load, is_same, comes_before, rises_from, rises, part_numbers, kind_of, key_of, record_rank, monitor_duration, registers, has_monitor, has_its_monitor, has_its_event, group_of, group_size, most_in_group, is_record, fits_records, site_numbers, makes_up_on, makeups_on, has_own_makeup_day, with_site, sites_of}
+use Rattle.aq_profile.specs.Lines.Spellings.{◌>>=◌}
+use Rattle.aq_profile.specs.Office.Office.{Office, StoredLoad, IsOffice, observation_rank, load_rank, fits_monitors, is_load, is_same, comes_before, rises_from, rises, part_numbers, kind_of, key_of, record_rank, monitor_duration, registers, has_monitor, has_its_monitor, has_its_event, group_of, group_size, most_in_group, is_record, fits_records, site_numbers, makes_up_on, makeups_on, has_own_makeup_day, with_site, sites_of}
 use Rattle.aq_profile.proofs.Spans.{Every}
 
 both : (a b : Bool) → (a && b) ≡ true → (a ≡ true) × (b ≡ true)

@@ -2,7 +2,7 @@
 use Rattle.std.proofs.Common.{◌≡◌, ℕ, List, [], ◌∷◌, ◌++◌, sym, ap}
 use Rattle.std.proofs.lemmas.List.{append-nil}
 use Rattle.std.specs.Prelude.{codes}
-use Rattle.aq_profile.specs.Sheet.{line_of}
+use Rattle.aq_profile.specs.Shown.Sheet.{line_of}
 use Rattle.std.specs.List.{join_with_byte, flat_map}
 
 pub join-cons : (c : ℕ) (word : List ℕ) (words : List (List ℕ)) → join_with_byte c (word ∷ words) ≡ word ++ flat_map (λ (w : List ℕ). c ∷ w) words

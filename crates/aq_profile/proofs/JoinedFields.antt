@@ -4,9 +4,9 @@ use Rattle.std.specs.Prelude.{nat_lt, map}
 use Rattle.std.specs.List.{list_all, slice_split, onto_first}
 use Rattle.std.proofs.lemmas.Bool.{false≢true}
 use Rattle.std.proofs.lemmas.Bool.Decides.{nat_tests}
-use Rattle.aq_profile.specs.Fields.{fields, trimmed, without_front, without_back, onto_text, is_bar, is_space}
-use Rattle.aq_profile.specs.Reading.{is_plain, is_plain_byte}
-use Rattle.aq_profile.specs.Canonical.{joined}
+use Rattle.aq_profile.specs.Lines.Fields.{fields, trimmed, without_front, without_back, onto_text, is_bar, is_space}
+use Rattle.aq_profile.specs.Lines.Reading.{is_plain, is_plain_byte}
+use Rattle.aq_profile.specs.Lines.Canonical.{joined}
 use Rattle.aq_profile.proofs.Least.{both}
 
 -- printed bytes below the bar

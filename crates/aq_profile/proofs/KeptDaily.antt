@@ -7,16 +7,16 @@ use Rattle.std.proofs.lemmas.List.{length-map, length-replicate}
 use Rattle.std.proofs.lemmas.List.Elements.{All-head, All-tail}
 use Rattle.std.proofs.lemmas.List.Sorted.{IsPermutation-refl, IsPermutation-trans, IsPermutation-append_comm, IsPermutation-append_left, IsPermutation-append_right}
 use Rattle.std.proofs.lemmas.List.Sums.{sum_by-cons}
-use Rattle.aq_profile.specs.QuarterCounts.{QuarterCounts, QuarterDays, capture, counted_in, values_in}
-use Rattle.aq_profile.specs.Percentile.{percentile}
-use Rattle.aq_profile.specs.Substitution.{maximum_copies, across, all_of, copies_for, maximum_for, with_copies, filled_year, filled}
-use Rattle.aq_profile.specs.AnnualVerdict.{counts_in}
-use Rattle.aq_profile.specs.DailyVerdict.{daily_from, daily_dv, daily_value_in, is_daily_year, percentile_in, value_of_three}
-use Rattle.aq_profile.specs.Summaries.{PmQuarter, PmYear, KeepsPmQuarter, KeepsPmYear, eight_greatest, scheduled_in, summary_of_quarter, summary_of_year}
-use Rattle.aq_profile.specs.SummaryVerdicts.{kept_counted, kept_counts, kept_percentile, kept_maximum_for, kept_filled_with, kept_filled_year, kept_filled, kept_daily_value, kept_daily_dv}
+use Rattle.aq_profile.specs.Particles.QuarterCounts.{QuarterCounts, QuarterDays, capture, counted_in, values_in}
+use Rattle.aq_profile.specs.Particles.Percentile.{percentile}
+use Rattle.aq_profile.specs.Particles.Substitution.{maximum_copies, across, all_of, copies_for, maximum_for, with_copies, filled_year, filled}
+use Rattle.aq_profile.specs.Particles.AnnualVerdict.{counts_in}
+use Rattle.aq_profile.specs.Particles.DailyVerdict.{daily_from, daily_dv, daily_value_in, is_daily_year, percentile_in, value_of_three}
+use Rattle.aq_profile.specs.Kept.Summaries.{PmQuarter, PmYear, KeepsPmQuarter, KeepsPmYear, eight_greatest, scheduled_in, summary_of_quarter, summary_of_year}
+use Rattle.aq_profile.specs.Kept.SummaryVerdicts.{kept_counted, kept_counts, kept_percentile, kept_maximum_for, kept_filled_with, kept_filled_year, kept_filled, kept_daily_value, kept_daily_dv}
 use Rattle.aq_profile.proofs.Ranked.{ranked-in_any_order}
 use Rattle.aq_profile.proofs.Eight.{eight-more, percentile-eight}
-use Rattle.aq_profile.proofs.Kept.{Both, Each, all_of-both, mapped, copies-summary, maximum-same, quarters-summary, counts-summary, with_all, counted-with, counted-summary}
+use Rattle.aq_profile.proofs.KeptSums.{Both, Each, all_of-both, mapped, copies-summary, maximum-same, quarters-summary, counts-summary, with_all, counted-with, counted-summary}
 
 -- ---- the values with their copies, in another order
 

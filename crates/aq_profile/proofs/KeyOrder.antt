@@ -11,9 +11,9 @@ use Rattle.aq_base.specs.declared.office.OfficeKey.TheVariants.{Monitor as Monit
 use Rattle.aq_base.specs.Site.{Site}
 use Rattle.aq_base.specs.declared.monitor.Pollutant.{Pollutant}
 use Rattle.aq_base.specs.declared.monitor.Pollutant.TheVariants.{Ozone, Pm25, Pm10}
-use Rattle.aq_profile.specs.Spellings.{has_parameter, Xs}
-use Rattle.aq_profile.specs.Office.{is_same, comes_before, parameter_number, site_numbers, series_numbers, part_numbers, key_numbers, kind_of, is_site, is_day, is_poc, is_key}
-use Rattle.aq_profile.specs.Canonical.{parameter_text, date_text, site_texts, joined, key_texts, printed_key}
+use Rattle.aq_profile.specs.Lines.Spellings.{has_parameter, Xs}
+use Rattle.aq_profile.specs.Office.Office.{is_same, comes_before, parameter_number, site_numbers, series_numbers, part_numbers, key_numbers, kind_of, is_site, is_day, is_poc, is_key}
+use Rattle.aq_profile.specs.Lines.Canonical.{parameter_text, date_text, site_texts, joined, key_texts, printed_key}
 use Rattle.aq_profile.proofs.Rising.{before-total}
 use Rattle.aq_profile.proofs.Least.{true_or_false, both}
 use Rattle.aq_profile.proofs.Days.{IsDate, date_of, years_rise, months_rise, months_next}

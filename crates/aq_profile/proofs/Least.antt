@@ -11,12 +11,12 @@ use Rattle.aq_base.specs.declared.rule.Rule.TheVariants.{BadBytes, BadTag, Field
 use Rattle.aq_base.specs.declared.office.OfficeRecord.TheVariants.{Monitor, Primary, Schedule, Season, Makeup, Event, Concurrence}
 use Rattle.aq_base.specs.declared.office.OfficeKey.TheVariants.{Monitor as MonitorKey, Event as EventKey}
 use Rattle.aq_base.specs.declared.office.OfficeLine.TheVariants.{Put, Change, Drop}
-use Rattle.aq_profile.specs.Fields.{fields}
-use Rattle.aq_profile.specs.Spellings.{Tag, Rd, Xm, Xp, Xs, Xo, Xu, Xe, Xc, Xa}
-use Rattle.aq_profile.specs.RdForm.{Put as PutSample, Delete as DeleteSample}
-use Rattle.aq_profile.specs.Reading.{LineValue, OfRd, OfOffice, rules_of, rules_for, reading_rules, tag_of, is_deletion}
-use Rattle.aq_profile.specs.Refusal.{office_rules}
-use Rattle.aq_profile.specs.Office.{rises, rises_from, comes_before}
+use Rattle.aq_profile.specs.Lines.Fields.{fields}
+use Rattle.aq_profile.specs.Lines.Spellings.{Tag, Rd, Xm, Xp, Xs, Xo, Xu, Xe, Xc, Xa}
+use Rattle.aq_profile.specs.Lines.RdForm.{Put as PutSample, Delete as DeleteSample}
+use Rattle.aq_profile.specs.Lines.Reading.{LineValue, OfRd, OfOffice, rules_of, rules_for, reading_rules, tag_of, is_deletion}
+use Rattle.aq_profile.specs.Office.Refusal.{office_rules}
+use Rattle.aq_profile.specs.Office.Office.{rises, rises_from, comes_before}
 use Rattle.aq_profile.specs.Least.{IsLeastBroken, rule_rank}
 
 -- the parts of two tests that must hold

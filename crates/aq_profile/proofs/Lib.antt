@@ -15,7 +15,7 @@ pub mod Cuts
 pub mod Quotients
 pub mod Sums
 pub mod Eight
-pub mod Kept
+pub mod KeptSums
 pub mod KeptDaily
 pub mod Valid
 pub mod DaysInOrder

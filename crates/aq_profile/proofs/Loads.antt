@@ -7,12 +7,12 @@ use Rattle.aq_base.specs.declared.office.OfficeKey.TheVariants.{Event as EventKe
 use Rattle.aq_base.specs.declared.office.OfficeLine.TheVariants.{Put, Change, Drop}
 use Rattle.aq_base.specs.declared.rule.Rule.{Rule}
 use Rattle.aq_profile.specs.Limits.{MOST_LOADS}
-use Rattle.aq_profile.specs.Lines.{NumberedLine, body_lines}
-use Rattle.aq_profile.specs.RdForm.{Put as PutSample, Delete as DeleteSample}
-use Rattle.aq_profile.specs.Reading.{LineValue, OfRd, OfOffice, line_value}
-use Rattle.aq_profile.specs.Office.{Office, StoredLoad, KeysRise, record_rank, observation_rank, load_rank, key_numbers, observation_numbers, load_at}
-use Rattle.aq_profile.specs.Refusal.{kept_key}
-use Rattle.aq_profile.specs.Load.{Decision, Repeat, Conflict, Full, New, with_record, without_record, without_key, changed, changed_by, refusal, after, after_all, with_load, reply, load, decide, decide_known, after_decision, post}
+use Rattle.aq_profile.specs.Lines.Lines.{NumberedLine, body_lines}
+use Rattle.aq_profile.specs.Lines.RdForm.{Put as PutSample, Delete as DeleteSample}
+use Rattle.aq_profile.specs.Lines.Reading.{LineValue, OfRd, OfOffice, line_value}
+use Rattle.aq_profile.specs.Office.Office.{Office, StoredLoad, KeysRise, record_rank, observation_rank, load_rank, key_numbers, observation_numbers, load_at}
+use Rattle.aq_profile.specs.Office.Refusal.{kept_key}
+use Rattle.aq_profile.specs.Office.Load.{Decision, Repeat, Conflict, Full, New, with_record, without_record, without_key, changed, changed_by, refusal, after, after_all, with_load, reply, load, decide, decide_known, after_decision, post}
 use Rattle.aq_profile.proofs.Least.{true_or_false}
 use Rattle.aq_profile.proofs.Rising.{with_row-rises, without_row-rises}
 

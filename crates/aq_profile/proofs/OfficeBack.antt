@@ -17,10 +17,10 @@ use Rattle.aq_base.specs.declared.observation.Observation.{Observation}
 use Rattle.aq_base.specs.declared.office.OfficeRecord.{OfficeRecord}
 use Rattle.aq_base.specs.declared.office.OfficeRecord.TheVariants.{Monitor, Primary, Schedule, Season, Makeup, Event, Concurrence, Approved}
 use Rattle.aq_base.specs.declared.office.OfficeKey.TheVariants.{Monitor as MonitorKey}
-use Rattle.aq_profile.specs.Spellings.{◌>>=◌}
-use Rattle.aq_profile.specs.Office.{Office, StoredLoad, IsOffice, is_same, key_numbers, record_rank, record_at, monitor_duration, duration_at, is_site, is_poc, is_record, fits_records, has_its_monitor, has_its_event, group_size, most_in_group, is_qualifier, is_measured, is_content, is_kept_hour, fits_monitors, is_load, pollutant_number}
-use Rattle.aq_profile.specs.Export.{null_text}
-use Rattle.aq_profile.specs.Rows.{Row, ObsRow, OfOfficeRow, OfObsRow, OfLoadRow, office_row, obs_row, load_row, rows_of, site_key, site_with, pollutant_with, null_of, only_if, is_obs_row, record_of_row, observation_of_row, load_of_row, record_in_row, observation_in_row, load_in_row, says_something, office_in, table_of, tables_follow, is_valid, are_office_rows, office_of_rows}
+use Rattle.aq_profile.specs.Lines.Spellings.{◌>>=◌}
+use Rattle.aq_profile.specs.Office.Office.{Office, StoredLoad, IsOffice, is_same, key_numbers, record_rank, record_at, monitor_duration, duration_at, is_site, is_poc, is_record, fits_records, has_its_monitor, has_its_event, group_size, most_in_group, is_qualifier, is_measured, is_content, is_kept_hour, fits_monitors, is_load, pollutant_number}
+use Rattle.aq_profile.specs.Shown.Export.{null_text}
+use Rattle.aq_profile.specs.Kept.Rows.{Row, ObsRow, OfOfficeRow, OfObsRow, OfLoadRow, office_row, obs_row, load_row, rows_of, site_key, site_with, pollutant_with, null_of, only_if, is_obs_row, record_of_row, observation_of_row, load_of_row, record_in_row, observation_in_row, load_in_row, says_something, office_in, table_of, tables_follow, is_valid, are_office_rows, office_of_rows}
 use Rattle.aq_profile.proofs.Spans.{Every}
 use Rattle.aq_profile.proofs.RowTexts.{null-read, qualifiers-read}
 use Rattle.aq_profile.proofs.RowsBack.{record-back, load-back}

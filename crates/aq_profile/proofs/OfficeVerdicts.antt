@@ -4,13 +4,13 @@ use Rattle.std.specs.Prelude.{ℤ, All}
 use Rattle.std.proofs.lemmas.List.Elements.{All-cons, All-nil}
 use Rattle.aq_base.specs.Calendar.{quarter_number}
 use Rattle.aq_base.specs.Site.{Site}
-use Rattle.aq_profile.specs.Office.{Office, IsOffice}
-use Rattle.aq_profile.specs.QuarterCounts.{QuarterDays, pm25_year, years_to}
-use Rattle.aq_profile.specs.AnnualVerdict.{annual_design}
-use Rattle.aq_profile.specs.DailyVerdict.{daily_design}
-use Rattle.aq_profile.specs.Summaries.{KeepsPmYear, pm25_summary, summary_of_year}
-use Rattle.aq_profile.specs.SummaryVerdicts.{kept_annual_dv, kept_daily_dv}
-use Rattle.aq_profile.proofs.Kept.{kept_annual-same}
+use Rattle.aq_profile.specs.Office.Office.{Office, IsOffice}
+use Rattle.aq_profile.specs.Particles.QuarterCounts.{QuarterDays, pm25_year, years_to}
+use Rattle.aq_profile.specs.Particles.AnnualVerdict.{annual_design}
+use Rattle.aq_profile.specs.Particles.DailyVerdict.{daily_design}
+use Rattle.aq_profile.specs.Kept.Summaries.{KeepsPmYear, pm25_summary, summary_of_year}
+use Rattle.aq_profile.specs.Kept.SummaryVerdicts.{kept_annual_dv, kept_daily_dv}
+use Rattle.aq_profile.proofs.KeptSums.{kept_annual-same}
 use Rattle.aq_profile.proofs.KeptDaily.{kept_daily-same}
 use Rattle.aq_profile.proofs.Pm25Range.{pm25_year-keeps}
 use Rattle.aq_profile.proofs.Quarters.{quarter-holds}

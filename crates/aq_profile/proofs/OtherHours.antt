@@ -8,10 +8,10 @@ use Rattle.aq_base.specs.declared.monitor.Pollutant.TheVariants.{Ozone}
 use Rattle.aq_base.specs.declared.observation.ObsKey.{ObsKey}
 use Rattle.aq_base.specs.declared.observation.Observation.{Observation}
 use Rattle.aq_base.specs.declared.office.OfficeRecord.{OfficeRecord}
-use Rattle.aq_profile.specs.Office.{Office}
-use Rattle.aq_profile.specs.Designation.{primary_on}
+use Rattle.aq_profile.specs.Office.Office.{Office}
+use Rattle.aq_profile.specs.Office.Designation.{primary_on}
 use Rattle.aq_profile.proofs.AnyOrder.{hour_by}
-use Rattle.aq_profile.specs.SiteHour.{Sample, is_ozone_at, sample_of, is_of_poc, chosen, site_hour}
+use Rattle.aq_profile.specs.Ozone.SiteHour.{Sample, is_ozone_at, sample_of, is_of_poc, chosen, site_hour}
 
 one_more : {X Y : Type 0} (test : X → Bool) (h : X → Option Y) (x : X) (xs : List X) → (test x ≡ false → h x ≡ None)
     → filter_map h xs ≡ filter_map h (filter test xs)

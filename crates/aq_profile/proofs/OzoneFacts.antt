@@ -19,19 +19,19 @@ use Rattle.aq_base.specs.declared.observation.ObsKey.{ObsKey}
 use Rattle.aq_base.specs.declared.observation.Observation.{Observation}
 use Rattle.aq_base.specs.declared.office.OfficeRecord.{OfficeRecord}
 use Rattle.aq_base.specs.declared.office.OfficeRecord.TheVariants.{Monitor, Primary, Schedule, Season as SeasonRecord, Makeup, Event, Concurrence, Approved}
-use Rattle.aq_profile.specs.Spellings.{is_in_range}
-use Rattle.aq_profile.specs.OfficeForms.{is_season}
-use Rattle.aq_profile.specs.Office.{Office, IsOffice, is_site, is_day, is_record, fits_records, is_measured, fits_monitors}
+use Rattle.aq_profile.specs.Lines.Spellings.{is_in_range}
+use Rattle.aq_profile.specs.Lines.OfficeForms.{is_season}
+use Rattle.aq_profile.specs.Office.Office.{Office, IsOffice, is_site, is_day, is_record, fits_records, is_measured, fits_monitors}
 use Rattle.aq_profile.specs.Lists.{total, greatest, ranked, ranked_in}
-use Rattle.aq_profile.specs.Monitors.{is_same_site, is_same_pollutant, is_eligible}
-use Rattle.aq_profile.specs.Exclusion.{excluded}
-use Rattle.aq_profile.specs.Designation.{primary_on}
-use Rattle.aq_profile.specs.Season.{Season, season_by, whole_year, season_of, is_in_season}
-use Rattle.aq_profile.specs.SiteHour.{Cell, Sample, sample_of, samples_at, mean_of, chosen, is_of_poc, site_hour}
-use Rattle.aq_profile.specs.EightHour.{average, eight_hours, cells_from, full_values, net_values, window}
-use Rattle.aq_profile.specs.OzoneDay.{OzoneDay, starts_of, windows, net_averages, ozone_day}
-use Rattle.aq_profile.specs.OzoneYear.{days_of, ozone_days, ranked_maximum, is_season_day, counts_as_valid, ozone_year}
-use Rattle.aq_profile.specs.Summaries.{is_value, KeepsOzoneYear}
+use Rattle.aq_profile.specs.Office.Monitors.{is_same_site, is_same_pollutant, is_eligible}
+use Rattle.aq_profile.specs.Office.Exclusion.{excluded}
+use Rattle.aq_profile.specs.Office.Designation.{primary_on}
+use Rattle.aq_profile.specs.Office.Season.{Season, season_by, whole_year, season_of, is_in_season}
+use Rattle.aq_profile.specs.Ozone.SiteHour.{Cell, Sample, sample_of, samples_at, mean_of, chosen, is_of_poc, site_hour}
+use Rattle.aq_profile.specs.Ozone.EightHour.{average, eight_hours, cells_from, full_values, net_values, window}
+use Rattle.aq_profile.specs.Ozone.OzoneDay.{OzoneDay, starts_of, windows, net_averages, ozone_day}
+use Rattle.aq_profile.specs.Ozone.OzoneYear.{days_of, ozone_days, ranked_maximum, is_season_day, counts_as_valid, ozone_year}
+use Rattle.aq_profile.specs.Kept.Summaries.{is_value, KeepsOzoneYear}
 use Rattle.aq_profile.proofs.Sameness.{same_pollutant}
 use Rattle.aq_profile.proofs.Sums.{total-cons, greater_of, greatest-some}
 use Rattle.aq_profile.proofs.Descent.{length-ranked}

@@ -7,7 +7,7 @@ use Rattle.std.proofs.lemmas.List.Sums.{count_by-le-length}
 use Rattle.std.proofs.lemmas.Option.{slice_get-get_or}
 use Rattle.std.proofs.lemmas.Bool.Decides.{nat_tests}
 use Rattle.aq_profile.specs.Lists.{ranked}
-use Rattle.aq_profile.specs.Percentile.{percentile, rank_of}
+use Rattle.aq_profile.specs.Particles.Percentile.{percentile, rank_of}
 use Rattle.aq_profile.proofs.Ranked.{ranked-in_any_order}
 use Rattle.aq_profile.proofs.Descent.{ranked-descends, few_above, many_at_least, above-ranked, at_least-ranked, length-ranked, one_value}
 

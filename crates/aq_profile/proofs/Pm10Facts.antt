@@ -10,14 +10,14 @@ use Rattle.std.proofs.Math.Nat.{div-le_of_le-mul}
 use Rattle.aq_base.specs.Calendar.{quarter_number, quarter_year, quarter_first, days_in_month, days_in_quarter}
 use Rattle.aq_base.specs.Site.{Site}
 use Rattle.aq_base.specs.declared.monitor.Pollutant.TheVariants.{Pm10}
-use Rattle.aq_profile.specs.Office.{Office}
-use Rattle.aq_profile.specs.Schedule.{is_scheduled}
-use Rattle.aq_profile.specs.SiteHour.{Cell}
-use Rattle.aq_profile.specs.ParticleDay.{site_day, net_day, unless_excluded}
-use Rattle.aq_profile.specs.QuarterCounts.{days_of_quarter, scheduled_days, is_sampled}
-use Rattle.aq_profile.specs.Strata.{strata_of}
-use Rattle.aq_profile.specs.Pm10Estimate.{Pm10Quarter, exceeds, sampled_strata, sixtieths_of, is_exceedance, strata_samples, pm10_quarter, pm10_year}
-use Rattle.aq_profile.specs.Summaries.{KeepsPm10Quarter, KeepsPm10Year}
+use Rattle.aq_profile.specs.Office.Office.{Office}
+use Rattle.aq_profile.specs.Office.Schedule.{is_scheduled}
+use Rattle.aq_profile.specs.Ozone.SiteHour.{Cell}
+use Rattle.aq_profile.specs.Particles.ParticleDay.{site_day, net_day, unless_excluded}
+use Rattle.aq_profile.specs.Particles.QuarterCounts.{days_of_quarter, scheduled_days, is_sampled}
+use Rattle.aq_profile.specs.Particles.Strata.{strata_of}
+use Rattle.aq_profile.specs.Particles.Pm10Estimate.{Pm10Quarter, exceeds, sampled_strata, sixtieths_of, is_exceedance, strata_samples, pm10_quarter, pm10_year}
+use Rattle.aq_profile.specs.Kept.Summaries.{KeepsPm10Quarter, KeepsPm10Year}
 use Rattle.std.proofs.lemmas.List.Elements.{All-cons, All-nil}
 use Rattle.aq_profile.proofs.Cuts.{strata-joined}
 

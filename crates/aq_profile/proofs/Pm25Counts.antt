@@ -12,13 +12,13 @@ use Rattle.aq_base.specs.declared.monitor.Pollutant.TheVariants.{Pm25}
 use Rattle.aq_base.specs.declared.office.OfficeRecord.{OfficeRecord}
 use Rattle.aq_base.specs.declared.office.OfficeRecord.TheVariants.{Monitor, Primary, Schedule, Season, Makeup as MakeupRecord, Event, Concurrence, Approved}
 use Rattle.aq_base.specs.declared.office.OfficeKey.TheVariants.{Makeup as MakeupKey}
-use Rattle.aq_profile.specs.OfficeForms.{is_makeup}
-use Rattle.aq_profile.specs.Office.{Office, IsOffice, key_numbers, record_rank, is_same, site_numbers, is_site, is_day, is_record, fits_records, has_its_monitor, has_its_event, group_size, most_in_group, makes_up_on, makeups_on, has_own_makeup_day}
-use Rattle.aq_profile.specs.Monitors.{is_same_site}
-use Rattle.aq_profile.specs.Schedule.{is_scheduled}
-use Rattle.aq_profile.specs.SiteHour.{Cell}
-use Rattle.aq_profile.specs.ParticleDay.{site_day, net_day, unless_excluded}
-use Rattle.aq_profile.specs.QuarterCounts.{days_of_quarter, is_sampled, is_kept, Makeup, makeup_by, is_in_time, gives_credit, credits, QuarterCounts, quarter_counts, quarter_values}
+use Rattle.aq_profile.specs.Lines.OfficeForms.{is_makeup}
+use Rattle.aq_profile.specs.Office.Office.{Office, IsOffice, key_numbers, record_rank, is_same, site_numbers, is_site, is_day, is_record, fits_records, has_its_monitor, has_its_event, group_size, most_in_group, makes_up_on, makeups_on, has_own_makeup_day}
+use Rattle.aq_profile.specs.Office.Monitors.{is_same_site}
+use Rattle.aq_profile.specs.Office.Schedule.{is_scheduled}
+use Rattle.aq_profile.specs.Ozone.SiteHour.{Cell}
+use Rattle.aq_profile.specs.Particles.ParticleDay.{site_day, net_day, unless_excluded}
+use Rattle.aq_profile.specs.Particles.QuarterCounts.{days_of_quarter, is_sampled, is_kept, Makeup, makeup_by, is_in_time, gives_credit, credits, QuarterCounts, quarter_counts, quarter_values}
 use Rattle.aq_profile.proofs.Sameness.{same_site}
 use Rattle.aq_profile.proofs.Spans.{Every, one_rank, on, fit}
 use Rattle.aq_profile.proofs.Pm10Facts.{quarter_days, length-days, count-filter, count-implied, length-filter-le}

@@ -6,7 +6,7 @@ use Rattle.std.proofs.lemmas.List.Elements.{All-head, All-tail}
 use Rattle.std.proofs.lemmas.List.Sums.{sum_by-cons}
 use Rattle.std.proofs.Math.Nat.{mul-div-mul_left, zero-lt-suc}
 use Rattle.aq_base.specs.Decimal.{half_up}
-use Rattle.aq_profile.specs.Pm10Estimate.{exceeds, sampled_strata, sixtieths_of, quarter_of_strata, quarter_estimate}
+use Rattle.aq_profile.specs.Particles.Pm10Estimate.{exceeds, sampled_strata, sixtieths_of, quarter_of_strata, quarter_estimate}
 
 -- ---- sixtieths
 

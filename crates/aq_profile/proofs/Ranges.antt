@@ -4,10 +4,10 @@ use Rattle.std.specs.List.{filter, filter_map, range_with_len}
 use Rattle.std.specs.Prelude.{Option, nat_le}
 use Rattle.aq_base.specs.declared.day.TheConstants.{LAST_HOUR}
 use Rattle.aq_base.specs.Site.{Site}
-use Rattle.aq_profile.specs.Office.{Office}
-use Rattle.aq_profile.specs.SiteHour.{site_hour}
-use Rattle.aq_profile.specs.EightHour.{window, row_of, eight_hours}
-use Rattle.aq_profile.specs.OzoneDay.{windows, starts_of, ozone_day, day_of_windows}
+use Rattle.aq_profile.specs.Office.Office.{Office}
+use Rattle.aq_profile.specs.Ozone.SiteHour.{site_hour}
+use Rattle.aq_profile.specs.Ozone.EightHour.{window, row_of, eight_hours}
+use Rattle.aq_profile.specs.Ozone.OzoneDay.{windows, starts_of, ozone_day, day_of_windows}
 
 filter_map-range : {Y : Type 0} (f g : ℕ → Option Y) (p : ℕ → Bool) (a n : ℕ) → ((k : ℕ) → a ≤ k → k < a + n → f k ≡ g k)
     → filter_map f (filter p (range_with_len a n)) ≡ filter_map g (filter p (range_with_len a n))

@@ -10,10 +10,10 @@ use Rattle.aq_base.specs.declared.observation.ObsKey.{ObsKey}
 use Rattle.aq_base.specs.declared.observation.Observation.{Observation}
 use Rattle.aq_base.specs.declared.office.OfficeRecord.{OfficeRecord}
 use Rattle.aq_base.specs.declared.reply.RestRule.{RestRule}
-use Rattle.aq_profile.specs.Reading.{line_value}
-use Rattle.aq_profile.specs.Spellings.{◌>>=◌, qualifier_in}
-use Rattle.aq_profile.specs.Office.{StoredLoad, IsOffice}
-use Rattle.aq_profile.specs.Rows.{whole, record_in, site_with, pollutant_with, words, each, null_of, listed_in, rest_in, Row, OfficeRow, ObsRow, LoadRow, OfOfficeRow, OfObsRow, OfLoadRow, office_row, obs_row, load_row, rows_of, only_if, is_office_row, is_obs_row, is_load_row, record_of_row, observation_of_row, load_of_row, record_in_row, observation_in_row, load_in_row, says_something, office_in, table_of, tables_follow, is_valid, are_office_rows, damage}
+use Rattle.aq_profile.specs.Lines.Reading.{line_value}
+use Rattle.aq_profile.specs.Lines.Spellings.{◌>>=◌, qualifier_in}
+use Rattle.aq_profile.specs.Office.Office.{StoredLoad, IsOffice}
+use Rattle.aq_profile.specs.Kept.Rows.{whole, record_in, site_with, pollutant_with, words, each, null_of, listed_in, rest_in, Row, OfficeRow, ObsRow, LoadRow, OfOfficeRow, OfObsRow, OfLoadRow, office_row, obs_row, load_row, rows_of, only_if, is_office_row, is_obs_row, is_load_row, record_of_row, observation_of_row, load_of_row, record_in_row, observation_in_row, load_in_row, says_something, office_in, table_of, tables_follow, is_valid, are_office_rows, damage}
 use Rattle.aq_profile.proofs.Spans.{Every}
 use Rattle.aq_profile.proofs.ValidOffice.{valid-is_office}
 use Rattle.aq_profile.proofs.Undamaged.{undamaged}

@@ -5,7 +5,7 @@ use Rattle.std.proofs.lemmas.Bool.{false≢true}
 use Rattle.std.proofs.lemmas.Bool.Decides.{nat_tests}
 use Rattle.std.proofs.lemmas.Slice.Eq.{bytes_eq-Decides}
 use Rattle.aq_profile.proofs.Least.{both, true_or_false}
-use Rattle.aq_profile.specs.Office.{is_same, comes_before, rises_from, rises, with_row, without_row}
+use Rattle.aq_profile.specs.Office.Office.{is_same, comes_before, rises_from, rises, with_row, without_row}
 
 -- the cases of a first number that decides, or a tie
 first_decides : (x y : ℕ) (b : Bool) → (nat_lt x y || ((x == y) && b)) ≡ true → (x < y) ⊎ ((x ≡ y) × (b ≡ true))

@@ -22,13 +22,13 @@ use Rattle.aq_base.specs.declared.office.OfficeKey.{OfficeKey}
 use Rattle.aq_base.specs.declared.office.OfficeKey.TheVariants.{Monitor as MonitorKey, Primary as PrimaryKey, Schedule as ScheduleKey, Season as SeasonKey, Makeup as MakeupKey, Event as EventKey, Concurrence as ConcurrenceKey, Approved as ApprovedKey}
 use Rattle.aq_base.specs.declared.office.OfficeLine.{OfficeLine}
 use Rattle.aq_base.specs.declared.office.OfficeLine.TheVariants.{Put, Change, Drop}
-use Rattle.aq_profile.specs.Fields.{field, fields}
-use Rattle.aq_profile.specs.Spellings.{◌>>=◌, tag_in, Xs, Xp, Xu, Xe, is_interval, is_event_number, is_event_code, event_number_in, event_code_in, is_code_byte, has_parameter, has_duration}
-use Rattle.aq_profile.specs.RdForm.{monitor_in}
-use Rattle.aq_profile.specs.OfficeForms.{is_season, is_makeup, is_span, xm_record, xp_record, xp_key, xs_record, xs_key, xo_record, xo_key, xu_record, xu_key, xe_record, xe_key, xc_record, xa_record, xa_key}
-use Rattle.aq_profile.specs.Reading.{OfOffice, line_value, form_value}
-use Rattle.aq_profile.specs.Canonical.{is_office_line, parameter_text, duration_text, date_text, time_text, truth_text, code_text, joined, office_texts, canonical_office}
-use Rattle.aq_profile.specs.Office.{is_site, is_poc, is_day}
+use Rattle.aq_profile.specs.Lines.Fields.{field, fields}
+use Rattle.aq_profile.specs.Lines.Spellings.{◌>>=◌, tag_in, Xs, Xp, Xu, Xe, is_interval, is_event_number, is_event_code, event_number_in, event_code_in, is_code_byte, has_parameter, has_duration}
+use Rattle.aq_profile.specs.Lines.RdForm.{monitor_in}
+use Rattle.aq_profile.specs.Lines.OfficeForms.{is_season, is_makeup, is_span, xm_record, xp_record, xp_key, xs_record, xs_key, xo_record, xo_key, xu_record, xu_key, xe_record, xe_key, xc_record, xa_record, xa_key}
+use Rattle.aq_profile.specs.Lines.Reading.{OfOffice, line_value, form_value}
+use Rattle.aq_profile.specs.Lines.Canonical.{is_office_line, parameter_text, duration_text, date_text, time_text, truth_text, code_text, joined, office_texts, canonical_office}
+use Rattle.aq_profile.specs.Office.Office.{is_site, is_poc, is_day}
 use Rattle.aq_profile.proofs.Least.{both}
 use Rattle.aq_profile.proofs.KeyOrder.{at_most_day}
 use Rattle.aq_profile.proofs.JoinedFields.{is_clean, is_clean_byte, and_true, fields-some, plain-some}

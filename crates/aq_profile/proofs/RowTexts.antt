@@ -13,12 +13,12 @@ use Rattle.aq_base.specs.declared.reply.ListedLine.{ListedLine}
 use Rattle.aq_base.specs.declared.reply.RestRule.{RestRule}
 use Rattle.aq_base.specs.declared.rule.Rule.{Rule}
 use Rattle.aq_base.specs.declared.rule.Rule.TheVariants.{BadBytes, BadTag, FieldCount, BadAction, BadSite, ParameterOutOfProfile, BadPoc, BadDuration, BadUnit, BadMethod, BadDate, BadTime, ValueAndNull, NeitherValueNorNull, BadValue, ValueOutOfRange, BadNull, BadQualifier, UnknownMonitor, WrongDuration, AlreadyThere, NotThere, ObservationsFull, SitesFull, MonitorsFull, BadSpan, BadInterval, BadSeason, BadMakeup, MakeupsFull, UnknownEvent, EventsFull, BadCode, ListFull, NotBuilt}
-use Rattle.aq_profile.specs.Fields.{is_empty, is_space}
-use Rattle.aq_profile.specs.Spellings.{◌>>=◌, is_code_byte, qualifier_in}
-use Rattle.aq_profile.specs.Canonical.{code_text}
-use Rattle.aq_profile.specs.Office.{is_null_code, is_qualifier}
-use Rattle.aq_profile.specs.Export.{codes_text}
-use Rattle.aq_profile.specs.Rows.{pair_text, words, each, null_of, number_in, is_colon, rule_with, listed_in, rest_in}
+use Rattle.aq_profile.specs.Lines.Fields.{is_empty, is_space}
+use Rattle.aq_profile.specs.Lines.Spellings.{◌>>=◌, is_code_byte, qualifier_in}
+use Rattle.aq_profile.specs.Lines.Canonical.{code_text}
+use Rattle.aq_profile.specs.Office.Office.{is_null_code, is_qualifier}
+use Rattle.aq_profile.specs.Shown.Export.{codes_text}
+use Rattle.aq_profile.specs.Kept.Rows.{pair_text, words, each, null_of, number_in, is_colon, rule_with, listed_in, rest_in}
 use Rattle.aq_profile.proofs.Spans.{Every}
 
 both : (a b : Bool) → (a && b) ≡ true → (a ≡ true) × (b ≡ true)

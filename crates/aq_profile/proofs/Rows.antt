@@ -3,12 +3,12 @@ use Rattle.std.proofs.Common.{◌≡◌, ℕ, zero, suc, ◌+◌, List, [], ◌�
 use Rattle.std.specs.List.{range_with_len, enumerate_from, zip}
 use Rattle.aq_base.specs.Calendar.{year_first, days_in_year}
 use Rattle.aq_base.specs.Site.{Site}
-use Rattle.aq_profile.specs.Office.{Office}
-use Rattle.aq_profile.specs.Approval.{is_approved}
-use Rattle.aq_profile.specs.OzoneDay.{ozone_day, windows, starts_of}
-use Rattle.aq_profile.specs.OzoneYear.{days_of, ozone_days}
-use Rattle.aq_profile.specs.OzoneVerdict.{three_years}
-use Rattle.aq_profile.specs.Sheets.{day_cells, windows_sheet, windows_answer, days_sheet, days_answer, ozone_value_sheet, ozone_value_answer}
+use Rattle.aq_profile.specs.Office.Office.{Office}
+use Rattle.aq_profile.specs.Office.Approval.{is_approved}
+use Rattle.aq_profile.specs.Ozone.OzoneDay.{ozone_day, windows, starts_of}
+use Rattle.aq_profile.specs.Ozone.OzoneYear.{days_of, ozone_days}
+use Rattle.aq_profile.specs.Ozone.OzoneVerdict.{three_years}
+use Rattle.aq_profile.specs.Shown.Sheets.{day_cells, windows_sheet, windows_answer, days_sheet, days_answer, ozone_value_sheet, ozone_value_answer}
 
 length-range : (a n : ℕ) → length (range_with_len a n) ≡ n
 length-range a zero = refl

@@ -12,11 +12,11 @@ use Rattle.aq_base.specs.declared.office.OfficeRecord.TheVariants.{Monitor, Prim
 use Rattle.aq_base.specs.declared.reply.ListedLine.{ListedLine}
 use Rattle.aq_base.specs.declared.reply.RestRule.{RestRule}
 use Rattle.aq_profile.specs.Limits.{MOST_LINES, MOST_LISTED}
-use Rattle.aq_profile.specs.Spellings.{◌>>=◌}
-use Rattle.aq_profile.specs.Reading.{LineValue, OfOffice}
-use Rattle.aq_profile.specs.Canonical.{record_line, is_office_line}
-use Rattle.aq_profile.specs.Office.{StoredLoad, is_record, is_reply, is_load, is_listed, is_rest, listed_rank, rest_rank, rises}
-use Rattle.aq_profile.specs.Rows.{OfficeRow, LoadRow, office_row, load_row, listed_text, rest_text, record_in, only_if, is_office_row, is_load_row, record_of_row, load_of_row, words, each, listed_in, rest_in}
+use Rattle.aq_profile.specs.Lines.Spellings.{◌>>=◌}
+use Rattle.aq_profile.specs.Lines.Reading.{LineValue, OfOffice}
+use Rattle.aq_profile.specs.Lines.Canonical.{record_line, is_office_line}
+use Rattle.aq_profile.specs.Office.Office.{StoredLoad, is_record, is_reply, is_load, is_listed, is_rest, listed_rank, rest_rank, rises}
+use Rattle.aq_profile.specs.Kept.Rows.{OfficeRow, LoadRow, office_row, load_row, listed_text, rest_text, record_in, only_if, is_office_row, is_load_row, record_of_row, load_of_row, words, each, listed_in, rest_in}
 use Rattle.aq_profile.proofs.RoundTrip.{round-office}
 use Rattle.aq_profile.proofs.Spans.{Every}
 use Rattle.aq_profile.proofs.RowTexts.{IsWord, words-joined, each-read, every-map, listed_write, rest_write, listed-read, rest-read, listed-word, rest-word}

@@ -7,7 +7,7 @@ use Rattle.aq_base.specs.declared.monitor.Pollutant.{Pollutant}
 use Rattle.aq_base.specs.declared.monitor.Pollutant.TheVariants.{Ozone, Pm25, Pm10}
 use Rattle.aq_base.specs.declared.monitor.MonitorId.{MonitorId}
 use Rattle.aq_base.specs.declared.observation.ObsKey.{ObsKey}
-use Rattle.aq_profile.specs.Monitors.{is_same_site, is_same_pollutant, is_same_monitor, is_same_key}
+use Rattle.aq_profile.specs.Office.Monitors.{is_same_site, is_same_pollutant, is_same_monitor, is_same_key}
 
 left : (a b : Bool) → (a && b) ≡ true → a ≡ true
 left true b h = refl

@@ -13,12 +13,12 @@ use Rattle.aq_base.specs.declared.monitor.Pollutant.TheVariants.{Ozone, Pm25, Pm
 use Rattle.aq_base.specs.declared.monitor.Duration.{Duration}
 use Rattle.aq_base.specs.declared.monitor.MonitorId.{MonitorId}
 use Rattle.aq_base.specs.declared.observation.Observation.{Observation}
-use Rattle.aq_profile.specs.Fields.{is_empty}
-use Rattle.aq_profile.specs.Spellings.{Rd, is_code_byte, has_duration, unit_in, null_in, qualifiers_onto, qualifiers_in}
-use Rattle.aq_profile.specs.RdForm.{RdValue, Put, Delete, start_in, content_in, put_in, delete_in}
-use Rattle.aq_profile.specs.Reading.{OfRd, line_value, has_wrong_count}
-use Rattle.aq_profile.specs.Canonical.{parameter_text, duration_text, unit_text, value_places, value_text, date_text, time_text, code_text, texts_behind, rd_texts, canonical_rd, is_rd_value, joined}
-use Rattle.aq_profile.specs.Office.{is_site, is_poc, is_qualifier, is_null_code, is_measured, is_content}
+use Rattle.aq_profile.specs.Lines.Fields.{is_empty}
+use Rattle.aq_profile.specs.Lines.Spellings.{Rd, is_code_byte, has_duration, unit_in, null_in, qualifiers_onto, qualifiers_in}
+use Rattle.aq_profile.specs.Lines.RdForm.{RdValue, Put, Delete, start_in, content_in, put_in, delete_in}
+use Rattle.aq_profile.specs.Lines.Reading.{OfRd, line_value, has_wrong_count}
+use Rattle.aq_profile.specs.Lines.Canonical.{parameter_text, duration_text, unit_text, value_places, value_text, date_text, time_text, code_text, texts_behind, rd_texts, canonical_rd, is_rd_value, joined}
+use Rattle.aq_profile.specs.Office.Office.{is_site, is_poc, is_qualifier, is_null_code, is_measured, is_content}
 use Rattle.aq_profile.proofs.Least.{both, true_or_false}
 use Rattle.aq_profile.proofs.Digits.{digits_three}
 use Rattle.aq_profile.proofs.KeyOrder.{less_or}

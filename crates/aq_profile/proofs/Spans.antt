@@ -6,7 +6,7 @@ use Rattle.std.proofs.lemmas.List.Sums.{sum_by-cons, sum_by-le-sum_by}
 use Rattle.std.proofs.lemmas.Bool.Decides.{nat_tests}
 use Rattle.std.proofs.lemmas.Slice.Eq.{bytes_eq-Decides}
 use Rattle.aq_profile.proofs.Rising.{before-trans}
-use Rattle.aq_profile.specs.Office.{is_same, comes_before, rises_from, rises}
+use Rattle.aq_profile.specs.Office.Office.{is_same, comes_before, rises_from, rises}
 
 -- ---- the order of ranks
 

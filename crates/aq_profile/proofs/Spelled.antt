@@ -12,10 +12,10 @@ use Rattle.aq_base.specs.declared.monitor.Pollutant.{Pollutant}
 use Rattle.aq_base.specs.declared.monitor.Pollutant.TheVariants.{Ozone, Pm25, Pm10}
 use Rattle.aq_base.specs.declared.monitor.Duration.{Duration}
 use Rattle.aq_base.specs.declared.monitor.Duration.TheVariants.{Hour, Day}
-use Rattle.aq_profile.specs.Spellings.{◌>>=◌, site_in, parameter_in, parameter_of, has_parameter, Tag, duration_in, has_duration, date_in, year_in, time_in, poc_in, primary_in, interval_in, is_interval, truth_in}
-use Rattle.aq_profile.specs.OfficeForms.{hour_in}
-use Rattle.aq_profile.specs.Canonical.{parameter_text, duration_text, date_text, time_text, truth_text}
-use Rattle.aq_profile.specs.Office.{is_site, is_poc}
+use Rattle.aq_profile.specs.Lines.Spellings.{◌>>=◌, site_in, parameter_in, parameter_of, has_parameter, Tag, duration_in, has_duration, date_in, year_in, time_in, poc_in, primary_in, interval_in, is_interval, truth_in}
+use Rattle.aq_profile.specs.Lines.OfficeForms.{hour_in}
+use Rattle.aq_profile.specs.Lines.Canonical.{parameter_text, duration_text, date_text, time_text, truth_text}
+use Rattle.aq_profile.specs.Office.Office.{is_site, is_poc}
 use Rattle.aq_profile.proofs.Least.{both}
 use Rattle.aq_profile.proofs.Digits.{in_range, from_none, is_number, number_is, digits_two, digits_three, digits_four}
 use Rattle.aq_profile.proofs.KeyOrder.{site_bounds, less_or, month_short}

@@ -7,7 +7,7 @@ use Rattle.std.proofs.lemmas.Int.{ints}
 use Rattle.std.proofs.lemmas.List.Sums.{fold-append}
 use Rattle.std.proofs.Math.IntN.{+ℤ_idl}
 use Rattle.aq_profile.specs.Lists.{total, greater, greatest}
-use Rattle.aq_profile.specs.Substitution.{lesser, least}
+use Rattle.aq_profile.specs.Particles.Substitution.{lesser, least}
 
 -- ---- sums
 

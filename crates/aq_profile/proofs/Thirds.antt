@@ -3,8 +3,8 @@ use Rattle.std.proofs.Common.{◌≡◌, ℕ, ◌+◌, ◌*◌, ◌<◌, ◌≤�
 use Rattle.std.specs.Prelude.{nat_le}
 use Rattle.std.proofs.lemmas.Bool.Decides.{nat_tests}
 use Rattle.std.proofs.Math.Nat.{mul-le-mul_right, le-mul_of_pos_right}
-use Rattle.aq_profile.specs.OzoneYear.{OzoneYear}
-use Rattle.aq_profile.specs.OzoneVerdict.{is_average_kept}
+use Rattle.aq_profile.specs.Ozone.OzoneYear.{OzoneYear}
+use Rattle.aq_profile.specs.Ozone.OzoneVerdict.{is_average_kept}
 
 grown : (d v : ℕ) → 27 * d ≤ v → 27 * (d * d * d) ≤ v * (d * d)
 grown d v h = omega (arith, mul-le-mul_right (d * d) h)

@@ -5,8 +5,8 @@ use Rattle.std.proofs.lemmas.List.{map-append}
 use Rattle.aq_base.specs.declared.observation.ObsKey.{ObsKey}
 use Rattle.aq_base.specs.declared.observation.Observation.{Observation}
 use Rattle.aq_base.specs.declared.office.OfficeRecord.{OfficeRecord}
-use Rattle.aq_profile.specs.Office.{Office, StoredLoad, IsOffice}
-use Rattle.aq_profile.specs.Rows.{Row, OfOfficeRow, OfObsRow, OfLoadRow, office_row, obs_row, load_row, rows_of, are_office_rows, place_of, damaged_at, damage}
+use Rattle.aq_profile.specs.Office.Office.{Office, StoredLoad, IsOffice}
+use Rattle.aq_profile.specs.Kept.Rows.{Row, OfOfficeRow, OfObsRow, OfLoadRow, office_row, obs_row, load_row, rows_of, are_office_rows, place_of, damaged_at, damage}
 use Rattle.aq_profile.proofs.OfficeBack.{rows-are}
 use Rattle.aq_profile.proofs.Fronts.{records-front, observations-front, loads-front}
 

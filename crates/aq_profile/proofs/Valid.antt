@@ -11,9 +11,9 @@ use Rattle.aq_base.specs.Site.{Site}
 use Rattle.aq_base.specs.declared.monitor.Pollutant.{Pollutant}
 use Rattle.aq_base.specs.declared.monitor.Pollutant.TheVariants.{Ozone, Pm25, Pm10}
 use Rattle.aq_base.specs.declared.monitor.Duration.TheVariants.{Hour, Day}
-use Rattle.aq_profile.specs.Spellings.{◌>>=◌, Tag, digits_in, site_in, poc_in, primary_in, parameter_in, parameter_of, has_parameter, duration_in, has_duration, date_in, year_in, time_in, interval_in, is_interval, event_number_in, is_event_number, event_code_in, is_event_code, null_in}
-use Rattle.aq_profile.specs.OfficeForms.{hour_in}
-use Rattle.aq_profile.specs.Office.{is_site, is_poc, is_day}
+use Rattle.aq_profile.specs.Lines.Spellings.{◌>>=◌, Tag, digits_in, site_in, poc_in, primary_in, parameter_in, parameter_of, has_parameter, duration_in, has_duration, date_in, year_in, time_in, interval_in, is_interval, event_number_in, is_event_number, event_code_in, is_event_code, null_in}
+use Rattle.aq_profile.specs.Lines.OfficeForms.{hour_in}
+use Rattle.aq_profile.specs.Office.Office.{is_site, is_poc, is_day}
 use Rattle.aq_profile.proofs.Least.{both}
 use Rattle.aq_profile.proofs.JoinedFields.{and_true}
 use Rattle.aq_profile.proofs.Days.{years_next, months_next, twelve_months}

@@ -14,13 +14,13 @@ use Rattle.aq_base.specs.declared.office.OfficeRecord.{OfficeRecord}
 use Rattle.aq_base.specs.declared.office.OfficeRecord.TheVariants.{Season, Makeup, Event}
 use Rattle.aq_base.specs.declared.office.OfficeKey.{OfficeKey}
 use Rattle.aq_base.specs.declared.office.OfficeLine.TheVariants.{Put, Change, Drop}
-use Rattle.aq_profile.specs.Fields.{field, fields, is_empty}
-use Rattle.aq_profile.specs.Spellings.{◌>>=◌, Tag, Rd, Xm, Xp, Xs, Xo, Xu, Xe, Xc, Xa, Action, Insert, Update, Delete, action_in, parameter_in, parameter_of, poc_in, primary_in, duration_in, unit_in, method_in, date_in, year_in, interval_in, truth_in, value_in, is_in_range, null_in, qualifier_in, qualifiers_onto, qualifiers_in, event_number_in, event_code_in, has_parameter, has_duration, is_interval, is_event_number, is_event_code, is_code_byte}
-use Rattle.aq_profile.specs.RdForm.{RdValue, monitor_in, start_in, content_in, put_in, delete_in, qualifier_fields}
-use Rattle.aq_profile.specs.OfficeForms.{site_at, hour_in, is_season, is_makeup, is_span, xm_record, xp_record, xp_key, xs_record, xs_key, xo_record, xo_key, xu_record, xu_key, xe_record, xe_key, xc_record, xa_record, xa_key}
-use Rattle.aq_profile.specs.Reading.{LineValue, OfRd, OfOffice, line_value, value_for, form_value, acts, action_for, has_wrong_count, is_deletion, is_plain, tag_of}
-use Rattle.aq_profile.specs.Canonical.{is_rd_value, is_office_line, is_line_value}
-use Rattle.aq_profile.specs.Office.{is_site, is_poc, is_day, is_qualifier, is_null_code, is_measured, is_content}
+use Rattle.aq_profile.specs.Lines.Fields.{field, fields, is_empty}
+use Rattle.aq_profile.specs.Lines.Spellings.{◌>>=◌, Tag, Rd, Xm, Xp, Xs, Xo, Xu, Xe, Xc, Xa, Action, Insert, Update, Delete, action_in, parameter_in, parameter_of, poc_in, primary_in, duration_in, unit_in, method_in, date_in, year_in, interval_in, truth_in, value_in, is_in_range, null_in, qualifier_in, qualifiers_onto, qualifiers_in, event_number_in, event_code_in, has_parameter, has_duration, is_interval, is_event_number, is_event_code, is_code_byte}
+use Rattle.aq_profile.specs.Lines.RdForm.{RdValue, monitor_in, start_in, content_in, put_in, delete_in, qualifier_fields}
+use Rattle.aq_profile.specs.Lines.OfficeForms.{site_at, hour_in, is_season, is_makeup, is_span, xm_record, xp_record, xp_key, xs_record, xs_key, xo_record, xo_key, xu_record, xu_key, xe_record, xe_key, xc_record, xa_record, xa_key}
+use Rattle.aq_profile.specs.Lines.Reading.{LineValue, OfRd, OfOffice, line_value, value_for, form_value, acts, action_for, has_wrong_count, is_deletion, is_plain, tag_of}
+use Rattle.aq_profile.specs.Lines.Canonical.{is_rd_value, is_office_line, is_line_value}
+use Rattle.aq_profile.specs.Office.Office.{is_site, is_poc, is_day, is_qualifier, is_null_code, is_measured, is_content}
 use Rattle.aq_profile.proofs.Least.{both, true_or_false}
 use Rattle.aq_profile.proofs.JoinedFields.{and_true}
 use Rattle.aq_profile.proofs.Samples.{null_qualifies}

@@ -4,8 +4,8 @@ use Rattle.std.specs.Prelude.{nat_le}
 use Rattle.std.specs.List.{list_all}
 use Rattle.std.proofs.lemmas.Bool.Decides.{nat_tests}
 use Rattle.aq_profile.specs.Limits.{MOST_SITES, MOST_OBSERVATIONS, MOST_LOADS}
-use Rattle.aq_profile.specs.Office.{Office, IsOffice, record_rank, observation_rank, load_rank, rises, fits_records, has_own_makeup_day, sites_of, fits_monitors, is_load}
-use Rattle.aq_profile.specs.Rows.{is_valid}
+use Rattle.aq_profile.specs.Office.Office.{Office, IsOffice, record_rank, observation_rank, load_rank, rises, fits_records, has_own_makeup_day, sites_of, fits_monitors, is_load}
+use Rattle.aq_profile.specs.Kept.Rows.{is_valid}
 
 both : (a b : Bool) → (a && b) ≡ true → (a ≡ true) × (b ≡ true)
 both true b h = (refl, h)

@@ -11,12 +11,12 @@ use Rattle.std.proofs.lemmas.Bool.Decides.{nat_tests}
 use Rattle.aq_base.specs.Decimal.{last_digits, are_digits, is_point, is_minus, cut, fixed, unsigned_part, whole_part, fraction_part, is_decimal, cut_magnitude}
 use Rattle.aq_base.specs.declared.monitor.Pollutant.{Pollutant}
 use Rattle.aq_base.specs.declared.monitor.Pollutant.TheVariants.{Ozone, Pm25, Pm10}
-use Rattle.aq_profile.specs.Spellings.{value_in, is_in_range}
+use Rattle.aq_profile.specs.Lines.Spellings.{value_in, is_in_range}
 use Rattle.aq_profile.proofs.Least.{both}
 use Rattle.aq_profile.proofs.JoinedFields.{and_true, is_clean}
 use Rattle.aq_profile.proofs.RoundTrip.{clean-append, clean-decimal, clean-digits}
-use Rattle.aq_profile.specs.Fields.{is_empty}
-use Rattle.aq_profile.specs.Canonical.{value_text, value_places}
+use Rattle.aq_profile.specs.Lines.Fields.{is_empty}
+use Rattle.aq_profile.specs.Lines.Canonical.{value_text, value_places}
 use Rattle.aq_profile.proofs.KeyOrder.{length-digits}
 
 not_point : (c : ℕ) → digit_value c < 10 → is_point c ≡ false

@@ -1,7 +1,11 @@
 //! The lines of a body, and the fields of a line.
+
+pub mod canonical;
+pub mod reading;
+
 ghost use Rattle.std.specs.Prelude.{◌≡◌, ◌∷◌, ◌++◌, [], codes};
-ghost use Rattle.aq_profile.specs.Fields.{fields};
-ghost use Rattle.aq_profile.specs.Lines.{body_lines, line_count, BYTE_ORDER_MARK};
+ghost use Rattle.aq_profile.specs.Lines.Fields.{fields};
+ghost use Rattle.aq_profile.specs.Lines.Lines.{body_lines, line_count, BYTE_ORDER_MARK};
 
 /// Spaces round a field are dropped, and those inside it are kept.
 pub fn fields_without_spaces_round_them()

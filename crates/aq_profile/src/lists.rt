@@ -3,7 +3,7 @@
 
 ghost use Rattle.std.specs.Prelude.{◌≡◌, ℕ, ◌+◌, ◌<◌, ◌≤◌, ℤ, ◌≤ℤ◌, int_lt, false, List, [], length, slice_index_or, All, Contains, IsPermutation, MatchOption};
 ghost use Rattle.aq_profile.specs.Lists.{greatest, latest, ranked};
-ghost use Rattle.aq_profile.specs.Designation.{Designation};
+ghost use Rattle.aq_profile.specs.Office.Designation.{Designation};
 
 /// The ranked list has the given values, each as often, and no value stands before a greater one.
 pub fn ranked_values_are_sorted_downwards()

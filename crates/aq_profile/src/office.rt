@@ -1,8 +1,15 @@
 //! The order of an office's records.
+
+pub mod exclusion;
+pub mod load;
+pub mod monitors;
+pub mod office_records;
+pub mod refusal;
+
 ghost use Rattle.std.specs.Prelude.{◌≡◌, ◌∷◌, IsTrue};
 ghost use Rattle.aq_base.specs.declared.office.OfficeKey.{OfficeKey};
-ghost use Rattle.aq_profile.specs.Canonical.{printed_key};
-ghost use Rattle.aq_profile.specs.Office.{comes_before, is_key, is_same, key_numbers, kind_of};
+ghost use Rattle.aq_profile.specs.Lines.Canonical.{printed_key};
+ghost use Rattle.aq_profile.specs.Office.Office.{comes_before, is_key, is_same, key_numbers, kind_of};
 
 /// Keys are ordered by kind and then by the bytes of their printed keys, and no two of a kind print
 /// alike.

@@ -7,9 +7,9 @@ use Rattle.std.proofs.lemmas.Bool.Decides.{nat_tests}
 use Rattle.std.proofs.lemmas.List.{append-nil}
 use Rattle.std.proofs.lemmas.List.Folds.{list_all-append}
 use Rattle.std.proofs.lemmas.List.Splits.{slice_split-cons_yes, slice_split-cons_no}
-use Rattle.aq_profile.specs.Fields.{fields, trimmed, without_front, without_back, onto_text, is_bar, is_space}
-use Rattle.aq_profile.specs.Reading.{is_plain, is_plain_byte}
-use Rattle.aq_profile.specs.Canonical.{joined}
+use Rattle.aq_profile.specs.Lines.Fields.{fields, trimmed, without_front, without_back, onto_text, is_bar, is_space}
+use Rattle.aq_profile.specs.Lines.Reading.{is_plain, is_plain_byte}
+use Rattle.aq_profile.specs.Lines.Canonical.{joined}
 use Rattle.aq_rd.specs.Printing.{behind_bars}
 use Rattle.aq_rd.proofs.Printed.{joined-cons}
 

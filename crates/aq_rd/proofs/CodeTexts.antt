@@ -7,9 +7,9 @@ use Rattle.std.proofs.lemmas.List.{append-nil}
 use Rattle.std.proofs.lemmas.List.Folds.{list_any-append}
 use Rattle.aq_base.specs.Quals.{with_code, has_code, is_same_code, all_distinct}
 use Rattle.aq_base.specs.declared.code.Code.{Code}
-use Rattle.aq_profile.specs.Fields.{is_empty}
-use Rattle.aq_profile.specs.Spellings.{◌>>=◌, is_code_byte, null_in, qualifier_in, qualifiers_in, qualifiers_onto}
-use Rattle.aq_profile.specs.Canonical.{code_text}
+use Rattle.aq_profile.specs.Lines.Fields.{is_empty}
+use Rattle.aq_profile.specs.Lines.Spellings.{◌>>=◌, is_code_byte, null_in, qualifier_in, qualifiers_in, qualifiers_onto}
+use Rattle.aq_profile.specs.Lines.Canonical.{code_text}
 use Rattle.aq_rd.specs.Spelled.{is_null_code, is_qualifier}
 use Rattle.aq_rd.proofs.CleanTexts.{is_clean, are_clean, all_clean}
 use Rattle.aq_rd.proofs.QualifierSteps.{onto-text}

@@ -9,9 +9,9 @@ use Rattle.std.proofs.lemmas.List.Folds.{list_all-append}
 use Rattle.std.proofs.lemmas.List.Splits.{length-slice_split}
 use Rattle.std.proofs.lemmas.Slice.Eq.{bytes_eq-Decides}
 use Rattle.aq_base.specs.declared.rule.Rule.TheVariants.{BadBytes, BadTag, FieldCount, BadAction}
-use Rattle.aq_profile.specs.Fields.{fields, field, trimmed, is_bar}
-use Rattle.aq_profile.specs.Reading.{is_plain, is_plain_byte, has_wrong_count}
-use Rattle.aq_profile.specs.Spellings.{Rd}
+use Rattle.aq_profile.specs.Lines.Fields.{fields, field, trimmed, is_bar}
+use Rattle.aq_profile.specs.Lines.Reading.{is_plain, is_plain_byte, has_wrong_count}
+use Rattle.aq_profile.specs.Lines.Spellings.{Rd}
 use Rattle.aq_rd.specs.FieldPlaces.{has_text}
 use Rattle.aq_rd.specs.declared.head.Head.{Head}
 use Rattle.aq_rd.specs.Fronts.{HasHead, BeginsWith, HasTenFields, Precedes, action_text, has_wrong_rest, behind_reading}

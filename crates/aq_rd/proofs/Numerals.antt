@@ -15,8 +15,8 @@ use Rattle.aq_base.specs.Decimal.{last_digits, are_digits}
 use Rattle.aq_base.specs.Site.{Site, IsSite}
 use Rattle.aq_base.specs.declared.day.TheConstants.{FIRST_YEAR, LAST_YEAR, LAST_DAY}
 use Rattle.aq_cal.proofs.Within.{date_is, date_number}
-use Rattle.aq_profile.specs.Spellings.{◌>>=◌, digits_in, site_in, poc_in, date_in, time_in}
-use Rattle.aq_profile.specs.Canonical.{date_text}
+use Rattle.aq_profile.specs.Lines.Spellings.{◌>>=◌, digits_in, site_in, poc_in, date_in, time_in}
+use Rattle.aq_profile.specs.Lines.Canonical.{date_text}
 use Rattle.aq_rd.proofs.DigitSteps.{digit_value-digit}
 use Rattle.aq_rd.proofs.CleanTexts.{is_clean, are_clean}
 

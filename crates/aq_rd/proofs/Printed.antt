@@ -2,7 +2,7 @@
 use Rattle.std.proofs.Common.{◌≡◌, ℕ, ◌+◌, ◌<◌, List, [], ◌∷◌, ◌++◌, map, length, take, get_or, Some, None, Option, refl, sym, ap, ◌∙◌, append_assoc}
 use Rattle.std.proofs.lemmas.List.{take_more, map-append, append-nil}
 use Rattle.aq_base.specs.declared.code.Code.{Code}
-use Rattle.aq_profile.specs.Canonical.{code_text, texts_behind, joined}
+use Rattle.aq_profile.specs.Lines.Canonical.{code_text, texts_behind, joined}
 use Rattle.aq_rd.specs.Printing.{behind_bars, null_text}
 
 pub joined-cons : (text : List ℕ) (texts : List (List ℕ)) → joined (text ∷ texts) ≡ text ++ behind_bars texts

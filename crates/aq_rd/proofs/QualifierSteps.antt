@@ -9,8 +9,8 @@ use Rattle.std.proofs.lemmas.List.Folds.{list_all-append}
 use Rattle.aq_rd.specs.Spelled.{is_qualifier}
 use Rattle.aq_base.specs.declared.code.Code.{Code}
 use Rattle.aq_base.specs.Quals.{with_code, has_code}
-use Rattle.aq_profile.specs.Fields.{field, is_empty}
-use Rattle.aq_profile.specs.Spellings.{◌>>=◌, qualifier_in, qualifiers_onto}
+use Rattle.aq_profile.specs.Lines.Fields.{field, is_empty}
+use Rattle.aq_profile.specs.Lines.Spellings.{◌>>=◌, qualifier_in, qualifiers_onto}
 
 onto-empty : (codes : List Code) (text : List ℕ) (texts : List (List ℕ)) → is_empty text ≡ true → qualifiers_onto codes (text ∷ texts) ≡ qualifiers_onto codes texts
 onto-empty codes [] texts e = refl

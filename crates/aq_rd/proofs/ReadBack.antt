@@ -17,11 +17,11 @@ use Rattle.aq_base.specs.declared.monitor.Duration.{Duration}
 use Rattle.aq_base.specs.declared.monitor.Duration.TheVariants.{Hour, Day}
 use Rattle.aq_base.specs.declared.monitor.MonitorId.{MonitorId}
 use Rattle.aq_base.specs.declared.observation.Observation.{Observation}
-use Rattle.aq_profile.specs.Fields.{is_empty, field, fields}
-use Rattle.aq_profile.specs.Spellings.{◌>>=◌, Rd, tag_in, has_duration, site_in, parameter_in, poc_in, duration_in, unit_in, method_in, date_in, time_in, value_in, null_in, qualifiers_in}
-use Rattle.aq_profile.specs.RdForm.{RdValue, Put, Delete, monitor_in, start_in, content_in, put_in, delete_in}
-use Rattle.aq_profile.specs.Reading.{is_plain, OfRd, LineValue, line_value, form_value, has_wrong_count, tag_of}
-use Rattle.aq_profile.specs.Canonical.{canonical_rd, rd_texts, joined, parameter_text, duration_text, unit_text, value_places, date_text, time_text, value_text, code_text, texts_behind}
+use Rattle.aq_profile.specs.Lines.Fields.{is_empty, field, fields}
+use Rattle.aq_profile.specs.Lines.Spellings.{◌>>=◌, Rd, tag_in, has_duration, site_in, parameter_in, poc_in, duration_in, unit_in, method_in, date_in, time_in, value_in, null_in, qualifiers_in}
+use Rattle.aq_profile.specs.Lines.RdForm.{RdValue, Put, Delete, monitor_in, start_in, content_in, put_in, delete_in}
+use Rattle.aq_profile.specs.Lines.Reading.{is_plain, OfRd, LineValue, line_value, form_value, has_wrong_count, tag_of}
+use Rattle.aq_profile.specs.Lines.Canonical.{canonical_rd, rd_texts, joined, parameter_text, duration_text, unit_text, value_places, date_text, time_text, value_text, code_text, texts_behind}
 use Rattle.aq_rd.specs.declared.line.RdLine.{RdLine}
 use Rattle.aq_rd.specs.declared.line.RdLine.TheVariants as lines
 use Rattle.aq_rd.specs.RdReading.{value_of}

@@ -11,11 +11,11 @@ use Rattle.aq_base.specs.declared.monitor.Pollutant.{Pollutant}
 use Rattle.aq_base.specs.declared.observation.Observation.{Observation}
 use Rattle.aq_base.specs.declared.rule.Rule.{Rule}
 use Rattle.aq_base.specs.declared.rule.Rule.TheVariants.{BadBytes, BadTag, FieldCount, BadAction, BadSite, ParameterOutOfProfile, BadPoc, BadDuration, BadUnit, BadMethod, BadDate, BadTime, ValueAndNull, NeitherValueNorNull, BadValue, ValueOutOfRange, BadNull, BadQualifier}
-use Rattle.aq_profile.specs.Fields.{is_empty, field, fields}
-use Rattle.aq_profile.specs.Spellings as spellings
-use Rattle.aq_profile.specs.Spellings.{Tag, Rd, Xm, Xp, Xs, Xo, Xu, Xe, Xc, Xa, Insert, Update, Delete, tag_in, action_in, parameter_in, parameter_of, poc_in, site_in, duration_in, unit_in, method_in, date_in, time_in, value_in, is_in_range, null_in, qualifiers_in}
-use Rattle.aq_profile.specs.RdForm.{RdValue, monitor_in, start_in, content_in, put_in, delete_in, qualifier_fields}
-use Rattle.aq_profile.specs.Reading.{LineValue, OfRd, breaks_in, rules_of, reported_value, value_for, action_for, form_value, has_wrong_count, is_deletion, breaks_parts, rules_for, line_value, reading_rule, is_plain, tag_of}
+use Rattle.aq_profile.specs.Lines.Fields.{is_empty, field, fields}
+use Rattle.aq_profile.specs.Lines.Spellings as spellings
+use Rattle.aq_profile.specs.Lines.Spellings.{Tag, Rd, Xm, Xp, Xs, Xo, Xu, Xe, Xc, Xa, Insert, Update, Delete, tag_in, action_in, parameter_in, parameter_of, poc_in, site_in, duration_in, unit_in, method_in, date_in, time_in, value_in, is_in_range, null_in, qualifiers_in}
+use Rattle.aq_profile.specs.Lines.RdForm.{RdValue, monitor_in, start_in, content_in, put_in, delete_in, qualifier_fields}
+use Rattle.aq_profile.specs.Lines.Reading.{LineValue, OfRd, breaks_in, rules_of, reported_value, value_for, action_for, form_value, has_wrong_count, is_deletion, breaks_parts, rules_for, line_value, reading_rule, is_plain, tag_of}
 use Rattle.aq_rd.specs.declared.line.RdLine.{RdLine}
 use Rattle.aq_rd.specs.declared.line.RdLine.TheVariants as line
 use Rattle.aq_rd.specs.Tags.{is_office, has_office_tag}

@@ -14,8 +14,8 @@ use Rattle.aq_base.specs.Decimal.{last_digits, are_digits, is_point, is_minus, u
 use Rattle.aq_base.specs.Values.{least_value, greatest_value}
 use Rattle.aq_base.specs.declared.monitor.Pollutant.{Pollutant}
 use Rattle.aq_base.specs.declared.monitor.Pollutant.TheVariants.{Ozone, Pm25, Pm10}
-use Rattle.aq_profile.specs.Spellings.{value_in, is_in_range}
-use Rattle.aq_profile.specs.Canonical.{value_places}
+use Rattle.aq_profile.specs.Lines.Spellings.{value_in, is_in_range}
+use Rattle.aq_profile.specs.Lines.Canonical.{value_places}
 use Rattle.aq_rd.proofs.DigitTexts.{three_digits}
 use Rattle.aq_rd.proofs.Numerals.{value-digit, length-last_digits, digits-last_digits, digits-decimal, value-decimal, clean-digits, nonempty-decimal}
 use Rattle.aq_rd.proofs.CleanTexts.{is_clean, are_clean}

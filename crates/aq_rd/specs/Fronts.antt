@@ -2,9 +2,9 @@
 use Rattle.std.specs.Prelude.{◌≡◌, ℕ, ◌≤◌, Bool, true, ◌||◌, nat_lt, if◌then◌else◌, Result, Ok, Err, List, ◌++◌, length, take, drop, codes, bytes_eq}
 use Rattle.aq_base.specs.declared.rule.Rule.{Rule}
 use Rattle.aq_base.specs.declared.rule.Rule.TheVariants.{BadBytes, FieldCount}
-use Rattle.aq_profile.specs.Fields.{fields, field}
-use Rattle.aq_profile.specs.Reading.{is_plain}
-use Rattle.aq_profile.specs.Spellings.{has_duration}
+use Rattle.aq_profile.specs.Lines.Fields.{fields, field}
+use Rattle.aq_profile.specs.Lines.Reading.{is_plain}
+use Rattle.aq_profile.specs.Lines.Spellings.{has_duration}
 use Rattle.aq_rd.specs.FieldPlaces.{has_text}
 use Rattle.aq_rd.specs.RdReading.{head_reading, tail_reading, rd_reading}
 use Rattle.aq_rd.specs.Spelled.{HasPoc}

@@ -1,6 +1,6 @@
 //! Dates that stand in line after line.
 ghost use Rattle.std.specs.Prelude.{◌≡◌, Some};
-ghost use Rattle.aq_profile.specs.Spellings.{date_in};
+ghost use Rattle.aq_profile.specs.Lines.Spellings.{date_in};
 
 use crate::spellings::date;
 use aq_base::Day;

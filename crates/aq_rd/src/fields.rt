@@ -1,7 +1,7 @@
 //! The fields of a line.
 ghost use Rattle.std.specs.Prelude.{◌≡◌, not, ◌&&◌};
 ghost use Rattle.std.specs.List.{list_any};
-ghost use Rattle.aq_profile.specs.Fields.{fields, field, trimmed, without_front, without_back, is_bar, is_space};
+ghost use Rattle.aq_profile.specs.Lines.Fields.{fields, field, trimmed, without_front, without_back, is_bar, is_space};
 
 use std::marker::Model;
 
@@ -27,7 +27,7 @@ pub(crate) struct FieldList<'a> {
 
 impl<'a> Model for FieldList<'a> {
     ghost use Rattle.std.specs.Prelude.{List, ℕ};
-    ghost use Rattle.aq_profile.specs.Fields.{fields};
+    ghost use Rattle.aq_profile.specs.Lines.Fields.{fields};
     ghost use Rattle.aq_rd.specs.FieldPlaces.{HoldsFields, HasSpaces};
 
     ghost Value = { List (List ℕ) };
@@ -39,7 +39,7 @@ impl<'a> Model for FieldList<'a> {
 
 impl<'a> FieldList<'a> {
     ghost use Rattle.std.specs.Prelude.{◌≡◌, ◌≤◌, length, drop};
-    ghost use Rattle.aq_profile.specs.Fields.{fields, field};
+    ghost use Rattle.aq_profile.specs.Lines.Fields.{fields, field};
     ghost use Rattle.aq_rd.specs.FieldPlaces.{has_text, HasSpaces};
 
     /// The fields of a line, of which it is known whether it may have spaces.

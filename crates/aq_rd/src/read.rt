@@ -2,8 +2,8 @@
 ghost use Rattle.std.specs.Prelude.{◌≡◌, ◌≤◌, true, false, IfOk, IfErr, OnOk, OnErr, IfSome, Some, None};
 ghost use Rattle.std.specs.List.{list_all};
 ghost use Rattle.aq_base.specs.declared.monitor.Pollutant.{Pollutant};
-ghost use Rattle.aq_profile.specs.Reading.{reading_rule, line_value, has_wrong_count, is_deletion, OfRd};
-ghost use Rattle.aq_profile.specs.Spellings.{Rd};
+ghost use Rattle.aq_profile.specs.Lines.Reading.{reading_rule, line_value, has_wrong_count, is_deletion, OfRd};
+ghost use Rattle.aq_profile.specs.Lines.Spellings.{Rd};
 ghost use Rattle.aq_rd.specs.Fronts.{IsHead, HasHead, BeginsWith, has_wrong_rest, behind_reading};
 ghost use Rattle.aq_rd.specs.Ranges.{HasLineRange};
 ghost use Rattle.aq_rd.specs.RdReading.{monitor_reading, start_reading, content_reading, valued_reading, null_reading, put_reading, head_reading, tail_reading, delete_reading, form_reading, rd_reading, value_of};

@@ -1,6 +1,6 @@
 //! Reading RD lines that begin alike.
 ghost use Rattle.std.specs.Prelude.{◌≡◌, true, false, IfOk, IfErr, IfSome, OnOk, OnErr, Some, None};
-ghost use Rattle.aq_profile.specs.Reading.{reading_rule, line_value, OfRd};
+ghost use Rattle.aq_profile.specs.Lines.Reading.{reading_rule, line_value, OfRd};
 ghost use Rattle.aq_rd.specs.Fronts.{BeginsWith, HasTenFields, Precedes};
 ghost use Rattle.aq_rd.specs.Ranges.{HasLineRange};
 ghost use Rattle.aq_rd.specs.RdReading.{rd_reading, value_of};

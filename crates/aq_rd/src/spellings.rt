@@ -2,7 +2,7 @@
 ghost use Rattle.std.specs.Prelude.{◌≡◌, true, ℕ, ◌≤◌, ◌<◌, ◌^◌, length, IfSome, IfOk, Some, ◌≤ℤ◌};
 ghost use Rattle.std.specs.List.{list_all};
 ghost use Rattle.aq_base.specs.Values.{least_value, greatest_value};
-ghost use Rattle.aq_profile.specs.Spellings.{has_duration, site_in, parameter_in, poc_in, duration_in, unit_in, method_in, date_in, time_in, null_in, qualifier_in, qualifiers_in, digits_in, is_code_byte};
+ghost use Rattle.aq_profile.specs.Lines.Spellings.{has_duration, site_in, parameter_in, poc_in, duration_in, unit_in, method_in, date_in, time_in, null_in, qualifier_in, qualifiers_in, digits_in, is_code_byte};
 ghost use Rattle.aq_rd.specs.RdReading.{qualifier_texts, value_reading};
 ghost use Rattle.aq_rd.specs.Spelled.{is_null_code, is_qualifier};
 
@@ -29,7 +29,7 @@ pub(crate) fn digits(width: usize, text: &[u8]) -> Option<u32>
 }
 
 /// A site: state, county and site number in two, three and four digits.
-#[tactic(auto, unfolding(aq_profile::specs::Spellings::site_in))]
+#[tactic(auto, unfolding(aq_profile::specs::Lines::Spellings::site_in))]
 pub(crate) fn site(state: &[u8], county: &[u8], number: &[u8]) -> Option<SiteId>
     ensures { result ≡ site_in state.now county.now number.now }
 {
@@ -104,7 +104,7 @@ pub(crate) fn method(text: &[u8]) -> Option<u16>
 }
 
 /// A date of the profile as YYYYMMDD.
-#[tactic(auto, unfolding(aq_profile::specs::Spellings::date_in))]
+#[tactic(auto, unfolding(aq_profile::specs::Lines::Spellings::date_in))]
 pub(crate) fn date(text: &[u8]) -> Option<Day>
     ensures { result ≡ date_in text.now }
 {
@@ -117,7 +117,7 @@ pub(crate) fn date(text: &[u8]) -> Option<Day>
 }
 
 /// A full hour as HH:00.
-#[tactic(auto, unfolding(aq_profile::specs::Spellings::time_in))]
+#[tactic(auto, unfolding(aq_profile::specs::Lines::Spellings::time_in))]
 pub(crate) fn time(text: &[u8]) -> Option<u8>
     ensures value { result ≡ time_in text.now }
     ensures most { IfSome result (λ hour. hour ≤ 23) }
@@ -133,7 +133,7 @@ pub(crate) fn time(text: &[u8]) -> Option<u8>
 
 /// A sample value, cut at so many places. `BadValue` where the text is no decimal number, else
 /// `ValueOutOfRange` where the cut value is out of the pollutant's range.
-#[tactic(auto, unfolding(aq_profile::specs::Spellings::value_in, crate::specs::RdReading::value_reading))]
+#[tactic(auto, unfolding(aq_profile::specs::Lines::Spellings::value_in, crate::specs::RdReading::value_reading))]
 pub(crate) fn value(pollutant: Pollutant, places: u8, text: &[u8]) -> Result<i32, Rule>
     requires { places ≤ 6 }
     ensures value { result ≡ value_reading pollutant places text.now }

@@ -1,6 +1,6 @@
 use Rattle.std.proofs.Common.{sym, ap, ◌∙◌}
-use Rattle.aq_profile.specs.Sheet.{text_of}
-use Rattle.aq_profile.specs.Sheets.{windows_sheet}
+use Rattle.aq_profile.specs.Shown.Sheet.{text_of}
+use Rattle.aq_profile.specs.Shown.Sheets.{windows_sheet}
 use Rattle.aq_desk.proofs.Outcomes.{prints, registered_outcome}
 use Rattle.aq_desk.proofs.command.print_windows.Goals as goal
 

@@ -1,6 +1,6 @@
 use Rattle.std.proofs.Common.{◌≡◌, ◌++◌, drop}
 use Rattle.std.specs.List.{filter_map}
-use Rattle.aq_profile.specs.Load.{rest_for}
+use Rattle.aq_profile.specs.Office.Load.{rest_for}
 use Rattle.aq_desk.proofs.load.rest_of.Given as goal
 
 abbrev pub invariant-loop-rule : goal.invariant-loop-rule

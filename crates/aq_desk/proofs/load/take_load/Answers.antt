@@ -1,6 +1,6 @@
 use Rattle.std.proofs.Common.{◌≡◌, length, ap, ◌∙◌, arith}
-use Rattle.aq_profile.specs.Lines.{body_lines}
-use Rattle.aq_profile.specs.Office.{nothing}
+use Rattle.aq_profile.specs.Lines.Lines.{body_lines}
+use Rattle.aq_profile.specs.Office.Office.{nothing}
 use Rattle.aq_desk.specs.Built.{built_refusals}
 use Rattle.aq_desk.proofs.BuiltLaws.{all_refused, after_all_lines, few_refused, reply_for-same}
 use Rattle.aq_desk.proofs.load.take_load.Goals as goal

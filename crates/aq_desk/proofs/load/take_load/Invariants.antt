@@ -1,6 +1,6 @@
 use Rattle.std.proofs.Common.{◌≡◌, ◌++◌, ◌+◌, length}
-use Rattle.aq_profile.specs.Lines.{body_lines}
-use Rattle.aq_profile.specs.Office.{nothing}
+use Rattle.aq_profile.specs.Lines.Lines.{body_lines}
+use Rattle.aq_profile.specs.Office.Office.{nothing}
 use Rattle.aq_desk.specs.Built.{built_after_all, built_refusals}
 use Rattle.aq_desk.proofs.load.take_load.Given as goal
 

@@ -1,7 +1,7 @@
 use Rattle.std.proofs.Common.{◌≡◌, ◌++◌, map, drop}
 use Rattle.std.specs.List.{flat_map}
-use Rattle.aq_profile.specs.Sheet.{row_text}
-use Rattle.aq_profile.specs.Sheets.{listed_row}
+use Rattle.aq_profile.specs.Shown.Sheet.{row_text}
+use Rattle.aq_profile.specs.Shown.Sheets.{listed_row}
 use Rattle.aq_desk.proofs.sheets.write_listed.Given as goal
 
 abbrev pub invariant-loop-listed : goal.invariant-loop-listed

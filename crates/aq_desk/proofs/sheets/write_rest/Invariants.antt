@@ -1,7 +1,7 @@
 use Rattle.std.proofs.Common.{◌≡◌, ◌++◌, map, drop}
 use Rattle.std.specs.List.{flat_map}
-use Rattle.aq_profile.specs.Sheet.{row_text}
-use Rattle.aq_profile.specs.Sheets.{rest_row}
+use Rattle.aq_profile.specs.Shown.Sheet.{row_text}
+use Rattle.aq_profile.specs.Shown.Sheets.{rest_row}
 use Rattle.aq_desk.proofs.sheets.write_rest.Given as goal
 
 abbrev pub invariant-loop-rest : goal.invariant-loop-rest

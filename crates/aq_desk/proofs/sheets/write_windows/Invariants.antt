@@ -1,7 +1,7 @@
 use Rattle.std.proofs.Common.{◌≡◌, ◌+◌, ◌++◌, map, drop}
 use Rattle.std.specs.List.{flat_map, enumerate_from}
-use Rattle.aq_profile.specs.Sheet.{row_text}
-use Rattle.aq_profile.specs.Sheets.{window_cells}
+use Rattle.aq_profile.specs.Shown.Sheet.{row_text}
+use Rattle.aq_profile.specs.Shown.Sheets.{window_cells}
 use Rattle.aq_desk.specs.WindowView.{row_view}
 use Rattle.aq_desk.proofs.sheets.write_windows.Given as goal
 

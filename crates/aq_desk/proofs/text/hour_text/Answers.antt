@@ -1,5 +1,5 @@
 use Rattle.aq_cal.proofs.Texts.{two_digits}
-use Rattle.aq_profile.specs.Sheet as book
+use Rattle.aq_profile.specs.Shown.Sheet as book
 use Rattle.aq_desk.proofs.text.hour_text.Goals as goal
 
 pub returns : goal.returns

@@ -1,5 +1,5 @@
 use Rattle.std.proofs.Common.{◌≡◌, ℕ, ◌+◌, ◌<◌, length, get_or}
-use Rattle.aq_profile.specs.EightHour.{window}
+use Rattle.aq_profile.specs.Ozone.EightHour.{window}
 use Rattle.aq_desk.specs.WindowView.{row_view}
 use Rattle.aq_desk.specs.declared.windows.WindowRow.{WindowRow}
 use Rattle.aq_desk.proofs.windows.day_windows.Given as goal

@@ -1,7 +1,7 @@
 use Rattle.std.proofs.Common.{◌≡◌, ◌-◌, FitsSigned, w32, ap, ◌∙◌, arith, refl}
 use Rattle.std.specs.Prelude.{ℤ}
 use Rattle.std.proofs.lemmas.Int.{fits_signed_from_abs, to_z-of_z}
-use Rattle.aq_profile.specs.EightHour.{average}
+use Rattle.aq_profile.specs.Ozone.EightHour.{average}
 use Rattle.aq_desk.proofs.Tallies.{row_is, tally_more, tally_none}
 use Rattle.aq_desk.proofs.windows.window.Goals as goal
 

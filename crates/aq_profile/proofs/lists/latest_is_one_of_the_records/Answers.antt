@@ -1,5 +1,5 @@
 use Rattle.aq_profile.proofs.Greatest.{latest-is}
-use Rattle.aq_profile.specs.Designation.{Designation}
+use Rattle.aq_profile.specs.Office.Designation.{Designation}
 use Rattle.aq_profile.proofs.lists.latest_is_one_of_the_records.Goals as goal
 
 pub returns : goal.returns

@@ -1,6 +1,6 @@
 use Rattle.std.proofs.Common.{◌++◌, ◌∙◌, List, ℕ, ap}
-use Rattle.aq_profile.specs.Reading.{line_value}
-use Rattle.aq_profile.specs.Canonical.{canonical_rd}
+use Rattle.aq_profile.specs.Lines.Reading.{line_value}
+use Rattle.aq_profile.specs.Lines.Canonical.{canonical_rd}
 use Rattle.aq_rd.specs.RdReading.{value_of}
 use Rattle.aq_rd.specs.Tags.{has_office_tag}
 use Rattle.aq_rd.proofs.ReadBack.{no_office-line, read-back}

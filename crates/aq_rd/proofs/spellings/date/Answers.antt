@@ -1,7 +1,7 @@
 use Rattle.std.proofs.Common.{◌≡◌, drop, arith}
 use Rattle.std.proofs.lemmas.List.{drop-drop}
 use Rattle.std.proofs.lemmas.Grind.{common_steps}
-use Rattle.aq_profile.specs.Spellings.{date_in}
+use Rattle.aq_profile.specs.Lines.Spellings.{date_in}
 use Rattle.aq_rd.proofs.spellings.date.Goals as goal
 
 pub returns-in_err-day : goal.returns-in_err-day

@@ -2,7 +2,7 @@ use Rattle.std.proofs.Common.{◌≡◌, ◌+◌, ◌-◌, ◌∙◌, Option, le
 use Rattle.std.specs.List.{list_all}
 use Rattle.aq_base.specs.declared.code.Code.{Code}
 use Rattle.aq_base.specs.Quals.{with_code}
-use Rattle.aq_profile.specs.Spellings.{◌>>=◌, qualifiers_in, qualifiers_onto}
+use Rattle.aq_profile.specs.Lines.Spellings.{◌>>=◌, qualifiers_in, qualifiers_onto}
 use Rattle.aq_rd.specs.RdReading.{qualifier_texts}
 use Rattle.aq_rd.specs.Spelled.{is_qualifier}
 use Rattle.aq_rd.proofs.QualifierSteps.{step-first, step-none, step-some, length-with_code, qualifiers-with_code}

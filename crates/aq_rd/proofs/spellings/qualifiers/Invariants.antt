@@ -1,6 +1,6 @@
 use Rattle.std.proofs.Common.{◌≡◌, ◌≤◌, ◌+◌, ◌-◌, true, length, take, drop}
 use Rattle.std.specs.List.{list_all}
-use Rattle.aq_profile.specs.Spellings.{qualifiers_in, qualifiers_onto}
+use Rattle.aq_profile.specs.Lines.Spellings.{qualifiers_in, qualifiers_onto}
 use Rattle.aq_rd.specs.RdReading.{qualifier_texts}
 use Rattle.aq_rd.specs.Spelled.{is_qualifier}
 use Rattle.aq_rd.proofs.spellings.qualifiers.Given as goal

@@ -1,0 +1,11 @@
+use Rattle.std.proofs.Common.{refl}
+use Rattle.aq_base.specs.Calendar.{days_of_years, days_of_months}
+use Rattle.aq_profile.specs.Office.Monitors.{is_eligible}
+use Rattle.aq_profile.specs.Office.Exclusion.{excluded}
+use Rattle.aq_profile.specs.Office.Designation.{primary_on}
+use Rattle.aq_profile.specs.Ozone.SiteHour.{site_hour}
+use Rattle.aq_profile.proofs.ozone.site_hour.secondaries_are_averaged.Goals as goal
+
+pub returns : goal.returns
+unfolding days_of_years days_of_months is_eligible excluded primary_on site_hour
+returns c = refl

@@ -1,0 +1,15 @@
+use Rattle.std.proofs.Common.{refl}
+use Rattle.aq_profile.specs.Lists.{ranked}
+use Rattle.aq_profile.proofs.particles.percentile.counted_samples_give_the_rank.Goals as goal
+
+pub returns-clause-first : goal.returns-clause-first
+unfolding ranked
+returns-clause-first c = refl
+
+pub returns-clause-second : goal.returns-clause-second
+unfolding ranked
+returns-clause-second c = refl
+
+pub returns-clause-unscheduled : goal.returns-clause-unscheduled
+unfolding ranked
+returns-clause-unscheduled c = refl

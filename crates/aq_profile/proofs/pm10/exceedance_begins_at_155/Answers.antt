@@ -1,8 +1,0 @@
-use Rattle.std.proofs.Common.{refl}
-use Rattle.aq_profile.proofs.pm10.exceedance_begins_at_155.Goals as goal
-
-pub returns-clause-below : goal.returns-clause-below
-returns-clause-below c = refl
-
-pub returns-clause-above : goal.returns-clause-above
-returns-clause-above c = refl

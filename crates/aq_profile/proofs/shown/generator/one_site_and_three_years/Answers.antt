@@ -1,0 +1,20 @@
+use Rattle.std.proofs.Common.{refl}
+use Rattle.std.specs.Fmt.{digits}
+use Rattle.aq_base.specs.Calendar.{days_of_years, days_of_months, year_of, month_of}
+use Rattle.aq_base.specs.Decimal.{last_digits}
+use Rattle.aq_profile.specs.Lines.Canonical.{office_texts, rd_texts}
+use Rattle.aq_profile.specs.Shown.Generator.{generated_years, office_load, wanted_in, samples_from}
+use Rattle.aq_profile.specs.Ozone.OzoneYear.{days_of}
+use Rattle.aq_profile.proofs.shown.generator.one_site_and_three_years.Goals as goal
+
+pub returns-clause-loads : goal.returns-clause-loads
+unfolding days_of_years days_of_months year_of month_of last_digits digits office_texts rd_texts generated_years office_load days_of wanted_in samples_from
+returns-clause-loads c = refl
+
+pub returns-clause-office : goal.returns-clause-office
+unfolding days_of_years days_of_months year_of month_of last_digits digits office_texts rd_texts generated_years office_load days_of wanted_in samples_from
+returns-clause-office c = refl
+
+pub returns-clause-samples : goal.returns-clause-samples
+unfolding days_of_years days_of_months year_of month_of last_digits digits office_texts rd_texts generated_years office_load days_of wanted_in samples_from
+returns-clause-samples c = refl

@@ -1,0 +1,215 @@
+-- What a load's lines make of an office, its reply, and the rows that it changes (own).
+use Rattle.std.specs.Prelude.{ℕ, ◌-◌, Bool, ◌&&◌, ◌==◌, nat_le, if◌then◌else◌, Option, Some, None, is_some, List, [], ◌∷◌, ◌++◌, length, take, drop, count_by, filter_map, bytes_eq, fold, flat_map}
+use Rattle.std.specs.Option.{option_or, option_eq}
+use Rattle.std.specs.Ordering.{int_eq}
+use lib.Pointwise.{pointwise}
+use Rattle.aq_base.specs.Quals.{is_same_code}
+use Rattle.aq_base.specs.Rule.{rule_number}
+use Rattle.aq_base.specs.declared.observation.ObsKey.{ObsKey}
+use Rattle.aq_base.specs.declared.observation.Observation.{Observation}
+use Rattle.aq_base.specs.declared.monitor.Duration.{Duration}
+use Rattle.aq_base.specs.declared.monitor.Duration.TheVariants.{Hour, Day}
+use Rattle.aq_base.specs.declared.office.OfficeRecord.{OfficeRecord}
+use Rattle.aq_base.specs.declared.office.OfficeRecord.TheVariants.{Monitor, Primary, Schedule, Season, Makeup, Event, Concurrence, Approved}
+use Rattle.aq_base.specs.declared.office.OfficeKey.{OfficeKey}
+use Rattle.aq_base.specs.declared.office.OfficeKey.TheVariants.{Event as EventKey, Concurrence as ConcurrenceKey}
+use Rattle.aq_base.specs.declared.office.OfficeLine.TheVariants.{Put, Change, Drop}
+use Rattle.aq_base.specs.declared.reply.LoadReply.{LoadReply}
+use Rattle.aq_base.specs.declared.reply.ListedLine.{ListedLine}
+use Rattle.aq_base.specs.declared.reply.RestRule.{RestRule}
+use Rattle.aq_base.specs.declared.rule.Rule.{Rule}
+use Rattle.aq_base.specs.declared.rule.Rule.TheVariants.{BadBytes, BadTag, FieldCount, BadAction, BadSite, ParameterOutOfProfile, BadPoc, BadDuration, BadUnit, BadMethod, BadDate, BadTime, ValueAndNull, NeitherValueNorNull, BadValue, ValueOutOfRange, BadNull, BadQualifier, UnknownMonitor, WrongDuration, AlreadyThere, NotThere, ObservationsFull, SitesFull, MonitorsFull, BadSpan, BadInterval, BadSeason, BadMakeup, MakeupsFull, UnknownEvent, EventsFull, BadCode, ListFull}
+use Rattle.aq_profile.specs.Limits.{MOST_LISTED, MOST_LOADS}
+use Rattle.aq_profile.specs.Lines.Lines.{NumberedLine, line_count, body_lines}
+use Rattle.aq_profile.specs.Lines.RdForm.{Put as PutSample, Delete as DeleteSample}
+use Rattle.aq_profile.specs.Lines.Reading.{LineValue, OfRd, OfOffice, reading_rule, line_value}
+use Rattle.aq_profile.specs.Office.Office.{Office, StoredLoad, key_of, key_numbers, observation_numbers, record_rank, observation_rank, load_rank, row_at, with_row, without_row, load_at, is_same, series_numbers}
+use Rattle.aq_profile.specs.Office.Refusal.{kept_key, broken}
+
+-- ---- one line
+
+abbrev pub with_record : OfficeRecord → Office → Office
+with_record r office = record office { records = with_row record_rank r office.records }
+
+abbrev pub without_record : OfficeKey → Office → Office
+without_record key office = record office { records = without_row record_rank (key_numbers key) office.records }
+
+-- an event goes with its concurrence
+abbrev pub without_key : OfficeKey → Office → Office
+without_key (EventKey number) office = without_record (ConcurrenceKey number) (without_record (EventKey number) office)
+without_key key office = without_record key office
+
+-- the office with the row of a value added, replaced or dropped
+abbrev pub changed : Office → LineValue → Office
+changed office (OfRd (PutSample update monitor duration method hour content)) =
+    record office { observations = with_row observation_rank (kept_key office monitor hour, content) office.observations }
+changed office (OfRd (DeleteSample monitor hour)) =
+    record office { observations = without_row observation_rank (observation_numbers (kept_key office monitor hour)) office.observations }
+changed office (OfOffice (Put r)) = with_record r office
+changed office (OfOffice (Change r)) = with_record r office
+changed office (OfOffice (Drop key)) = without_key key office
+
+abbrev pub broken_by : Office → Option LineValue → Option Rule
+broken_by office None = None
+broken_by office (Some value) = broken office value
+
+-- the rule under which a line is refused: the first one broken, the reading rules before those of the office
+abbrev pub refusal : Office → List ℕ → Option Rule
+refusal office line = option_or (reading_rule line) (broken_by office (line_value line))
+
+abbrev pub changed_by : Office → Option LineValue → Office
+changed_by office None = office
+changed_by office (Some value) = changed office value
+
+-- the office after a line, which is the same after a refused one
+abbrev pub after : Office → List ℕ → Office
+after office line = if is_some (refusal office line) then office else changed_by office (line_value line)
+
+-- ---- a body
+
+abbrev pub after_all : Office → List NumberedLine → Office
+after_all office lines = fold (λ now line. after now line.text) office lines
+
+abbrev pub listed_for : ℕ → Option Rule → List ListedLine
+listed_for number None = []
+listed_for number (Some rule) = record { line = number; rule = rule } ∷ []
+
+-- the refused lines, each against the office as the lines before it left it
+abbrev pub refusals : Office → List NumberedLine → List ListedLine
+refusals office [] = []
+refusals office (line ∷ lines) =
+    listed_for line.number (refusal office line.text) ++ refusals (after office line.text) lines
+
+-- ---- the reply
+
+-- all rules, in rising number
+abbrev pub all_rules : List Rule
+all_rules =
+    BadBytes ∷ BadTag ∷ FieldCount ∷ BadAction ∷ BadSite ∷ ParameterOutOfProfile ∷ BadPoc ∷ BadDuration ∷ BadUnit ∷ BadMethod
+    ∷ BadDate ∷ BadTime ∷ ValueAndNull ∷ NeitherValueNorNull ∷ BadValue ∷ ValueOutOfRange ∷ BadNull ∷ BadQualifier
+    ∷ UnknownMonitor ∷ WrongDuration ∷ AlreadyThere ∷ NotThere ∷ ObservationsFull ∷ SitesFull ∷ MonitorsFull
+    ∷ BadSpan ∷ BadInterval ∷ BadSeason ∷ BadMakeup ∷ MakeupsFull ∷ UnknownEvent ∷ EventsFull ∷ BadCode ∷ ListFull ∷ []
+
+abbrev pub refused_under : Rule → List ListedLine → ℕ
+refused_under rule refused = count_by (λ listed. rule_number listed.rule == rule_number rule) refused
+
+abbrev pub rest_for : List ListedLine → Rule → Option RestRule
+rest_for refused rule =
+    if refused_under rule refused == 0 then None
+    else Some (record { rule = rule; count = refused_under rule refused })
+
+-- the refused lines beyond those that are listed, by rule in rising number
+abbrev pub rest_of : List ListedLine → List RestRule
+rest_of refused = filter_map (rest_for refused) all_rules
+
+abbrev pub reply_for : ℕ → ℕ → ℕ → List ListedLine → LoadReply
+reply_for number lines taken refused = record {
+  number = number;
+  lines = lines;
+  accepted = taken - length refused;
+  refused = length refused;
+  listed = take MOST_LISTED refused;
+  rest = rest_of (drop MOST_LISTED refused);
+}
+
+abbrev pub reply : Office → ℕ → List ℕ → LoadReply
+reply office number body =
+    reply_for number (line_count body) (length (body_lines body)) (refusals office (body_lines body))
+
+-- ---- the load
+
+abbrev pub with_load : StoredLoad → Office → Office
+with_load load office =
+    if load.number == 0 then office else record office { loads = with_row load_rank load office.loads }
+
+-- the office after a load; one with the number 0 is not kept
+abbrev pub load : Office → ℕ → List ℕ → List ℕ → Office
+load office number digest body =
+    with_load (record { number = number; digest = digest; reply = reply office number body })
+    (after_all office (body_lines body))
+
+pub data Decision : Type 0 where
+  Repeat Conflict Full New : Decision
+
+abbrev pub decide_known : Option StoredLoad → List ℕ → Bool → Decision
+decide_known (Some kept) digest is_full = if bytes_eq kept.digest digest then Repeat else Conflict
+decide_known None digest is_full = if is_full then Full else New
+
+-- whether a load acts: a known number with the same digest is a repeat, and with another a conflict
+abbrev pub decide : Office → ℕ → List ℕ → Decision
+decide office number digest = decide_known (load_at office number) digest (nat_le MOST_LOADS (length office.loads))
+
+-- the office after a load is posted: it changes where the load is new
+abbrev pub after_decision : Decision → Office → ℕ → List ℕ → List ℕ → Office
+after_decision New office number digest body = load office number digest body
+after_decision _ office number digest body = office
+
+abbrev pub post : Office → ℕ → List ℕ → List ℕ → Office
+post office number digest body = after_decision (decide office number digest) office number digest body
+
+-- ---- the batch
+
+pub data RowChange : Type 0 where
+  PutRecord : (row : OfficeRecord) → RowChange
+  DropRecord : (key : OfficeKey) → RowChange
+  PutObservation : (key : ObsKey) (content : Observation) → RowChange
+  DropObservation : (key : ObsKey) → RowChange
+  PutLoad : (load : StoredLoad) → RowChange
+
+-- what a key's row before and after a load calls for
+abbrev pub change_of : {X : Type 0} → (X → X → Bool) → (X → RowChange) → (X → RowChange) → X → Option X → Option X → List RowChange
+change_of same put_row drop_row row old None = drop_row row ∷ []
+change_of same put_row drop_row row None (Some new) = put_row new ∷ []
+change_of same put_row drop_row row (Some old) (Some new) = if same old new then [] else put_row new ∷ []
+
+-- the keys of both lists in order, and one change for each whose row differs
+abbrev pub changes : {X : Type 0} → (X → List ℕ) → (X → X → Bool) → (X → RowChange) → (X → RowChange) → List X → List X → List RowChange
+changes rank same put_row drop_row before now =
+    flat_map (λ row. change_of same put_row drop_row row (row_at rank (rank row) before) (row_at rank (rank row) now))
+    (fold (λ rows row. with_row rank row rows) before now)
+
+abbrev pub truth_number : Bool → ℕ
+truth_number truth = if truth then 1 else 0
+
+abbrev pub duration_number : Duration → ℕ
+duration_number Hour = 1
+duration_number Day = 24
+
+-- what a record says beside its key
+abbrev pub record_content : OfficeRecord → List ℕ
+record_content (Monitor id duration eligible) = duration_number duration ∷ truth_number eligible ∷ []
+record_content (Primary site pollutant from poc) = poc ∷ []
+record_content (Schedule site pollutant from interval anchor) = interval ∷ anchor ∷ []
+record_content (Season site year first last) = first ∷ last ∷ []
+record_content (Makeup site missed makeup) = makeup ∷ []
+record_content (Event number site pollutant first last code) =
+    series_numbers site pollutant ++ first ∷ last ∷ code.first ∷ code.second ∷ []
+record_content (Concurrence number agreed) = truth_number agreed ∷ []
+record_content (Approved site day) = []
+
+abbrev pub is_same_record : OfficeRecord → OfficeRecord → Bool
+is_same_record a b = is_same (record_rank a) (record_rank b) && is_same (record_content a) (record_content b)
+
+abbrev pub is_same_content : Observation → Observation → Bool
+is_same_content a b =
+    option_eq int_eq a.value b.value && option_eq is_same_code a.null b.null && pointwise is_same_code a.quals b.quals
+
+abbrev pub record_changes : Office → Office → List RowChange
+record_changes before now =
+    changes record_rank is_same_record PutRecord (λ r. DropRecord (key_of r)) before.records now.records
+
+abbrev pub observation_changes : Office → Office → List RowChange
+observation_changes before now =
+    changes observation_rank (λ a b. is_same_content a.1 b.1) (λ row. PutObservation row.0 row.1) (λ row. DropObservation row.0)
+    before.observations now.observations
+
+-- the row of the load itself, which a load with the number 0 does not have
+abbrev pub load_change : StoredLoad → List RowChange
+load_change load = if load.number == 0 then [] else PutLoad load ∷ []
+
+-- the changes of a load, in the order of the tables and their keys, and its own row last
+abbrev pub batch : Office → ℕ → List ℕ → List ℕ → List RowChange
+batch office number digest body =
+    record_changes office (after_all office (body_lines body))
+    ++ observation_changes office (after_all office (body_lines body))
+    ++ load_change (record { number = number; digest = digest; reply = reply office number body })

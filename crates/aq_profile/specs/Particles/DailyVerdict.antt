@@ -1,0 +1,68 @@
+-- The verdict on the 24-hour PM2.5 standard of 35 µg/m3 (40 CFR Part 50, Appendix N, 4.2). The conditions of a valid year and the test are (own).
+use Rattle.std.specs.Prelude.{ℕ, Bool, ◌&&◌, ◌||◌, nat_le, if◌then◌else◌, List, [], ◌∷◌, map, sum_by, Option, Some, None, option_map, option_and_then, ℤ, pos, int_lt}
+use Rattle.aq_base.specs.Decimal.{half_up}
+use Rattle.aq_base.specs.Site.{Site}
+use Rattle.aq_base.specs.declared.standard.Verdict.{Verdict}
+use Rattle.aq_base.specs.declared.standard.Verdict.TheVariants.{Met, NotMet, Incomplete, NoValue}
+use Rattle.aq_profile.specs.Office.Office.{Office}
+use Rattle.aq_profile.specs.Particles.QuarterCounts.{QuarterCounts, QuarterDays, pm25_year, years_to, counted_in, values_in}
+use Rattle.aq_profile.specs.Particles.Percentile.{percentile, daily_value}
+use Rattle.aq_profile.specs.Particles.Substitution.{filled, maximum_for}
+use Rattle.aq_profile.specs.Particles.AnnualVerdict.{ParticleDv, is_above, is_within, is_captured, are_all, counts_in}
+
+-- in whole µg/m3
+abbrev pub DAILY_LEVEL : ℤ
+DAILY_LEVEL = pos 35
+
+-- a percentile in whole µg/m3
+abbrev pub rounded : Option ℤ → Option ℤ
+rounded value = option_map (λ v. half_up v (pos 10)) value
+
+-- a capture of 75 in each quarter; or one creditable sample, with the percentile or the design value above the level
+abbrev pub is_daily_year : Option ℤ → Option ℤ → List QuarterCounts → Bool
+is_daily_year value percentile quarters =
+    is_captured quarters
+    || (nat_le 1 (sum_by (λ (counts : QuarterCounts). counts.creditable) quarters)
+    && (is_above DAILY_LEVEL (rounded percentile) || is_above DAILY_LEVEL value))
+
+-- the maximum test is asked for where a year is not valid
+abbrev pub daily_test : Option ℤ → List Bool → Option ℤ → Option ℤ
+daily_test None valid maximum = None
+daily_test (Some value) valid maximum = if are_all valid then None else maximum
+
+abbrev pub daily_verdict : Option ℤ → List Bool → Option ℤ → Verdict
+daily_verdict None valid test = NoValue
+daily_verdict (Some value) valid test =
+    if are_all valid then (if int_lt DAILY_LEVEL value then NotMet else Met)
+    else (if is_within DAILY_LEVEL test then Met else Incomplete)
+
+abbrev pub daily_from : Option ℤ → List Bool → Option ℤ → ParticleDv
+daily_from value valid maximum = record {
+  value = value;
+  test = daily_test value valid maximum;
+  valid = valid;
+  verdict = daily_verdict value valid (daily_test value valid maximum);
+}
+
+-- of three percentiles
+abbrev pub value_of_three : List (Option ℤ) → Option ℤ
+value_of_three (a ∷ b ∷ c ∷ []) = daily_value a b c
+value_of_three _ = None
+
+-- ---- on lists of values
+
+abbrev pub percentile_in : List QuarterDays → Option ℤ
+percentile_in quarters = percentile (values_in quarters) (counted_in quarters)
+
+abbrev pub daily_value_in : List (List QuarterDays) → Option ℤ
+daily_value_in years = value_of_three (map percentile_in years)
+
+-- of three years, the oldest first
+abbrev pub daily_dv : List (List QuarterDays) → ParticleDv
+daily_dv years =
+    daily_from (daily_value_in years)
+    (map (λ quarters. is_daily_year (daily_value_in years) (percentile_in quarters) (counts_in quarters)) years)
+    (option_and_then daily_value_in (filled maximum_for years))
+
+unfoldable pub daily_design : Office → Site → ℕ → ParticleDv
+daily_design office site year = daily_dv (map (pm25_year office site) (years_to year))

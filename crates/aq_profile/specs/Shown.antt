@@ -1,0 +1,9 @@
+-- What is shown: sheets, their text and JSON, exports, and the generated loads (own).
+pub mod Sheet
+pub mod Sheets
+pub mod ParticleSheets
+pub mod OtherSheets
+pub mod Json
+pub mod Export
+pub mod Answer
+pub mod Generator

@@ -1,0 +1,51 @@
+-- The answer to a question about an office: a sheet, or the exported observations (own).
+use Rattle.std.specs.Prelude.{ℕ, Bool, if◌then◌else◌, List, Option, Some, None}
+use Rattle.std.specs.List.{list_any}
+use Rattle.aq_base.specs.Site.{Site}
+use Rattle.aq_base.specs.declared.monitor.Pollutant.{Pollutant}
+use Rattle.aq_base.specs.declared.standard.Standard.{Standard}
+use Rattle.aq_profile.specs.Office.Office.{Office, StoredLoad, load_at, sites_of}
+use Rattle.aq_profile.specs.Office.Monitors.{is_same_site}
+use Rattle.aq_profile.specs.Shown.Sheet.{Sheet}
+use Rattle.aq_profile.specs.Shown.Sheets.{load_sheet, windows_answer, days_answer}
+use Rattle.aq_profile.specs.Shown.ParticleSheets.{pm25_answer, pm10_answer}
+use Rattle.aq_profile.specs.Shown.OtherSheets.{value_answer, report_answer}
+use Rattle.aq_profile.specs.Shown.Export.{export_answer}
+
+-- what can be asked: a load's reply; a day's averages; a year's ozone days, PM2.5 quarters or PM10 quarters; a design value; a report; an export
+pub data Ask : Type 0 where
+  Reply : (number : ℕ) → Ask
+  Windows : (site : Site) (day : ℕ) → Ask
+  Days : (site : Site) (year : ℕ) → Ask
+  Pm25Quarters : (site : Site) (year : ℕ) → Ask
+  Pm10Quarters : (site : Site) (year : ℕ) → Ask
+  Value : (standard : Standard) (site : Site) (year : ℕ) → Ask
+  Report : (standard : Standard) (year : ℕ) → Ask
+  Export : (site : Site) (pollutant : Pollutant) (year : ℕ) → Ask
+
+-- no site: no monitor of the site is registered; no load: none with the number stands
+pub data Answer : Type 0 where
+  OfSheet : (sheet : Sheet) → Answer
+  OfExport : (text : List ℕ) → Answer
+  NoSite NoLoad : Answer
+
+abbrev pub is_registered : Office → Site → Bool
+is_registered office site = list_any (is_same_site site) (sites_of office.records)
+
+abbrev pub of_load : Option StoredLoad → Answer
+of_load None = NoLoad
+of_load (Some load) = OfSheet (load_sheet load.reply)
+
+-- the answer where the site is registered, also without a monitor of the pollutant
+abbrev pub of_site : Office → Site → Answer → Answer
+of_site office site answer = if is_registered office site then answer else NoSite
+
+unfoldable pub answer : Office → Ask → Answer
+answer office (Reply number) = of_load (load_at office number)
+answer office (Windows site day) = of_site office site (OfSheet (windows_answer office site day))
+answer office (Days site year) = of_site office site (OfSheet (days_answer office site year))
+answer office (Pm25Quarters site year) = of_site office site (OfSheet (pm25_answer office site year))
+answer office (Pm10Quarters site year) = of_site office site (OfSheet (pm10_answer office site year))
+answer office (Value standard site year) = of_site office site (OfSheet (value_answer standard office site year))
+answer office (Report standard year) = OfSheet (report_answer standard office year)
+answer office (Export site pollutant year) = of_site office site (OfExport (export_answer office site pollutant year))

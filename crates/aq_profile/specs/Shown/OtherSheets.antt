@@ -1,0 +1,127 @@
+-- The sheets of a report, a conflict, an error and a summary, and the value sheet of any standard, filled (own).
+use Rattle.std.specs.Prelude.{ℕ, ◌+◌, ◌/◌, ◌%◌, nat_lt, if◌then◌else◌, List, [], ◌∷◌, map, filter, codes, flat_map, Option, ℤ, pos}
+use Rattle.aq_base.specs.Site.{Site}
+use Rattle.aq_base.specs.Standard.{standard_name}
+use Rattle.aq_base.specs.declared.monitor.Pollutant.{Pollutant}
+use Rattle.aq_base.specs.declared.monitor.Pollutant.TheVariants.{Ozone, Pm25, Pm10}
+use Rattle.aq_base.specs.declared.standard.Standard.{Standard}
+use Rattle.aq_base.specs.declared.standard.Standard.TheVariants.{Ozone2015, Annual2012, AnnualSecondary, Daily2006, Pm10Of1987}
+use Rattle.aq_base.specs.declared.standard.Verdict.{Verdict}
+use Rattle.aq_profile.specs.Office.Office.{Office, has_monitor, site_numbers, sites_of, with_row}
+use Rattle.aq_profile.specs.Ozone.OzoneVerdict.{ozone_design}
+use Rattle.aq_profile.specs.Particles.AnnualVerdict.{annual_design}
+use Rattle.aq_profile.specs.Particles.DailyVerdict.{daily_design}
+use Rattle.aq_profile.specs.Particles.Pm10Verdict.{pm10_design}
+use Rattle.aq_profile.specs.Shown.Sheet.{SheetCell, Sheet, head_of, count_cell, ppm_cell, site_text}
+use Rattle.aq_profile.specs.Shown.Sheet.SheetCell.{Text}
+use Rattle.aq_profile.specs.Shown.Sheets.{verdict_name, ozone_value_answer}
+use Rattle.aq_profile.specs.Shown.ParticleSheets.{tenths_cell, whole_cell, annual_value_answer, daily_value_answer, pm10_value_answer}
+
+-- ---- standards
+
+abbrev pub pollutant_of : Standard → Pollutant
+pollutant_of Ozone2015 = Ozone
+pollutant_of Annual2012 = Pm25
+pollutant_of AnnualSecondary = Pm25
+pollutant_of Daily2006 = Pm25
+pollutant_of Pm10Of1987 = Pm10
+
+-- the levels of the annual standards, 12.0 and 15.0 µg/m3, in tenths (40 CFR 50.18 and 50.13)
+abbrev pub ANNUAL_LEVEL : ℤ
+ANNUAL_LEVEL = pos 120
+
+abbrev pub SECONDARY_LEVEL : ℤ
+SECONDARY_LEVEL = pos 150
+
+unfoldable pub value_answer : Standard → Office → Site → ℕ → Sheet
+value_answer Ozone2015 office site year = ozone_value_answer office site year
+value_answer Annual2012 office site year = annual_value_answer Annual2012 ANNUAL_LEVEL office site year
+value_answer AnnualSecondary office site year = annual_value_answer AnnualSecondary SECONDARY_LEVEL office site year
+value_answer Daily2006 office site year = daily_value_answer office site year
+value_answer Pm10Of1987 office site year = pm10_value_answer office site year
+
+-- ---- a report
+
+-- a design value in its standard's cell: ppm, tenths, or whole µg/m3
+abbrev pub design_cell : Standard → Option ℤ → SheetCell
+design_cell Ozone2015 value = ppm_cell value
+design_cell Daily2006 value = whole_cell value
+design_cell standard value = tenths_cell value
+
+-- a site's row: its design value and verdict
+pub record Judged : Type 0 where
+  pub site : Site
+  pub value : Option ℤ
+  pub verdict : Verdict
+
+unfoldable pub judged : Standard → Office → ℕ → Site → Judged
+judged Ozone2015 office year site =
+    record { site = site; value = (ozone_design office site year).value; verdict = (ozone_design office site year).verdict }
+judged Annual2012 office year site =
+    record { site = site; value = (annual_design ANNUAL_LEVEL office site year).value; verdict = (annual_design ANNUAL_LEVEL office site year).verdict }
+judged AnnualSecondary office year site =
+    record { site = site; value = (annual_design SECONDARY_LEVEL office site year).value; verdict = (annual_design SECONDARY_LEVEL office site year).verdict }
+judged Daily2006 office year site =
+    record { site = site; value = (daily_design office site year).value; verdict = (daily_design office site year).verdict }
+judged Pm10Of1987 office year site =
+    record { site = site; value = (pm10_design office site year).value; verdict = (pm10_design office site year).verdict }
+
+-- the registered sites in rising order
+abbrev pub rising_sites : List Site → List Site
+rising_sites [] = []
+rising_sites (site ∷ sites) = with_row site_numbers site (rising_sites sites)
+
+-- those with a monitor of the pollutant
+unfoldable pub sites_with : Office → Pollutant → List Site
+sites_with office pollutant = filter (λ site. has_monitor office site pollutant) (rising_sites (sites_of office.records))
+
+abbrev pub judged_cells : Standard → Judged → List SheetCell
+judged_cells standard row =
+    Text (site_text row.site) ∷ design_cell standard row.value ∷ Text (verdict_name row.verdict) ∷ []
+
+unfoldable pub report_sheet : Standard → ℕ → List Judged → Sheet
+report_sheet standard year rows = record {
+  heads = head_of (codes "standard") (Text (standard_name standard)) ∷ head_of (codes "year") (count_cell year) ∷ [];
+  columns = codes "site" ∷ codes "value" ∷ codes "verdict" ∷ [];
+  rows = map (judged_cells standard) rows;
+}
+
+unfoldable pub report_answer : Standard → Office → ℕ → Sheet
+report_answer standard office year =
+    report_sheet standard year (map (judged standard office year) (sites_with office (pollutant_of standard)))
+
+-- ---- sheets without columns
+
+-- a byte as two lower case hexadecimal digits
+abbrev pub hex_digit : ℕ → ℕ
+hex_digit n = if nat_lt n 10 then 48 + n else 87 + n
+
+abbrev pub digest_text : List ℕ → List ℕ
+digest_text digest = flat_map (λ byte. hex_digit (byte / 16) ∷ hex_digit (byte % 16) ∷ []) digest
+
+-- the digest that is kept for a load's number, and the one that was sent
+unfoldable pub conflict_sheet : ℕ → List ℕ → List ℕ → Sheet
+conflict_sheet number kept sent = record {
+  heads =
+      head_of (codes "load") (count_cell number)
+      ∷ head_of (codes "kept") (Text (digest_text kept))
+      ∷ head_of (codes "sent") (Text (digest_text sent))
+      ∷ [];
+  columns = [];
+  rows = [];
+}
+
+unfoldable pub error_sheet : List ℕ → Sheet
+error_sheet name = record { heads = head_of (codes "error") (Text name) ∷ []; columns = []; rows = [] }
+
+-- how many loads were taken, how many lines they had, and how many observations stand
+unfoldable pub summary_sheet : ℕ → ℕ → ℕ → Sheet
+summary_sheet loads lines observations = record {
+  heads =
+      head_of (codes "loads") (count_cell loads)
+      ∷ head_of (codes "lines") (count_cell lines)
+      ∷ head_of (codes "observations") (count_cell observations)
+      ∷ [];
+  columns = [];
+  rows = [];
+}

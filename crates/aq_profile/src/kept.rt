@@ -1,0 +1,4 @@
+//! Laws of what is kept.
+
+pub mod summaries;
+pub mod tables;

@@ -1,0 +1,59 @@
+//! What a load makes of an office.
+ghost use Rattle.std.specs.Prelude.{◌≡◌, ℕ, ◌∷◌, [], List, Some, codes, pos, true, map};
+ghost use Rattle.std.specs.List.{range_with_len};
+ghost use Rattle.aq_base.specs.declared.monitor.Duration.TheVariants.{Hour};
+ghost use Rattle.aq_base.specs.declared.office.OfficeRecord.TheVariants.{Monitor};
+ghost use Rattle.aq_base.specs.declared.office.OfficeKey.TheVariants.{Event as EventKey, Concurrence as ConcurrenceKey};
+ghost use Rattle.aq_base.specs.declared.rule.Rule.TheVariants.{AlreadyThere, BadTag, NotThere};
+ghost use Rattle.aq_profile.specs.Office.Office.{Office, StoredLoad, KeysRise, load_at};
+ghost use Rattle.aq_base.specs.declared.rule.Rule.{Rule};
+ghost use Rattle.aq_profile.specs.Office.Load.{reply, reply_for, rest_of, load, decide, post, batch, refusal, after, Repeat, Conflict, New, PutLoad, PutObservation, DropRecord, record_changes};
+ghost use Rattle.aq_profile.specs.Lines.LineExamples.{one_monitor, one_hour, one_sample, three_lines, hour_key, valued, noon, ozone_monitor, agreed_event, refused_lines, digest_a, digest_b};
+
+/// A load of three lines, of which the second inserts an hour that stands.
+#[tactic(auto, unfolding(crate::specs::Lines::Spellings::site_in, crate::specs::Lines::Spellings::parameter_of, crate::specs::Lines::Spellings::date_in, crate::specs::Lines::Spellings::time_in, crate::specs::Lines::Spellings::value_in, crate::specs::Lines::Spellings::qualifiers_in, crate::specs::Lines::RdForm::monitor_in, crate::specs::Lines::RdForm::start_in, crate::specs::Lines::RdForm::content_in, crate::specs::Lines::RdForm::put_in, aq_base::specs::Calendar::days_of_years, aq_base::specs::Calendar::days_of_months))]
+pub fn an_hour_sent_twice()
+    ensures reply { reply one_monitor 7 three_lines ≡ record { number = 7; lines = 3; accepted = 2; refused = 1; listed = record { line = 2; rule = AlreadyThere } ∷ []; rest = [] } }
+    ensures kept { (load one_monitor 7 digest_a three_lines).observations ≡ (hour_key noon, valued (pos 71)) ∷ (hour_key 214766, valued (pos 73)) ∷ [] }
+    ensures recorded { (load one_monitor 7 digest_a three_lines).loads ≡ record { number = 7; digest = digest_a; reply = reply one_monitor 7 three_lines } ∷ [] }
+    ensures batch { batch one_monitor 7 digest_a three_lines ≡ PutObservation (hour_key noon) (valued (pos 71)) ∷ PutObservation (hour_key 214766) (valued (pos 73)) ∷ PutLoad (record { number = 7; digest = digest_a; reply = reply one_monitor 7 three_lines }) ∷ [] }
+    ensures new { decide one_monitor 7 digest_a ≡ New }
+    ensures repeat { decide (load one_monitor 7 digest_a three_lines) 7 digest_a ≡ Repeat }
+    ensures conflict { decide (load one_monitor 7 digest_a three_lines) 7 digest_b ≡ Conflict }
+    ensures other { decide (load one_monitor 7 digest_a three_lines) 8 digest_a ≡ New }
+{}
+
+/// What lines change beside the row that they name, and what changes no row.
+#[tactic(auto, unfolding(crate::specs::Lines::Spellings::site_in, crate::specs::Lines::Spellings::parameter_of, crate::specs::Lines::Spellings::date_in, crate::specs::Lines::Spellings::time_in, crate::specs::Lines::Spellings::event_number_in, crate::specs::Lines::Spellings::value_in, crate::specs::Lines::Spellings::qualifiers_in, crate::specs::Lines::RdForm::monitor_in, crate::specs::Lines::RdForm::start_in, crate::specs::Lines::RdForm::content_in, crate::specs::Lines::RdForm::put_in, crate::specs::Lines::RdForm::delete_in, crate::specs::Lines::OfficeForms::xe_key, aq_base::specs::Calendar::days_of_years, aq_base::specs::Calendar::days_of_months))]
+pub fn rows_that_change()
+    ensures event_with_concurrence { (after agreed_event (codes "XE|D|12")).records ≡ Monitor ozone_monitor Hour true ∷ [] }
+    ensures two_drops { record_changes agreed_event (after agreed_event (codes "XE|D|12")) ≡ DropRecord (EventKey 12) ∷ DropRecord (ConcurrenceKey 12) ∷ [] }
+    ensures whole_day { (after one_sample (codes "RD|D|06|037|1103|88101|1||||20240107|09:00")).observations ≡ [] }
+    ensures same_value { batch one_hour 0 digest_a (codes "RD|U|06|037|1103|44201|1|1|007|087|20240701|13:00|0.0719") ≡ [] }
+    ensures not_kept { (load one_monitor 0 digest_a three_lines).loads ≡ [] }
+{}
+
+/// The first 500 refused lines are listed, and the others are counted by rule.
+pub fn many_refused_lines()
+    ensures listed { (reply_for 7 700 650 (refused_lines 600)).listed ≡ map (λ line. record { line = line; rule = BadTag }) (range_with_len 1 500) }
+    ensures rest { (reply_for 7 700 650 (refused_lines 600)).rest ≡ record { rule = BadTag; count = 100 } ∷ [] }
+    ensures two_rules { rest_of (record { line = 9; rule = NotThere } ∷ refused_lines 2) ≡ record { rule = BadTag; count = 2 } ∷ record { rule = NotThere; count = 1 } ∷ [] }
+    ensures counts { ((reply_for 7 700 650 (refused_lines 600)).accepted ≡ 50) × ((reply_for 7 700 650 (refused_lines 600)).refused ≡ 600) }
+{}
+
+/// A refused line leaves the office as it was.
+pub fn a_refused_line_changes_nothing()
+    ensures { (office : Office) (line : List ℕ) (rule : Rule) → refusal office line ≡ Some rule → after office line ≡ office }
+{}
+
+/// A load with a known number changes nothing, whatever it holds, and neither does one that is not new.
+pub fn a_known_number_changes_nothing()
+    ensures known { (office : Office) (number : ℕ) (digest body : List ℕ) (kept : StoredLoad) → load_at office number ≡ Some kept → post office number digest body ≡ office }
+    ensures not_new { (office : Office) (number : ℕ) (digest body : List ℕ) → (decide office number digest ≡ New → ⊥) → post office number digest body ≡ office }
+{}
+
+/// The keys of each list stay in rising order, so none stands twice.
+pub fn keys_stay_in_order()
+    ensures line { (office : Office) (line : List ℕ) → KeysRise office → KeysRise (after office line) }
+    ensures load { (office : Office) (number : ℕ) (digest body : List ℕ) → KeysRise office → KeysRise (load office number digest body) }
+{}

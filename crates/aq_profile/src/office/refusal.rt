@@ -1,0 +1,78 @@
+//! Which office rule a line breaks, against what stands.
+ghost use Rattle.std.specs.Prelude.{◌≡◌, ℕ, false, Some, None, codes, All, IsFalse, length};
+ghost use Rattle.aq_base.specs.declared.rule.Rule.TheVariants.{BadDuration, BadInterval, BadSeason, BadSpan, BadCode, UnknownMonitor, WrongDuration, AlreadyThere, NotThere, ObservationsFull, SitesFull, MonitorsFull, MakeupsFull, UnknownEvent, EventsFull, ListFull};
+ghost use Rattle.aq_base.specs.declared.rule.Rule.{Rule};
+ghost use Rattle.aq_profile.specs.Office.Office.{Office, duration_at};
+ghost use Rattle.aq_base.specs.declared.monitor.MonitorId.{MonitorId};
+ghost use Rattle.aq_base.specs.declared.monitor.Duration.{Duration};
+ghost use Rattle.aq_base.specs.declared.observation.Observation.{Observation};
+ghost use Rattle.aq_profile.specs.Lines.RdForm.{Put};
+ghost use Rattle.aq_profile.specs.Lines.Reading.{LineValue, OfRd};
+ghost use Rattle.aq_profile.specs.Office.Refusal.{broken, breaks_office, office_rules, sample_stands};
+ghost use Rattle.aq_profile.specs.Least.{IsLeastBroken};
+ghost use Rattle.aq_profile.specs.Office.Load.{refusal};
+ghost use Rattle.aq_profile.specs.Lines.LineExamples.{one_monitor, one_hour, one_sample, many_monitors, many_sites, many_primaries, many_makeups, many_events};
+
+/// Samples, against an office with an ozone hour or a PM2.5 sample.
+#[tactic(auto, unfolding(crate::specs::Lines::Spellings::site_in, crate::specs::Lines::Spellings::parameter_of, crate::specs::Lines::Spellings::date_in, crate::specs::Lines::Spellings::time_in, crate::specs::Lines::Spellings::value_in, crate::specs::Lines::Spellings::qualifiers_in, crate::specs::Lines::RdForm::monitor_in, crate::specs::Lines::RdForm::start_in, crate::specs::Lines::RdForm::content_in, crate::specs::Lines::RdForm::put_in, crate::specs::Lines::RdForm::delete_in, aq_base::specs::Calendar::days_of_years, aq_base::specs::Calendar::days_of_months))]
+pub fn refused_samples()
+    ensures unknown { refusal one_hour (codes "RD|I|06|037|1103|44201|2|1|007|087|20240701|14:00|0.071") ≡ Some UnknownMonitor }
+    ensures there { refusal one_hour (codes "RD|I|06|037|1103|44201|1|1|007|087|20240701|13:00|0.071") ≡ Some AlreadyThere }
+    ensures next { refusal one_hour (codes "RD|I|06|037|1103|44201|1|1|007|087|20240701|14:00|0.071") ≡ None }
+    ensures update { refusal one_hour (codes "RD|U|06|037|1103|44201|1|1|007|087|20240701|13:00|0.071") ≡ None }
+    ensures missing { refusal one_hour (codes "RD|U|06|037|1103|44201|1|1|007|087|20240701|14:00|0.071") ≡ Some NotThere }
+    ensures missing_too { refusal one_hour (codes "RD|D|06|037|1103|44201|1||||20240701|14:00") ≡ Some NotThere }
+    ensures duration { refusal one_sample (codes "RD|I|06|037|1103|88101|1|1|105|145|20240109|00:00|1") ≡ Some WrongDuration }
+    ensures same_day { refusal one_sample (codes "RD|I|06|037|1103|88101|1|7|105|145|20240107|09:00|1") ≡ Some AlreadyThere }
+    ensures same_day_deleted { refusal one_sample (codes "RD|D|06|037|1103|88101|1||||20240107|09:00") ≡ None }
+{}
+
+/// Office lines, against an office with one ozone monitor of hours.
+#[tactic(auto, unfolding(crate::specs::Lines::Spellings::site_in, crate::specs::Lines::Spellings::parameter_of, crate::specs::Lines::Spellings::date_in, crate::specs::Lines::Spellings::year_in, crate::specs::Lines::Spellings::time_in, crate::specs::Lines::Spellings::interval_in, crate::specs::Lines::Spellings::event_number_in, crate::specs::Lines::Spellings::event_code_in, crate::specs::Lines::RdForm::monitor_in, crate::specs::Lines::OfficeForms::xm_record, crate::specs::Lines::OfficeForms::xp_record, crate::specs::Lines::OfficeForms::xs_record, crate::specs::Lines::OfficeForms::xo_record, crate::specs::Lines::OfficeForms::xu_record, crate::specs::Lines::OfficeForms::xe_record, crate::specs::Lines::OfficeForms::xe_key, crate::specs::Lines::OfficeForms::xc_record, crate::specs::Lines::OfficeForms::xa_record, crate::specs::Lines::OfficeForms::xa_key, aq_base::specs::Calendar::days_of_years, aq_base::specs::Calendar::days_of_months, aq_base::specs::Calendar::year_of, aq_base::specs::Calendar::month_of))]
+pub fn refused_office_lines()
+    ensures primary_elsewhere { refusal one_monitor (codes "XP|I|06|037|1104|44201|20240101|0") ≡ Some UnknownMonitor }
+    ensures primary_of_two { refusal one_monitor (codes "XP|I|06|037|1103|44201|20240101|2") ≡ Some UnknownMonitor }
+    ensures no_primary { refusal one_monitor (codes "XP|I|06|037|1103|44201|20240101|0") ≡ None }
+    ensures schedule { refusal one_monitor (codes "XS|I|06|037|1103|88101|20240101|3|20240101") ≡ Some UnknownMonitor }
+    ensures makeup { refusal one_monitor (codes "XU|I|06|037|1103|88101|20240107|20240109") ≡ Some UnknownMonitor }
+    ensures season { refusal one_monitor (codes "XO|I|06|037|1104|2024|20240301|20241031") ≡ Some UnknownMonitor }
+    ensures approved { refusal one_monitor (codes "XA|I|06|037|1103|20240701") ≡ None }
+    ensures ozone_of_days { refusal one_monitor (codes "XM|U|06|037|1103|44201|1|7|N") ≡ Some BadDuration }
+    ensures again { refusal one_monitor (codes "XM|I|06|037|1103|44201|01|1|N") ≡ Some AlreadyThere }
+    ensures eligibility { refusal one_monitor (codes "XM|U|06|037|1103|44201|1|1|N") ≡ None }
+    ensures other_duration { refusal one_sample (codes "XM|U|06|037|1103|88101|1|1|N") ≡ Some WrongDuration }
+    ensures interval { refusal one_monitor (codes "XS|I|06|037|1103|88101|20240101|4|20240101") ≡ Some BadInterval }
+    ensures two_years { refusal one_monitor (codes "XO|I|06|037|1103|2024|20240301|20250101") ≡ Some BadSeason }
+    ensures concurrence { refusal one_monitor (codes "XC|U|9|Y") ≡ Some UnknownEvent }
+    ensures event_deleted { refusal one_monitor (codes "XE|D|9") ≡ Some UnknownEvent }
+    ensures long_event { refusal one_monitor (codes "XE|I|1|06|037|1103|44201|20240101|00:00|20250101|00:00|RT") ≡ Some BadSpan }
+    ensures event_code { refusal one_monitor (codes "XE|I|1|06|037|1103|44201|20240101|00:00|20240101|05:00|V") ≡ Some BadCode }
+    ensures not_approved { refusal one_monitor (codes "XA|D|06|037|1103|20240701") ≡ Some NotThere }
+{}
+
+/// Office lines, against lists that are full and lists with room for one more.
+#[tactic(auto, unfolding(crate::specs::Lines::Spellings::site_in, crate::specs::Lines::Spellings::parameter_of, crate::specs::Lines::Spellings::date_in, crate::specs::Lines::Spellings::time_in, crate::specs::Lines::Spellings::event_number_in, crate::specs::Lines::Spellings::event_code_in, crate::specs::Lines::RdForm::monitor_in, crate::specs::Lines::OfficeForms::xm_record, crate::specs::Lines::OfficeForms::xp_record, crate::specs::Lines::OfficeForms::xu_record, crate::specs::Lines::OfficeForms::xe_record, aq_base::specs::Calendar::days_of_years, aq_base::specs::Calendar::days_of_months, aq_base::specs::Calendar::year_of, aq_base::specs::Calendar::month_of))]
+pub fn full_lists()
+    ensures sites { refusal (many_sites 256) (codes "XM|I|06|037|1103|44201|1|1|Y") ≡ Some SitesFull }
+    ensures known_site { refusal (many_sites 256) (codes "XM|I|99|001|0256|44201|2|1|Y") ≡ None }
+    ensures room_for_site { refusal (many_sites 255) (codes "XM|I|06|037|1103|44201|1|1|Y") ≡ None }
+    ensures monitors { refusal (many_monitors 8) (codes "XM|I|06|037|1103|44201|9|1|Y") ≡ Some MonitorsFull }
+    ensures room_for_monitor { refusal (many_monitors 7) (codes "XM|I|06|037|1103|44201|9|1|Y") ≡ None }
+    ensures makeups { refusal (many_makeups 5) (codes "XU|I|06|037|1103|88101|20240201|20240202") ≡ Some MakeupsFull }
+    ensures next_quarter { refusal (many_makeups 5) (codes "XU|I|06|037|1103|88101|20240401|20240402") ≡ None }
+    ensures makeup_taken { refusal (many_makeups 5) (codes "XU|I|06|037|1103|88101|20240107|20240108") ≡ Some AlreadyThere }
+    ensures primaries { refusal (many_primaries 64) (codes "XP|I|06|037|1103|44201|20240101|1") ≡ Some ListFull }
+    ensures events { refusal (many_events 10000) (codes "XE|I|10001|06|037|1103|44201|20240101|00:00|20240101|05:00|RT") ≡ Some EventsFull }
+    ensures room_for_primary { refusal (many_primaries 63) (codes "XP|I|06|037|1103|44201|20240101|1") ≡ None }
+{}
+
+/// The rule of a value is the least one of those that it meets and that it breaks in the office.
+pub fn the_least_office_rule_is_named()
+    ensures rule { (office : Office) (value : LineValue) (rule : Rule) → broken office value ≡ Some rule → IsLeastBroken (λ r. breaks_office r office value) (office_rules value) rule }
+    ensures none { (office : Office) (value : LineValue) → broken office value ≡ None → All (λ r. breaks_office r office value ≡ false) (office_rules value) }
+{}
+
+/// A new sample of a registered monitor is refused where 4,000,000 observations stand.
+pub fn observations_are_full()
+    ensures { (office : Office) (monitor : MonitorId) (duration : Duration) (method hour : ℕ) (content : Observation) → duration_at office monitor ≡ Some duration → IsFalse (sample_stands office monitor hour) → length office.observations ≡ 4000000 → broken office (OfRd (Put false monitor duration method hour content)) ≡ Some ObservationsFull }
+{}

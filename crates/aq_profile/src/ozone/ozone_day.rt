@@ -1,0 +1,46 @@
+//! The daily maximum, worked out.
+#![tactic(auto)]
+
+ghost use Rattle.std.specs.Prelude.{◌≡◌, ℕ, ◌+◌, ◌*◌, ◌<◌, ◌≤◌, true, false, Some, pos};
+ghost use Rattle.aq_base.specs.Site.{Site};
+ghost use Rattle.aq_base.specs.Calendar.{hour_number};
+ghost use Rattle.aq_profile.specs.Office.Office.{Office};
+ghost use Rattle.aq_profile.specs.Ozone.SiteHour.{site_hour};
+ghost use Rattle.aq_profile.specs.Ozone.OzoneDay.{OzoneDay, windows, ozone_day};
+ghost use Rattle.aq_profile.specs.Ozone.OzoneExamples.{site, summer_day, afternoon, smoky, day_with};
+
+/// Twelve averages do not make a valid day where the greatest is 0.070 ppm.
+pub fn twelve_averages_at_the_level_are_too_few()
+    ensures { day_with 12 70 ≡ record { averages = 12; valid = false; maximum = Some (pos 70) } }
+{}
+
+/// Twelve averages make one where the greatest is above the level.
+pub fn twelve_averages_above_the_level_are_enough()
+    ensures { day_with 12 71 ≡ record { averages = 12; valid = true; maximum = Some (pos 71) } }
+{}
+
+/// Thirteen averages make a valid day.
+pub fn thirteen_averages_are_enough()
+    ensures { day_with 13 70 ≡ record { averages = 13; valid = true; maximum = Some (pos 70) } }
+{}
+
+/// Eight hours of 0.071 ppm from 10:00 make a valid day, of five averages.
+pub fn eight_hours_above_the_level_are_a_valid_day()
+    ensures { ozone_day afternoon site summer_day ≡ record { averages = 5; valid = true; maximum = Some (pos 71) } }
+{}
+
+/// An event concurred in takes its hours from the maximum, and not from the day's validity.
+pub fn event_lowers_the_maximum_alone()
+    ensures agreed { ozone_day (smoky true) site summer_day ≡ record { averages = 17; valid = true; maximum = Some (pos 60) } }
+    ensures refused { ozone_day (smoky false) site summer_day ≡ record { averages = 17; valid = true; maximum = Some (pos 75) } }
+{}
+
+/// A day reads no hour before its 07:00, and none from 07:00 of the next day on.
+pub fn day_reads_the_hours_from_seven_to_seven()
+    ensures averages { (a b : Office) (site : Site) (day : ℕ)
+        → ((hour : ℕ) → hour_number day 7 ≤ hour → hour < hour_number day 31 → site_hour a site hour ≡ site_hour b site hour)
+        → windows a site day ≡ windows b site day }
+    ensures result { (a b : Office) (site : Site) (day : ℕ)
+        → ((hour : ℕ) → hour_number day 7 ≤ hour → hour < hour_number day 31 → site_hour a site hour ≡ site_hour b site hour)
+        → ozone_day a site day ≡ ozone_day b site day }
+{}

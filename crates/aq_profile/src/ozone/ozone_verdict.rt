@@ -1,0 +1,45 @@
+//! The design value and the verdict on ozone, worked out.
+#![tactic(auto)]
+
+ghost use Rattle.std.specs.Prelude.{◌≡◌, ℕ, ◌+◌, ◌*◌, ◌<◌, nat_le, true, false, ◌∷◌, [], Some, None, pos};
+ghost use Rattle.aq_base.specs.declared.standard.Verdict.TheVariants.{Met, NotMet, Incomplete, NoValue};
+ghost use Rattle.aq_profile.specs.Ozone.OzoneYear.{OzoneYear};
+ghost use Rattle.aq_profile.specs.Ozone.OzoneVerdict.{OzoneDv, is_average_kept, is_complete, ozone_dv};
+ghost use Rattle.aq_profile.specs.Ozone.OzoneExamples.{year_with, year_without_fourth};
+
+/// A third of 212 thousandths is cut to 0.070 ppm, which meets the standard where the seasons are
+/// complete.
+pub fn third_of_212_meets_the_standard()
+    ensures complete { ozone_dv (year_with 245 71 ∷ year_with 245 71 ∷ year_with 245 70 ∷ []) ≡ record { value = Some (pos 70); verdict = Met } }
+    ensures incomplete { ozone_dv (year_with 245 71 ∷ year_with 245 71 ∷ year_with 183 70 ∷ []) ≡ record { value = Some (pos 70); verdict = Incomplete } }
+{}
+
+/// A third of 213 thousandths is above the level, complete or not.
+pub fn third_of_213_does_not_meet_the_standard()
+    ensures { ozone_dv (year_with 4 71 ∷ year_with 4 71 ∷ year_with 4 71 ∷ []) ≡ record { value = Some (pos 71); verdict = NotMet } }
+{}
+
+/// A year without a fourth highest value leaves no design value.
+pub fn missing_fourth_leaves_no_value()
+    ensures { ozone_dv (year_with 245 71 ∷ year_without_fourth ∷ year_with 245 71 ∷ []) ≡ record { value = None; verdict = NoValue } }
+{}
+
+/// Of three seasons of 245 days, 662 days are nine tenths, and 661 are not.
+pub fn nine_tenths_of_735_days()
+    ensures enough { is_complete (year_with 221 70) (year_with 221 70) (year_with 220 70) ≡ true }
+    ensures too_few { is_complete (year_with 221 70) (year_with 220 70) (year_with 220 70) ≡ false }
+{}
+
+/// Each season needs three quarters of its days: 184 of 245, where 183 are too few.
+pub fn three_quarters_of_each_season()
+    ensures enough { is_complete (year_with 245 70) (year_with 245 70) (year_with 184 70) ≡ true }
+    ensures too_few { is_complete (year_with 245 70) (year_with 245 70) (year_with 183 70) ≡ false }
+{}
+
+/// Where the three seasons are of one length, the mean of the fractions is nine tenths where nine
+/// tenths of all their days are valid.
+pub fn nine_tenths_of_equal_seasons()
+    ensures { (a b c : OzoneYear)
+        → 0 < a.season_days → b.season_days ≡ a.season_days → c.season_days ≡ a.season_days
+        → is_average_kept a b c ≡ nat_le (27 * a.season_days) (10 * (a.season_valid + b.season_valid + c.season_valid)) }
+{}

@@ -1,0 +1,65 @@
+//! The PM2.5 and PM10 values of a day, worked out.
+#![tactic(auto)]
+
+ghost use Rattle.std.specs.Prelude.{◌≡◌, ℕ, ◌≤◌, true, false, List, ◌∷◌, [], length, filter, IsPermutation, Some, None, pos};
+ghost use Rattle.aq_base.specs.declared.monitor.Pollutant.TheVariants.{Pm25, Pm10};
+ghost use Rattle.aq_base.specs.Site.{Site};
+ghost use Rattle.aq_base.specs.declared.monitor.Pollutant.{Pollutant};
+ghost use Rattle.aq_base.specs.declared.observation.ObsKey.{ObsKey};
+ghost use Rattle.aq_base.specs.declared.observation.Observation.{Observation};
+ghost use Rattle.aq_profile.specs.Office.Office.{Office};
+ghost use Rattle.aq_profile.specs.Office.Monitors.{is_same_key};
+ghost use Rattle.aq_profile.specs.Ozone.SiteHour.{Sample, mean_of};
+ghost use Rattle.aq_profile.specs.Particles.ParticleDay.{site_day};
+ghost use Rattle.aq_profile.specs.Particles.QuarterCounts.{pm25_year};
+ghost use Rattle.aq_profile.specs.Particles.Pm10Estimate.{pm10_year};
+ghost use Rattle.aq_profile.specs.Ozone.OzoneExamples.{site};
+ghost use Rattle.aq_profile.specs.Particles.ParticleExamples.{hourly, primary_of, three_samplers, winter_day};
+
+/// Seventeen hours of PM2.5 with a sum of 852.0 make a day of 35.5, and with 851.9 they make none.
+/// Of PM10 they make none at all, and eighteen hours make the day of their mean.
+pub fn seventeen_hours_need_a_high_sum()
+    ensures high { site_day (hourly Pm25 504 16) site Pm25 winter_day ≡ Some (record { value = pos 355; excluded = false }) }
+    ensures lower { site_day (hourly Pm25 503 16) site Pm25 winter_day ≡ None }
+    ensures coarse { site_day (hourly Pm10 504 16) site Pm10 winter_day ≡ None }
+    ensures eighteen { site_day (hourly Pm10 504 17) site Pm10 winter_day ≡ Some (record { value = pos 501; excluded = false }) }
+{}
+
+/// Of PM2.5 the primary's sample counts, and where it has none the truncated mean of the others'.
+pub fn primary_stands_for_the_site()
+    ensures primary { site_day (three_samplers Pm25 (primary_of Pm25 3 ∷ [])) site Pm25 winter_day ≡ Some (record { value = pos 123; excluded = false }) }
+    ensures others { site_day (three_samplers Pm25 (primary_of Pm25 1 ∷ [])) site Pm25 winter_day ≡ Some (record { value = pos 121; excluded = false }) }
+{}
+
+/// Of PM10 the primary alone counts, and without one the lowest POC alone, whether or not it has a
+/// sample.
+pub fn one_monitor_counts_for_pm10()
+    ensures primary { site_day (three_samplers Pm10 (primary_of Pm10 3 ∷ [])) site Pm10 winter_day ≡ Some (record { value = pos 123; excluded = false }) }
+    ensures primary_without { site_day (three_samplers Pm10 (primary_of Pm10 1 ∷ [])) site Pm10 winter_day ≡ None }
+    ensures lowest { site_day (three_samplers Pm10 []) site Pm10 winter_day ≡ None }
+{}
+
+/// The order of the monitors does not matter to their mean.
+pub fn mean_forgets_the_order()
+    ensures { (a b : List Sample) → IsPermutation a b → mean_of a ≡ mean_of b }
+{}
+
+/// The order of the observations does not matter to a site's day or year, where no two stand at one
+/// key.
+pub fn particles_forget_the_order()
+    ensures day { (a b : Office) (site : Site) (pollutant : Pollutant) (day : ℕ)
+        → a.records ≡ b.records
+        → IsPermutation a.observations b.observations
+        → ((key : ObsKey) → length (filter (λ (e : ObsKey × Observation). is_same_key e.0 key) a.observations) ≤ 1)
+        → site_day a site pollutant day ≡ site_day b site pollutant day }
+    ensures fine { (a b : Office) (site : Site) (year : ℕ)
+        → a.records ≡ b.records
+        → IsPermutation a.observations b.observations
+        → ((key : ObsKey) → length (filter (λ (e : ObsKey × Observation). is_same_key e.0 key) a.observations) ≤ 1)
+        → pm25_year a site year ≡ pm25_year b site year }
+    ensures coarse { (a b : Office) (site : Site) (year : ℕ)
+        → a.records ≡ b.records
+        → IsPermutation a.observations b.observations
+        → ((key : ObsKey) → length (filter (λ (e : ObsKey × Observation). is_same_key e.0 key) a.observations) ≤ 1)
+        → pm10_year a site year ≡ pm10_year b site year }
+{}

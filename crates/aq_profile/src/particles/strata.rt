@@ -1,0 +1,40 @@
+//! What the strata of a PM10 quarter are, and what they make of an estimate.
+#![tactic(auto)]
+
+ghost use Rattle.std.specs.Prelude.{◌≡◌, ℕ, ◌*◌, ◌≤◌, ◌==◌, if◌then◌else◌, not, true, List, ℤ, pos, length, drop, sum_by, count_by, flat_map, All, Some, None};
+ghost use Rattle.std.specs.List.{list_all};
+ghost use Rattle.aq_base.specs.Decimal.{half_up};
+ghost use Rattle.aq_base.specs.Site.{Site};
+ghost use Rattle.aq_base.specs.declared.monitor.Pollutant.TheVariants.{Pm10};
+ghost use Rattle.aq_profile.specs.Office.Office.{Office};
+ghost use Rattle.aq_profile.specs.Office.Schedule.{is_scheduled};
+ghost use Rattle.aq_profile.specs.Particles.QuarterCounts.{days_of_quarter};
+ghost use Rattle.aq_profile.specs.Particles.Strata.{strata_of};
+ghost use Rattle.aq_profile.specs.Particles.Pm10Estimate.{exceeds, quarter_estimate, quarter_of_strata, sixtieths_of};
+
+/// The strata one after the other are the quarter's days, so each day lies in exactly one.
+pub fn each_day_lies_in_one_stratum()
+    ensures { (office : Office) (site : Site) (quarter : ℕ) → flat_map (λ days. days) (strata_of office site quarter) ≡ days_of_quarter quarter }
+{}
+
+/// No stratum has more than six days, and only its first may be a scheduled one.
+pub fn strata_are_short()
+    ensures six { (office : Office) (site : Site) (quarter : ℕ) → All (λ days. length days ≤ 6) (strata_of office site quarter) }
+    ensures scheduled { (office : Office) (site : Site) (quarter : ℕ)
+        → All (λ days. list_all (λ day. not (is_scheduled office.records site Pm10 day)) (drop 1 days) ≡ true) (strata_of office site quarter) }
+{}
+
+/// Of one to six samples the part that exceeds is a whole number of sixtieths.
+pub fn sixtieths_are_exact()
+    ensures { (values : List ℤ) → 1 ≤ length values → length values ≤ 6 → sixtieths_of values * length values ≡ 60 * count_by exceeds values }
+{}
+
+/// Where no stratum has two samples, the quarter's estimate is its days times the exceedances over the
+/// samples.
+pub fn single_samples_give_the_plain_estimate()
+    ensures { (days scheduled captured exceeding : ℕ) (strata : List (List ℤ))
+        → All (λ values. length values ≤ 1) strata
+        → quarter_estimate (quarter_of_strata days scheduled captured exceeding strata)
+        ≡ (if sum_by length strata == 0 then None
+        else Some (half_up (pos (100 * (sum_by (count_by exceeds) strata * days))) (pos (sum_by length strata)))) }
+{}

@@ -1,0 +1,8 @@
+//! Laws of what is shown.
+
+pub mod answer;
+pub mod export;
+pub mod generator;
+pub mod json;
+pub mod particle_sheets;
+pub mod sheets;

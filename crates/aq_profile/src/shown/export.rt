@@ -1,0 +1,28 @@
+//! The export of a year's observations.
+#![tactic(auto)]
+
+ghost use Rattle.std.specs.Prelude.{◌≡◌, codes, ◌++◌};
+ghost use Rattle.aq_base.specs.declared.monitor.Pollutant.TheVariants.{Ozone, Pm25};
+ghost use Rattle.aq_profile.specs.Shown.Export.{export_answer};
+ghost use Rattle.aq_profile.specs.Ozone.OzoneExamples.{afternoon, site};
+ghost use Rattle.aq_profile.specs.Particles.ParticleExamples.{exported};
+
+/// Eight hours of ozone, one record each; another year has the header alone.
+pub fn export_has_a_record_for_each_hour()
+    ensures year { export_answer afternoon site Ozone 2024
+        ≡ codes "site,parameter,poc,date,hour,value,null,qualifiers,excluded\n"
+        ++ codes "06-037-1103,44201,1,2024-07-01,10,0.071,,,N\n06-037-1103,44201,1,2024-07-01,11,0.071,,,N\n"
+        ++ codes "06-037-1103,44201,1,2024-07-01,12,0.071,,,N\n06-037-1103,44201,1,2024-07-01,13,0.071,,,N\n"
+        ++ codes "06-037-1103,44201,1,2024-07-01,14,0.071,,,N\n06-037-1103,44201,1,2024-07-01,15,0.071,,,N\n"
+        ++ codes "06-037-1103,44201,1,2024-07-01,16,0.071,,,N\n06-037-1103,44201,1,2024-07-01,17,0.071,,,N\n" }
+    ensures other_year { export_answer afternoon site Ozone 2023
+        ≡ codes "site,parameter,poc,date,hour,value,null,qualifiers,excluded\n" }
+{}
+
+/// A value with two qualifiers, and a null code. A null observation is shown as excluded like any
+/// other.
+pub fn export_shows_codes()
+    ensures { export_answer exported site Pm25 2024
+        ≡ codes "site,parameter,poc,date,hour,value,null,qualifiers,excluded\n"
+        ++ codes "06-037-1103,88101,1,2024-01-07,00,12.0,,V RT,Y\n06-037-1103,88101,1,2024-01-10,00,,AN,RT,Y\n" }
+{}

@@ -1,0 +1,55 @@
+//! The sheets of ozone days and of a design value, as they print.
+#![tactic(auto)]
+
+ghost use Rattle.std.specs.Prelude.{◌≡◌, ℕ, List, ◌+◌, length, true, false, ◌∷◌, [], ◌++◌, codes, Some, None, pos};
+ghost use Rattle.std.specs.List.{flat_map};
+ghost use Rattle.aq_base.specs.Calendar.{days_in_year};
+ghost use Rattle.aq_base.specs.Site.{Site};
+ghost use Rattle.aq_profile.specs.Office.Office.{Office};
+ghost use Rattle.aq_profile.specs.Office.Season.{Season};
+ghost use Rattle.aq_profile.specs.Ozone.OzoneDay.{OzoneDay};
+ghost use Rattle.aq_profile.specs.Ozone.OzoneVerdict.{ozone_dv};
+ghost use Rattle.aq_profile.specs.Shown.Sheet.{line_of, text_of};
+ghost use Rattle.aq_profile.specs.Shown.Sheets.{days_answer, days_sheet, ozone_value_answer, ozone_value_sheet, windows_answer};
+ghost use Rattle.aq_profile.specs.Ozone.OzoneExamples.{site, day_with, year_with, year_without_fourth};
+
+/// The first two days of a year, of which the second has no average and is approved.
+pub fn days_print()
+    ensures { text_of
+        (days_sheet site 2000 (record { first = 60; last = 304 })
+        (day_with 12 70 ∷ record { averages = 0; valid = false; maximum = None } ∷ [])
+        (false ∷ true ∷ []) (year_with 221 71))
+        ≡ codes "site 06-037-1103\nyear 2000\nseason_first 2000-03-01\nseason_last 2000-10-31\n"
+        ++ codes "season_days 245\nseason_valid 221\nfourth 0.071\n"
+        ++ codes "day averages valid approved maximum\n"
+        ++ codes "2000-01-01 12 N N 0.070\n2000-01-02 0 N Y -\n" }
+{}
+
+/// Three years and their design value.
+pub fn design_value_prints()
+    ensures met { text_of
+        (ozone_value_sheet site 2024 (year_with 245 71 ∷ year_with 245 71 ∷ year_with 240 70 ∷ [])
+        (ozone_dv (year_with 245 71 ∷ year_with 245 71 ∷ year_with 240 70 ∷ [])))
+        ≡ codes "standard O3-2015\nsite 06-037-1103\nyear 2024\nvalue 0.070\ntest -\nverdict Met\n"
+        ++ codes "year ranked fourth season_days season_valid\n"
+        ++ codes "2022 245 0.071 245 245\n2023 245 0.071 245 245\n2024 240 0.070 245 240\n" }
+    ensures no_value { text_of
+        (ozone_value_sheet site 2024 (year_without_fourth ∷ year_with 245 71 ∷ year_with 240 70 ∷ [])
+        (ozone_dv (year_without_fourth ∷ year_with 245 71 ∷ year_with 240 70 ∷ [])))
+        ≡ codes "standard O3-2015\nsite 06-037-1103\nyear 2024\nvalue -\ntest -\nverdict NoValue\n"
+        ++ codes "year ranked fourth season_days season_valid\n"
+        ++ codes "2022 3 - 245 3\n2023 245 0.071 245 245\n2024 240 0.070 245 240\n" }
+{}
+
+/// The windows of a day have seventeen rows, a year's days one row each, and a design value three.
+pub fn sheets_have_their_rows()
+    ensures windows { (office : Office) (site : Site) (day : ℕ) → length (windows_answer office site day).rows ≡ 17 }
+    ensures days { (office : Office) (site : Site) (year : ℕ) → length (days_answer office site year).rows ≡ days_in_year year }
+    ensures value { (office : Office) (site : Site) (year : ℕ) → length (ozone_value_answer office site year).rows ≡ 3 }
+{}
+
+/// A line is its first word, each further one behind a space, and LF.
+pub fn words_stand_behind_single_spaces()
+    ensures { (word : List ℕ) (words : List (List ℕ))
+        → line_of (word ∷ words) ≡ (word ++ flat_map (λ (w : List ℕ). codes " " ++ w) words) ++ codes "\n" }
+{}
