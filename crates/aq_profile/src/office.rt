@@ -4,6 +4,7 @@ pub mod exclusion;
 pub mod load;
 pub mod monitors;
 pub mod office_records;
+pub mod questions;
 pub mod refusal;
 
 ghost use Rattle.std.specs.Prelude.{◌≡◌, ◌∷◌, IsTrue};
