@@ -1,5 +1,5 @@
 -- What a load's lines make of an office, its reply, and the rows that it changes (own).
-use Rattle.std.specs.Prelude.{ℕ, ◌-◌, Bool, ◌&&◌, ◌==◌, nat_le, if◌then◌else◌, Option, Some, None, is_some, List, [], ◌∷◌, ◌++◌, length, take, drop, count_by, filter_map, bytes_eq, fold, flat_map}
+use Rattle.std.specs.Prelude.{ℕ, ◌-◌, Bool, ◌&&◌, ◌==◌, nat_le, nat_lt, if◌then◌else◌, Option, Some, None, is_some, List, [], ◌∷◌, ◌++◌, length, take, drop, count_by, filter_map, bytes_eq, fold, flat_map}
 use Rattle.std.specs.Option.{option_or, option_eq}
 use Rattle.std.specs.Ordering.{int_eq}
 use lib.Pointwise.{pointwise}
@@ -19,7 +19,7 @@ use Rattle.aq_base.specs.declared.reply.ListedLine.{ListedLine}
 use Rattle.aq_base.specs.declared.reply.RestRule.{RestRule}
 use Rattle.aq_base.specs.declared.rule.Rule.{Rule}
 use Rattle.aq_base.specs.declared.rule.Rule.TheVariants.{BadBytes, BadTag, FieldCount, BadAction, BadSite, ParameterOutOfProfile, BadPoc, BadDuration, BadUnit, BadMethod, BadDate, BadTime, ValueAndNull, NeitherValueNorNull, BadValue, ValueOutOfRange, BadNull, BadQualifier, UnknownMonitor, WrongDuration, AlreadyThere, NotThere, ObservationsFull, SitesFull, MonitorsFull, BadSpan, BadInterval, BadSeason, BadMakeup, MakeupsFull, UnknownEvent, EventsFull, BadCode, ListFull}
-use Rattle.aq_profile.specs.Limits.{MOST_LISTED, MOST_LOADS}
+use Rattle.aq_profile.specs.Limits.{MOST_LINES, MOST_LISTED, MOST_LOADS}
 use Rattle.aq_profile.specs.Lines.Lines.{NumberedLine, line_count, body_lines}
 use Rattle.aq_profile.specs.Lines.RdForm.{Put as PutSample, Delete as DeleteSample}
 use Rattle.aq_profile.specs.Lines.Reading.{LineValue, OfRd, OfOffice, reading_rule, line_value}
@@ -139,13 +139,53 @@ decide_known None digest is_full = if is_full then Full else New
 abbrev pub decide : Office → ℕ → List ℕ → Decision
 decide office number digest = decide_known (load_at office number) digest (nat_le MOST_LOADS (length office.loads))
 
--- the office after a load is posted: it changes where the load is new
-abbrev pub after_decision : Decision → Office → ℕ → List ℕ → List ℕ → Office
-after_decision New office number digest body = load office number digest body
-after_decision _ office number digest body = office
+-- ---- what a posted load answers
 
+pub data Posted : Type 0 where
+  -- its body has too many lines
+  TooManyLines : Posted
+  -- its number is known with this body: the reply that is kept
+  Repeated : (kept : LoadReply) → Posted
+  -- its number is known with another body: the digest that is kept, and the one that was sent
+  Differing : (kept sent : List ℕ) → Posted
+  -- no further load can be kept
+  NoRoom : Posted
+  -- it is taken: its reply, and the office with it
+  Taken : (reply : LoadReply) (office : Office) → Posted
+
+abbrev pub posted_again : StoredLoad → List ℕ → Posted
+posted_again kept digest = if bytes_eq kept.digest digest then Repeated kept.reply else Differing kept.digest digest
+
+abbrev pub posted_anew : Office → ℕ → List ℕ → List ℕ → Posted
+posted_anew office number digest body =
+    if nat_le MOST_LOADS (length office.loads) then NoRoom
+    else Taken (reply office number body) (load office number digest body)
+
+abbrev pub posted_beside : Option StoredLoad → Office → ℕ → List ℕ → List ℕ → Posted
+posted_beside (Some kept) office number digest body = posted_again kept digest
+posted_beside None office number digest body = posted_anew office number digest body
+
+-- the lines are counted before the number is looked up
+abbrev pub posted : Office → ℕ → List ℕ → List ℕ → Posted
+posted office number digest body =
+    if nat_lt MOST_LINES (line_count body) then TooManyLines
+    else posted_beside (load_at office number) office number digest body
+
+-- the decision behind an answer: none was made on a body of too many lines
+abbrev pub decision_of : Posted → Option Decision
+decision_of TooManyLines = None
+decision_of (Repeated kept) = Some Repeat
+decision_of (Differing kept sent) = Some Conflict
+decision_of NoRoom = Some Full
+decision_of (Taken answer office) = Some New
+
+abbrev pub office_after : Posted → Office → Office
+office_after (Taken answer now) office = now
+office_after _ office = office
+
+-- the office after a load is posted: it changes where the load is taken
 abbrev pub post : Office → ℕ → List ℕ → List ℕ → Office
-post office number digest body = after_decision (decide office number digest) office number digest body
+post office number digest body = office_after (posted office number digest body) office
 
 -- ---- the batch
 
