@@ -1,13 +1,15 @@
 //! What a load makes of an office.
-ghost use Rattle.std.specs.Prelude.{◌≡◌, ℕ, ◌<◌, ◌≤◌, ◌∷◌, [], List, length, Some, None, codes, pos, true, map};
+ghost use Rattle.std.specs.Prelude.{◌≡◌, ◌↔◌, IsTrue, ℕ, ◌<◌, ◌≤◌, ◌∷◌, [], List, length, Some, None, codes, pos, true, map};
 ghost use Rattle.std.specs.List.{range_with_len};
 ghost use Rattle.aq_base.specs.declared.monitor.Duration.TheVariants.{Hour};
+ghost use Rattle.aq_base.specs.declared.observation.Observation.{Observation};
+ghost use Rattle.aq_base.specs.declared.office.OfficeRecord.{OfficeRecord};
 ghost use Rattle.aq_base.specs.declared.office.OfficeRecord.TheVariants.{Monitor};
 ghost use Rattle.aq_base.specs.declared.office.OfficeKey.TheVariants.{Event as EventKey, Concurrence as ConcurrenceKey};
 ghost use Rattle.aq_base.specs.declared.rule.Rule.TheVariants.{AlreadyThere, BadTag, NotThere};
 ghost use Rattle.aq_profile.specs.Office.Office.{Office, StoredLoad, KeysRise, load_at, nothing};
 ghost use Rattle.aq_base.specs.declared.rule.Rule.{Rule};
-ghost use Rattle.aq_profile.specs.Office.Load.{reply, reply_for, rest_of, load, decide, decision_of, posted, post, batch, refusal, after, Repeat, Conflict, New, TooManyLines, Repeated, Differing, NoRoom, Taken, PutLoad, PutObservation, DropRecord, record_changes};
+ghost use Rattle.aq_profile.specs.Office.Load.{reply, reply_for, rest_of, load, decide, decision_of, posted, post, batch, refusal, after, Repeat, Conflict, New, TooManyLines, Repeated, Differing, NoRoom, Taken, is_same_record, is_same_content, PutLoad, PutObservation, DropRecord, record_changes};
 ghost use Rattle.aq_profile.specs.Lines.Lines.{line_count};
 ghost use Rattle.aq_profile.specs.Lines.LineExamples.{one_monitor, one_hour, one_sample, three_lines, hour_key, valued, noon, ozone_monitor, agreed_event, refused_lines, digest_a, digest_b};
 
@@ -82,6 +84,12 @@ pub fn answers_follow_the_decision()
 pub fn a_known_number_changes_nothing()
     ensures known { (office : Office) (number : ℕ) (digest body : List ℕ) (kept : StoredLoad) → load_at office number ≡ Some kept → post office number digest body ≡ office }
     ensures not_new { (office : Office) (number : ℕ) (digest body : List ℕ) → (decide office number digest ≡ New → ⊥) → post office number digest body ≡ office }
+{}
+
+/// Two records that test as the same are equal, and two observations.
+pub fn sameness_of_rows_is_equality()
+    ensures records { (a b : OfficeRecord) → IsTrue (is_same_record a b) ↔ (a ≡ b) }
+    ensures observations { (a b : Observation) → IsTrue (is_same_content a b) ↔ (a ≡ b) }
 {}
 
 /// The keys of each list stay in rising order, so none stands twice.
