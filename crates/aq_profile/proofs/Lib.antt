@@ -49,3 +49,5 @@ pub mod OfficeBack
 pub mod Fronts
 pub mod Undamaged
 pub mod Rewritten
+pub mod SameRows
+pub mod Lookups
