@@ -49,3 +49,7 @@ pub mod OfficeBack
 pub mod Fronts
 pub mod Undamaged
 pub mod Rewritten
+pub mod RowsPlaced
+pub mod SitesCounted
+pub mod ValidRecords
+pub mod ValidAfter
