@@ -51,3 +51,7 @@ pub mod Undamaged
 pub mod Rewritten
 pub mod SameRows
 pub mod Lookups
+pub mod RowsPlaced
+pub mod SitesCounted
+pub mod ValidRecords
+pub mod ValidAfter
