@@ -49,3 +49,10 @@ pub mod OfficeBack
 pub mod Fronts
 pub mod Undamaged
 pub mod Rewritten
+pub mod Held
+pub mod PmHeld
+pub mod Pm10Held
+pub mod SheetCells
+pub mod WellFormed
+pub mod WellFormedOzone
+pub mod WellFormedQuarters
