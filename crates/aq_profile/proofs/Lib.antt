@@ -55,3 +55,10 @@ pub mod RowsPlaced
 pub mod SitesCounted
 pub mod ValidRecords
 pub mod ValidAfter
+pub mod Held
+pub mod PmHeld
+pub mod Pm10Held
+pub mod SheetCells
+pub mod WellFormed
+pub mod WellFormedOzone
+pub mod WellFormedQuarters
