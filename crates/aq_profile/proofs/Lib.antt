@@ -50,3 +50,16 @@ pub mod OfficeBack
 pub mod Fronts
 pub mod Undamaged
 pub mod Rewritten
+pub mod SameRows
+pub mod Lookups
+pub mod RowsPlaced
+pub mod SitesCounted
+pub mod ValidRecords
+pub mod ValidAfter
+pub mod Held
+pub mod PmHeld
+pub mod Pm10Held
+pub mod SheetCells
+pub mod WellFormed
+pub mod WellFormedOzone
+pub mod WellFormedQuarters

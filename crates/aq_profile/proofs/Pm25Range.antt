@@ -261,11 +261,11 @@ max-in_range : (x : ℤ) (o : Option ℤ) → InRange x → IfValue o → IfValu
 max-in_range x None h k = h
 max-in_range x (Some y) h k = (grind (arith, ints, h.0, k.0), grind (arith, ints, h.1, k.1))
 
-least-in_range : (values : List ℤ) → Every InRange values → IfValue (least values)
+pub least-in_range : (values : List ℤ) → Every InRange values → IfValue (least values)
 least-in_range [] every = tt
 least-in_range (v ∷ vs) every = rw (least-some v vs) (min-in_range v (least vs) every.0 (least-in_range vs every.1))
 
-greatest-in_range : (values : List ℤ) → Every InRange values → IfValue (greatest values)
+pub greatest-in_range : (values : List ℤ) → Every InRange values → IfValue (greatest values)
 greatest-in_range [] every = tt
 greatest-in_range (v ∷ vs) every = rw (greatest-some v vs) (max-in_range v (greatest vs) every.0 (greatest-in_range vs every.1))
 
@@ -299,12 +299,12 @@ every-ranked_in v [] h every = (h, tt)
 every-ranked_in v (z ∷ zs) h every =
     elim (int_lt v z) as (λ b. Every InRange (cond b (z ∷ ranked_in v zs) (v ∷ z ∷ zs))) [ true ↦ (every.0, every-ranked_in v zs h every.1) | false ↦ (h, every) ]
 
-every-ranked : (values : List ℤ) → Every InRange values → Every InRange (ranked values)
+pub every-ranked : (values : List ℤ) → Every InRange values → Every InRange (ranked values)
 unfolding ranked
 every-ranked [] every = tt
 every-ranked (v ∷ vs) every = every-ranked_in v (ranked vs) every.0 (every-ranked vs every.1)
 
-every-take : (n : ℕ) (values : List ℤ) → Every InRange values → Every InRange (take n values)
+pub every-take : (n : ℕ) (values : List ℤ) → Every InRange values → Every InRange (take n values)
 every-take zero values every = tt
 every-take (suc n) [] every = tt
 every-take (suc n) (v ∷ vs) every = (every.0, every-take n vs every.1)
@@ -313,7 +313,7 @@ all_in_range : (values : List ℤ) → Every InRange values → list_all (is_in_
 all_in_range [] every = refl
 all_in_range (v ∷ vs) every = let h = to_test v every.0 in rw h (all_in_range vs every.1)
 
-every-append : (xs ys : List ℤ) → Every InRange xs → Every InRange ys → Every InRange (xs ++ ys)
+pub every-append : (xs ys : List ℤ) → Every InRange xs → Every InRange ys → Every InRange (xs ++ ys)
 every-append [] ys every more = more
 every-append (x ∷ xs) ys every more = (every.0, every-append xs ys every.1 more)
 

@@ -1,22 +1,14 @@
 -- The verdict on an annual PM2.5 standard (40 CFR Part 50, Appendix N, 4.1). The conditions of a valid year and the tests are (own).
-use Rattle.std.specs.Prelude.{ℕ, Bool, false, ◌&&◌, ◌||◌, nat_le, if◌then◌else◌, List, map, flat_map, Option, Some, None, option_and_then, ℤ, int_lt, int_le}
+use Rattle.std.specs.Prelude.{ℕ, Bool, ◌&&◌, ◌||◌, nat_le, if◌then◌else◌, List, map, flat_map, Option, Some, None, option_and_then, ℤ, int_lt}
 use Rattle.std.specs.List.{list_all}
-use Rattle.std.specs.Option.{option_map_or}
 use Rattle.aq_base.specs.Site.{Site}
 use Rattle.aq_base.specs.declared.standard.Verdict.{Verdict}
 use Rattle.aq_base.specs.declared.standard.Verdict.TheVariants.{Met, NotMet, Incomplete, NoValue}
+use Rattle.aq_profile.specs.Standards.{is_above, is_at_or_below}
 use Rattle.aq_profile.specs.Office.Office.{Office}
 use Rattle.aq_profile.specs.Particles.QuarterCounts.{QuarterCounts, QuarterDays, capture, pm25_year, years_to}
 use Rattle.aq_profile.specs.Particles.Means.{mean_of_quarters}
 use Rattle.aq_profile.specs.Particles.Substitution.{filled, minimum_for, maximum_for}
-
--- a missing value is above no level
-abbrev pub is_above : ℤ → Option ℤ → Bool
-is_above level value = option_map_or (int_lt level) value false
-
--- and at or below none
-abbrev pub is_within : ℤ → Option ℤ → Bool
-is_within level value = option_map_or (λ v. int_le v level) value false
 
 abbrev pub is_captured : List QuarterCounts → Bool
 is_captured quarters = list_all (λ counts. nat_le 75 (capture counts)) quarters
@@ -43,7 +35,7 @@ annual_verdict level None valid test = NoValue
 annual_verdict level (Some value) valid test =
     if int_lt level value
     then (if are_all valid || is_above level test then NotMet else Incomplete)
-    else (if are_all valid || is_within level test then Met else Incomplete)
+    else (if are_all valid || is_at_or_below level test then Met else Incomplete)
 
 -- the design value, the value of the test that was asked for and whose needs are met, whether each year is valid, and the verdict
 pub record ParticleDv : Type 0 where

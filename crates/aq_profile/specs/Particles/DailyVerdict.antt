@@ -2,17 +2,19 @@
 use Rattle.std.specs.Prelude.{ℕ, Bool, ◌&&◌, ◌||◌, nat_le, if◌then◌else◌, List, [], ◌∷◌, map, sum_by, Option, Some, None, option_map, option_and_then, ℤ, pos, int_lt}
 use Rattle.aq_base.specs.Decimal.{half_up}
 use Rattle.aq_base.specs.Site.{Site}
+use Rattle.aq_base.specs.declared.standard.Standard.TheVariants.{Daily2006}
 use Rattle.aq_base.specs.declared.standard.Verdict.{Verdict}
 use Rattle.aq_base.specs.declared.standard.Verdict.TheVariants.{Met, NotMet, Incomplete, NoValue}
+use Rattle.aq_profile.specs.Standards.{level_of, is_above, is_at_or_below}
 use Rattle.aq_profile.specs.Office.Office.{Office}
 use Rattle.aq_profile.specs.Particles.QuarterCounts.{QuarterCounts, QuarterDays, pm25_year, years_to, counted_in, values_in}
 use Rattle.aq_profile.specs.Particles.Percentile.{percentile, daily_value}
 use Rattle.aq_profile.specs.Particles.Substitution.{filled, maximum_for}
-use Rattle.aq_profile.specs.Particles.AnnualVerdict.{ParticleDv, is_above, is_within, is_captured, are_all, counts_in}
+use Rattle.aq_profile.specs.Particles.AnnualVerdict.{ParticleDv, is_captured, are_all, counts_in}
 
 -- in whole µg/m3
 abbrev pub DAILY_LEVEL : ℤ
-DAILY_LEVEL = pos 35
+DAILY_LEVEL = level_of Daily2006
 
 -- a percentile in whole µg/m3
 abbrev pub rounded : Option ℤ → Option ℤ
@@ -34,7 +36,7 @@ abbrev pub daily_verdict : Option ℤ → List Bool → Option ℤ → Verdict
 daily_verdict None valid test = NoValue
 daily_verdict (Some value) valid test =
     if are_all valid then (if int_lt DAILY_LEVEL value then NotMet else Met)
-    else (if is_within DAILY_LEVEL test then Met else Incomplete)
+    else (if is_at_or_below DAILY_LEVEL test then Met else Incomplete)
 
 abbrev pub daily_from : Option ℤ → List Bool → Option ℤ → ParticleDv
 daily_from value valid maximum = record {

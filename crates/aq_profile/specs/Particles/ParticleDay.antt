@@ -1,5 +1,5 @@
 -- The PM2.5 and PM10 value of a monitor and of a site for one day, in tenths of a µg/m3 (40 CFR Part 50, Appendix N, 3.0, and Appendix K, 1.0 and 2.1).
-use Rattle.std.specs.Prelude.{ℕ, ◌&&◌, ◌==◌, nat_lt, nat_le, if◌then◌else◌, List, length, map, filter_map, find, fold, slice_get, Option, Some, None, option_map, option_and_then, ℤ, pos, int_le, Bool}
+use Rattle.std.specs.Prelude.{ℕ, ◌&&◌, ◌==◌, nat_lt, nat_le, if◌then◌else◌, List, length, map, filter_map, find, fold, slice_get, Option, Some, None, option_map, option_and_then, ℤ, pos, ◌+ℤ◌, ◌*ℤ◌, int_le, Bool}
 use Rattle.std.specs.List.{list_any}
 use Rattle.std.specs.Option.{option_or}
 use Rattle.aq_base.specs.Calendar.{day_of_hour, hour_number}
@@ -14,6 +14,8 @@ use Rattle.aq_base.specs.declared.observation.ObsKey.{ObsKey}
 use Rattle.aq_base.specs.declared.observation.Observation.{Observation}
 use Rattle.aq_base.specs.declared.office.OfficeRecord.{OfficeRecord}
 use Rattle.aq_base.specs.declared.office.OfficeRecord.TheVariants.{Monitor}
+use Rattle.aq_base.specs.declared.standard.Standard.TheVariants.{Daily2006}
+use Rattle.aq_profile.specs.Standards.{level_of}
 use Rattle.aq_profile.specs.Office.Office.{Office}
 use Rattle.aq_profile.specs.Lists.{total}
 use Rattle.aq_profile.specs.Office.Monitors.{is_same_site, is_same_pollutant, is_same_monitor}
@@ -54,11 +56,15 @@ cell_of office monitor duration day entry =
 abbrev pub mean_of_hours : ℕ → ℤ → Option ℤ
 mean_of_hours count sum = if nat_le 18 count then Some (truncated sum (pos count)) else None
 
+-- the least mean of a day, in tenths, that is above the level of 35 µg/m3 once it is rounded: 35.5
+abbrev pub LEAST_HIGH_MEAN : ℤ
+LEAST_HIGH_MEAN = (pos 10 *ℤ level_of Daily2006) +ℤ pos 5
+
 -- and for PM2.5 fewer also do where their sum over 24, zero for the missing ones, is 35.5 or more (own)
 abbrev pub mean_or_high_sum : ℕ → ℤ → Option ℤ
 mean_or_high_sum count sum =
     if nat_le 18 count then Some (truncated sum (pos count))
-    else (if int_le (pos 8520) sum then Some (truncated sum (pos 24)) else None)
+    else (if int_le (pos 24 *ℤ LEAST_HIGH_MEAN) sum then Some (truncated sum (pos 24)) else None)
 
 abbrev pub day_value : Pollutant → Duration → List ℤ → Option ℤ
 day_value pollutant Day values = slice_get values 0

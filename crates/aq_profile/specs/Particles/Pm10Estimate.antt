@@ -1,5 +1,5 @@
 -- The estimated number of PM10 exceedances of quarters, years and three years (40 CFR Part 50, Appendix K, 2.1 and 3.0). Each exceedance is adjusted for days without a sample, the first one too (own).
-use Rattle.std.specs.Prelude.{ℕ, ◌*◌, ◌/◌, Bool, true, false, ◌==◌, if◌then◌else◌, List, [], ◌∷◌, length, map, filter, filter_map, count_by, sum_by, Option, Some, None, option_map, ℤ, pos, int_le}
+use Rattle.std.specs.Prelude.{ℕ, ◌*◌, ◌/◌, Bool, true, false, ◌==◌, if◌then◌else◌, List, [], ◌∷◌, length, map, filter, filter_map, count_by, sum_by, Option, Some, None, option_map, ℤ, pos, int_lt}
 use Rattle.std.specs.Option.{option_map_or}
 use Rattle.aq_base.specs.Calendar.{days_in_quarter}
 use Rattle.aq_base.specs.Decimal.{half_up}
@@ -7,14 +7,19 @@ use Rattle.aq_base.specs.Site.{Site}
 use Rattle.aq_base.specs.declared.monitor.Pollutant.TheVariants.{Pm10}
 use Rattle.aq_profile.specs.Office.Office.{Office}
 use Rattle.aq_profile.specs.Lists.{total}
+use Rattle.aq_profile.specs.Standards.{PM10_DAY_LEVEL}
 use Rattle.aq_profile.specs.Particles.ParticleDay.{net_day}
 use Rattle.aq_profile.specs.Particles.QuarterCounts.{scheduled_days, is_sampled, quarters_of}
 use Rattle.aq_profile.specs.Particles.Strata.{strata_of}
 use Rattle.aq_profile.specs.Particles.Substitution.{all_of}
 
--- above 150 µg/m3 once rounded to the nearest 10, which is 155.0 and up
+-- a value in tenths, rounded to the nearest 10 µg/m3 (Appendix K, 1.0(b)), in tens
+abbrev pub in_tens : ℤ → ℤ
+in_tens value = half_up value (pos 100)
+
+-- above 150 µg/m3 once rounded so, which is 155.0 and up
 abbrev pub exceeds : ℤ → Bool
-exceeds value = int_le (pos 1550) value
+exceeds value = int_lt PM10_DAY_LEVEL (in_tens value)
 
 -- ---- what a site has for a quarter
 

@@ -1,12 +1,12 @@
 -- The sheets of a report, a conflict, an error and a summary, and the value sheet of any standard, filled (own).
-use Rattle.std.specs.Prelude.{ℕ, ◌+◌, ◌/◌, ◌%◌, nat_lt, if◌then◌else◌, List, [], ◌∷◌, map, filter, codes, flat_map, Option, ℤ, pos}
+use Rattle.std.specs.Prelude.{ℕ, ◌+◌, ◌/◌, ◌%◌, nat_lt, if◌then◌else◌, List, [], ◌∷◌, map, filter, codes, flat_map, Option, ℤ}
 use Rattle.aq_base.specs.Site.{Site}
 use Rattle.aq_base.specs.Standard.{standard_name}
 use Rattle.aq_base.specs.declared.monitor.Pollutant.{Pollutant}
-use Rattle.aq_base.specs.declared.monitor.Pollutant.TheVariants.{Ozone, Pm25, Pm10}
 use Rattle.aq_base.specs.declared.standard.Standard.{Standard}
 use Rattle.aq_base.specs.declared.standard.Standard.TheVariants.{Ozone2015, Annual2012, AnnualSecondary, Daily2006, Pm10Of1987}
 use Rattle.aq_base.specs.declared.standard.Verdict.{Verdict}
+use Rattle.aq_profile.specs.Standards.{pollutant_of, level_of}
 use Rattle.aq_profile.specs.Office.Office.{Office, has_monitor, site_numbers, sites_of, with_row}
 use Rattle.aq_profile.specs.Ozone.OzoneVerdict.{ozone_design}
 use Rattle.aq_profile.specs.Particles.AnnualVerdict.{annual_design}
@@ -17,26 +17,10 @@ use Rattle.aq_profile.specs.Shown.Sheet.SheetCell.{Text}
 use Rattle.aq_profile.specs.Shown.Sheets.{verdict_name, ozone_value_answer}
 use Rattle.aq_profile.specs.Shown.ParticleSheets.{tenths_cell, whole_cell, annual_value_answer, daily_value_answer, pm10_value_answer}
 
--- ---- standards
-
-abbrev pub pollutant_of : Standard → Pollutant
-pollutant_of Ozone2015 = Ozone
-pollutant_of Annual2012 = Pm25
-pollutant_of AnnualSecondary = Pm25
-pollutant_of Daily2006 = Pm25
-pollutant_of Pm10Of1987 = Pm10
-
--- the levels of the annual standards, 12.0 and 15.0 µg/m3, in tenths (40 CFR 50.18 and 50.13)
-abbrev pub ANNUAL_LEVEL : ℤ
-ANNUAL_LEVEL = pos 120
-
-abbrev pub SECONDARY_LEVEL : ℤ
-SECONDARY_LEVEL = pos 150
-
 unfoldable pub value_answer : Standard → Office → Site → ℕ → Sheet
 value_answer Ozone2015 office site year = ozone_value_answer office site year
-value_answer Annual2012 office site year = annual_value_answer Annual2012 ANNUAL_LEVEL office site year
-value_answer AnnualSecondary office site year = annual_value_answer AnnualSecondary SECONDARY_LEVEL office site year
+value_answer Annual2012 office site year = annual_value_answer Annual2012 (level_of Annual2012) office site year
+value_answer AnnualSecondary office site year = annual_value_answer AnnualSecondary (level_of AnnualSecondary) office site year
 value_answer Daily2006 office site year = daily_value_answer office site year
 value_answer Pm10Of1987 office site year = pm10_value_answer office site year
 
@@ -58,9 +42,9 @@ unfoldable pub judged : Standard → Office → ℕ → Site → Judged
 judged Ozone2015 office year site =
     record { site = site; value = (ozone_design office site year).value; verdict = (ozone_design office site year).verdict }
 judged Annual2012 office year site =
-    record { site = site; value = (annual_design ANNUAL_LEVEL office site year).value; verdict = (annual_design ANNUAL_LEVEL office site year).verdict }
+    record { site = site; value = (annual_design (level_of Annual2012) office site year).value; verdict = (annual_design (level_of Annual2012) office site year).verdict }
 judged AnnualSecondary office year site =
-    record { site = site; value = (annual_design SECONDARY_LEVEL office site year).value; verdict = (annual_design SECONDARY_LEVEL office site year).verdict }
+    record { site = site; value = (annual_design (level_of AnnualSecondary) office site year).value; verdict = (annual_design (level_of AnnualSecondary) office site year).verdict }
 judged Daily2006 office year site =
     record { site = site; value = (daily_design office site year).value; verdict = (daily_design office site year).verdict }
 judged Pm10Of1987 office year site =
@@ -110,6 +94,12 @@ conflict_sheet number kept sent = record {
   columns = [];
   rows = [];
 }
+
+-- what a reply that is not 200 or 409 names
+abbrev pub error_names : List (List ℕ)
+error_names =
+    codes "BadRequest" ∷ codes "NotFound" ∷ codes "MethodNotAllowed" ∷ codes "LengthRequired" ∷ codes "TooLarge"
+    ∷ codes "HeadTooLarge" ∷ codes "NotImplemented" ∷ codes "KeeperFailed" ∷ codes "LoadsFull" ∷ []
 
 unfoldable pub error_sheet : List ℕ → Sheet
 error_sheet name = record { heads = head_of (codes "error") (Text name) ∷ []; columns = []; rows = [] }

@@ -1,7 +1,7 @@
 //! PM10 exceedances, estimates and verdicts, worked out.
 #![tactic(auto)]
 
-ghost use Rattle.std.specs.Prelude.{◌≡◌, true, false, ◌∷◌, [], Some, None, pos};
+ghost use Rattle.std.specs.Prelude.{◌≡◌, true, false, ◌∷◌, [], Some, None, ℤ, pos, int_le};
 ghost use Rattle.aq_base.specs.Calendar.{day_number};
 ghost use Rattle.aq_base.specs.declared.monitor.Pollutant.TheVariants.{Pm10};
 ghost use Rattle.aq_base.specs.declared.standard.Verdict.TheVariants.{Met, NotMet, Incomplete, NoValue};
@@ -10,10 +10,12 @@ ghost use Rattle.aq_profile.specs.Particles.Pm10Verdict.{pm10_dv};
 ghost use Rattle.aq_profile.specs.Ozone.OzoneExamples.{site};
 ghost use Rattle.aq_profile.specs.Particles.ParticleExamples.{calm_quarter, calm_year, empty_quarter, particle_sample, quarter_of_exceedances, third_of_2023, with_exceedance};
 
-/// 154.9 rounds to 150 and does not exceed; 155.0 rounds to 160 and does.
+/// 154.9 rounds to 150 and does not exceed; 155.0 rounds to 160 and does, and so does every value above
+/// it.
 pub fn exceedance_begins_at_155()
     ensures below { exceeds (pos 1549) ≡ false }
     ensures above { exceeds (pos 1550) ≡ true }
+    ensures everywhere { (value : ℤ) → exceeds value ≡ int_le (pos 1550) value }
 {}
 
 /// Every sixth day, 15 of 16 scheduled days sampled and one exceeding: 92 days over 15 samples is
