@@ -51,3 +51,7 @@ pub mod Undamaged
 pub mod Rewritten
 pub mod SameRows
 pub mod Lookups
+pub mod Changes
+pub mod BatchDone
+pub mod SpelledOffice
+pub mod RowOrder
