@@ -63,7 +63,7 @@ in-parts (change ∷ changes) office = ap (λ o. fold with_change o changes) (of
 
 module _ {X : Type 0} (rank : X → List ℕ) where
   -- what is found has the key
-  pub HasKey : List ℕ → Option X → Type 0
+  unfoldable pub HasKey : List ℕ → Option X → Type 0
   HasKey key None = Unit {0}
   HasKey key (Some row) = rank row ≡ key
 

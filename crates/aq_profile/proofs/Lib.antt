@@ -55,3 +55,4 @@ pub mod Changes
 pub mod BatchDone
 pub mod SpelledOffice
 pub mod RowOrder
+pub mod RowBatch
