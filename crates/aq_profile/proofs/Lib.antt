@@ -63,3 +63,8 @@ pub mod SheetCells
 pub mod WellFormed
 pub mod WellFormedOzone
 pub mod WellFormedQuarters
+pub mod Changes
+pub mod BatchDone
+pub mod SpelledOffice
+pub mod RowOrder
+pub mod RowBatch
