@@ -53,3 +53,5 @@ pub mod RowsPlaced
 pub mod SitesCounted
 pub mod ValidRecords
 pub mod ValidAfter
+pub mod ValidReplies
+pub mod ValidLoads
