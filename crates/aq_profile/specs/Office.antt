@@ -8,3 +8,4 @@ pub mod Approval
 pub mod Exclusion
 pub mod Refusal
 pub mod Load
+pub mod OfficeExamples
