@@ -68,3 +68,5 @@ pub mod BatchDone
 pub mod SpelledOffice
 pub mod RowOrder
 pub mod RowBatch
+pub mod ValidReplies
+pub mod ValidLoads
