@@ -9,7 +9,8 @@ use Rattle.aq_profile.specs.Lines.Lines.{NumberedLine, line_count, body_lines}
 use Rattle.aq_profile.specs.Lines.RdForm.{Put as PutSample, Delete as DeleteSample}
 use Rattle.aq_profile.specs.Lines.Reading.{LineValue, OfRd, OfOffice, line_value}
 use Rattle.aq_profile.specs.Office.Office.{Office, IsOffice, StoredLoad, load_rank, with_row, load_at, is_load}
-use Rattle.aq_profile.specs.Office.Load.{Decision, Repeat, Conflict, Full, New, changed, changed_by, refusal, after, after_all, with_load, reply, load, decide, decide_known, after_decision, post}
+use Rattle.aq_profile.specs.Office.Load.{Decision, Repeat, Conflict, Full, New, changed, changed_by, refusal, after, after_all, with_load, reply, load, decide, decide_known, stored, TooManyLines, Repeated, Differing, NoRoom, Taken, posted_beside, office_after, post}
+use Rattle.std.proofs.lemmas.Bool.{ltb-false}
 use Rattle.aq_profile.proofs.JoinedFields.{and_true}
 use Rattle.aq_profile.proofs.Rising.{with_row-rises}
 use Rattle.aq_profile.proofs.RowsPlaced.{with_row-all, length-with_row}
@@ -74,11 +75,10 @@ new_has_room (Some kept) digest is_full new = choose (bytes_eq kept.digest diges
 new_has_room None digest true new = cc
 new_has_room None digest false new = refl
 
-pub load-valid : (office : Office) (number : ℕ) (digest body : List ℕ) → IsOffice office → 1 ≤ number → number ≤ LAST_LOAD_NUMBER → length digest ≡ 32
-    → list_all (λ byte. nat_lt byte 256) digest ≡ true → line_count body ≤ MOST_LINES → decide office number digest ≡ New → IsOffice (load office number digest body)
-load-valid office number digest body is low high len bytes few new =
+pub load-fits : (office : Office) (number : ℕ) (digest body : List ℕ) → IsOffice office → 1 ≤ number → number ≤ LAST_LOAD_NUMBER → length digest ≡ 32
+    → list_all (λ byte. nat_lt byte 256) digest ≡ true → line_count body ≤ MOST_LINES → nat_le MOST_LOADS (length office.loads) ≡ false → IsOffice (load office number digest body)
+load-fits office number digest body is low high len bytes few full =
     let loads = after_all-loads office (body_lines body) in
-    let full : nat_le MOST_LOADS (length office.loads) ≡ false = new_has_room (load_at office number) digest (nat_le MOST_LOADS (length office.loads)) new in
     let room = less (length office.loads) MOST_LOADS full in
     with_load-valid (after_all office (body_lines body)) (record { number = number; digest = digest; reply = reply office number body })
     (lines_leave_valid office (body_lines body) is)
@@ -91,15 +91,34 @@ load-valid office number digest body is low high len bytes few new =
     (reply-is office number body few))
     (subst (λ rows. length rows < MOST_LOADS) (sym loads) room)
 
+pub load-valid : (office : Office) (number : ℕ) (digest body : List ℕ) → IsOffice office → 1 ≤ number → number ≤ LAST_LOAD_NUMBER → length digest ≡ 32
+    → list_all (λ byte. nat_lt byte 256) digest ≡ true → line_count body ≤ MOST_LINES → decide office number digest ≡ New → IsOffice (load office number digest body)
+load-valid office number digest body is low high len bytes few new =
+    load-fits office number digest body is low high len bytes few
+    (new_has_room (load_at office number) digest (nat_le MOST_LOADS (length office.loads)) new)
+
 pub load-not_kept : (office : Office) (digest body : List ℕ) → IsOffice office → IsOffice (load office 0 digest body)
 load-not_kept office digest body is = lines_leave_valid office (body_lines body) is
 
+-- a body of too many lines changes nothing, so that no limit is asked for
 pub post-valid : (office : Office) (number : ℕ) (digest body : List ℕ) → IsOffice office → 1 ≤ number → number ≤ LAST_LOAD_NUMBER → length digest ≡ 32
-    → list_all (λ byte. nat_lt byte 256) digest ≡ true → line_count body ≤ MOST_LINES → IsOffice (post office number digest body)
-post-valid office number digest body is low high len bytes few = choose (decide office number digest) refl
+    → list_all (λ byte. nat_lt byte 256) digest ≡ true → IsOffice (post office number digest body)
+post-valid office number digest body is low high len bytes = counted (nat_lt MOST_LINES (line_count body)) refl
   where
-    choose : (decision : Decision) → decide office number digest ≡ decision → IsOffice (after_decision decision office number digest body)
-    choose New new = load-valid office number digest body is low high len bytes few new
-    choose Repeat old = is
-    choose Conflict old = is
-    choose Full old = is
+    room : (full : Bool) → nat_le MOST_LOADS (length office.loads) ≡ full → line_count body ≤ MOST_LINES
+        → IsOffice (office_after (cond full NoRoom (Taken (reply office number body) (load office number digest body))) office)
+    room true e few = is
+    room false e few = load-fits office number digest body is low high len bytes few e
+
+    known : (kept : Option StoredLoad) → line_count body ≤ MOST_LINES → IsOffice (office_after (posted_beside kept office number digest body) office)
+    known (Some kept) few = again (bytes_eq kept.digest digest)
+      where
+        again : (same : Bool) → IsOffice (office_after (cond same (Repeated kept.reply) (Differing kept.digest digest)) office)
+        again true = is
+        again false = is
+    known None few = room (nat_le MOST_LOADS (length office.loads)) refl few
+
+    counted : (many : Bool) → nat_lt MOST_LINES (line_count body) ≡ many
+        → IsOffice (office_after (cond many TooManyLines (posted_beside (load_at office number) office number digest body)) office)
+    counted true e = is
+    counted false e = known (load_at office number) (ltb-false MOST_LINES (line_count body) e)

@@ -139,7 +139,8 @@ is_built rule = nat_le (rule_number rule) 34
 tag_built : (tag : Tag) (deletes : Bool) → list_all is_built (BadBytes ∷ BadTag ∷ FieldCount ∷ BadAction ∷ rules_of tag deletes) ≡ true
 tag_built Rd true = refl
 tag_built Rd false = refl
-tag_built Xm deletes = refl
+tag_built Xm true = refl
+tag_built Xm false = refl
 tag_built Xp true = refl
 tag_built Xp false = refl
 tag_built Xs true = refl
@@ -150,8 +151,10 @@ tag_built Xu true = refl
 tag_built Xu false = refl
 tag_built Xe true = refl
 tag_built Xe false = refl
-tag_built Xc deletes = refl
-tag_built Xa deletes = refl
+tag_built Xc true = refl
+tag_built Xc false = refl
+tag_built Xa true = refl
+tag_built Xa false = refl
 
 reading_built : (tag : Option Tag) (texts : List (List ℕ)) → list_all is_built (BadBytes ∷ BadTag ∷ FieldCount ∷ BadAction ∷ rules_for tag texts) ≡ true
 reading_built None texts = refl

@@ -23,5 +23,5 @@ pub fn lines_leave_the_office_valid()
 pub fn loads_leave_the_office_valid()
     ensures kept { (office : Office) (number : ℕ) (digest body : List ℕ) → IsOffice office → 1 ≤ number → number ≤ LAST_LOAD_NUMBER → length digest ≡ 32 → IsTrue (list_all (λ byte. nat_lt byte 256) digest) → line_count body ≤ MOST_LINES → decide office number digest ≡ New → IsOffice (load office number digest body) }
     ensures not_kept { (office : Office) (digest body : List ℕ) → IsOffice office → IsOffice (load office 0 digest body) }
-    ensures posted { (office : Office) (number : ℕ) (digest body : List ℕ) → IsOffice office → 1 ≤ number → number ≤ LAST_LOAD_NUMBER → length digest ≡ 32 → IsTrue (list_all (λ byte. nat_lt byte 256) digest) → line_count body ≤ MOST_LINES → IsOffice (post office number digest body) }
+    ensures posted { (office : Office) (number : ℕ) (digest body : List ℕ) → IsOffice office → 1 ≤ number → number ≤ LAST_LOAD_NUMBER → length digest ≡ 32 → IsTrue (list_all (λ byte. nat_lt byte 256) digest) → IsOffice (post office number digest body) }
 {}

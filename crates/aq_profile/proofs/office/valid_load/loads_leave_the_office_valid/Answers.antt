@@ -8,4 +8,4 @@ pub returns-clause-not_kept : goal.returns-clause-not_kept
 returns-clause-not_kept c office digest body is = load-not_kept office digest body is
 
 pub returns-clause-posted : goal.returns-clause-posted
-returns-clause-posted c office number digest body is low high len bytes few = post-valid office number digest body is low high len bytes few
+returns-clause-posted c office number digest body is low high len bytes = post-valid office number digest body is low high len bytes
