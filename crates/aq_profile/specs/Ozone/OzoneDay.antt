@@ -32,7 +32,7 @@ pub record OzoneDay : Type 0 where
 abbrev pub is_above_level : Option ℤ → Bool
 is_above_level value = option_map_or (int_le (pos 71)) value false
 
--- a day is valid with 13 full averages or more, and also where the greatest one is above the standard. What is excluded counts for that, and not for the maximum
+-- a day is valid with 13 full averages or more, and also where the greatest one is above the standard: what is excluded counts for that (3(d)), and not for the maximum
 abbrev pub day_of_windows : List WindowRow → OzoneDay
 day_of_windows rows = record {
   averages = length (full_averages rows);
