@@ -5,6 +5,7 @@ use Rattle.aq_base.specs.declared.monitor.Pollutant.{Pollutant}
 use Rattle.aq_base.specs.declared.monitor.Duration.{Duration}
 use Rattle.aq_base.specs.declared.monitor.MonitorId.{MonitorId}
 use Rattle.aq_base.specs.declared.observation.Observation.{Observation}
+use Rattle.aq_base.specs.declared.quals.TheConstants.{MOST_QUALIFIERS}
 use Rattle.aq_profile.specs.Lines.Fields.{is_empty}
 use Rattle.aq_profile.specs.Lines.Forms.{Parameter, Poc, SampleDuration, Unit, Method, Date, StartTime, SampleValue, NullCode, Qualifiers, text_of, texts_from, site_of}
 use Rattle.aq_profile.specs.Lines.Spellings.{◌>>=◌, Tag, Rd, parameter_in, poc_in, duration_in, unit_in, method_in, date_in, time_in, value_in, null_in, qualifiers_in}
@@ -14,11 +15,9 @@ pub data RdValue : Type 0 where
   Put : (update : Bool) (monitor : MonitorId) (duration : Duration) (method hour : ℕ) (content : Observation) → RdValue
   Delete : (monitor : MonitorId) (hour : ℕ) → RdValue
 
-abbrev pub QUALIFIER_FIELDS : ℕ
-QUALIFIER_FIELDS = 10
-
+-- as many fields as there may be qualifier codes
 abbrev pub qualifier_fields : List (List ℕ) → List (List ℕ)
-qualifier_fields texts = take QUALIFIER_FIELDS (texts_from Rd Qualifiers texts)
+qualifier_fields texts = take MOST_QUALIFIERS (texts_from Rd Qualifiers texts)
 
 -- the monitor that a line of RD or XM names
 unfoldable pub monitor_in : Tag → List (List ℕ) → Option MonitorId
