@@ -56,3 +56,5 @@ pub mod BatchDone
 pub mod SpelledOffice
 pub mod RowOrder
 pub mod RowBatch
+pub mod BatchOrder
+pub mod BatchAlters
