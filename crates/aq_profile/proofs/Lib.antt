@@ -70,3 +70,5 @@ pub mod RowOrder
 pub mod RowBatch
 pub mod ValidReplies
 pub mod ValidLoads
+pub mod BatchOrder
+pub mod BatchAlters
