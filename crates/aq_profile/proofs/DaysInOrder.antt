@@ -26,7 +26,7 @@ use Rattle.aq_profile.specs.Office.Designation.{primary_on}
 use Rattle.aq_profile.specs.Office.Schedule.{is_scheduled}
 use Rattle.aq_profile.specs.Particles.ParticleDay.{Sampler, cell_of, mean_of_hours, mean_or_high_sum, day_cell, monitor_day, samplers_of, lowest_poc, site_day, unless_excluded}
 use Rattle.aq_profile.specs.Particles.QuarterCounts.{Makeup, makeup_by, QuarterDays, days_of_quarter, credits, quarter_counts, quarter_values, quarters_of, pm25_year}
-use Rattle.aq_profile.specs.Particles.Strata.{cut_into_strata, strata_of}
+use Rattle.aq_profile.specs.Particles.Strata.{first_days_among, first_days, strata_from, quarter_end, strata_of}
 use Rattle.aq_profile.specs.Particles.Pm10Estimate.{Pm10Quarter, exceeds, quarter_of_strata, pm10_quarter, pm10_year}
 use Rattle.aq_profile.proofs.Order.{fold_in_any_order, filter_map-moved, one_order}
 use Rattle.aq_profile.proofs.Sums.{total-cons}
@@ -217,11 +217,11 @@ pm10_by records days site quarter =
     quarter_of_strata (days_in_quarter quarter) (length (scheduled_by records site Pm10 quarter))
     (count_by (sampled_by days) (scheduled_by records site Pm10 quarter))
     (count_by (λ day. option_map_or exceeds (option_and_then unless_excluded (days day)) false) (scheduled_by records site Pm10 quarter))
-    (map (filter_map (λ day. option_and_then unless_excluded (days day))) (cut_into_strata (is_scheduled records site Pm10) (days_of_quarter quarter)))
+    (map (filter_map (λ day. option_and_then unless_excluded (days day))) (strata_from (quarter_end quarter) (first_days_among (is_scheduled records site Pm10) (days_of_quarter quarter))))
 
 pub pm10_year-any_order : (a b : Office) (site : Site) (year : ℕ) → a.records ≡ b.records → IsPermutation a.observations b.observations
     → ((key : ObsKey) → length (filter (λ (e : Entry). is_same_key e.0 key) a.observations) ≤ 1)
     → pm10_year a site year ≡ pm10_year b site year
-unfolding pm10_year pm10_quarter strata_of
+unfolding pm10_year pm10_quarter strata_of first_days
 pm10_year-any_order a b site year records moved distinct =
     λ i. map (pm10_by (records i) (λ day. site_day-any_order a b site Pm10 day records moved distinct i) site) (quarters_of year)
