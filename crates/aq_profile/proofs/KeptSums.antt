@@ -10,7 +10,7 @@ use Rattle.aq_profile.specs.Particles.Means.{Fraction, mean_of_means}
 use Rattle.aq_profile.specs.Particles.YearParts.{of_values}
 use Rattle.aq_profile.specs.Particles.Substitution.{Matched, minimum_copies, maximum_copies, minimum_for, maximum_for, same_part, matched}
 use Rattle.aq_profile.specs.Particles.AnnualVerdict.{annual_from, is_annual_year, counts_in, mean_of, annual_value, filled_mean, filled_value, annual_dv}
-use Rattle.aq_profile.specs.Kept.Summaries.{PmQuarter, PmYear, counts_of, days_in, summary_of_quarter, summary_of_year}
+use Rattle.aq_profile.specs.Kept.Summaries.{PmQuarter, PmYear, counts_of, net_days_in, summary_of_quarter, summary_of_year}
 use Rattle.aq_profile.specs.Kept.SummaryVerdicts.{of_summaries, kept_counted, kept_annual_dv}
 use Rattle.aq_profile.proofs.Sums.{total-append, least-of_lists, greatest-of_lists}
 
@@ -43,8 +43,8 @@ row r = (s r.0, map s r.1)
 mean-same : (more : List ℤ) (q : QuarterDays) → of_summaries.mean_with more (s q) ≡ of_values.mean_with more q
 mean-same more q = λ i. (sym (total-append q.values more) i, sym (length-append q.values more) i)
 
-pub days-summary : (three : List QuarterDays) → days_in (map s three) ≡ sum_by (λ (o : QuarterDays). length o.values) three
-days-summary three = summed (λ (q : PmQuarter). q.days) s (λ (q : QuarterDays). length q.values) (λ q. refl) three
+pub days-summary : (three : List QuarterDays) → net_days_in (map s three) ≡ sum_by (λ (o : QuarterDays). length o.values) three
+days-summary three = summed (λ (q : PmQuarter). q.net_days) s (λ (q : QuarterDays). length q.values) (λ q. refl) three
 
 pub greatest-summary : (three : List QuarterDays) → filter_map (λ (o : PmQuarter). o.greatest) (map s three) ≡ filter_map (λ (o : QuarterDays). greatest o.values) three
 greatest-summary three = filtered (λ (q : PmQuarter). q.greatest) s (λ (q : QuarterDays). greatest q.values) (λ q. refl) three

@@ -135,13 +135,13 @@ with_exceedance others =
 
 -- a quarter of 15 scheduled days, all sampled and none exceeding; one without a sample; and one of so many exceedances on other days
 abbrev pub calm_quarter : Pm10Quarter
-calm_quarter = record { days = 91; scheduled = 15; captured = 15; strata = 15; samples = 15; exceedances = 0; scheduled_exceedances = 0; sixtieths = 0 }
+calm_quarter = record { calendar_days = 91; scheduled = 15; captured = 15; strata = 15; samples = 15; exceedances = 0; scheduled_exceedances = 0; sixtieths = 0 }
 
 abbrev pub empty_quarter : Pm10Quarter
-empty_quarter = record { days = 91; scheduled = 15; captured = 0; strata = 0; samples = 0; exceedances = 0; scheduled_exceedances = 0; sixtieths = 0 }
+empty_quarter = record { calendar_days = 91; scheduled = 15; captured = 0; strata = 0; samples = 0; exceedances = 0; scheduled_exceedances = 0; sixtieths = 0 }
 
 abbrev pub quarter_of_exceedances : ℕ → Pm10Quarter
-quarter_of_exceedances n = record { days = 91; scheduled = 15; captured = 15; strata = 15; samples = 15 + n; exceedances = n; scheduled_exceedances = 0; sixtieths = 30 * n }
+quarter_of_exceedances n = record { calendar_days = 91; scheduled = 15; captured = 15; strata = 15; samples = 15 + n; exceedances = n; scheduled_exceedances = 0; sixtieths = 30 * n }
 
 abbrev pub calm_year : List Pm10Quarter
 calm_year = replicate 4 calm_quarter
@@ -166,7 +166,7 @@ empty_load number =
 -- ---- sheets, rows and exports
 
 abbrev pub exceeding_quarter : Pm10Quarter
-exceeding_quarter = record { days = 92; scheduled = 16; captured = 15; strata = 15; samples = 15; exceedances = 1; scheduled_exceedances = 1; sixtieths = 60 }
+exceeding_quarter = record { calendar_days = 92; scheduled = 16; captured = 15; strata = 15; samples = 15; exceedances = 1; scheduled_exceedances = 1; sixtieths = 60 }
 
 abbrev pub reply_without_lines : ℕ → LoadReply
 reply_without_lines number = record { number = number; lines = 0; accepted = 0; refused = 0; listed = []; rest = [] }

@@ -11,7 +11,7 @@ ghost use Rattle.aq_profile.specs.Particles.QuarterCounts.{QuarterDays, pm25_qua
 ghost use Rattle.aq_profile.specs.Particles.Pm10Estimate.{pm10_quarter, pm10_year};
 ghost use Rattle.aq_profile.specs.Particles.AnnualVerdict.{annual_design, annual_dv};
 ghost use Rattle.aq_profile.specs.Particles.DailyVerdict.{daily_design, daily_dv};
-ghost use Rattle.aq_profile.specs.Kept.Summaries.{KeepsOzoneYear, KeepsPm10Quarter, KeepsPm10Year, KeepsPmQuarter, KeepsPmYear, PmQuarter, days_in, eight_greatest, falls, is_sum_within, pm25_summary, summary_of_quarter, summary_of_year};
+ghost use Rattle.aq_profile.specs.Kept.Summaries.{KeepsOzoneYear, KeepsPm10Quarter, KeepsPm10Year, KeepsPmQuarter, KeepsPmYear, PmQuarter, net_days_in, eight_greatest, falls, is_sum_within, pm25_summary, summary_of_quarter, summary_of_year};
 ghost use Rattle.aq_profile.specs.Kept.SummaryVerdicts.{kept_annual_dv, kept_daily_dv};
 
 /// Sums and numbers of values are enough for an annual standard, its tests with their copies too.
@@ -72,7 +72,7 @@ pub fn quarter_summaries_keep_their_facts()
 /// first is the greatest of the quarters.
 pub fn eight_greatest_keep_their_facts()
     ensures falls { (values : List ℤ) → IsTrue (falls (eight_greatest values)) }
-    ensures count { (year : List QuarterDays) → length (eight_greatest (values_in year)) ≡ min 8 (days_in (map summary_of_quarter year)) }
+    ensures count { (year : List QuarterDays) → length (eight_greatest (values_in year)) ≡ min 8 (net_days_in (map summary_of_quarter year)) }
     ensures first { (year : List QuarterDays)
         → slice_get (eight_greatest (values_in year)) 0 ≡ greatest (filter_map (λ (q : PmQuarter). q.greatest) (map summary_of_quarter year)) }
 {}
