@@ -30,6 +30,7 @@ abbrev pub daily_test : Option ℤ → List Bool → Option ℤ → Option ℤ
 daily_test None valid maximum = None
 daily_test (Some value) valid maximum = if are_all valid then None else maximum
 
+-- where a year is not valid, the maximum test decides between Met and Incomplete, whether the value is above the level or not
 abbrev pub daily_verdict : Option ℤ → List Bool → Option ℤ → Verdict
 daily_verdict None valid test = NoValue
 daily_verdict (Some value) valid test =

@@ -22,7 +22,7 @@ exceeds value = int_lt PM10_DAY_LEVEL (in_tens value)
 
 -- ---- what a site has for a quarter
 
--- a quarter's days, its scheduled days and those of them with a sample; its strata with a sample, its samples, and how many exceed, of all and of those on scheduled days; and the sum over the strata of the part of their samples that exceed, in sixtieths. What is excluded is no sample but for `captured`
+-- the days of the calendar quarter, its scheduled days and those of them with a sample; its strata with a sample, its samples, and how many exceed, of all and of those on scheduled days; and the sum over the strata of the part of their samples that exceed, in sixtieths. What is excluded is no sample but for `captured`
 pub record Pm10Quarter : Type 0 where
   pub calendar_days : ℕ
   pub scheduled : ℕ
@@ -84,7 +84,7 @@ quarter_estimate q =
     if q.strata == 0 then None
     else Some (half_up (pos (100 * q.calendar_days * q.sixtieths)) (pos (60 * q.strata)))
 
--- the lower estimate of a quarter, in hundredths: as if no scheduled day without a sample exceeded, and 0 where nothing is scheduled (own)
+-- the lower estimate of a quarter, in hundredths: its days times the exceedances on scheduled days that are not excluded, over the scheduled days; 0 where nothing is scheduled (own)
 abbrev pub quarter_lower : Pm10Quarter → Option ℤ
 quarter_lower q =
     if q.scheduled == 0 then Some (pos 0)

@@ -30,3 +30,15 @@ returns-clause-not_sampled c = refl
 pub returns-clause-scheduled_a_week_later : goal.returns-clause-scheduled_a_week_later
 unfolding days_of_years days_of_months excluded primary_on is_eligible eligible_pocs monitor_day site_day is_scheduled
 returns-clause-scheduled_a_week_later c = refl
+
+pub returns-clause-before_the_next : goal.returns-clause-before_the_next
+unfolding days_of_years days_of_months excluded primary_on is_eligible eligible_pocs monitor_day site_day is_scheduled
+returns-clause-before_the_next c = refl
+
+pub returns-clause-behind_the_next : goal.returns-clause-behind_the_next
+unfolding days_of_years days_of_months excluded primary_on is_eligible eligible_pocs monitor_day site_day is_scheduled
+returns-clause-behind_the_next c = refl
+
+pub returns-clause-week_behind_the_next : goal.returns-clause-week_behind_the_next
+unfolding days_of_years days_of_months excluded primary_on is_eligible eligible_pocs monitor_day site_day is_scheduled
+returns-clause-week_behind_the_next c = refl
