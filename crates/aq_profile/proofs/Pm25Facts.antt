@@ -9,9 +9,8 @@ use Rattle.std.proofs.lemmas.List.{length-take}
 use Rattle.std.proofs.lemmas.List.Concat.{length-flat_map}
 use Rattle.std.proofs.lemmas.Bool.Decides.{nat_tests}
 use Rattle.std.proofs.Math.IntN.{suc_ℤ-*ℤ, *ℤ_comm, *ℤ-zero}
-use Rattle.aq_profile.specs.Lists.{total, greatest, ranked, ranked_in}
+use Rattle.aq_profile.specs.Lists.{least, total, greatest, ranked, ranked_in}
 use Rattle.aq_profile.specs.Particles.QuarterCounts.{QuarterDays, values_in}
-use Rattle.aq_profile.specs.Particles.Substitution.{least}
 use Rattle.aq_profile.specs.Kept.Summaries.{PmQuarter, days_in, eight_greatest, falls, is_sum_within, summary_of_quarter}
 use Rattle.aq_profile.proofs.Sums.{total-cons, lesser_of, greater_of, least-some, greatest-some, greatest-of_lists}
 use Rattle.aq_profile.proofs.Descent.{Descends, ranked-descends, length-ranked}

@@ -20,14 +20,13 @@ use Rattle.aq_base.specs.declared.observation.ObsKey.{ObsKey}
 use Rattle.aq_base.specs.declared.observation.Observation.{Observation}
 use Rattle.aq_profile.specs.Lines.Spellings.{is_in_range}
 use Rattle.aq_profile.specs.Office.Office.{Office, IsOffice, is_measured, is_content, fits_monitors}
-use Rattle.aq_profile.specs.Lists.{total, greatest, ranked, ranked_in}
+use Rattle.aq_profile.specs.Lists.{least, total, greatest, ranked, ranked_in}
 use Rattle.aq_profile.specs.Office.Monitors.{is_same_site, is_same_pollutant, is_same_monitor}
 use Rattle.aq_profile.specs.Office.Exclusion.{excluded}
 use Rattle.aq_profile.specs.Office.Designation.{primary_on}
 use Rattle.aq_profile.specs.Ozone.SiteHour.{Cell, Sample, mean_of, chosen, is_of_poc}
 use Rattle.aq_profile.specs.Particles.ParticleDay.{Sampler, starts_on, cell_of, mean_or_high_sum, day_value, day_cell, monitor_day, sample_on, samples_on, samplers_of, site_day, net_day, unless_excluded}
 use Rattle.aq_profile.specs.Particles.QuarterCounts.{days_of_quarter, quarter_counts, pm25_quarter, quarter_values, quarters_of, pm25_year, values_in}
-use Rattle.aq_profile.specs.Particles.Substitution.{least}
 use Rattle.aq_profile.specs.Kept.Summaries.{is_value, PmQuarter, KeepsPmQuarter, KeepsPmYear, eight_greatest, summary_of_quarter, pm25_summary}
 use Rattle.aq_profile.proofs.Sameness.{same_pollutant}
 use Rattle.aq_profile.proofs.Sums.{total-cons, lesser_of, greater_of, least-some, greatest-some}

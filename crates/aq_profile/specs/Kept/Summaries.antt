@@ -7,10 +7,9 @@ use Rattle.aq_base.specs.declared.monitor.Pollutant.{Pollutant}
 use Rattle.aq_base.specs.declared.monitor.Pollutant.TheVariants.{Ozone, Pm25}
 use Rattle.aq_profile.specs.Office.Office.{Office}
 use Rattle.aq_profile.specs.Lines.Spellings.{is_in_range}
-use Rattle.aq_profile.specs.Lists.{total, greatest, ranked}
+use Rattle.aq_profile.specs.Lists.{total, least, greatest, ranked}
 use Rattle.aq_profile.specs.Ozone.OzoneYear.{OzoneYear}
 use Rattle.aq_profile.specs.Particles.QuarterCounts.{QuarterCounts, QuarterDays, pm25_year, values_in}
-use Rattle.aq_profile.specs.Particles.Substitution.{least}
 use Rattle.aq_profile.specs.Particles.Pm10Estimate.{Pm10Quarter}
 
 -- a value, where there is one, is in its pollutant's range

@@ -6,12 +6,11 @@ use Rattle.aq_base.specs.Decimal.{half_up}
 use Rattle.aq_base.specs.Site.{Site}
 use Rattle.aq_base.specs.declared.monitor.Pollutant.TheVariants.{Pm10}
 use Rattle.aq_profile.specs.Office.Office.{Office}
-use Rattle.aq_profile.specs.Lists.{total}
+use Rattle.aq_profile.specs.Lists.{total, all_of}
 use Rattle.aq_profile.specs.Standards.{PM10_DAY_LEVEL}
 use Rattle.aq_profile.specs.Particles.ParticleDay.{net_day}
 use Rattle.aq_profile.specs.Particles.QuarterCounts.{scheduled_days, is_sampled, quarters_of}
 use Rattle.aq_profile.specs.Particles.Strata.{strata_of}
-use Rattle.aq_profile.specs.Particles.Substitution.{all_of}
 
 -- a value in tenths, rounded to the nearest 10 µg/m3 (Appendix K, 1.0(b)), in tens
 abbrev pub in_tens : ℤ → ℤ

@@ -5,9 +5,8 @@ use Rattle.aq_base.specs.Site.{Site}
 use Rattle.aq_base.specs.declared.standard.Standard.TheVariants.{Pm10Of1987}
 use Rattle.aq_base.specs.declared.standard.Verdict.{Verdict}
 use Rattle.aq_base.specs.declared.standard.Verdict.TheVariants.{Met, NotMet, Incomplete, NoValue}
-use Rattle.aq_profile.specs.Standards.{level_of, is_above}
+use Rattle.aq_profile.specs.Standards.{level_of, years_to, is_above}
 use Rattle.aq_profile.specs.Office.Office.{Office}
-use Rattle.aq_profile.specs.Particles.QuarterCounts.{years_to}
 use Rattle.aq_profile.specs.Particles.Pm10Estimate.{Pm10Quarter, pm10_year, quarter_estimate, quarter_lower, mean_of_years}
 
 -- three quarters of the scheduled days have a sample

@@ -92,10 +92,6 @@ pm25_quarter office site quarter = record { counts = quarter_counts office site 
 abbrev pub quarters_of : ℕ → List ℕ
 quarters_of year = map (quarter_number year) (0 ∷ 1 ∷ 2 ∷ 3 ∷ [])
 
--- the three years that end with `year`, the oldest first
-abbrev pub years_to : ℕ → List ℕ
-years_to year = (year - 2) ∷ (year - 1) ∷ year ∷ []
-
 unfoldable pub pm25_year : Office → Site → ℕ → List QuarterDays
 pm25_year office site year = map (pm25_quarter office site) (quarters_of year)
 

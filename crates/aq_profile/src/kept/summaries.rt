@@ -4,11 +4,11 @@
 ghost use Rattle.std.specs.Prelude.{◌≡◌, ℕ, List, ℤ, pos, map, filter_map, length, min, slice_get, nat_le, is_some, IsTrue, All};
 ghost use Rattle.aq_base.specs.Site.{Site};
 ghost use Rattle.aq_profile.specs.Office.Office.{IsOffice, Office};
-ghost use Rattle.aq_profile.specs.Lists.{greatest, total};
+ghost use Rattle.aq_profile.specs.Standards.{years_to};
+ghost use Rattle.aq_profile.specs.Lists.{greatest, least, total};
 ghost use Rattle.aq_profile.specs.Ozone.OzoneYear.{ozone_year};
-ghost use Rattle.aq_profile.specs.Particles.QuarterCounts.{QuarterDays, pm25_quarter, values_in, years_to};
+ghost use Rattle.aq_profile.specs.Particles.QuarterCounts.{QuarterDays, pm25_quarter, values_in};
 ghost use Rattle.aq_profile.specs.Particles.Pm10Estimate.{pm10_quarter, pm10_year};
-ghost use Rattle.aq_profile.specs.Particles.Substitution.{least};
 ghost use Rattle.aq_profile.specs.Particles.AnnualVerdict.{annual_design, annual_dv};
 ghost use Rattle.aq_profile.specs.Particles.DailyVerdict.{daily_design, daily_dv};
 ghost use Rattle.aq_profile.specs.Kept.Summaries.{KeepsOzoneYear, KeepsPm10Quarter, KeepsPm10Year, KeepsPmQuarter, KeepsPmYear, PmQuarter, days_in, eight_greatest, falls, is_sum_within, pm25_summary, summary_of_quarter, summary_of_year};

@@ -1,12 +1,15 @@
 //! The verdict on an annual PM2.5 standard, with its substitution tests, worked out.
 #![tactic(auto)]
 
-ghost use Rattle.std.specs.Prelude.{◌≡◌, true, false, ◌∷◌, [], replicate, Some, None, pos};
+ghost use Rattle.std.specs.Prelude.{◌≡◌, true, false, List, ◌∷◌, [], length, replicate, sum_by, Some, None, pos};
 ghost use Rattle.aq_base.specs.declared.standard.Verdict.TheVariants.{Met, NotMet, Incomplete, NoValue};
-ghost use Rattle.aq_profile.specs.Particles.QuarterCounts.{capture};
+ghost use Rattle.aq_profile.specs.Particles.QuarterCounts.{QuarterDays, values_in};
+ghost use Rattle.aq_profile.specs.Particles.YearParts.{of_values};
+ghost use Rattle.aq_profile.specs.Particles.Substitution.{maximum_copies, maximum_for, minimum_copies, minimum_for};
 ghost use Rattle.aq_profile.specs.Particles.AnnualVerdict.{annual_dv};
 ghost use Rattle.aq_base.specs.declared.standard.Standard.TheVariants.{Annual2012};
 ghost use Rattle.aq_profile.specs.Standards.{level_of};
+ghost use Rattle.aq_profile.specs.Lists.{greatest, least};
 ghost use Rattle.aq_profile.specs.Particles.ParticleExamples.{daily_year, even_quarter, with_low_day, year_above_360, year_with_second};
 
 /// Thirty values with a sum of 361.5 in each quarter give 12.05, which rounds to 12.1 and does not
@@ -40,4 +43,14 @@ pub fn minimum_test_needs_thirty_days()
 pub fn empty_quarter_leaves_no_value()
     ensures { annual_dv (level_of Annual2012) (year_with_second (even_quarter 30 0 0) ∷ year_with_second with_low_day ∷ year_with_second with_low_day ∷ [])
         ≡ record { value = None; test = None; valid = false ∷ true ∷ true ∷ []; verdict = NoValue } }
+{}
+
+/// The value of which a quarter gets copies is the least one, and the greatest one, of all days of its
+/// calendar quarter in the three years.
+pub fn copies_are_of_the_least_and_the_greatest_value()
+    ensures minimum { (quarter : QuarterDays) (three : List QuarterDays)
+        → minimum_for of_values (quarter, three)
+        ≡ minimum_copies quarter.counts (sum_by (λ (q : QuarterDays). length q.values) three) (least (values_in three)) }
+    ensures maximum { (quarter : QuarterDays) (three : List QuarterDays)
+        → maximum_for of_values (quarter, three) ≡ maximum_copies quarter.counts (greatest (values_in three)) }
 {}
