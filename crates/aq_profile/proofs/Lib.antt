@@ -56,3 +56,5 @@ pub mod SheetCells
 pub mod WellFormed
 pub mod WellFormedOzone
 pub mod WellFormedQuarters
+pub mod WellFormedValues
+pub mod MembersOnce
