@@ -72,3 +72,5 @@ pub mod ValidReplies
 pub mod ValidLoads
 pub mod BatchOrder
 pub mod BatchAlters
+pub mod WellFormedValues
+pub mod MembersOnce

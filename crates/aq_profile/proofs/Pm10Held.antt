@@ -9,14 +9,12 @@ use Rattle.std.proofs.lemmas.List.{length-map}
 use Rattle.std.proofs.lemmas.List.Sums.{sum_by-cons}
 use Rattle.std.proofs.Math.Nat.{mul-le-mul}
 use Rattle.aq_base.specs.Decimal.{half_up}
-use Rattle.aq_profile.specs.Lists.{total}
+use Rattle.aq_profile.specs.Lists.{total, all_of}
 use Rattle.aq_profile.specs.Kept.Summaries.{KeepsPm10Quarter, KeepsPm10Year}
 use Rattle.aq_profile.specs.Particles.Pm10Estimate.{Pm10Quarter, quarter_estimate, quarter_lower, year_of_quarters, mean_of_years}
 use Rattle.aq_profile.specs.Particles.Pm10Verdict.{exceedances_in}
-use Rattle.aq_profile.specs.Particles.Substitution.{all_of}
 use Rattle.aq_profile.proofs.Spans.{Every}
-use Rattle.aq_profile.proofs.KeptDaily.{all_of-length}
-use Rattle.aq_profile.proofs.Held.{Held, IfHeld, if_held-wider, half_up-held, total-held, all_of-every}
+use Rattle.aq_profile.proofs.Held.{Held, IfHeld, if_held-wider, half_up-held, total-held, all_of-every, all_of-length}
 
 -- days * part ≤ 92 * whole, in hundredths
 few_days : (days part whole : ℕ) → days ≤ 92 → part ≤ whole → 100 * days * part ≤ 9200 * whole

@@ -320,7 +320,7 @@ all_in_range : (values : List ℤ) → Every InRange values → list_all (is_in_
 all_in_range [] every = refl
 all_in_range (v ∷ vs) every = let h = to_test v every.0 in rw h (all_in_range vs every.1)
 
-pub every-append : (xs ys : List ℤ) → Every InRange xs → Every InRange ys → Every InRange (xs ++ ys)
+every-append : (xs ys : List ℤ) → Every InRange xs → Every InRange ys → Every InRange (xs ++ ys)
 every-append [] ys every more = more
 every-append (x ∷ xs) ys every more = (every.0, every-append xs ys every.1 more)
 
