@@ -9,7 +9,7 @@ ghost use Rattle.aq_profile.specs.Office.OfficeExamples.{west, east, noon, plain
 
 /// A monitor that is not eligible gives no hour and no day, beside others or alone, though another
 /// site's or pollutant's monitor with its POC does.
-#[tactic(auto, unfolding(crate::specs::Office::Monitors::is_eligible, crate::specs::Office::Exclusion::excluded, crate::specs::Office::Designation::primary_on, crate::specs::Ozone::SiteHour::site_hour, crate::specs::Particles::ParticleDay::samplers_of, crate::specs::Particles::ParticleDay::monitor_day, crate::specs::Particles::ParticleDay::site_day, aq_base::specs::Calendar::days_of_years, aq_base::specs::Calendar::days_of_months))]
+#[tactic(auto, unfolding(crate::specs::Office::Monitors::is_eligible, crate::specs::Office::Exclusion::excluded, crate::specs::Office::Designation::primary_on, crate::specs::Ozone::SiteHour::site_hour, crate::specs::Particles::ParticleDay::eligible_pocs, crate::specs::Particles::ParticleDay::monitor_day, crate::specs::Particles::ParticleDay::site_day, aq_base::specs::Calendar::days_of_years, aq_base::specs::Calendar::days_of_months))]
 pub fn ineligible_monitors_do_not_count()
     ensures hour { site_hour (watched (measured west Ozone 1 40 [] noon ∷ measured west Ozone 2 90 [] noon ∷ measured west Ozone 3 43 [] noon ∷ [])) west noon ≡ Some (record { value = pos 41; excluded = false }) }
     ensures no_hour { site_hour (watched (measured west Ozone 2 90 [] noon ∷ [])) west noon ≡ None }
@@ -23,7 +23,7 @@ pub fn ineligible_monitors_do_not_count()
 
 /// One excluded hour of two monitors excludes their mean, one excluded hour of eighteen the day of
 /// its monitor, and that day the mean of the monitors' days. The values stay what they are.
-#[tactic(auto, unfolding(crate::specs::Office::Monitors::is_eligible, crate::specs::Office::Exclusion::excluded, crate::specs::Office::Designation::primary_on, crate::specs::Ozone::SiteHour::site_hour, crate::specs::Particles::ParticleDay::samplers_of, crate::specs::Particles::ParticleDay::monitor_day, crate::specs::Particles::ParticleDay::site_day, aq_base::specs::Calendar::days_of_years, aq_base::specs::Calendar::days_of_months))]
+#[tactic(auto, unfolding(crate::specs::Office::Monitors::is_eligible, crate::specs::Office::Exclusion::excluded, crate::specs::Office::Designation::primary_on, crate::specs::Ozone::SiteHour::site_hour, crate::specs::Particles::ParticleDay::eligible_pocs, crate::specs::Particles::ParticleDay::monitor_day, crate::specs::Particles::ParticleDay::site_day, aq_base::specs::Calendar::days_of_years, aq_base::specs::Calendar::days_of_months))]
 pub fn one_excluded_value_excludes_the_mean()
     ensures hour { site_hour (watched (measured west Ozone 1 40 (smoke ∷ []) noon ∷ measured west Ozone 3 43 [] noon ∷ [])) west noon ≡ Some (record { value = pos 41; excluded = true }) }
     ensures other_hour { site_hour (watched (measured west Ozone 1 40 [] noon ∷ measured west Ozone 3 43 (smoke ∷ []) noon ∷ [])) west noon ≡ Some (record { value = pos 41; excluded = true }) }
@@ -35,7 +35,7 @@ pub fn one_excluded_value_excludes_the_mean()
 
 /// Where the primary has a value it is the site's, excluded or not, whatever the others are. Where it
 /// has none, or a null code, theirs count.
-#[tactic(auto, unfolding(crate::specs::Office::Monitors::is_eligible, crate::specs::Office::Exclusion::excluded, crate::specs::Office::Designation::primary_on, crate::specs::Ozone::SiteHour::site_hour, crate::specs::Particles::ParticleDay::samplers_of, crate::specs::Particles::ParticleDay::monitor_day, crate::specs::Particles::ParticleDay::site_day, aq_base::specs::Calendar::days_of_years, aq_base::specs::Calendar::days_of_months))]
+#[tactic(auto, unfolding(crate::specs::Office::Monitors::is_eligible, crate::specs::Office::Exclusion::excluded, crate::specs::Office::Designation::primary_on, crate::specs::Ozone::SiteHour::site_hour, crate::specs::Particles::ParticleDay::eligible_pocs, crate::specs::Particles::ParticleDay::monitor_day, crate::specs::Particles::ParticleDay::site_day, aq_base::specs::Calendar::days_of_years, aq_base::specs::Calendar::days_of_months))]
 pub fn primary_stands_with_its_own_exclusion()
     ensures excluded { site_hour (designated (measured west Ozone 1 40 [] noon ∷ measured west Ozone 3 43 (smoke ∷ []) noon ∷ [])) west noon ≡ Some (record { value = pos 43; excluded = true }) }
     ensures beside_excluded { site_hour (designated (measured west Ozone 1 40 (smoke ∷ []) noon ∷ measured west Ozone 3 43 [] noon ∷ [])) west noon ≡ Some (record { value = pos 43; excluded = false }) }
