@@ -157,7 +157,7 @@ module _ (office : Office) (all : AllSpelled office) where
 
 -- ---- the batch
 
-every-All : {X : Type 0} (P : X → Type 0) (xs : List X) → Every P xs → All P xs
+pub every-All : {X : Type 0} (P : X → Type 0) (xs : List X) → Every P xs → All P xs
 every-All P [] every = All-nil P
 every-All P (x ∷ xs) every = All-cons P x xs every.0 (every-All P xs every.1)
 

@@ -1,6 +1,6 @@
 -- The changes of a load stand in the order of tables and keys, none at one key.
-use Rattle.std.proofs.Common.{◌≡◌, ℕ, ◌<◌, Bool, true, false, cond, ◌&&◌, ◌||◌, List, [], ◌∷◌, ◌++◌, map, refl, ◌∙◌, arith}
-use Rattle.std.specs.Prelude.{Option, Some, None, filter_map, nat_lt, ◌==◌}
+use Rattle.std.proofs.Common.{append-nil, ◌≡◌, ℕ, ◌<◌, ◌≤◌, Bool, true, false, cond, ◌&&◌, ◌||◌, List, [], ◌∷◌, ◌++◌, map, refl, ◌∙◌, arith, ap, sym}
+use Rattle.std.specs.Prelude.{Option, Some, None, All, filter_map, nat_lt, ◌==◌}
 use Rattle.std.specs.List.{cons_option}
 use Rattle.std.proofs.lemmas.Bool.Decides.{nat_tests}
 use Rattle.aq_base.specs.declared.observation.ObsKey.{ObsKey}
@@ -8,7 +8,7 @@ use Rattle.aq_base.specs.declared.observation.Observation.{Observation}
 use Rattle.aq_base.specs.declared.office.OfficeRecord.{OfficeRecord}
 use Rattle.aq_base.specs.declared.office.OfficeKey.{OfficeKey}
 use Rattle.aq_profile.specs.Lines.Lines.{body_lines}
-use Rattle.aq_profile.specs.Office.Office.{Office, StoredLoad, IsOffice, comes_before, key_of, key_numbers, observation_numbers, observation_key, record_rank, rises, rises_from, record_at, observation_at}
+use Rattle.aq_profile.specs.Office.Office.{Office, StoredLoad, IsOffice, comes_before, key_of, key_numbers, observation_numbers, observation_key, record_rank, observation_rank, rises, rises_from, record_at, observation_at}
 use Rattle.aq_profile.specs.Office.Load.{OfficeChange, PutRecord, DropRecord, PutObservation, DropObservation, PutLoad, is_same_record, is_same_content, record_change, observation_change, record_changes, observation_changes, keys_of_either, load_change, batch, stored, after_all}
 use Rattle.aq_profile.specs.Kept.RowChanges.{key_before, keys_rise, keys_rise_from, changed_key, row_change, row_batch}
 use Rattle.aq_profile.proofs.Least.{both}
@@ -18,6 +18,7 @@ use Rattle.aq_profile.proofs.Rising.{before-trans}
 use Rattle.aq_profile.proofs.RowOrder.{office-agree, obs-agree, load-agree}
 use Rattle.aq_profile.proofs.BatchDone.{HasKey, found-key}
 use Rattle.aq_profile.proofs.Changes.{either-rises, keys-rise}
+use Rattle.aq_profile.proofs.BatchAlters.{every-All}
 use Rattle.aq_profile.proofs.RowBatch.{IfOne, IsSpelledChange, record-key, batch-spelled, every-append}
 
 -- a change's table and its key as numbers
@@ -195,39 +196,86 @@ rows-rise : (changes : List OfficeChange) → Every IsSpelledChange changes → 
 rows-rise [] every = refl
 rows-rise (c ∷ changes) every = rows-from c changes every.0 every.1
 
+module _ (before now : Office) where
+  abbrev office_keys : List OfficeKey
+  office_keys = keys_of_either key_numbers (map key_of before.records) (map key_of now.records)
+
+  abbrev places : List ObsKey
+  places = keys_of_either observation_numbers (map observation_key before.observations) (map observation_key now.observations)
+
+  abbrev change_of_record : OfficeKey → Option OfficeChange
+  change_of_record k = record_change k (record_at before k) (record_at now k)
+
+  abbrev change_of_observation : ObsKey → Option OfficeChange
+  change_of_observation k = observation_change k (observation_at before k) (observation_at now k)
+
+  record-ats : (k : OfficeKey) → IfOne (At 0 (key_numbers k)) (change_of_record k)
+  record-ats k = record-at k (record_at before k) (record_at now k) (found-key record_rank (key_numbers k) now.records)
+
+  observation-ats : (k : ObsKey) → IfOne (At 1 (observation_numbers k)) (change_of_observation k)
+  observation-ats k = observation-at k (observation_at before k) (observation_at now k)
+
+  record-tables : Every (λ c. table c ≡ 0) (record_changes before now)
+  record-tables = all-in_table key_numbers 0 change_of_record record-ats office_keys
+
+  observation-tables : Every (λ c. table c ≡ 1) (observation_changes before now)
+  observation-tables = all-in_table observation_numbers 1 change_of_observation observation-ats places
+
+  records-rise : rises record_rank before.records ≡ true → rises rank (record_changes before now) ≡ true
+  records-rise rise =
+      changes-rise key_numbers 0 change_of_record record-ats office_keys
+      (either-rises key_numbers (map key_of before.records) (map key_of now.records) (keys-rise key_of key_numbers before.records rise))
+
+  observations-rise : rises observation_rank before.observations ≡ true → rises rank (observation_changes before now) ≡ true
+  observations-rise rise =
+      changes-rise observation_numbers 1 change_of_observation observation-ats places
+      (either-rises observation_numbers (map observation_key before.observations) (map observation_key now.observations) (keys-rise observation_key observation_numbers before.observations rise))
+
 module _ (office : Office) (valid : IsOffice office) (number : ℕ) (digest body : List ℕ) where
   abbrev now : Office
   now = after_all office (body_lines body)
 
   batch-rises : rises rank (batch office number digest body) ≡ true
   batch-rises =
-      let record_ats : (k : OfficeKey) → IfOne (At 0 (key_numbers k)) (record_change k (record_at office k) (record_at now k)) =
-      λ k. record-at k (record_at office k) (record_at now k) (found-key record_rank (key_numbers k) now.records)
-      in
-      let observation_ats : (k : ObsKey) → IfOne (At 1 (observation_numbers k)) (observation_change k (observation_at office k) (observation_at now k)) =
-      λ k. observation-at k (observation_at office k) (observation_at now k)
-      in
-      let office_keys = keys_of_either key_numbers (map key_of office.records) (map key_of now.records) in
-      let places = keys_of_either observation_numbers (map observation_key office.observations) (map observation_key now.observations) in
       let rs = record_changes office now in
       let os = observation_changes office now in
       let ls = load_change (stored office number digest body) in
-      let record_rises : rises rank rs ≡ true =
-      changes-rise key_numbers 0 (λ k. record_change k (record_at office k) (record_at now k)) record_ats office_keys
-      (either-rises key_numbers (map key_of office.records) (map key_of now.records) (keys-rise key_of key_numbers office.records valid.keys_rise.records))
-      in
-      let observation_rises : rises rank os ≡ true =
-      changes-rise observation_numbers 1 (λ k. observation_change k (observation_at office k) (observation_at now k)) observation_ats places
-      (either-rises observation_numbers (map observation_key office.observations) (map observation_key now.observations) (keys-rise observation_key observation_numbers office.observations valid.keys_rise.observations))
-      in
-      let record_tables : Every (λ c. table c ≡ 0) rs = all-in_table key_numbers 0 (λ k. record_change k (record_at office k) (record_at now k)) record_ats office_keys in
-      let observation_tables : Every (λ c. table c ≡ 1) os = all-in_table observation_numbers 1 (λ k. observation_change k (observation_at office k) (observation_at now k)) observation_ats places in
       let load_tables = load-in_table (number == 0) (stored office number digest body) in
       rises-append (rs ++ os) ls
-      (rises-append rs os record_rises observation_rises (all-before 0 1 (omega arith) rs os record_tables observation_tables))
+      (rises-append rs os (records-rise office now valid.keys_rise.records) (observations-rise office now valid.keys_rise.observations)
+      (all-before 0 1 (omega arith) rs os (record-tables office now) (observation-tables office now)))
       (load-rises (number == 0) (stored office number digest body))
-      (every-append (BeforeAll ls) rs os (all-before 0 2 (omega arith) rs ls record_tables load_tables) (all-before 1 2 (omega arith) os ls observation_tables load_tables))
+      (every-append (BeforeAll ls) rs os (all-before 0 2 (omega arith) rs ls (record-tables office now) load_tables) (all-before 1 2 (omega arith) os ls (observation-tables office now) load_tables))
 
   pub batch-in_order : keys_rise (map changed_key (row_batch office number digest body)) ≡ true
   unfolding row_batch
   batch-in_order = rows-rise (batch office number digest body) (batch-spelled office valid number digest body) ∙ batch-rises
+
+-- ---- the load's own row
+
+module _ (office : Office) (digest body : List ℕ) where
+  abbrev changed : List OfficeChange
+  changed = record_changes office (after_all office (body_lines body)) ++ observation_changes office (after_all office (body_lines body))
+
+  pub load-last : (number : ℕ) → 1 ≤ number → batch office number digest body ≡ batch office 0 digest body ++ PutLoad (stored office number digest body) ∷ []
+  load-last number h =
+      let is : (number == 0) ≡ false = grind (arith, nat_tests) in
+      ap (λ b. changed ++ cond b [] (PutLoad (stored office number digest body) ∷ [])) is
+      ∙ ap (λ l. l ++ PutLoad (stored office number digest body) ∷ []) (sym (append-nil changed))
+
+  abbrev IsNoLoad : OfficeChange → Type 0
+  IsNoLoad change = (load : StoredLoad) → change ≡ PutLoad load → ⊥
+
+  no-load : (t : ℕ) → (t ≡ 2 → ⊥) → (changes : List OfficeChange) → Every (λ c. table c ≡ t) changes → Every IsNoLoad changes
+  no-load t other [] every = tt
+  no-load t other (c ∷ changes) every = ((λ load is. other (sym every.0 ∙ ap table is)), no-load t other changes every.1)
+
+  pub load-none : All IsNoLoad (batch office 0 digest body)
+  load-none =
+      let later = after_all office (body_lines body) in
+      every-All IsNoLoad (batch office 0 digest body)
+      (every-append IsNoLoad changed []
+      (every-append IsNoLoad (record_changes office later) (observation_changes office later)
+      (no-load 0 (λ e. omega (arith, e)) (record_changes office later) (record-tables office later))
+      (no-load 1 (λ e. omega (arith, e)) (observation_changes office later) (observation-tables office later)))
+      tt)
