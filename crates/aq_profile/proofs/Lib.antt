@@ -63,3 +63,10 @@ pub mod SheetCells
 pub mod WellFormed
 pub mod WellFormedOzone
 pub mod WellFormedQuarters
+pub mod Changes
+pub mod BatchDone
+pub mod SpelledOffice
+pub mod RowOrder
+pub mod RowBatch
+pub mod ValidReplies
+pub mod ValidLoads

@@ -165,7 +165,7 @@ KeysRise-after office line rise =
     KeysRise-if (is_some (refusal office line)) office (changed_by office (line_value line)) rise
     (KeysRise-changed_by office (line_value line) rise)
 
-KeysRise-after_all : (office : Office) (lines : List NumberedLine) → KeysRise office → KeysRise (after_all office lines)
+pub KeysRise-after_all : (office : Office) (lines : List NumberedLine) → KeysRise office → KeysRise (after_all office lines)
 KeysRise-after_all office [] rise = rise
 KeysRise-after_all office (line ∷ lines) rise = KeysRise-after_all (after office line.text) lines (KeysRise-after office line.text rise)
 

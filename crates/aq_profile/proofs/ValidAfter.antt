@@ -81,7 +81,7 @@ none_of_four p a b c d h =
     let rest = none_of_three p b c d first.1 in
     (first.0, rest.0, rest.1, rest.2)
 
-less : (n m : ℕ) → nat_le m n ≡ false → n < m
+pub less : (n m : ℕ) → nat_le m n ≡ false → n < m
 less n m h = grind (arith, nat_tests)
 
 -- ---- a record that stands alone in its group

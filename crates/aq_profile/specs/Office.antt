@@ -10,3 +10,4 @@ pub mod QuestionExamples
 pub mod Exclusion
 pub mod Refusal
 pub mod Load
+pub mod OfficeExamples

@@ -1,5 +1,5 @@
 //! What a load makes of an office.
-ghost use Rattle.std.specs.Prelude.{◌≡◌, ◌↔◌, IsTrue, ℕ, ◌<◌, ◌≤◌, ◌∷◌, [], List, length, Some, None, codes, pos, true, map};
+ghost use Rattle.std.specs.Prelude.{◌≡◌, ◌↔◌, IsTrue, ℕ, ◌<◌, ◌≤◌, ◌∷◌, [], List, length, Some, None, codes, pos, true, map, fold};
 ghost use Rattle.std.specs.List.{range_with_len};
 ghost use Rattle.aq_base.specs.declared.monitor.Duration.TheVariants.{Hour};
 ghost use Rattle.aq_base.specs.declared.observation.Observation.{Observation};
@@ -9,7 +9,7 @@ ghost use Rattle.aq_base.specs.declared.office.OfficeKey.TheVariants.{Event as E
 ghost use Rattle.aq_base.specs.declared.rule.Rule.TheVariants.{AlreadyThere, BadTag, NotThere};
 ghost use Rattle.aq_profile.specs.Office.Office.{Office, StoredLoad, KeysRise, load_at, nothing};
 ghost use Rattle.aq_base.specs.declared.rule.Rule.{Rule};
-ghost use Rattle.aq_profile.specs.Office.Load.{reply, reply_for, rest_of, load, decide, decision_of, posted, post, batch, refusal, after, Repeat, Conflict, New, TooManyLines, Repeated, Differing, NoRoom, Taken, is_same_record, is_same_content, PutLoad, PutObservation, DropRecord, record_changes};
+ghost use Rattle.aq_profile.specs.Office.Load.{reply, reply_for, rest_of, load, decide, decision_of, posted, post, batch, with_change, refusal, after, Repeat, Conflict, New, TooManyLines, Repeated, Differing, NoRoom, Taken, is_same_record, is_same_content, PutLoad, PutObservation, DropRecord, record_changes};
 ghost use Rattle.aq_profile.specs.Lines.Lines.{line_count};
 ghost use Rattle.aq_profile.specs.Lines.LineExamples.{one_monitor, one_hour, one_sample, three_lines, hour_key, valued, noon, ozone_monitor, agreed_event, refused_lines, digest_a, digest_b};
 
@@ -90,6 +90,11 @@ pub fn a_known_number_changes_nothing()
 pub fn sameness_of_rows_is_equality()
     ensures records { (a b : OfficeRecord) → IsTrue (is_same_record a b) ↔ (a ≡ b) }
     ensures observations { (a b : Observation) → IsTrue (is_same_content a b) ↔ (a ≡ b) }
+{}
+
+/// The batch of a load, done to the office change by change, gives the office after the load.
+pub fn the_batch_gives_the_office_after()
+    ensures { (office : Office) (number : ℕ) (digest body : List ℕ) → KeysRise office → fold with_change office (batch office number digest body) ≡ load office number digest body }
 {}
 
 /// The keys of each list stay in rising order, so none stands twice.

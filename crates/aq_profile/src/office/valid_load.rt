@@ -4,7 +4,7 @@ ghost use Rattle.std.specs.List.{list_all};
 ghost use Rattle.aq_profile.specs.Limits.{LAST_LOAD_NUMBER, MOST_LINES};
 ghost use Rattle.aq_profile.specs.Lines.Lines.{NumberedLine, line_count};
 ghost use Rattle.aq_profile.specs.Office.Office.{IsOffice, Office, nothing};
-ghost use Rattle.aq_profile.specs.Office.Load.{New, after, after_all, decide, load};
+ghost use Rattle.aq_profile.specs.Office.Load.{New, after, after_all, decide, load, post};
 
 /// An agency begins with a valid office.
 pub fn an_office_of_nothing_is_valid()
@@ -16,4 +16,12 @@ pub fn an_office_of_nothing_is_valid()
 pub fn lines_leave_the_office_valid()
     ensures line { (office : Office) (line : List ℕ) → IsOffice office → IsOffice (after office line) }
     ensures lines { (office : Office) (lines : List NumberedLine) → IsOffice office → IsOffice (after_all office lines) }
+{}
+
+/// A load leaves a valid office valid, with its own row in order: the number and the digest that it
+/// was sent with, and a reply whose listed lines rise and whose counts add up.
+pub fn loads_leave_the_office_valid()
+    ensures kept { (office : Office) (number : ℕ) (digest body : List ℕ) → IsOffice office → 1 ≤ number → number ≤ LAST_LOAD_NUMBER → length digest ≡ 32 → IsTrue (list_all (λ byte. nat_lt byte 256) digest) → line_count body ≤ MOST_LINES → decide office number digest ≡ New → IsOffice (load office number digest body) }
+    ensures not_kept { (office : Office) (digest body : List ℕ) → IsOffice office → IsOffice (load office 0 digest body) }
+    ensures posted { (office : Office) (number : ℕ) (digest body : List ℕ) → IsOffice office → 1 ≤ number → number ≤ LAST_LOAD_NUMBER → length digest ≡ 32 → IsTrue (list_all (λ byte. nat_lt byte 256) digest) → IsOffice (post office number digest body) }
 {}
