@@ -58,3 +58,4 @@ pub mod RowOrder
 pub mod RowBatch
 pub mod BatchOrder
 pub mod BatchAlters
+pub mod MoreLoads

@@ -57,6 +57,7 @@ pub fn full_lists()
     ensures known_site { refusal (many_sites 256) (codes "XM|I|99|001|0256|44201|2|1|Y") ≡ None }
     ensures room_for_site { refusal (many_sites 255) (codes "XM|I|06|037|1103|44201|1|1|Y") ≡ None }
     ensures monitors { refusal (many_monitors 8) (codes "XM|I|06|037|1103|44201|9|1|Y") ≡ Some MonitorsFull }
+    ensures monitor_of_another_pollutant { refusal (many_monitors 8) (codes "XM|I|06|037|1103|88101|1|1|Y") ≡ None }
     ensures room_for_monitor { refusal (many_monitors 7) (codes "XM|I|06|037|1103|44201|9|1|Y") ≡ None }
     ensures makeups { refusal (many_makeups 5) (codes "XU|I|06|037|1103|88101|20240201|20240202") ≡ Some MakeupsFull }
     ensures next_quarter { refusal (many_makeups 5) (codes "XU|I|06|037|1103|88101|20240401|20240402") ≡ None }
