@@ -74,3 +74,4 @@ pub mod BatchOrder
 pub mod BatchAlters
 pub mod WellFormedValues
 pub mod MembersOnce
+pub mod MoreLoads

@@ -3,3 +3,4 @@ pub mod Summaries
 pub mod SummaryVerdicts
 pub mod Rows
 pub mod RowChanges
+pub mod RowExamples

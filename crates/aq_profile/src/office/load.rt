@@ -1,17 +1,18 @@
 //! What a load makes of an office.
-ghost use Rattle.std.specs.Prelude.{◌≡◌, ◌↔◌, IsTrue, ℕ, ◌<◌, ◌≤◌, ◌∷◌, ◌++◌, [], All, List, length, Some, None, codes, pos, true, map, fold};
+ghost use Rattle.std.specs.Prelude.{◌≡◌, ◌↔◌, IsTrue, ℕ, ◌<◌, ◌≤◌, ◌∷◌, ◌++◌, [], All, List, length, Some, None, codes, pos, true, false, map, fold};
 ghost use Rattle.std.specs.List.{range_with_len};
 ghost use Rattle.aq_base.specs.declared.monitor.Duration.TheVariants.{Hour};
+ghost use Rattle.aq_base.specs.declared.monitor.Pollutant.TheVariants.{Ozone};
 ghost use Rattle.aq_base.specs.declared.observation.Observation.{Observation};
 ghost use Rattle.aq_base.specs.declared.office.OfficeRecord.{OfficeRecord};
-ghost use Rattle.aq_base.specs.declared.office.OfficeRecord.TheVariants.{Monitor};
+ghost use Rattle.aq_base.specs.declared.office.OfficeRecord.TheVariants.{Monitor, Event, Concurrence};
 ghost use Rattle.aq_base.specs.declared.office.OfficeKey.TheVariants.{Event as EventKey, Concurrence as ConcurrenceKey};
 ghost use Rattle.aq_base.specs.declared.rule.Rule.TheVariants.{AlreadyThere, BadTag, NotThere};
 ghost use Rattle.aq_profile.specs.Office.Office.{Office, StoredLoad, KeysRise, load_at, nothing};
 ghost use Rattle.aq_base.specs.declared.rule.Rule.{Rule};
-ghost use Rattle.aq_profile.specs.Office.Load.{reply, reply_for, rest_of, load, decide, decision_of, posted, post, batch, with_change, refusal, after, Repeat, Conflict, New, TooManyLines, Repeated, Differing, NoRoom, Taken, is_same_record, is_same_content, PutLoad, PutObservation, DropRecord, record_changes};
+ghost use Rattle.aq_profile.specs.Office.Load.{reply, reply_for, rest_of, load, decide, decision_of, posted, post, batch, with_change, refusal, after, Repeat, Conflict, New, TooManyLines, Repeated, Differing, NoRoom, Taken, is_same_record, is_same_content, PutLoad, PutObservation, PutRecord, DropObservation, DropRecord, record_changes};
 ghost use Rattle.aq_profile.specs.Lines.Lines.{line_count};
-ghost use Rattle.aq_profile.specs.Lines.LineExamples.{one_monitor, one_hour, one_sample, three_lines, hour_key, valued, noon, ozone_monitor, agreed_event, refused_lines, digest_a, digest_b};
+ghost use Rattle.aq_profile.specs.Lines.LineExamples.{code_rt, home, one_monitor, one_hour, one_sample, three_lines, hour_key, valued, noon, ozone_monitor, agreed_event, refused_lines, digest_a, digest_b};
 
 /// A load of three lines, of which the second inserts an hour that stands.
 #[tactic(auto, unfolding(crate::specs::Lines::Spellings::site_in, crate::specs::Lines::Spellings::parameter_of, crate::specs::Lines::Spellings::date_in, crate::specs::Lines::Spellings::time_in, crate::specs::Lines::Spellings::value_in, crate::specs::Lines::Spellings::qualifiers_in, crate::specs::Lines::RdForm::monitor_in, crate::specs::Lines::RdForm::start_in, crate::specs::Lines::RdForm::content_in, crate::specs::Lines::RdForm::put_in, aq_base::specs::Calendar::days_of_years, aq_base::specs::Calendar::days_of_months))]
@@ -34,6 +35,20 @@ pub fn rows_that_change()
     ensures whole_day { (after one_sample (codes "RD|D|06|037|1103|88101|1||||20240107|09:00")).observations ≡ [] }
     ensures same_value { batch one_hour 0 digest_a (codes "RD|U|06|037|1103|44201|1|1|007|087|20240701|13:00|0.0719") ≡ [] }
     ensures not_kept { (load one_monitor 0 digest_a three_lines).loads ≡ [] }
+{}
+
+/// A code alone that differs is a change; a row that is dropped and put again as it was is none.
+#[tactic(auto, unfolding(crate::specs::Lines::Spellings::site_in, crate::specs::Lines::Spellings::parameter_of, crate::specs::Lines::Spellings::date_in, crate::specs::Lines::Spellings::time_in, crate::specs::Lines::Spellings::event_number_in, crate::specs::Lines::Spellings::event_code_in, crate::specs::Lines::Spellings::value_in, crate::specs::Lines::Spellings::qualifiers_in, crate::specs::Lines::RdForm::monitor_in, crate::specs::Lines::RdForm::start_in, crate::specs::Lines::RdForm::content_in, crate::specs::Lines::RdForm::put_in, crate::specs::Lines::RdForm::delete_in, crate::specs::Lines::OfficeForms::xe_record, crate::specs::Lines::OfficeForms::xe_key, crate::specs::Lines::OfficeForms::xc_record, aq_base::specs::Calendar::days_of_years, aq_base::specs::Calendar::days_of_months))]
+pub fn changes_of_one_part()
+    ensures event_code { batch agreed_event 0 digest_a (codes "XE|D|12\nXE|I|12|06|037|1103|44201|20000101|00:00|20000101|00:00|RF\nXC|U|12|Y") ≡ PutRecord (Event 12 home Ozone 0 0 (record { first = 82; second = 70 })) ∷ [] }
+    ensures last_hour { batch agreed_event 0 digest_a (codes "XE|D|12\nXE|I|12|06|037|1103|44201|20000101|00:00|20000101|01:00|RT\nXC|U|12|Y") ≡ PutRecord (Event 12 home Ozone 0 1 code_rt) ∷ [] }
+    ensures event_again { batch agreed_event 0 digest_a (codes "XE|D|12\nXE|I|12|06|037|1103|44201|20000101|00:00|20000101|00:00|RT\nXC|U|12|Y") ≡ [] }
+    ensures flag { batch agreed_event 0 digest_a (codes "XC|U|12|N") ≡ PutRecord (Concurrence 12 false) ∷ [] }
+    ensures same_flag { batch agreed_event 0 digest_a (codes "XC|U|12|Y") ≡ [] }
+    ensures qualifier { batch one_hour 0 digest_a (codes "RD|U|06|037|1103|44201|1|1|007|087|20240701|13:00|0.071||||V") ≡ PutObservation (hour_key noon) (record { value = Some (pos 71); null = None; quals = record { first = 86; second = 0 } ∷ [] }) ∷ [] }
+    ensures null { batch one_hour 0 digest_a (codes "RD|U|06|037|1103|44201|1|1|007|087|20240701|13:00||AN") ≡ PutObservation (hour_key noon) (record { value = None; null = Some (record { first = 65; second = 78 }); quals = [] }) ∷ [] }
+    ensures hour_again { batch one_hour 0 digest_a (codes "RD|D|06|037|1103|44201|1||||20240701|13:00\nRD|I|06|037|1103|44201|1|1|007|087|20240701|13:00|0.071") ≡ [] }
+    ensures hour_gone { batch one_hour 0 digest_a (codes "RD|D|06|037|1103|44201|1||||20240701|13:00") ≡ DropObservation (hour_key noon) ∷ [] }
 {}
 
 /// The first 500 refused lines are listed, and the others are counted by rule.
