@@ -1,13 +1,14 @@
 -- Records with fields that all differ, and small offices, on which the laws of sheets, exports and answers work out what prints where.
-use Rattle.std.specs.Prelude.{ℕ, true, false, List, [], ◌∷◌, map, codes, Option, Some, None, pos, neg_ℤ}
-use Rattle.aq_base.specs.Calendar.{hour_number}
+use Rattle.std.specs.Prelude.{ℕ, ◌+◌, ◌*◌, true, false, List, [], ◌∷◌, map, codes, Option, Some, None, pos, neg_ℤ}
+use Rattle.std.specs.List.{range_with_len}
+use Rattle.aq_base.specs.Calendar.{day_number, hour_number}
 use Rattle.aq_base.specs.Site.{Site}
 use Rattle.aq_base.specs.declared.monitor.Duration.TheVariants.{Hour, Day}
 use Rattle.aq_base.specs.declared.monitor.Pollutant.{Pollutant}
 use Rattle.aq_base.specs.declared.monitor.Pollutant.TheVariants.{Ozone, Pm25}
 use Rattle.aq_base.specs.declared.observation.ObsKey.{ObsKey}
 use Rattle.aq_base.specs.declared.observation.Observation.{Observation}
-use Rattle.aq_base.specs.declared.office.OfficeRecord.TheVariants.{Monitor}
+use Rattle.aq_base.specs.declared.office.OfficeRecord.TheVariants.{Monitor, Schedule}
 use Rattle.aq_base.specs.declared.reply.LoadReply.{LoadReply}
 use Rattle.aq_base.specs.declared.rule.Rule.TheVariants.{BadPoc, BadDate, AlreadyThere, NotThere}
 use Rattle.aq_base.specs.declared.standard.Standard.{Standard}
@@ -142,6 +143,13 @@ two_sites =
     ∷ Monitor (record { site = site; pollutant = Pm25; poc = 1 }) Day true ∷ Monitor (record { site = other_site; pollutant = Ozone; poc = 1 }) Hour true ∷ [])
     (value_at site Ozone 1 (hour_number summer_day 10) 71 ∷ value_at site Ozone 12 (hour_number summer_day 9) 64
     ∷ value_at site Pm25 1 (hour_number winter_day 0) 120 ∷ value_at other_site Ozone 1 (hour_number summer_day 10) 55 ∷ [])
+
+-- every sixth day of 2022 to 2024 is scheduled, and sampled at 13.0
+abbrev pub between_levels : Office
+between_levels =
+    office_of
+    (Monitor (record { site = site; pollutant = Pm25; poc = 1 }) Day true ∷ Schedule site Pm25 (day_number 2022 1 1) 6 (day_number 2022 1 1) ∷ [])
+    (map (λ k. value_at site Pm25 1 (hour_number (day_number 2022 1 1 + 6 * k) 0) 130) (range_with_len 0 183))
 
 -- ---- answers
 

@@ -7,7 +7,7 @@ ghost use Rattle.aq_base.specs.Calendar.{is_year};
 ghost use Rattle.aq_base.specs.Site.{Site};
 ghost use Rattle.aq_base.specs.declared.monitor.Pollutant.{Pollutant};
 ghost use Rattle.aq_base.specs.declared.standard.Standard.{Standard};
-ghost use Rattle.aq_base.specs.declared.standard.Standard.TheVariants.{Annual2012};
+ghost use Rattle.aq_base.specs.declared.standard.Standard.TheVariants.{Annual2012, AnnualSecondary};
 ghost use Rattle.aq_base.specs.Standard.{standard_name};
 ghost use Rattle.aq_profile.specs.Office.Office.{Office, StoredLoad, load_at};
 ghost use Rattle.aq_profile.specs.Standards.{pollutant_of, years_to};
@@ -15,7 +15,7 @@ ghost use Rattle.aq_profile.specs.Shown.OtherSheets.{report_answer, sites_with, 
 ghost use Rattle.aq_profile.specs.Shown.ParticleSheets.{pm10_answer, pm25_answer};
 ghost use Rattle.aq_profile.specs.Shown.Sheet.{cell_at, count_cell, day_text, site_text, text_of};
 ghost use Rattle.aq_profile.specs.Shown.Export.{export_answer};
-ghost use Rattle.aq_profile.specs.Shown.ShownExamples.{map_sheet, other_site, outline, third_site, two_sites, value_columns};
+ghost use Rattle.aq_profile.specs.Shown.ShownExamples.{between_levels, map_sheet, other_site, outline, third_site, two_sites, value_columns};
 ghost use Rattle.aq_profile.specs.Shown.Sheet.SheetCell.{Text};
 ghost use Rattle.aq_profile.specs.Shown.Answer.{Days, Export, NoLoad, NoSite, OfExport, Pm10Quarters, Pm25Quarters, Reply, Report, Value, Windows, answer, is_asked, is_design_year, is_registered};
 
@@ -93,6 +93,15 @@ pub fn sites_are_answered_if_they_are_registered()
         ++ codes "1 0 0 0 0 0 0.0 - -\n2 0 0 0 0 0 0.0 - -\n3 0 0 0 0 0 0.0 - -\n4 0 0 0 0 0 0.0 - -\n") }
     ensures report { map_sheet text_of (answer two_sites (Report Annual2012 2024))
         ≡ Some (codes "standard PM25-ANNUAL-2012\nyear 2024\nsite value verdict\n06-037-1103 - NoValue\n") }
+{}
+
+/// A site whose PM2.5 stands at 13.0 all the time is above 12.0 and within 15.0, and within 35 a day: a
+/// report judges each standard at its own level.
+pub fn reports_judge_at_the_level_of_their_standard()
+    ensures primary { map_sheet text_of (answer between_levels (Report Annual2012 2024))
+        ≡ Some (codes "standard PM25-ANNUAL-2012\nyear 2024\nsite value verdict\n06-037-1103 13.0 NotMet\n") }
+    ensures secondary { map_sheet text_of (answer between_levels (Report AnnualSecondary 2024))
+        ≡ Some (codes "standard PM25-ANNUAL-SECONDARY\nyear 2024\nsite value verdict\n06-037-1103 13.0 Met\n") }
 {}
 
 /// A year of particles has four rows.
