@@ -1,17 +1,20 @@
 -- The annual PM2.5 verdict on lists of values is that on what is kept of them: sums and numbers are enough.
-use Rattle.std.proofs.Common.{◌≡◌, ℕ, zero, suc, ◌+◌, List, [], ◌∷◌, ◌++◌, length, map, refl, sym, ap, ◌∙◌, length-append}
-use Rattle.std.specs.Prelude.{ℤ, Option, None, Some, option_map, option_and_then, slice_get}
+use Rattle.std.proofs.Common.{◌≡◌, ℕ, zero, suc, ◌+◌, List, [], ◌∷◌, ◌++◌, length, map, refl, sym, ap, ◌∙◌, length-append, append-nil, arith}
+use Rattle.std.specs.Prelude.{ℤ, pos, ◌+ℤ◌, Option, None, Some, option_map, option_and_then, slice_get}
 use Rattle.std.specs.List.{filter_map, cons_option, flat_map, zip, sum_by}
 use Rattle.std.proofs.lemmas.List.{map-append}
 use Rattle.std.proofs.lemmas.List.Sums.{sum_by-cons}
 use Rattle.aq_profile.specs.Lists.{least, greatest, all_of}
 use Rattle.aq_profile.specs.Particles.QuarterCounts.{QuarterDays, counted_in, values_in}
-use Rattle.aq_profile.specs.Particles.Means.{Fraction, mean_of_means}
+use Rattle.aq_profile.specs.Particles.Means.{Fraction, quarterly_mean, mean_of_means}
+use Rattle.aq_profile.specs.Particles.Percentile.{percentile}
 use Rattle.aq_profile.specs.Particles.YearParts.{of_values}
 use Rattle.aq_profile.specs.Particles.Substitution.{Matched, minimum_copies, maximum_copies, minimum_for, maximum_for, same_part, matched}
 use Rattle.aq_profile.specs.Particles.AnnualVerdict.{annual_from, is_annual_year, counts_in, mean_of, annual_value, filled_mean, filled_value, annual_dv}
-use Rattle.aq_profile.specs.Kept.Summaries.{PmQuarter, PmYear, counts_of, days_in, summary_of_quarter, summary_of_year}
-use Rattle.aq_profile.specs.Kept.SummaryVerdicts.{of_summaries, kept_counted, kept_annual_dv}
+use Rattle.aq_profile.specs.Particles.DailyVerdict.{percentile_of}
+use Rattle.std.proofs.lemmas.Int.{ints}
+use Rattle.aq_profile.specs.Kept.Summaries.{PmQuarter, PmYear, counts_of, net_days_in, summary_of_quarter, summary_of_year}
+use Rattle.aq_profile.specs.Kept.SummaryVerdicts.{of_summaries, mean_of_sums, kept_counted, kept_percentile, kept_annual_dv}
 use Rattle.aq_profile.proofs.Sums.{total-append, least-of_lists, greatest-of_lists}
 
 -- ---- lists
@@ -43,8 +46,8 @@ row r = (s r.0, map s r.1)
 mean-same : (more : List ℤ) (q : QuarterDays) → of_summaries.mean_with more (s q) ≡ of_values.mean_with more q
 mean-same more q = λ i. (sym (total-append q.values more) i, sym (length-append q.values more) i)
 
-pub days-summary : (three : List QuarterDays) → days_in (map s three) ≡ sum_by (λ (o : QuarterDays). length o.values) three
-days-summary three = summed (λ (q : PmQuarter). q.days) s (λ (q : QuarterDays). length q.values) (λ q. refl) three
+pub days-summary : (three : List QuarterDays) → net_days_in (map s three) ≡ sum_by (λ (o : QuarterDays). length o.values) three
+days-summary three = summed (λ (q : PmQuarter). q.net_days) s (λ (q : QuarterDays). length q.values) (λ q. refl) three
 
 pub greatest-summary : (three : List QuarterDays) → filter_map (λ (o : PmQuarter). o.greatest) (map s three) ≡ filter_map (λ (o : QuarterDays). greatest o.values) three
 greatest-summary three = filtered (λ (q : PmQuarter). q.greatest) s (λ (q : QuarterDays). greatest q.values) (λ q. refl) three
@@ -129,6 +132,33 @@ kept_annual-same level years =
     λ i. annual_from level (value-same years i) (valid i)
     (filled-same (minimum_for of_summaries) (minimum_for of_values) minimum-same years i)
     (filled-same (maximum_for of_summaries) (maximum_for of_values) maximum-same years i)
+
+-- ---- without copies
+
+mapped_alone : {A B : Type 0} (f g : A → B) → ((x : A) → f x ≡ g x) → (xs : List A) → map f xs ≡ map g xs
+mapped_alone f g same [] = refl
+mapped_alone f g same (x ∷ xs) = λ i. same x i ∷ mapped_alone f g same xs i
+
+pub mean-plain : (quarters : List QuarterDays) → mean_of of_values quarters ≡ mean_of_means (map (λ (q : QuarterDays). quarterly_mean q.values) quarters)
+mean-plain quarters =
+    ap mean_of_means (mapped_alone (of_values.mean_with []) (λ (q : QuarterDays). quarterly_mean q.values) (λ q. ap quarterly_mean (append-nil q.values)) quarters)
+
+no_more : (n : ℕ) → n + 0 ≡ n
+no_more n = omega arith
+
+no_more-sum : (z : ℤ) → z +ℤ pos 0 ≡ z
+no_more-sum z = omega (arith, ints)
+
+pub percentile-plain : (year : List QuarterDays) → percentile_of of_values year ≡ percentile (values_in year) (counted_in year)
+percentile-plain year = λ i. percentile (append-nil (values_in year) i) (no_more (counted_in year) i)
+
+pub sums-plain : (quarters : List PmQuarter) → mean_of_sums quarters ≡ mean_of_means (map (λ (q : PmQuarter). (q.sum, q.net_days)) quarters)
+sums-plain quarters =
+    ap mean_of_means
+    (mapped_alone (of_summaries.mean_with []) (λ (q : PmQuarter). (q.sum, q.net_days)) (λ q i. (no_more-sum q.sum i, no_more q.net_days i)) quarters)
+
+pub kept-plain : (year : PmYear) → kept_percentile year ≡ percentile year.top (kept_counted year.quarters)
+kept-plain year = λ i. percentile (append-nil year.top i) (no_more (kept_counted year.quarters) i)
 
 -- ---- of several lists, the least of their least values, and the greatest of their greatest
 

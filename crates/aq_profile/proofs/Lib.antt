@@ -8,6 +8,7 @@ pub mod Exclusions
 pub mod Greatest
 pub mod Rows
 pub mod Least
+pub mod FormRules
 pub mod Agree
 pub mod Descent
 pub mod Percentiles
@@ -49,6 +50,12 @@ pub mod OfficeBack
 pub mod Fronts
 pub mod Undamaged
 pub mod Rewritten
+pub mod SameRows
+pub mod Lookups
+pub mod RowsPlaced
+pub mod SitesCounted
+pub mod ValidRecords
+pub mod ValidAfter
 pub mod Held
 pub mod PmHeld
 pub mod Pm10Held
@@ -56,5 +63,14 @@ pub mod SheetCells
 pub mod WellFormed
 pub mod WellFormedOzone
 pub mod WellFormedQuarters
+pub mod Changes
+pub mod BatchDone
+pub mod SpelledOffice
+pub mod RowOrder
+pub mod RowBatch
+pub mod ValidReplies
+pub mod ValidLoads
+pub mod BatchOrder
+pub mod BatchAlters
 pub mod WellFormedValues
 pub mod MembersOnce

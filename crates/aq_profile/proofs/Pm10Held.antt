@@ -25,25 +25,25 @@ pub estimate-held : (q : Pm10Quarter) → KeepsPm10Quarter q → IfHeld 0 9200 (
 estimate-held q keeps =
     by_test (q.strata == 0) refl
   where
-    by_test : (b : Bool) → (q.strata == 0) ≡ b → IfHeld 0 9200 (cond b None (Some (half_up (pos (100 * q.days * q.sixtieths)) (pos (60 * q.strata)))))
+    by_test : (b : Bool) → (q.strata == 0) ≡ b → IfHeld 0 9200 (cond b None (Some (half_up (pos (100 * q.calendar_days * q.sixtieths)) (pos (60 * q.strata)))))
     by_test true e = tt
     by_test false e =
         let some : 0 < q.strata = grind (arith, nat_tests) in
-        let few = few_days q.days q.sixtieths (60 * q.strata) keeps.at_most keeps.sixtieths in
-        half_up-held (pos (100 * q.days * q.sixtieths)) (60 * q.strata) 0 9200 (omega arith) (omega (arith, ints)) (omega (arith, ints, few))
+        let few = few_days q.calendar_days q.sixtieths (60 * q.strata) keeps.at_most keeps.sixtieths in
+        half_up-held (pos (100 * q.calendar_days * q.sixtieths)) (60 * q.strata) 0 9200 (omega arith) (omega (arith, ints)) (omega (arith, ints, few))
 
 pub lower-held : (q : Pm10Quarter) → KeepsPm10Quarter q → IfHeld 0 9200 (quarter_lower q)
 lower-held q keeps =
     by_test (q.scheduled == 0) refl
   where
-    by_test : (b : Bool) → (q.scheduled == 0) ≡ b → IfHeld 0 9200 (cond b (Some (pos 0)) (Some (half_up (pos (100 * q.days * q.scheduled_exceedances)) (pos q.scheduled))))
+    by_test : (b : Bool) → (q.scheduled == 0) ≡ b → IfHeld 0 9200 (cond b (Some (pos 0)) (Some (half_up (pos (100 * q.calendar_days * q.scheduled_exceedances)) (pos q.scheduled))))
     by_test true e = (omega (arith, ints), omega (arith, ints))
     by_test false e =
         let some : 0 < q.scheduled = grind (arith, nat_tests) in
         let captured = keeps.captured in
         let exceeding = keeps.captured_exceedances in
-        let few = few_days q.days q.scheduled_exceedances q.scheduled keeps.at_most (omega arith) in
-        half_up-held (pos (100 * q.days * q.scheduled_exceedances)) q.scheduled 0 9200 some (omega (arith, ints)) (omega (arith, ints, few))
+        let few = few_days q.calendar_days q.scheduled_exceedances q.scheduled keeps.at_most (omega arith) in
+        half_up-held (pos (100 * q.calendar_days * q.scheduled_exceedances)) q.scheduled 0 9200 some (omega (arith, ints)) (omega (arith, ints, few))
 
 -- ---- years
 

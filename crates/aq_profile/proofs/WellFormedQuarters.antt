@@ -35,8 +35,8 @@ pub record QuarterHeld (q : PmQuarter) : Type 0 where
   pub scheduled : q.scheduled ≤ 92
   pub creditable : q.creditable ≤ q.scheduled
   pub counted : q.counted ≤ 92
-  pub days : q.days ≤ 92
-  pub sum : Held (999 * q.days) (99999 * q.days) q.sum
+  pub days : q.net_days ≤ 92
+  pub sum : Held (999 * q.net_days) (99999 * q.net_days) q.sum
   pub least : IfIn q.least
   pub greatest : IfIn q.greatest
 
@@ -48,7 +48,7 @@ quarter-held office site quarter valid =
     let scheduled = keeps.scheduled in
     let creditable = keeps.creditable in
     let counted = keeps.counted in
-    let room = keeps.days in
+    let room = keeps.net_days in
     let few : length values ≤ 92 = omega (arith, room, creditable) in
     let sum : Held (999 * length values) (99999 * length values) (total values) = total-held 999 99999 values every in
     record {
@@ -80,7 +80,7 @@ pm25-row quarter q few held =
     let creditable = held.creditable in
     let counted = held.counted in
     let days = held.days in
-    let sum = held-wider (999 * q.days) (99999 * q.days) (999 * 92) (99999 * 92) q.sum (omega arith) (omega arith) held.sum in
+    let sum = held-wider (999 * q.net_days) (99999 * q.net_days) (999 * 92) (99999 * 92) q.sum (omega arith) (omega arith) held.sum in
     let share = capture-few (counts_of q) creditable in
     row-of pm25_columns (pm25_cells (quarter, q)) refl (
       count quarter (omega arith),
@@ -93,7 +93,7 @@ pm25-row quarter q few held =
             (
               count q.counted (omega arith),
               (
-                count q.days (omega arith),
+                count q.net_days (omega arith),
                 (fixed (999 * 92) (99999 * 92) 1 q.sum (omega arith) (omega arith) refl sum, (if_fixed 999 99999 1 q.least (omega arith) (omega arith) refl held.least, (if_fixed 999 99999 1 q.greatest (omega arith) (omega arith) refl held.greatest, tt))),
               ),
             ),
@@ -111,7 +111,7 @@ counted-few (q ∷ qs) every =
 
 no_copies : (q : PmQuarter) → QuarterHeld q → MeanIn (of_summaries.mean_with [] q)
 no_copies q held days =
-    let some : 1 ≤ q.days + 0 = grind (arith, nat_tests, days) in
+    let some : 1 ≤ q.net_days + 0 = grind (arith, nat_tests, days) in
     let few = held.sum.0 in
     let many = held.sum.1 in
     record { some = some; least = omega (arith, ints, few); most = omega (arith, ints, many) }
@@ -195,7 +195,7 @@ pm10-row quarter q few keeps =
     row-of pm10_columns (pm10_cells (quarter, q)) refl (
       count quarter (omega arith),
       (
-        count q.days (omega arith),
+        count q.calendar_days (omega arith),
         (
           count q.scheduled (omega arith),
           (

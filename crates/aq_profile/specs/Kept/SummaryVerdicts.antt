@@ -15,10 +15,10 @@ abbrev pub of_summaries : Parts PmQuarter PmYear
 of_summaries = record {
   quarters = λ year. year.quarters;
   counts = counts_of;
-  number = λ q. q.days;
+  number = λ q. q.net_days;
   least_value = λ q. q.least;
   greatest_value = λ q. q.greatest;
-  mean_with = λ copies q. (q.sum +ℤ total copies, q.days + length copies);
+  mean_with = λ copies q. (q.sum +ℤ total copies, q.net_days + length copies);
   percentile_with = λ copies year. percentile (year.top ++ copies) (kept_counted year.quarters + length copies);
 }
 

@@ -32,6 +32,7 @@ annual_test level None valid minimum maximum = None
 annual_test level (Some value) valid minimum maximum =
     if are_all valid then None else (if int_lt level value then minimum else maximum)
 
+-- above the level the verdict is NotMet or Incomplete, at or below it Met or Incomplete: where a year is not valid, the test has to bear the value out, and Incomplete says that it does not
 abbrev pub annual_verdict : ℤ → Option ℤ → List Bool → Option ℤ → Verdict
 annual_verdict level None valid test = NoValue
 annual_verdict level (Some value) valid test =

@@ -14,10 +14,6 @@ use Rattle.aq_profile.specs.Particles.YearParts.{Parts, of_values}
 use Rattle.aq_profile.specs.Particles.Substitution.{maximum_for, matched}
 use Rattle.aq_profile.specs.Particles.AnnualVerdict.{ParticleDv, is_captured, are_all, counts_in}
 
--- in whole µg/m3
-abbrev pub DAILY_LEVEL : ℤ
-DAILY_LEVEL = level_of Daily2006
-
 -- a percentile in whole µg/m3
 abbrev pub rounded : Option ℤ → Option ℤ
 rounded value = option_map (λ v. half_up v (pos 10)) value
@@ -27,18 +23,19 @@ abbrev pub is_daily_year : Option ℤ → Option ℤ → List QuarterCounts → 
 is_daily_year value percentile quarters =
     is_captured quarters
     || (nat_le 1 (sum_by (λ (counts : QuarterCounts). counts.creditable) quarters)
-    && (is_above DAILY_LEVEL (rounded percentile) || is_above DAILY_LEVEL value))
+    && (is_above (level_of Daily2006) (rounded percentile) || is_above (level_of Daily2006) value))
 
 -- the maximum test is asked for where a year is not valid
 abbrev pub daily_test : Option ℤ → List Bool → Option ℤ → Option ℤ
 daily_test None valid maximum = None
 daily_test (Some value) valid maximum = if are_all valid then None else maximum
 
+-- where a year is not valid, the maximum test decides between Met and Incomplete, whether the value is above the level or not
 abbrev pub daily_verdict : Option ℤ → List Bool → Option ℤ → Verdict
 daily_verdict None valid test = NoValue
 daily_verdict (Some value) valid test =
-    if are_all valid then (if int_lt DAILY_LEVEL value then NotMet else Met)
-    else (if is_at_or_below DAILY_LEVEL test then Met else Incomplete)
+    if are_all valid then (if int_lt (level_of Daily2006) value then NotMet else Met)
+    else (if is_at_or_below (level_of Daily2006) test then Met else Incomplete)
 
 abbrev pub daily_from : Option ℤ → List Bool → Option ℤ → ParticleDv
 daily_from value valid maximum = record {

@@ -21,7 +21,7 @@ use Rattle.aq_profile.specs.Shown.Sheets.{value_heads}
 abbrev pub pm25_cells : ℕ × PmQuarter → List SheetCell
 pm25_cells row =
     count_cell row.0 ∷ count_cell row.1.scheduled ∷ count_cell row.1.creditable ∷ count_cell (capture (counts_of row.1))
-    ∷ count_cell row.1.counted ∷ count_cell row.1.days ∷ Fixed row.1.sum 1 ∷ tenths_cell row.1.least ∷ tenths_cell row.1.greatest
+    ∷ count_cell row.1.counted ∷ count_cell row.1.net_days ∷ Fixed row.1.sum 1 ∷ tenths_cell row.1.least ∷ tenths_cell row.1.greatest
     ∷ []
 
 -- without a counted sample there is no rank
@@ -50,7 +50,7 @@ pm25_answer office site year = pm25_sheet site year (pm25_summary office site ye
 -- `strata` counts those with a sample
 abbrev pub pm10_cells : ℕ × Pm10Quarter → List SheetCell
 pm10_cells row =
-    count_cell row.0 ∷ count_cell row.1.days ∷ count_cell row.1.scheduled ∷ count_cell row.1.captured
+    count_cell row.0 ∷ count_cell row.1.calendar_days ∷ count_cell row.1.scheduled ∷ count_cell row.1.captured
     ∷ count_cell row.1.strata ∷ count_cell row.1.samples ∷ count_cell row.1.exceedances
     ∷ fixed_cell 2 (quarter_estimate row.1) ∷ fixed_cell 2 (quarter_lower row.1)
     ∷ []

@@ -64,19 +64,19 @@ incomplete_ozone = record { value = Some (pos 70); verdict = Incomplete }
 -- ---- PM2.5: quarters with captures of 60, 88, 97 and 50, and one without a day
 
 abbrev pub first_pm25 : PmQuarter
-first_pm25 = record { scheduled = 90; creditable = 54; counted = 50; days = 56; sum = pos 6160; least = Some (pos 31); greatest = Some (pos 254) }
+first_pm25 = record { scheduled = 90; creditable = 54; counted = 50; net_days = 56; sum = pos 6160; least = Some (pos 31); greatest = Some (pos 254) }
 
 abbrev pub second_pm25 : PmQuarter
-second_pm25 = record { scheduled = 91; creditable = 80; counted = 77; days = 79; sum = pos 7900; least = Some (pos 12); greatest = Some (pos 301) }
+second_pm25 = record { scheduled = 91; creditable = 80; counted = 77; net_days = 79; sum = pos 7900; least = Some (pos 12); greatest = Some (pos 301) }
 
 abbrev pub third_pm25 : PmQuarter
-third_pm25 = record { scheduled = 30; creditable = 29; counted = 28; days = 33; sum = pos 3300; least = Some (neg_ℤ (pos 5)); greatest = Some (pos 187) }
+third_pm25 = record { scheduled = 30; creditable = 29; counted = 28; net_days = 33; sum = pos 3300; least = Some (neg_ℤ (pos 5)); greatest = Some (pos 187) }
 
 abbrev pub fourth_pm25 : PmQuarter
-fourth_pm25 = record { scheduled = 46; creditable = 23; counted = 21; days = 22; sum = pos 2640; least = Some (pos 40); greatest = Some (pos 260) }
+fourth_pm25 = record { scheduled = 46; creditable = 23; counted = 21; net_days = 22; sum = pos 2640; least = Some (pos 40); greatest = Some (pos 260) }
 
 abbrev pub no_pm25 : PmQuarter
-no_pm25 = record { scheduled = 20; creditable = 0; counted = 0; days = 0; sum = pos 0; least = None; greatest = None }
+no_pm25 = record { scheduled = 20; creditable = 0; counted = 0; net_days = 0; sum = pos 0; least = None; greatest = None }
 
 abbrev pub pm25_year_of : List PmQuarter → List ℕ → PmYear
 pm25_year_of quarters top = record { quarters = quarters; top = map pos top }
@@ -99,19 +99,19 @@ tested_daily = record { value = Some (pos 36); test = Some (pos 37); valid = tru
 -- ---- PM10: the second quarter is not complete, and in the fourth nothing is scheduled
 
 abbrev pub first_pm10 : Pm10Quarter
-first_pm10 = record { days = 90; scheduled = 16; captured = 14; strata = 12; samples = 13; exceedances = 3; scheduled_exceedances = 2; sixtieths = 150 }
+first_pm10 = record { calendar_days = 90; scheduled = 16; captured = 14; strata = 12; samples = 13; exceedances = 3; scheduled_exceedances = 2; sixtieths = 150 }
 
 abbrev pub second_pm10 : Pm10Quarter
-second_pm10 = record { days = 91; scheduled = 15; captured = 11; strata = 8; samples = 9; exceedances = 1; scheduled_exceedances = 0; sixtieths = 30 }
+second_pm10 = record { calendar_days = 91; scheduled = 15; captured = 11; strata = 8; samples = 9; exceedances = 1; scheduled_exceedances = 0; sixtieths = 30 }
 
 abbrev pub third_pm10 : Pm10Quarter
-third_pm10 = record { days = 92; scheduled = 31; captured = 30; strata = 28; samples = 29; exceedances = 4; scheduled_exceedances = 3; sixtieths = 200 }
+third_pm10 = record { calendar_days = 92; scheduled = 31; captured = 30; strata = 28; samples = 29; exceedances = 4; scheduled_exceedances = 3; sixtieths = 200 }
 
 abbrev pub fourth_pm10 : Pm10Quarter
-fourth_pm10 = record { days = 92; scheduled = 0; captured = 0; strata = 5; samples = 6; exceedances = 2; scheduled_exceedances = 0; sixtieths = 90 }
+fourth_pm10 = record { calendar_days = 92; scheduled = 0; captured = 0; strata = 5; samples = 6; exceedances = 2; scheduled_exceedances = 0; sixtieths = 90 }
 
 abbrev pub no_pm10 : Pm10Quarter
-no_pm10 = record { days = 91; scheduled = 15; captured = 0; strata = 0; samples = 0; exceedances = 0; scheduled_exceedances = 0; sixtieths = 0 }
+no_pm10 = record { calendar_days = 91; scheduled = 15; captured = 0; strata = 0; samples = 0; exceedances = 0; scheduled_exceedances = 0; sixtieths = 0 }
 
 abbrev pub three_pm10_years : List (List Pm10Quarter)
 three_pm10_years =
