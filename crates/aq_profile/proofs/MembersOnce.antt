@@ -1,14 +1,14 @@
 -- The members of a sheet's object: in byte order, and in a well formed sheet each of them once.
-use Rattle.std.proofs.Common.{◌≡◌, ℕ, Bool, true, false, cond, not, ◌&&◌, ◌||◌, List, [], ◌∷◌, ◌++◌, map, refl, sym, ap, ◌∙◌, subst, append-nil}
-use Rattle.std.specs.Prelude.{bytes_eq, codes, fold, IsTrue}
-use Rattle.std.specs.List.{list_all, list_any}
+use Rattle.std.proofs.Common.{◌≡◌, ℕ, Bool, true, false, cond, not, ◌||◌, List, [], ◌∷◌, ◌++◌, map, refl, sym, ◌∙◌, subst, append-nil}
+use Rattle.std.specs.Prelude.{bytes_eq, codes, fold}
+use Rattle.std.specs.List.{list_any}
 use Rattle.std.specs.List.Sorted.{IsPermutation}
-use Rattle.std.proofs.lemmas.List.Sorted.{IsPermutation-refl, IsPermutation-trans, IsPermutation-cons, IsPermutation-append_right, IsPermutation-append_left, IsPermutation-middle, IsPermutation-sym, list_any-IsPermutation, IsPermutation-append_comm}
+use Rattle.std.proofs.lemmas.List.Sorted.{IsPermutation-refl, IsPermutation-trans, IsPermutation-cons, IsPermutation-append_right, IsPermutation-middle, IsPermutation-sym, list_any-IsPermutation}
 use Rattle.std.proofs.lemmas.List.Folds.{list_any-append}
 use Rattle.std.proofs.lemmas.Slice.Eq.{bytes_eq-Decides}
 use Rattle.aq_profile.specs.Office.Office.{is_same, comes_before, rises, with_row}
 use Rattle.aq_profile.specs.Shown.Sheet.{SheetCell, Head, Sheet}
-use Rattle.aq_profile.specs.Shown.Json.{Member, head_member, table_members, in_order, members_of}
+use Rattle.aq_profile.specs.Shown.Json.{Member, head_member, table_members, members_of}
 use Rattle.aq_profile.specs.Shown.WellFormed.{all_differ, names_in, IsWellFormed}
 use Rattle.aq_profile.proofs.Least.{both}
 use Rattle.aq_profile.proofs.Spans.{Every}

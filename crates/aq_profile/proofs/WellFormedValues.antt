@@ -1,41 +1,39 @@
 -- The sheets of design values and reports are well formed.
-use Rattle.std.proofs.Common.{◌≡◌, ℕ, ◌+◌, ◌-◌, ◌*◌, ◌^◌, ◌<◌, ◌≤◌, Bool, true, List, [], ◌∷◌, ◌++◌, length, map, refl, arith, length-append}
-use Rattle.std.specs.Prelude.{ℤ, pos, ◌+ℤ◌, Option, Some, None, ◌==◌, codes}
+use Rattle.std.proofs.Common.{◌≡◌, ℕ, ◌-◌, ◌<◌, ◌≤◌, Bool, true, List, [], ◌∷◌, ◌++◌, length, map, refl, arith, length-append}
+use Rattle.std.specs.Prelude.{ℤ, ◌+ℤ◌, Option, Some, None, ◌==◌, codes}
 use Rattle.std.specs.List.{list_all, zip}
 use Rattle.std.proofs.lemmas.Int.{ints}
 use Rattle.std.proofs.lemmas.Bool.Decides.{nat_tests}
 use Rattle.std.proofs.lemmas.List.{length-map}
-use Rattle.aq_base.specs.Decimal.{truncated}
 use Rattle.aq_base.specs.Site.{Site}
 use Rattle.aq_base.specs.declared.standard.Standard.{Standard}
 use Rattle.aq_base.specs.declared.standard.Standard.TheVariants.{Ozone2015, Annual2012, AnnualSecondary, Daily2006, Pm10Of1987}
 use Rattle.aq_base.specs.declared.standard.Verdict.{Verdict}
 use Rattle.aq_profile.specs.Standards.{level_of, years_to, pollutant_of}
-use Rattle.aq_profile.specs.DesignValues.{DesignValue, design_value, value_in, verdict_in, pm25_years, pm10_years}
+use Rattle.aq_profile.specs.DesignValues.{design_value, value_in, pm25_years, pm10_years}
 use Rattle.aq_profile.specs.Office.Office.{Office, IsOffice}
 use Rattle.aq_profile.specs.Ozone.OzoneYear.{OzoneYear, ozone_year}
 use Rattle.aq_profile.specs.Ozone.OzoneVerdict.{OzoneDv, design_value_of, three_years, ozone_design}
-use Rattle.aq_profile.specs.Particles.QuarterCounts.{QuarterDays, capture, pm25_year}
-use Rattle.aq_profile.specs.Particles.AnnualVerdict.{ParticleDv, annual_value, annual_design, filled_value}
-use Rattle.aq_profile.specs.Particles.DailyVerdict.{daily_value_of, daily_design, filled_percentile, value_of_three}
+use Rattle.aq_profile.specs.Particles.QuarterCounts.{capture, pm25_year}
+use Rattle.aq_profile.specs.Particles.AnnualVerdict.{ParticleDv, annual_design, filled_value}
+use Rattle.aq_profile.specs.Particles.DailyVerdict.{daily_design, filled_percentile, value_of_three}
 use Rattle.aq_profile.specs.Particles.Pm10Estimate.{Pm10Quarter, pm10_year, quarter_estimate, quarter_lower, year_of_quarters}
 use Rattle.aq_profile.specs.Particles.Pm10Verdict.{Pm10Dv, pm10_design, is_complete_year, exceedances_in}
 use Rattle.aq_profile.specs.Particles.Substitution.{minimum_for, maximum_for}
 use Rattle.aq_profile.specs.Particles.YearParts.{of_values}
-use Rattle.aq_profile.specs.Kept.Summaries.{PmQuarter, PmYear, KeepsOzoneYear, KeepsPm10Year, counts_of, pm25_summary}
+use Rattle.aq_profile.specs.Kept.Summaries.{PmQuarter, PmYear, KeepsOzoneYear, KeepsPm10Year, counts_of}
 use Rattle.aq_profile.specs.Kept.SummaryVerdicts.{mean_of_sums, kept_percentile, kept_counted}
-use Rattle.aq_profile.specs.Shown.Sheet.{SheetCell, Head, Sheet, count_cell, truth_text}
+use Rattle.aq_profile.specs.Shown.Sheet.{count_cell, truth_text}
 use Rattle.aq_profile.specs.Shown.Sheet.SheetCell.{Text}
 use Rattle.aq_profile.specs.Shown.Sheets.{design_cell, value_heads, year_cells, ozone_value_sheet}
-use Rattle.aq_profile.specs.Shown.ParticleSheets.{capture_cells, annual_cells, annual_value_sheet, daily_cells, daily_value_sheet, pm10_year_cells, pm10_value_sheet}
+use Rattle.aq_profile.specs.Shown.ParticleSheets.{annual_cells, annual_value_sheet, daily_cells, daily_value_sheet, pm10_year_cells, pm10_value_sheet}
 use Rattle.aq_profile.specs.Shown.OtherSheets.{Judged, judged, judged_cells, report_answer, report_sheet, sites_with, value_answer, value_sheet}
 use Rattle.aq_profile.specs.Shown.Answer.{is_design_year}
-use Rattle.aq_profile.specs.Shown.WellFormed.{is_cell, is_head, is_row, all_differ, names_in, IsWellFormed}
-use Rattle.aq_profile.proofs.Least.{both}
+use Rattle.aq_profile.specs.Shown.WellFormed.{is_cell, is_head, is_row, IsWellFormed}
 use Rattle.aq_profile.proofs.Spans.{Every}
 use Rattle.aq_profile.proofs.OzoneFacts.{trunc-in_range}
 use Rattle.aq_profile.proofs.Pm10Facts.{pm10_year-keeps}
-use Rattle.aq_profile.proofs.Held.{Held, IfHeld, if_held-wider}
+use Rattle.aq_profile.proofs.Held.{IfHeld, if_held-wider}
 use Rattle.aq_profile.proofs.PmHeld.{IfIn, YearIn, years-in, annual_value-in, minimum_value-in, maximum_value-in, annual_test-in, daily_value-in, maximum_daily-in, daily_test-in}
 use Rattle.aq_profile.proofs.Pm10Held.{year_estimate-held, year_lower-held, value-held, exceedances-few}
 use Rattle.aq_profile.proofs.SheetCells.{CellsAre, site-word, standard-word, verdict-word, truth-word, count, if_fixed, if_whole, if_ppm, row-of, heads-of, rows-of, numbered-rows, zip-every, zip-few}

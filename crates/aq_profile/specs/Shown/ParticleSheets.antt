@@ -4,7 +4,6 @@ use Rattle.std.specs.List.{enumerate_from}
 use Rattle.aq_base.specs.Site.{Site}
 use Rattle.aq_base.specs.declared.standard.Standard.{Standard}
 use Rattle.aq_base.specs.declared.standard.Standard.TheVariants.{Daily2006, Pm10Of1987}
-use Rattle.aq_profile.specs.Standards.{years_to}
 use Rattle.aq_profile.specs.Office.Office.{Office}
 use Rattle.aq_profile.specs.Particles.QuarterCounts.{capture}
 use Rattle.aq_profile.specs.Particles.Percentile.{rank_of}

@@ -1,17 +1,18 @@
 -- Records with fields that all differ, and small offices, on which the laws of sheets, exports and answers work out what prints where.
-use Rattle.std.specs.Prelude.{ℕ, true, false, List, [], ◌∷◌, map, Option, Some, None, pos, neg_ℤ}
+use Rattle.std.specs.Prelude.{ℕ, ◌+◌, ◌*◌, true, false, List, [], ◌∷◌, map, codes, Option, Some, None, pos, neg_ℤ}
+use Rattle.std.specs.List.{range_with_len}
 use Rattle.aq_base.specs.Calendar.{day_number, hour_number}
 use Rattle.aq_base.specs.Site.{Site}
-use Rattle.aq_base.specs.declared.code.Code.{Code}
 use Rattle.aq_base.specs.declared.monitor.Duration.TheVariants.{Hour, Day}
 use Rattle.aq_base.specs.declared.monitor.Pollutant.{Pollutant}
-use Rattle.aq_base.specs.declared.monitor.Pollutant.TheVariants.{Ozone, Pm25, Pm10}
+use Rattle.aq_base.specs.declared.monitor.Pollutant.TheVariants.{Ozone, Pm25}
 use Rattle.aq_base.specs.declared.observation.ObsKey.{ObsKey}
 use Rattle.aq_base.specs.declared.observation.Observation.{Observation}
-use Rattle.aq_base.specs.declared.office.OfficeRecord.{OfficeRecord}
-use Rattle.aq_base.specs.declared.office.OfficeRecord.TheVariants.{Monitor}
+use Rattle.aq_base.specs.declared.office.OfficeRecord.TheVariants.{Monitor, Schedule}
 use Rattle.aq_base.specs.declared.reply.LoadReply.{LoadReply}
 use Rattle.aq_base.specs.declared.rule.Rule.TheVariants.{BadPoc, BadDate, AlreadyThere, NotThere}
+use Rattle.aq_base.specs.declared.standard.Standard.{Standard}
+use Rattle.aq_base.specs.declared.standard.Standard.TheVariants.{Ozone2015, Annual2012, AnnualSecondary, Daily2006, Pm10Of1987}
 use Rattle.aq_base.specs.declared.standard.Verdict.TheVariants.{NotMet, Incomplete}
 use Rattle.aq_profile.specs.Office.Office.{Office}
 use Rattle.aq_profile.specs.Ozone.EightHour.{WindowRow}
@@ -22,7 +23,7 @@ use Rattle.aq_profile.specs.Particles.AnnualVerdict.{ParticleDv}
 use Rattle.aq_profile.specs.Particles.Pm10Estimate.{Pm10Quarter}
 use Rattle.aq_profile.specs.Particles.Pm10Verdict.{Pm10Dv}
 use Rattle.aq_profile.specs.Kept.Summaries.{PmQuarter, PmYear}
-use Rattle.aq_profile.specs.Shown.Sheet.{SheetCell, cell_at}
+use Rattle.aq_profile.specs.Shown.Sheet.{SheetCell, Sheet, cell_at}
 use Rattle.aq_profile.specs.Shown.Answer.{Answer, OfSheet, OfExport, NoSite, NoLoad}
 use Rattle.aq_profile.specs.Ozone.OzoneExamples.{site, office_of, summer_day}
 use Rattle.aq_profile.specs.Particles.ParticleExamples.{winter_day}
@@ -127,6 +128,10 @@ exceeding_pm10 = record { value = Some (pos 437); verdict = NotMet }
 abbrev pub other_site : Site
 other_site = record { state = 6; county = 37; number = 1104 }
 
+-- 06-037-1105, which has no monitor
+abbrev pub third_site : Site
+third_site = record { state = 6; county = 37; number = 1105 }
+
 abbrev pub value_at : Site → Pollutant → ℕ → ℕ → ℕ → (ObsKey × Observation)
 value_at at pollutant poc hour value =
     (record { monitor = record { site = at; pollutant = pollutant; poc = poc }; hour = hour }, record { value = Some (pos value); null = None; quals = [] })
@@ -139,6 +144,13 @@ two_sites =
     (value_at site Ozone 1 (hour_number summer_day 10) 71 ∷ value_at site Ozone 12 (hour_number summer_day 9) 64
     ∷ value_at site Pm25 1 (hour_number winter_day 0) 120 ∷ value_at other_site Ozone 1 (hour_number summer_day 10) 55 ∷ [])
 
+-- every sixth day of 2022 to 2024 is scheduled, and sampled at 13.0
+abbrev pub between_levels : Office
+between_levels =
+    office_of
+    (Monitor (record { site = site; pollutant = Pm25; poc = 1 }) Day true ∷ Schedule site Pm25 (day_number 2022 1 1) 6 (day_number 2022 1 1) ∷ [])
+    (map (λ k. value_at site Pm25 1 (hour_number (day_number 2022 1 1 + 6 * k) 0) 130) (range_with_len 0 183))
+
 -- ---- answers
 
 -- the cells under these heads, and the column names
@@ -147,3 +159,21 @@ outline names (OfSheet sheet) = Some (map (λ name. cell_at name sheet) names, s
 outline names (OfExport text) = None
 outline names NoSite = None
 outline names NoLoad = None
+
+-- what is made of an answer's sheet
+abbrev pub map_sheet : {X : Type 0} → (Sheet → X) → Answer → Option X
+map_sheet f (OfSheet sheet) = Some (f sheet)
+map_sheet f (OfExport text) = None
+map_sheet f NoSite = None
+map_sheet f NoLoad = None
+
+-- the columns of a design value's years
+abbrev pub value_columns : Standard → List (List ℕ)
+value_columns Ozone2015 = codes "year" ∷ codes "ranked" ∷ codes "fourth" ∷ codes "season_days" ∷ codes "season_valid" ∷ []
+value_columns Annual2012 =
+    codes "year" ∷ codes "mean" ∷ codes "capture1" ∷ codes "capture2" ∷ codes "capture3" ∷ codes "capture4" ∷ codes "valid" ∷ []
+value_columns AnnualSecondary =
+    codes "year" ∷ codes "mean" ∷ codes "capture1" ∷ codes "capture2" ∷ codes "capture3" ∷ codes "capture4" ∷ codes "valid" ∷ []
+value_columns Daily2006 =
+    codes "year" ∷ codes "percentile" ∷ codes "counted" ∷ codes "capture1" ∷ codes "capture2" ∷ codes "capture3" ∷ codes "capture4" ∷ codes "valid" ∷ []
+value_columns Pm10Of1987 = codes "year" ∷ codes "estimate" ∷ codes "lower" ∷ codes "exceedances" ∷ codes "complete" ∷ []

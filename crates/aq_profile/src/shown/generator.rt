@@ -1,11 +1,14 @@
 //! The generated loads.
 #![tactic(auto)]
 
-ghost use Rattle.std.specs.Prelude.{◌≡◌, ℕ, ◌+◌, ◌*◌, ◌<◌, ◌∷◌, [], ◌++◌, codes, length, map, slice_get, Some, None};
+ghost use Rattle.std.specs.Prelude.{◌≡◌, ℕ, ◌+◌, ◌*◌, ◌<◌, List, ◌∷◌, [], ◌++◌, codes, length, map, take, drop, slice_get, Some, None, option_map};
 ghost use Rattle.std.specs.List.{range_with_len};
 ghost use Rattle.aq_base.specs.Calendar.{year_first, hour_number};
 ghost use Rattle.aq_profile.specs.Lines.Lines.{line_count, texts};
-ghost use Rattle.aq_profile.specs.Shown.Generator.{generate, load_count, office_load, samples_from, wanted_hour, wanted_in};
+ghost use Rattle.aq_profile.specs.Shown.Generator.{Wanted, generate, generated_lines, generated_office, load_count, office_load, samples_from, simulation, wanted_hour, wanted_in};
+ghost use Rattle.aq_base.specs.declared.standard.Standard.TheVariants.{Ozone2015, Annual2012, AnnualSecondary, Daily2006, Pm10Of1987};
+ghost use Rattle.aq_profile.specs.Shown.OtherSheets.{report_answer, summary_sheet};
+ghost use Rattle.aq_profile.specs.Shown.Sheet.{text_of};
 
 /// One site and three years have four loads: eleven lines of the office, and 26,280 hours and 365 and
 /// 183 days of samples.
@@ -37,4 +40,36 @@ pub fn hours_are_drawn()
 pub fn loads_end_with_the_last_year()
     ensures zero { (start sites years : ℕ) → generate start sites years 0 ≡ None }
     ensures beyond { (start sites years load : ℕ) → 1 + sites * years < load → generate start sites years load ≡ None }
+{}
+
+/// The loads of a site are its years in order, and those of the sites stand one after the other: of two
+/// sites and three years load 3 is the second year of the first site, and load 5 the first of the second.
+/// Each begins with the start number plus its own, which is taken below 2^64.
+pub fn loads_begin_with_their_own_state()
+    ensures second { option_map (take 56) (generate 7 1 3 2) ≡ Some (codes "RD|I|99|001|0001|44201|1|1|007|000|20210101|00:00|0.041\n") }
+    ensures wrapped { option_map (take 56) (generate 18446744073709551615 1 3 2) ≡ Some (codes "RD|I|99|001|0001|44201|1|1|007|000|20210101|00:00|0.053\n") }
+    ensures year { option_map (take 56) (generate 1 2 3 3) ≡ Some (codes "RD|I|99|001|0001|44201|1|1|007|000|20220101|00:00|0.072\n") }
+    ensures site { option_map (take 56) (generate 1 2 3 5) ≡ Some (codes "RD|I|99|001|0002|44201|1|1|007|000|20210101|00:00|0.022\n") }
+{}
+
+/// Behind the 8,760 hours of 2021 stand the samples of PM2.5 of every third day, of 4.0 to 23.9, and
+/// behind its 122 those of PM10 of every sixth day, of 10.0 to 159.9.
+pub fn particles_are_drawn()
+    ensures last_hour { map (λ (w : Wanted). w.hour) (take 1 (drop 8759 (wanted_in 1 2021))) ≡ hour_number (year_first 2021) 8759 ∷ [] }
+    ensures fine { samples_from 3 (take 2 (drop 8760 (wanted_in 1 2021)))
+        ≡ codes "RD|I|99|001|0001|88101|1|7|105|000|20210101|00:00|20.3\nRD|I|99|001|0001|88101|1|7|105|000|20210104|00:00|17.8\n" }
+    ensures coarse { samples_from 3 (take 2 (drop 8882 (wanted_in 1 2021)))
+        ≡ codes "RD|I|99|001|0001|81102|1|7|001|000|20210101|00:00|56.3\nRD|I|99|001|0001|81102|1|7|001|000|20210107|00:00|123.8\n" }
+    ensures no_more { drop 8943 (wanted_in 1 2021) ≡ [] }
+{}
+
+/// A simulation of three years prints the summary and then the report of each standard for 2023.
+pub fn simulation_prints_a_summary_and_five_reports()
+    ensures { (digest : List ℕ → List ℕ) (start sites : ℕ) → simulation digest start sites 3
+        ≡ text_of (summary_sheet (1 + sites * 3) (generated_lines start sites 3) (length (generated_office digest start sites 3).observations))
+        ++ (text_of (report_answer Ozone2015 (generated_office digest start sites 3) 2023)
+        ++ (text_of (report_answer Annual2012 (generated_office digest start sites 3) 2023)
+        ++ (text_of (report_answer AnnualSecondary (generated_office digest start sites 3) 2023)
+        ++ (text_of (report_answer Daily2006 (generated_office digest start sites 3) 2023)
+        ++ text_of (report_answer Pm10Of1987 (generated_office digest start sites 3) 2023))))) }
 {}
