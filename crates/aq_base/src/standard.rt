@@ -49,7 +49,8 @@ impl Standard {
 pub enum Verdict {
     Met,
     NotMet,
-    /// The design value keeps the level, but too few samples were taken.
+    /// There is a design value, but too few samples were taken to rest a verdict on it. It may be above
+    /// the level too: for an annual PM2.5 standard where the minimum test fails, and for PM10.
     Incomplete,
     /// There is no design value.
     NoValue,

@@ -51,9 +51,8 @@ pub fn quarters_weigh_the_same()
     ensures { mean_of of_values (even_quarter 30 10 100 ∷ even_quarter 30 30 140 ∷ even_quarter 30 30 140 ∷ even_quarter 30 30 140 ∷ []) ≡ Some (pos 130) }
 {}
 
-/// Eleven creditable samples in each quarter are enough where the mean or the design value is above the
-/// level, also for a year whose own mean is not, and ten are not; counted samples and days are other
-/// numbers.
+/// Eleven creditable samples in each quarter are enough for a year whose mean is above the level, and also
+/// where the design value alone is, and ten are not; counted samples and days are other numbers.
 pub fn eleven_samples_are_enough_above_the_level()
     ensures eleven { annual_dv (level_of Annual2012) (replicate 3 (year_with_second (mixed_quarter 30 11 10 12 130)))
         ≡ record { value = Some (pos 130); test = None; valid = true ∷ true ∷ true ∷ []; verdict = NotMet } }
@@ -61,6 +60,8 @@ pub fn eleven_samples_are_enough_above_the_level()
         ≡ record { value = Some (pos 130); test = Some (pos 130); valid = false ∷ false ∷ false ∷ []; verdict = NotMet } }
     ensures by_the_design_value { annual_dv (level_of Annual2012) (even_year (even_quarter 30 30 140) ∷ even_year (even_quarter 30 30 140) ∷ even_year (mixed_quarter 30 11 10 12 110) ∷ [])
         ≡ record { value = Some (pos 130); test = None; valid = true ∷ true ∷ true ∷ []; verdict = NotMet } }
+    ensures by_its_own_mean { annual_dv (level_of Annual2012) (even_year (even_quarter 30 30 110) ∷ even_year (even_quarter 30 30 110) ∷ even_year (mixed_quarter 30 11 10 12 130) ∷ [])
+        ≡ record { value = Some (pos 117); test = None; valid = true ∷ true ∷ true ∷ []; verdict = Met } }
     ensures at_the_level { annual_dv (level_of Annual2012) (replicate 3 (even_year (mixed_quarter 30 11 10 12 120)))
         ≡ record { value = Some (pos 120); test = None; valid = false ∷ false ∷ false ∷ []; verdict = Incomplete } }
 {}
