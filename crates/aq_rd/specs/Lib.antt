@@ -6,4 +6,3 @@ pub mod FieldPlaces
 pub mod RdReading
 pub mod Printing
 pub mod Spelled
-pub mod Fronts

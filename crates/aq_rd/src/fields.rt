@@ -8,9 +8,6 @@ use std::marker::Model;
 /// An RD line has at most this many fields.
 pub(crate) const MOST_FIELDS: usize = 28;
 
-/// Of a line to be put, the fields up to the method.
-pub(crate) const HEAD_FIELDS: usize = 10;
-
 const MOST_STARTS: usize = MOST_FIELDS + 1;
 
 /// The fields of a line, without the spaces round each. Contracts see their list. It takes no

@@ -3,15 +3,12 @@
 #![tactic(auto)]
 
 mod cursor;
-mod dates;
 mod digits;
 mod fields;
-mod head;
 mod line;
 mod plain;
 mod print;
 mod read;
-mod reader;
 mod spellings;
 mod tag;
 
@@ -20,7 +17,6 @@ pub use line::RdLine;
 pub use plain::ozone_monitor;
 pub use print::print_rd;
 pub use read::read_rd;
-pub use reader::Reader;
 pub use tag::{Tag, has_office_tag, tag_of};
 
 #[cfg(test)]

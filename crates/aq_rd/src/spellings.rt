@@ -3,11 +3,12 @@ ghost use Rattle.std.specs.Prelude.{◌≡◌, true, ℕ, ◌≤◌, ◌<◌, �
 ghost use Rattle.std.specs.List.{list_all};
 ghost use Rattle.aq_base.specs.Values.{least_value, greatest_value};
 ghost use Rattle.aq_profile.specs.Lines.Spellings.{has_duration, site_in, parameter_in, poc_in, duration_in, unit_in, method_in, date_in, time_in, null_in, qualifier_in, qualifiers_in, digits_in, is_code_byte};
-ghost use Rattle.aq_rd.specs.RdReading.{qualifier_texts, value_reading};
+ghost use Rattle.aq_profile.specs.Lines.RdForm.{qualifier_fields};
+ghost use Rattle.aq_rd.specs.RdReading.{value_reading};
 ghost use Rattle.aq_rd.specs.Spelled.{is_null_code, is_qualifier};
 
 use crate::digits::number;
-use crate::fields::{FieldList, HEAD_FIELDS};
+use crate::fields::FieldList;
 use aq_base::{Code, Day, Duration, Pollutant, Quals, Rule, SiteId};
 use aq_cal::day_of;
 use aq_num::{NumberFault, read_decimal};
@@ -186,15 +187,14 @@ fn is_code_byte(byte: u8) -> bool
     byte.is_ascii_uppercase() || byte.is_ascii_digit()
 }
 
-/// The codes of the qualifier fields of a line, where so many fields stand before these. An empty
-/// field is passed over, and a code that came before is dropped.
-pub(crate) fn qualifiers(behind: usize, texts: &FieldList<'_>) -> Option<Quals>
-    requires { behind ≤ HEAD_FIELDS }
-    ensures value { result ≡ qualifiers_in (qualifier_texts behind texts.now) }
+/// The codes of the qualifier fields. An empty field is passed over, and a code that came before is
+/// dropped.
+pub(crate) fn qualifiers(texts: &FieldList<'_>) -> Option<Quals>
+    ensures value { result ≡ qualifiers_in (qualifier_fields texts.now) }
     ensures characters { IfSome result (λ codes. list_all is_qualifier codes ≡ true) }
 {
     let mut quals = Quals::new();
-    for number in 17 - behind..texts.count().min(26 - behind) + 1 {
+    for number in 17..texts.count().min(26) + 1 {
         let text = texts.field(number);
         if !text.is_empty() {
             quals.add(qualifier(text)?);
