@@ -1,12 +1,9 @@
 -- Qualifier fields, one after another.
-use Rattle.std.proofs.Common.{◌≡◌, ℕ, zero, suc, ◌+◌, ◌-◌, ◌<◌, ◌≤◌, Bool, true, false, cond, ◌&&◌, ◌==◌, List, [], ◌∷◌, ◌++◌, Some, None, Option, length, take, drop, refl, sym, ap, ◌∙◌, arith, inl, inr}
+use Rattle.std.proofs.Common.{◌≡◌, ℕ, zero, suc, ◌+◌, ◌-◌, ◌<◌, ◌≤◌, Bool, true, false, cond, ◌==◌, List, [], ◌∷◌, ◌++◌, Some, None, Option, length, take, drop, refl, sym, ap, ◌∙◌, arith, inl, inr}
 use Rattle.std.proofs.lemmas.Bool.{false≢true, cases_lt}
 use Rattle.std.proofs.lemmas.Bool.Decides.{nat_tests}
 use Rattle.std.proofs.lemmas.List.{drop_all, get_or_past, length-append}
 use Rattle.std.proofs.Math.Seq.{drop-cons}
-use Rattle.std.specs.List.{list_all}
-use Rattle.std.proofs.lemmas.List.Folds.{list_all-append}
-use Rattle.aq_rd.specs.Spelled.{is_qualifier}
 use Rattle.aq_base.specs.declared.code.Code.{Code}
 use Rattle.aq_base.specs.Quals.{with_code, has_code}
 use Rattle.aq_profile.specs.Lines.Fields.{field, is_empty}
@@ -95,11 +92,3 @@ step-some codes n texts text test low high is by truth =
     step-text codes n texts (omega arith) (omega arith) (sym (ap is_empty is) ∙ sym (empty-test text) ∙ sym by ∙ truth)
     ∙ ap (λ t. qualifier_in t >>= λ code. qualifiers_onto (with_code codes code) (take (26 - n) (drop n texts))) (sym is)
     ∙ bind-same (qualifier_in text) (λ code. left-next (with_code codes code) n texts)
-
-all-cond : (b : Bool) (codes : List Code) (code : Code) → list_all is_qualifier codes ≡ true → is_qualifier code ≡ true → list_all is_qualifier (cond b codes (codes ++ code ∷ [])) ≡ true
-all-cond true codes code all one = all
-all-cond false codes code all one =
-    list_all-append is_qualifier codes (code ∷ []) ∙ ap (λ b. b && (is_qualifier code && true)) all ∙ ap (λ b. b && true) one
-
-pub qualifiers-with_code : (codes : List Code) (code : Code) → list_all is_qualifier codes ≡ true → is_qualifier code ≡ true → list_all is_qualifier (with_code codes code) ≡ true
-qualifiers-with_code codes code all one = all-cond (has_code code codes) codes code all one

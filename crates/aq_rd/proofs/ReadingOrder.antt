@@ -1,16 +1,21 @@
 -- Testing field by field in the order of the rules gives the value that a line spells, or the first rule that it breaks.
-use Rattle.std.proofs.Common.{◌≡◌, ℕ, Bool, true, false, cond, not, ◌&&◌, ◌||◌, List, [], ◌∷◌, Some, None, Option, Ok, Err, Result, refl, sym, ap, ◌∙◌, subst}
-use Rattle.std.specs.Prelude.{IfOk, IfErr, OnOk, OnErr, bytes_eq, codes, find, is_none, ℤ, if◌then◌else◌}
+use Rattle.std.proofs.Common.{◌≡◌, ℕ, Bool, true, false, cond, not, ◌&&◌, ◌||◌, List, [], ◌∷◌, Some, None, Option, Ok, Err, Result, refl, sym, ap, ◌∙◌, subst, arith}
+use Rattle.std.specs.Prelude.{IfOk, IfErr, IfSome, IsTrue, OnOk, OnErr, bytes_eq, codes, find, int_le, is_none, ℤ, ◌≤ℤ◌, pos, if◌then◌else◌}
 use Rattle.std.specs.Option.{ok_or}
-use Rattle.std.proofs.lemmas.Bool.{false≢true}
+use Rattle.std.proofs.lemmas.Bool.{false≢true, and_parts}
+use Rattle.std.proofs.lemmas.Int.{ints}
 use Rattle.std.proofs.lemmas.Slice.Eq.{bytes_eq-Decides}
 use Rattle.aq_base.specs.Decimal.{is_decimal, cut}
 use Rattle.aq_base.specs.Calendar.{hour_number}
+use Rattle.aq_base.specs.Values.{least_value, greatest_value}
 use Rattle.aq_base.specs.declared.code.Code.{Code}
 use Rattle.aq_base.specs.declared.monitor.Pollutant.{Pollutant}
+use Rattle.aq_base.specs.declared.monitor.Pollutant.TheVariants.{Ozone, Pm25, Pm10}
 use Rattle.aq_base.specs.declared.observation.Observation.{Observation}
 use Rattle.aq_base.specs.declared.rule.Rule.{Rule}
 use Rattle.aq_base.specs.declared.rule.Rule.TheVariants.{BadBytes, BadTag, FieldCount, BadAction, BadSite, ParameterOutOfProfile, BadPoc, BadDuration, BadUnit, BadMethod, BadDate, BadTime, ValueAndNull, NeitherValueNorNull, BadValue, ValueOutOfRange, BadNull, BadQualifier}
+use Rattle.aq_profile.specs.Office.Office.{is_content, is_measured}
+use Rattle.aq_profile.specs.Lines.Canonical.{is_rd_value, is_line_value}
 use Rattle.aq_profile.specs.Lines.Fields.{is_empty, field, fields}
 use Rattle.aq_profile.specs.Lines.Spellings as spellings
 use Rattle.aq_profile.specs.Lines.Spellings.{Tag, Rd, Xm, Xp, Xs, Xo, Xu, Xe, Xc, Xa, Insert, Update, Delete, tag_in, action_in, parameter_in, parameter_of, poc_in, site_in, duration_in, unit_in, method_in, date_in, time_in, value_in, is_in_range, null_in, qualifiers_in}
@@ -18,6 +23,7 @@ use Rattle.aq_profile.specs.Lines.RdForm.{RdValue, monitor_in, start_in, content
 use Rattle.aq_profile.specs.Lines.Reading.{LineValue, OfRd, breaks_in, rules_of, reported_value, value_for, action_for, form_value, has_wrong_count, is_deletion, breaks_parts, rules_for, line_value, reading_rule, is_plain, tag_of}
 use Rattle.aq_rd.specs.declared.line.RdLine.{RdLine}
 use Rattle.aq_rd.specs.declared.line.RdLine.TheVariants as line
+use Rattle.aq_rd.specs.Ranges.{HasLineRange}
 use Rattle.aq_rd.specs.Tags.{is_office, has_office_tag}
 use Rattle.aq_rd.specs.RdReading.{◌>>=◌, value_of, monitor_reading, start_reading, value_reading, valued_reading, null_reading, content_reading, put_reading, delete_reading, form_reading, rd_reading}
 
@@ -225,3 +231,40 @@ rule-line (Err e) value rule h = h.1
 pub refused-line : (r : Result RdLine Rule) (value : Option LineValue) (rule : Option Rule) → Reads line_of r value rule → OnErr r (value ≡ None)
 refused-line (Ok x) value rule h = tt
 refused-line (Err e) value rule h = h.0
+
+-- what a law says of all values that a line spells holds of the one that is read
+pub spelled-line : (r : Result RdLine Rule) (value : Option LineValue) (rule : Option Rule) → Reads line_of r value rule
+    → ((spelled : LineValue) → value ≡ Some spelled → IsTrue (is_line_value spelled)) → IfOk r (λ x. IsTrue (is_rd_value (value_of x)))
+spelled-line (Ok x) value rule h law = law (OfRd (value_of x)) h.0
+spelled-line (Err e) value rule h law = tt
+
+ends : (least greatest value : ℤ) → (int_le least value && int_le value greatest) ≡ true → (least ≤ℤ value) × (value ≤ℤ greatest)
+ends least greatest value h =
+    let parts = and_parts (int_le least value) (int_le value greatest) h in
+    let low : int_le least value ≡ true = parts.0 in
+    let high : int_le value greatest ≡ true = parts.1 in
+    (grind (arith, ints, low), grind (arith, ints, high))
+
+in_range : (pollutant : Pollutant) (value : ℤ) → is_in_range pollutant value ≡ true → (least_value ≤ℤ value) × (value ≤ℤ greatest_value pollutant)
+in_range Ozone value h = ends _ (pos 9999) value h
+in_range Pm25 value h = ends _ (pos 99999) value h
+in_range Pm10 value h = ends _ (pos 99999) value h
+
+ranged-content : (pollutant : Pollutant) (value : Option ℤ) (null : Option Code) → is_measured pollutant value null ≡ true
+    → IfSome value (λ v. (least_value ≤ℤ v) × (v ≤ℤ greatest_value pollutant))
+ranged-content pollutant None null h = tt
+ranged-content pollutant (Some value) None h = in_range pollutant value h
+ranged-content pollutant (Some value) (Some null) h = absurd (false≢true h)
+
+left : (a b : Bool) → (a && b) ≡ true → a ≡ true
+left a b h = (and_parts a b h).0
+
+right : (a b : Bool) → (a && b) ≡ true → b ≡ true
+right a b h = (and_parts a b h).1
+
+pub ranged-line : (r : Result RdLine Rule) → IfOk r (λ x. IsTrue (is_rd_value (value_of x))) → IfOk r HasLineRange
+ranged-line (Ok (line.Put update monitor duration method hour content)) h =
+    let content_in = right _ (is_content monitor.pollutant content) h in
+    ranged-content monitor.pollutant content.value content.null (left _ _ (left _ _ (left _ _ content_in)))
+ranged-line (Ok (line.Delete monitor hour)) h = tt
+ranged-line (Err e) h = tt

@@ -1,22 +1,23 @@
 //! Reading RD lines.
-ghost use Rattle.std.specs.Prelude.{◌≡◌, ◌≤◌, true, false, IfOk, IfErr, OnOk, OnErr, Some, None};
+ghost use Rattle.std.specs.Prelude.{◌≡◌, ◌≤◌, true, false, IfOk, IfErr, IsTrue, OnOk, OnErr, Some, None};
 ghost use Rattle.std.specs.List.{list_all};
 ghost use Rattle.aq_base.specs.declared.monitor.Pollutant.{Pollutant};
+ghost use Rattle.aq_profile.specs.Lines.Canonical.{is_rd_value};
 ghost use Rattle.aq_profile.specs.Lines.Reading.{reading_rule, line_value, has_wrong_count, is_deletion, OfRd};
 ghost use Rattle.aq_profile.specs.Lines.Spellings.{Rd};
 ghost use Rattle.aq_rd.specs.Ranges.{HasLineRange};
 ghost use Rattle.aq_rd.specs.RdReading.{monitor_reading, start_reading, content_reading, valued_reading, null_reading, put_reading, delete_reading, form_reading, rd_reading, value_of};
-ghost use Rattle.aq_rd.specs.Spelled.{IsSpelled, HasPoc, IsReported, is_qualifier};
 ghost use Rattle.aq_rd.specs.Tags.{has_office_tag};
 
-use crate::fields::{FieldList, MOST_FIELDS};
+use crate::fields::{Fields, MOST_FIELDS};
 use crate::line::RdLine;
 use crate::spellings::{
-    date, duration, method, null_code, parameter, poc, qualifiers, site, time, unit_places, value,
+    date_in, duration_in, method_in, null_in, parameter_in, poc_in, qualifiers, site_in, time_in,
+    unit_in, value,
 };
-use crate::tag::has_spaces;
 use aq_base::{Hour, MonitorId, Observation, Pollutant, Rule};
 use aq_cal::hour_of;
+use aq_profile::lines::canonical::what_a_line_spells_is_in_range;
 
 /// Reads a line of the AQS raw data transaction format (RD), whose first field is no tag of the
 /// office's forms. It is refused under the reading rule with the smallest number that it breaks
@@ -28,19 +29,19 @@ pub fn read_rd(line: &[u8]) -> Result<RdLine, Rule>
     ensures rule { IfErr result (λ r. reading_rule line.now ≡ Some r) }
     ensures refused { OnErr result (line_value line.now ≡ None) }
     ensures range { IfOk result HasLineRange }
-    ensures spelled { IfOk result IsSpelled }
+    ensures spelled { IfOk result (λ x. IsTrue (is_rd_value (value_of x))) }
 {
-    read_line(line)
+    let read = read_line(line);
+    what_a_line_spells_is_in_range();
+    read
 }
 
 // In the order of the rules.
 #[tactic(auto, unfolding(crate::specs::RdReading::rd_reading))]
 fn read_line(line: &[u8]) -> Result<RdLine, Rule>
-    ensures value { result ≡ rd_reading line.now }
-    ensures spelled { IfOk result IsSpelled }
+    ensures { result ≡ rd_reading line.now }
 {
-    let has_spaces = has_spaces(line)?;
-    let texts = FieldList::new(line, has_spaces);
+    let texts = Fields::new(line)?;
     if texts.field(1) != b"RD".as_slice() {
         return Err(Rule::BadTag);
     }
@@ -48,9 +49,8 @@ fn read_line(line: &[u8]) -> Result<RdLine, Rule>
 }
 
 #[tactic(auto, unfolding(crate::specs::RdReading::form_reading))]
-fn read_form(texts: &FieldList<'_>) -> Result<RdLine, Rule>
-    ensures spelled { IfOk result IsSpelled }
-    ensures value { result ≡ form_reading texts.now }
+fn read_form(texts: &Fields<'_>) -> Result<RdLine, Rule>
+    ensures { result ≡ form_reading texts.now }
 {
     if has_wrong_count(texts) {
         return Err(Rule::FieldCount);
@@ -64,7 +64,7 @@ fn read_form(texts: &FieldList<'_>) -> Result<RdLine, Rule>
 }
 
 // A deletion needs the fields up to the time, and another line those up to the value.
-fn has_wrong_count(texts: &FieldList<'_>) -> bool
+fn has_wrong_count(texts: &Fields<'_>) -> bool
     ensures { result ≡ has_wrong_count Rd (is_deletion texts.now) texts.now }
 {
     let fewest = if texts.field(2) == b"D".as_slice() {
@@ -76,15 +76,14 @@ fn has_wrong_count(texts: &FieldList<'_>) -> bool
 }
 
 #[tactic(auto, unfolding(crate::specs::RdReading::put_reading))]
-fn read_put(update: bool, texts: &FieldList<'_>) -> Result<RdLine, Rule>
-    ensures spelled { IfOk result IsSpelled }
-    ensures value { result ≡ put_reading update texts.now }
+fn read_put(update: bool, texts: &Fields<'_>) -> Result<RdLine, Rule>
+    ensures { result ≡ put_reading update texts.now }
 {
     let monitor = read_monitor(texts)?;
     let pollutant = monitor.pollutant;
-    let duration = duration(pollutant, texts.field(8)).ok_or(Rule::BadDuration)?;
-    let places = unit_places(pollutant, texts.field(9)).ok_or(Rule::BadUnit)?;
-    let method = method(texts.field(10)).ok_or(Rule::BadMethod)?;
+    let duration = duration_in(pollutant, texts.field(8)).ok_or(Rule::BadDuration)?;
+    let places = unit_in(pollutant, texts.field(9)).ok_or(Rule::BadUnit)?;
+    let method = method_in(texts.field(10)).ok_or(Rule::BadMethod)?;
     let hour = read_start(texts)?;
     let content = read_content(pollutant, places, texts)?;
     Ok(RdLine::Put {
@@ -99,9 +98,8 @@ fn read_put(update: bool, texts: &FieldList<'_>) -> Result<RdLine, Rule>
 
 // Of a deletion, only the monitor and the start are read.
 #[tactic(auto, unfolding(crate::specs::RdReading::delete_reading))]
-fn read_delete(texts: &FieldList<'_>) -> Result<RdLine, Rule>
-    ensures spelled { IfOk result IsSpelled }
-    ensures value { result ≡ delete_reading texts.now }
+fn read_delete(texts: &Fields<'_>) -> Result<RdLine, Rule>
+    ensures { result ≡ delete_reading texts.now }
 {
     let monitor = read_monitor(texts)?;
     let hour = read_start(texts)?;
@@ -109,13 +107,12 @@ fn read_delete(texts: &FieldList<'_>) -> Result<RdLine, Rule>
 }
 
 #[tactic(auto, unfolding(crate::specs::RdReading::monitor_reading))]
-fn read_monitor(texts: &FieldList<'_>) -> Result<MonitorId, Rule>
-    ensures poc { IfOk result HasPoc }
-    ensures value { result ≡ monitor_reading texts.now }
+fn read_monitor(texts: &Fields<'_>) -> Result<MonitorId, Rule>
+    ensures { result ≡ monitor_reading texts.now }
 {
-    let site = site(texts.field(3), texts.field(4), texts.field(5)).ok_or(Rule::BadSite)?;
-    let pollutant = parameter(texts.field(6)).ok_or(Rule::ParameterOutOfProfile)?;
-    let poc = poc(texts.field(7)).ok_or(Rule::BadPoc)?;
+    let site = site_in(texts.field(3), texts.field(4), texts.field(5)).ok_or(Rule::BadSite)?;
+    let pollutant = parameter_in(texts.field(6)).ok_or(Rule::ParameterOutOfProfile)?;
+    let poc = poc_in(texts.field(7)).ok_or(Rule::BadPoc)?;
     Ok(MonitorId {
         site,
         pollutant,
@@ -124,24 +121,18 @@ fn read_monitor(texts: &FieldList<'_>) -> Result<MonitorId, Rule>
 }
 
 #[tactic(auto, unfolding(crate::specs::RdReading::start_reading))]
-fn read_start(texts: &FieldList<'_>) -> Result<Hour, Rule>
+fn read_start(texts: &Fields<'_>) -> Result<Hour, Rule>
     ensures { result ≡ start_reading texts.now }
 {
-    let day = date(texts.field(11)).ok_or(Rule::BadDate)?;
-    let hour = time(texts.field(12)).ok_or(Rule::BadTime)?;
+    let day = date_in(texts.field(11)).ok_or(Rule::BadDate)?;
+    let hour = time_in(texts.field(12)).ok_or(Rule::BadTime)?;
     Ok(hour_of(day, hour))
 }
 
 #[tactic(auto, unfolding(crate::specs::RdReading::content_reading))]
-fn read_content(
-    pollutant: Pollutant,
-    places: u8,
-    texts: &FieldList<'_>,
-) -> Result<Observation, Rule>
+fn read_content(pollutant: Pollutant, places: u8, texts: &Fields<'_>) -> Result<Observation, Rule>
     requires { places ≤ 6 }
-    ensures reported { IfOk result (λ content. IsReported pollutant content.value content.null) }
-    ensures quals { IfOk result (λ content. list_all is_qualifier content.quals ≡ true) }
-    ensures value { result ≡ content_reading pollutant places texts.now }
+    ensures { result ≡ content_reading pollutant places texts.now }
 {
     let has_value = !texts.field(13).is_empty();
     let has_null = !texts.field(14).is_empty();
@@ -154,11 +145,9 @@ fn read_content(
 }
 
 #[tactic(auto, unfolding(crate::specs::RdReading::valued_reading))]
-fn read_valued(pollutant: Pollutant, places: u8, texts: &FieldList<'_>) -> Result<Observation, Rule>
+fn read_valued(pollutant: Pollutant, places: u8, texts: &Fields<'_>) -> Result<Observation, Rule>
     requires { places ≤ 6 }
-    ensures reported { IfOk result (λ content. IsReported pollutant content.value content.null) }
-    ensures quals { IfOk result (λ content. list_all is_qualifier content.quals ≡ true) }
-    ensures value { result ≡ valued_reading pollutant places texts.now }
+    ensures { result ≡ valued_reading pollutant places texts.now }
 {
     let value = value(pollutant, places, texts.field(13))?;
     let quals = qualifiers(texts).ok_or(Rule::BadQualifier)?;
@@ -170,12 +159,10 @@ fn read_valued(pollutant: Pollutant, places: u8, texts: &FieldList<'_>) -> Resul
 }
 
 #[tactic(auto, unfolding(crate::specs::RdReading::null_reading))]
-fn read_null(texts: &FieldList<'_>) -> Result<Observation, Rule>
-    ensures reported { (pollutant : Pollutant) → IfOk result (λ content. IsReported pollutant content.value content.null) }
-    ensures quals { IfOk result (λ content. list_all is_qualifier content.quals ≡ true) }
-    ensures value { result ≡ null_reading texts.now }
+fn read_null(texts: &Fields<'_>) -> Result<Observation, Rule>
+    ensures { result ≡ null_reading texts.now }
 {
-    let null = null_code(texts.field(14)).ok_or(Rule::BadNull)?;
+    let null = null_in(texts.field(14)).ok_or(Rule::BadNull)?;
     let quals = qualifiers(texts).ok_or(Rule::BadQualifier)?;
     Ok(Observation {
         value: None,

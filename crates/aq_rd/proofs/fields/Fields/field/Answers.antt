@@ -1,8 +1,8 @@
 use Rattle.std.proofs.Common.{◌-◌, ◌∙◌, get_or, sym, ap}
 use Rattle.aq_profile.specs.Lines.Fields.{field}
 use Rattle.aq_rd.proofs.FieldSteps.{trimmed-dense}
-use Rattle.aq_rd.proofs.fields.FieldList.field.Goals as goal
-use Rattle.aq_rd.proofs.fields.FieldList.field.Goals.{then-number-self, else-number-self}
+use Rattle.aq_rd.proofs.fields.Fields.field.Goals as goal
+use Rattle.aq_rd.proofs.fields.Fields.field.Goals.{then-number-self, else-number-self}
 
 pub returns-else-self : goal.returns-else-self
 returns-else-self c =

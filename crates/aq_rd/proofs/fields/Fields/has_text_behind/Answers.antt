@@ -5,7 +5,7 @@ use Rattle.std.proofs.lemmas.List.{take_all, drop_all, length-drop}
 use Rattle.aq_profile.specs.Lines.Fields.{fields, is_bar, is_space}
 use Rattle.aq_rd.specs.FieldPlaces.{has_text}
 use Rattle.aq_rd.proofs.FieldSteps.{has_text-bytes}
-use Rattle.aq_rd.proofs.fields.FieldList.has_text_behind.Goals as goal
+use Rattle.aq_rd.proofs.fields.Fields.has_text_behind.Goals as goal
 
 pub returns-then-self-number : goal.returns-then-self-number
 returns-then-self-number c =

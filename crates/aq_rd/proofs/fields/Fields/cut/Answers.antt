@@ -1,7 +1,7 @@
 use Rattle.std.proofs.Common.{arith}
 use Rattle.aq_rd.proofs.Scans.{scanned-start, scanned-same, scanned-bar, scanned-bar_beyond, scanned-text, scanned-end}
-use Rattle.aq_rd.proofs.fields.FieldList.new.Goals as goal
-use Rattle.aq_rd.proofs.fields.FieldList.new.Goals.{then-byte-eq124, then-count-lt-MOST_STARTS, else-count-lt-MOST_STARTS, else-byte-eq124}
+use Rattle.aq_rd.proofs.fields.Fields.cut.Goals as goal
+use Rattle.aq_rd.proofs.fields.Fields.cut.Goals.{then-byte-eq124, then-count-lt-MOST_STARTS, else-count-lt-MOST_STARTS, else-byte-eq124}
 
 pub loop-place-init : goal.loop-place-init
 loop-place-init c = scanned-start c.args.line.now
