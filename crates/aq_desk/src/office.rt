@@ -3,10 +3,9 @@ ghost use Rattle.std.specs.Prelude.{◌≡◌, IfSome};
 ghost use Rattle.aq_base.specs.declared.monitor.Pollutant.TheVariants.{Ozone};
 ghost use Rattle.aq_base.specs.Values.{HasValueInRange};
 ghost use Rattle.aq_rd.specs.Ranges.{HasLineRange};
-ghost use Rattle.aq_desk.specs.Built.{plain_monitor};
 
 use aq_base::{Duration, Hour, MonitorId, ObsKey, Observation, Rule, SiteId, Steps};
-use aq_rd::{Cursor, RdLine, has_office_tag, ozone_monitor, read_rd};
+use aq_rd::{RdLine, has_office_tag, plain_monitor, read_rd};
 use aq_shelf::{Shelf, ShelfFault};
 use std::alloc::Global;
 use std::marker::Model;
@@ -39,19 +38,6 @@ impl From<ShelfFault> for Refusal {
             ShelfFault::Memory => Refusal::Memory,
         }
     }
-}
-
-/// Reads the plain line of an ozone monitor, `XM|I|SS|CCC|NNNN|44201|P|1|Y`.
-#[tactic(auto, unfolding(crate::specs::Built::plain_monitor))]
-fn read_monitor(line: &[u8]) -> Option<MonitorId>
-    ensures value { result ≡ plain_monitor line.now }
-    ensures ozone { IfSome result (λ id. id.pollutant ≡ Ozone) }
-{
-    let mut text = Cursor::new(line);
-    text.skip(b"XM|I|")?;
-    let monitor = ozone_monitor(&mut text)?;
-    text.skip(b"Y")?;
-    if text.is_empty() { Some(monitor) } else { None }
 }
 
 impl Model for Office {
@@ -119,7 +105,7 @@ impl Office {
         if self.monitor.is_some() {
             return None;
         }
-        read_monitor(line)
+        plain_monitor(line)
     }
 
     /// Registers the first monitor.
