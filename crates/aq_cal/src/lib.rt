@@ -8,7 +8,7 @@ mod text;
 
 pub use date::{Civil, civil_of, day_of, hour_of};
 pub use spans::{quarter_of, quarter_span, year_span};
-pub use text::write_day;
+pub use text::{day_text, last_digits, write_day};
 
 #[cfg(test)]
 mod tests;

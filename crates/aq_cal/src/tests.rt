@@ -92,6 +92,13 @@ fn years_have_their_days(rt: HostRuntime) {
 }
 
 #[test]
+fn numbers_have_their_last_digits(rt: HostRuntime) {
+    assert_eq!(rt; last_digits::<4>(37), *b"0037");
+    assert_eq!(rt; last_digits::<2>(2024), *b"24");
+    assert_eq!(rt; last_digits::<5>(65_535), *b"65535");
+}
+
+#[test]
 fn days_are_written_with_leading_zeros(rt: HostRuntime) -> Result<(), Fail> {
     let mut out = Vec::new(rt.alloc());
     for number in [0, 59, 8948, 18_262] {

@@ -11,7 +11,6 @@ ghost use Rattle.aq_forms.specs.declared.lines.TheConstants.{MOST_BYTES};
 use crate::office::{Office, Refusal};
 use aq_base::{Listed, ListedLine, LoadReply, Memory, Rest, RestRule, Rule};
 use aq_forms::lines_of;
-use aq_rd::Reader;
 use std::alloc::Global;
 
 /// At most this many refused lines are listed in a reply; the others are counted by rule.
@@ -71,17 +70,10 @@ pub(crate) fn take_load(alloc: Global, body: &[u8], lines: u32) -> Result<Taken,
     ensures reply { IfOk result (λ taken. taken.reply ≡ built_reply nothing 0 body.now) }
 {
     let mut office = Office::new(alloc);
-    let mut reader = Reader::new();
     let mut refused = Vec::new(alloc);
     let mut taken = 0;
     for line in lines_of(body) {
-        take_line(
-            &mut office,
-            &mut reader,
-            &mut refused,
-            line.number,
-            line.text,
-        )?;
+        take_line(&mut office, &mut refused, line.number, line.text)?;
         taken += 1;
     }
     let reply = reply_of(alloc, lines, taken, &refused)?;
@@ -89,17 +81,16 @@ pub(crate) fn take_load(alloc: Global, body: &[u8], lines: u32) -> Result<Taken,
 }
 
 /// Takes one line, and puts it behind the refused ones where it is refused.
-fn take_line<'a>(
+fn take_line(
     office: &mut Office,
-    reader: &mut Reader<'a>,
     refused: &mut Vec<ListedLine>,
     number: u32,
-    text: &'a [u8],
+    text: &[u8],
 ) -> Result<(), Memory>
     ensures office { OnOk result (office.new ≡ built_after office.old text.now) }
     ensures refused { OnOk result (refused.new.items ≡ refused.old.items ++ listed_for_line office.old number text.now) }
 {
-    match office.take(reader, text) {
+    match office.take(text) {
         Ok(()) => Ok(()),
         Err(Refusal::Broken(rule)) => {
             let line = ListedLine { line: number, rule };

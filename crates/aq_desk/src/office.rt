@@ -3,10 +3,9 @@ ghost use Rattle.std.specs.Prelude.{◌≡◌, IfSome};
 ghost use Rattle.aq_base.specs.declared.monitor.Pollutant.TheVariants.{Ozone};
 ghost use Rattle.aq_base.specs.Values.{HasValueInRange};
 ghost use Rattle.aq_rd.specs.Ranges.{HasLineRange};
-ghost use Rattle.aq_desk.specs.Built.{plain_monitor};
 
 use aq_base::{Duration, Hour, MonitorId, ObsKey, Observation, Rule, SiteId, Steps};
-use aq_rd::{Cursor, RdLine, Reader, has_office_tag, ozone_monitor};
+use aq_rd::{RdLine, has_office_tag, plain_monitor, read_rd};
 use aq_shelf::{Shelf, ShelfFault};
 use std::alloc::Global;
 use std::marker::Model;
@@ -39,19 +38,6 @@ impl From<ShelfFault> for Refusal {
             ShelfFault::Memory => Refusal::Memory,
         }
     }
-}
-
-/// Reads the plain line of an ozone monitor, `XM|I|SS|CCC|NNNN|44201|P|1|Y`.
-#[tactic(auto, unfolding(crate::specs::Built::plain_monitor))]
-fn read_monitor(line: &[u8]) -> Option<MonitorId>
-    ensures value { result ≡ plain_monitor line.now }
-    ensures ozone { IfSome result (λ id. id.pollutant ≡ Ozone) }
-{
-    let mut text = Cursor::new(line);
-    text.skip(b"XM|I|")?;
-    let monitor = ozone_monitor(&mut text)?;
-    text.skip(b"Y")?;
-    if text.is_empty() { Some(monitor) } else { None }
 }
 
 impl Model for Office {
@@ -94,11 +80,7 @@ impl Office {
     }
 
     /// Takes a line. After a refusal the office is as before.
-    pub(crate) fn take<'a>(
-        &mut self,
-        reader: &mut Reader<'a>,
-        line: &'a [u8],
-    ) -> Result<(), Refusal>
+    pub(crate) fn take(&mut self, line: &[u8]) -> Result<(), Refusal>
         ensures unbroken { OnOk result (built_refusal self.old line.now ≡ None) }
         ensures after { OnOk result (self.new ≡ built_after self.old line.now) }
         ensures refused { IfErr result (IsRefusal (built_refusal self.old line.now)) }
@@ -111,7 +93,7 @@ impl Office {
         if has_office_tag(line) {
             return Err(Refusal::Broken(Rule::NotBuilt));
         }
-        self.take_sample(reader, line)
+        self.take_sample(line)
     }
 
     /// The monitor that a line registers: the first one.
@@ -123,7 +105,7 @@ impl Office {
         if self.monitor.is_some() {
             return None;
         }
-        read_monitor(line)
+        plain_monitor(line)
     }
 
     /// Registers the first monitor.
@@ -136,14 +118,14 @@ impl Office {
     }
 
     /// Takes an RD line.
-    fn take_sample<'a>(&mut self, reader: &mut Reader<'a>, line: &'a [u8]) -> Result<(), Refusal>
+    fn take_sample(&mut self, line: &[u8]) -> Result<(), Refusal>
         requires { has_office_tag line.now ≡ false }
         ensures unbroken { OnOk result (refusal self.old line.now ≡ None) }
         ensures after { OnOk result (self.new ≡ after self.old line.now) }
         ensures refused { IfErr result (IsRefusal (refusal self.old line.now)) }
         ensures unchanged { OnErr result (self.new ≡ self.old) }
     {
-        match reader.read(line) {
+        match read_rd(line) {
             Ok(line) => self.apply(&line),
             Err(rule) => Err(Refusal::Broken(rule)),
         }

@@ -1,9 +1,9 @@
 //! The words of the command line.
 ghost use Rattle.std.specs.Prelude.{◌≡◌, map, string_bytes};
-ghost use Rattle.aq_desk.specs.Words.{command_of, scan_of, site_word, day_word};
+ghost use Rattle.aq_desk.specs.Words.{command_of, scan_of};
 
 use aq_base::{Day, SiteId};
-use aq_rd::Cursor;
+use aq_rd::{day_word, site_word};
 
 /// What the program is asked to do.
 #[derive(Clone, Copy, Debug, PartialEq, Eq)]
@@ -12,32 +12,12 @@ pub enum Command {
     Scan { site: SiteId, day: Day },
 }
 
-/// A site as a word, `SS-CCC-NNNN`.
-#[tactic(auto, unfolding(crate::specs::Words::site_word))]
-fn read_site(word: &str) -> Option<SiteId>
-    ensures { result ≡ site_word word.now }
-{
-    let mut text = Cursor::new(word.as_bytes());
-    let site = text.site(b"-")?;
-    if text.is_empty() { Some(site) } else { None }
-}
-
-/// A day as a word, `YYYY-MM-DD`, a date of the profile.
-#[tactic(auto, unfolding(crate::specs::Words::day_word))]
-fn read_day(word: &str) -> Option<Day>
-    ensures { result ≡ day_word word.now }
-{
-    let mut text = Cursor::new(word.as_bytes());
-    let day = text.date(b"-")?;
-    if text.is_empty() { Some(day) } else { None }
-}
-
 #[tactic(auto, unfolding(crate::specs::Words::scan_of))]
 fn scan(site: &str, day: &str) -> Option<Command>
     ensures { result ≡ scan_of site.now day.now }
 {
-    let site = read_site(site)?;
-    let day = read_day(day)?;
+    let site = site_word(site.as_bytes())?;
+    let day = day_word(day.as_bytes())?;
     Some(Command::Scan { site, day })
 }
 

@@ -1,9 +1,15 @@
 -- A line that is written field by field.
-use Rattle.std.proofs.Common.{◌≡◌, ℕ, ◌+◌, ◌<◌, List, [], ◌∷◌, ◌++◌, map, length, take, get_or, Some, None, Option, refl, sym, ap, ◌∙◌, append_assoc}
+use Rattle.std.proofs.Common.{◌≡◌, Bool, true, false, cond, ℕ, ◌+◌, ◌<◌, List, [], ◌∷◌, ◌++◌, map, length, take, get_or, Some, None, Option, refl, sym, ap, ◌∙◌, append_assoc}
 use Rattle.std.proofs.lemmas.List.{take_more, map-append, append-nil}
 use Rattle.aq_base.specs.declared.code.Code.{Code}
-use Rattle.aq_profile.specs.Lines.Canonical.{code_text, texts_behind, joined}
+use Rattle.aq_profile.specs.Lines.Canonical.{canonical_rd, rd_texts, code_text, texts_behind, joined}
+use Rattle.aq_profile.specs.Lines.RdForm.{Put, Delete}
+use Rattle.aq_profile.specs.Lines.Reading.{is_plain}
 use Rattle.aq_rd.specs.Printing.{behind_bars, null_text}
+use Rattle.aq_rd.specs.RdReading.{value_of}
+use Rattle.aq_rd.specs.Tags.{has_office_tag}
+use Rattle.aq_rd.specs.declared.line.RdLine.{RdLine}
+use Rattle.aq_rd.specs.declared.line.RdLine.TheVariants as lines
 
 pub joined-cons : (text : List ℕ) (texts : List (List ℕ)) → joined (text ∷ texts) ≡ text ++ behind_bars texts
 joined-cons text [] = sym (append-nil text)
@@ -59,3 +65,14 @@ delete-written o0 o1 o2 o3 o4 o5 tag action monitor start e1 e2 e3 e4 e5 =
     ∙ ap (λ r. tag ++ (124 ∷ (action ++ r))) (behind_bars-append monitor ([] ∷ [] ∷ [] ∷ start))
     in
     rw (e5, e4, e3, e2, e1, line) (simp append_assoc)
+
+neither : (b : Bool) → cond b false false ≡ false
+neither true = refl
+neither false = refl
+
+-- a written line begins with RD
+pub no_office-line : (line : RdLine) → has_office_tag (canonical_rd (value_of line)) ≡ false
+unfolding rd_texts
+no_office-line (lines.Put update monitor duration method hour content) =
+    neither (is_plain (canonical_rd (Put update monitor duration method hour content)))
+no_office-line (lines.Delete monitor hour) = neither (is_plain (canonical_rd (Delete monitor hour)))

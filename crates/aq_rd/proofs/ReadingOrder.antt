@@ -1,16 +1,21 @@
 -- Testing field by field in the order of the rules gives the value that a line spells, or the first rule that it breaks.
-use Rattle.std.proofs.Common.{◌≡◌, ℕ, Bool, true, false, cond, not, ◌&&◌, ◌||◌, List, [], ◌∷◌, Some, None, Option, Ok, Err, Result, refl, sym, ap, ◌∙◌, subst}
-use Rattle.std.specs.Prelude.{IfOk, IfErr, OnOk, OnErr, bytes_eq, codes, find, is_none, ℤ, if◌then◌else◌}
+use Rattle.std.proofs.Common.{◌≡◌, ℕ, Bool, true, false, cond, not, ◌&&◌, ◌||◌, List, [], ◌∷◌, Some, None, Option, Ok, Err, Result, refl, sym, ap, ◌∙◌, subst, arith}
+use Rattle.std.specs.Prelude.{IfOk, IfErr, IfSome, IsTrue, OnOk, OnErr, bytes_eq, codes, find, int_le, is_none, ℤ, ◌≤ℤ◌, pos, if◌then◌else◌}
 use Rattle.std.specs.Option.{ok_or}
-use Rattle.std.proofs.lemmas.Bool.{false≢true}
+use Rattle.std.proofs.lemmas.Bool.{false≢true, and_parts}
+use Rattle.std.proofs.lemmas.Int.{ints}
 use Rattle.std.proofs.lemmas.Slice.Eq.{bytes_eq-Decides}
 use Rattle.aq_base.specs.Decimal.{is_decimal, cut}
 use Rattle.aq_base.specs.Calendar.{hour_number}
+use Rattle.aq_base.specs.Values.{least_value, greatest_value}
 use Rattle.aq_base.specs.declared.code.Code.{Code}
 use Rattle.aq_base.specs.declared.monitor.Pollutant.{Pollutant}
+use Rattle.aq_base.specs.declared.monitor.Pollutant.TheVariants.{Ozone, Pm25, Pm10}
 use Rattle.aq_base.specs.declared.observation.Observation.{Observation}
 use Rattle.aq_base.specs.declared.rule.Rule.{Rule}
 use Rattle.aq_base.specs.declared.rule.Rule.TheVariants.{BadBytes, BadTag, FieldCount, BadAction, BadSite, ParameterOutOfProfile, BadPoc, BadDuration, BadUnit, BadMethod, BadDate, BadTime, ValueAndNull, NeitherValueNorNull, BadValue, ValueOutOfRange, BadNull, BadQualifier}
+use Rattle.aq_profile.specs.Office.Office.{is_content, is_measured}
+use Rattle.aq_profile.specs.Lines.Canonical.{is_rd_value, is_line_value}
 use Rattle.aq_profile.specs.Lines.Fields.{is_empty, field, fields}
 use Rattle.aq_profile.specs.Lines.Spellings as spellings
 use Rattle.aq_profile.specs.Lines.Spellings.{Tag, Rd, Xm, Xp, Xs, Xo, Xu, Xe, Xc, Xa, Insert, Update, Delete, tag_in, action_in, parameter_in, parameter_of, poc_in, site_in, duration_in, unit_in, method_in, date_in, time_in, value_in, is_in_range, null_in, qualifiers_in}
@@ -18,8 +23,9 @@ use Rattle.aq_profile.specs.Lines.RdForm.{RdValue, monitor_in, start_in, content
 use Rattle.aq_profile.specs.Lines.Reading.{LineValue, OfRd, breaks_in, rules_of, reported_value, value_for, action_for, form_value, has_wrong_count, is_deletion, breaks_parts, rules_for, line_value, reading_rule, is_plain, tag_of}
 use Rattle.aq_rd.specs.declared.line.RdLine.{RdLine}
 use Rattle.aq_rd.specs.declared.line.RdLine.TheVariants as line
+use Rattle.aq_rd.specs.Ranges.{HasLineRange}
 use Rattle.aq_rd.specs.Tags.{is_office, has_office_tag}
-use Rattle.aq_rd.specs.RdReading.{◌>>=◌, value_of, monitor_reading, start_reading, value_reading, valued_reading, null_reading, content_reading, head_reading, tail_reading, put_reading, delete_reading, form_reading, rd_reading}
+use Rattle.aq_rd.specs.RdReading.{◌>>=◌, value_of, monitor_reading, start_reading, value_reading, valued_reading, null_reading, content_reading, put_reading, delete_reading, form_reading, rd_reading}
 
 -- a reading gives what is spelled, and else the rule that is broken
 abbrev pub Reads : {A B : Type 0} → (A → B) → Result A Rule → Option B → Option Rule → Type 0
@@ -30,28 +36,21 @@ infixl 10 ◌>>-◌
 abbrev ◌>>-◌ : {A B : Type 0} → Option A → (A → Option B) → Option B
 part >>- next = spellings.◌>>=◌ part next
 
--- a part inside a part, that is spelled or breaks its rule
+-- a part that is spelled, or breaks its rule
+agree : {A B C : Type 0} (f : C → B) (part : Option A) (go : A → Result C Rule) (next : A → Option B) (is_broken : Bool) (rule : Rule) (rest : Option Rule)
+    → is_broken ≡ is_none part → ((x : A) → part ≡ Some x → Reads f (go x) (next x) rest)
+    → Reads f (ok_or part rule >>= go) (part >>- next) (cond is_broken (Some rule) rest)
+agree f None go next is_broken rule rest same k = (refl, ap (λ b. cond b (Some rule) rest) same)
+agree f (Some x) go next is_broken rule rest same k =
+    subst (Reads f (go x) (next x)) (sym (ap (λ b. cond b (Some rule) rest) same)) (k x refl)
+
+-- the same of a part inside a part
 agree_inside : {A B C D E : Type 0} (f : C → B) (part : Option A) (go : A → Result D Rule) (go_on : D → Result C Rule) (next : A → Option E) (next_on : E → Option B) (is_broken : Bool) (rule : Rule) (rest : Option Rule)
     → is_broken ≡ is_none part → ((x : A) → part ≡ Some x → Reads f (go x >>= go_on) (next x >>- next_on) rest)
     → Reads f ((ok_or part rule >>= go) >>= go_on) ((part >>- next) >>- next_on) (cond is_broken (Some rule) rest)
 agree_inside f None go go_on next next_on is_broken rule rest same k = (refl, ap (λ b. cond b (Some rule) rest) same)
 agree_inside f (Some x) go go_on next next_on is_broken rule rest same k =
     subst (Reads f (go x >>= go_on) (next x >>- next_on)) (sym (ap (λ b. cond b (Some rule) rest) same)) (k x refl)
-
--- the same of a part of the head of a line to be put
-agree_head : {A B C D : Type 0} (f : C → B) (part : Option A) (go : A → Result D Rule) (go_on : D → Result C Rule) (next : A → Option B) (is_broken : Bool) (rule : Rule) (rest : Option Rule)
-    → is_broken ≡ is_none part → ((x : A) → part ≡ Some x → Reads f (go x >>= go_on) (next x) rest)
-    → Reads f ((ok_or part rule >>= go) >>= go_on) (part >>- next) (cond is_broken (Some rule) rest)
-agree_head f None go go_on next is_broken rule rest same k = (refl, ap (λ b. cond b (Some rule) rest) same)
-agree_head f (Some x) go go_on next is_broken rule rest same k =
-    subst (Reads f (go x >>= go_on) (next x)) (sym (ap (λ b. cond b (Some rule) rest) same)) (k x refl)
-
-agree_inside_head : {A B C D E F : Type 0} (f : C → B) (part : Option A) (go : A → Result D Rule) (go_on : D → Result F Rule) (go_out : F → Result C Rule) (next : A → Option E) (next_on : E → Option B) (is_broken : Bool) (rule : Rule) (rest : Option Rule)
-    → is_broken ≡ is_none part → ((x : A) → part ≡ Some x → Reads f ((go x >>= go_on) >>= go_out) (next x >>- next_on) rest)
-    → Reads f (((ok_or part rule >>= go) >>= go_on) >>= go_out) ((part >>- next) >>- next_on) (cond is_broken (Some rule) rest)
-agree_inside_head f None go go_on go_out next next_on is_broken rule rest same k = (refl, ap (λ b. cond b (Some rule) rest) same)
-agree_inside_head f (Some x) go go_on go_out next next_on is_broken rule rest same k =
-    subst (Reads f ((go x >>= go_on) >>= go_out) (next x >>- next_on)) (sym (ap (λ b. cond b (Some rule) rest) same)) (k x refl)
 
 or_false : (b : Bool) → (b || false) ≡ b
 or_false true = refl
@@ -97,16 +96,16 @@ content false false null codes d r v w h e f g k = (refl, refl)
 
 reads-put : (update : Bool) (texts : List (List ℕ))
     → Reads value_of (put_reading update texts) (put_in update texts) (find (λ rule. breaks_in rule Rd false texts) (rules_of Rd false))
-unfolding put_reading head_reading tail_reading monitor_reading start_reading value_reading valued_reading null_reading content_reading put_in monitor_in start_in content_in parameter_of value_in
+unfolding put_reading monitor_reading start_reading value_reading valued_reading null_reading content_reading put_in monitor_in start_in content_in parameter_of value_in
 reads-put update texts =
-    agree_inside_head value_of (site_in (field 3 texts) (field 4 texts) (field 5 texts)) _ _ _ _ _ _ BadSite _ refl λ site is_site.
-    agree_inside_head value_of (parameter_in (field 6 texts)) _ _ _ _ _ _ ParameterOutOfProfile _ (parameter-Rd (parameter_in (field 6 texts))) λ pollutant is_pollutant.
-    agree_inside_head value_of (poc_in (field 7 texts)) _ _ _ _ _ _ BadPoc _ refl λ poc is_poc.
-    agree_head value_of (duration_in pollutant (field 8 texts)) _ _ _ _ BadDuration _
+    agree_inside value_of (site_in (field 3 texts) (field 4 texts) (field 5 texts)) _ _ _ _ _ BadSite _ refl λ site is_site.
+    agree_inside value_of (parameter_in (field 6 texts)) _ _ _ _ _ ParameterOutOfProfile _ (parameter-Rd (parameter_in (field 6 texts))) λ pollutant is_pollutant.
+    agree_inside value_of (poc_in (field 7 texts)) _ _ _ _ _ BadPoc _ refl λ poc is_poc.
+    agree value_of (duration_in pollutant (field 8 texts)) _ _ _ BadDuration _
     (ap (λ q. is_none ((q >>- λ x. Some x) >>- λ p. duration_in p (field 8 texts))) is_pollutant) λ duration is_duration.
-    agree_head value_of (unit_in pollutant (field 9 texts)) _ _ _ _ BadUnit _
+    agree value_of (unit_in pollutant (field 9 texts)) _ _ _ BadUnit _
     (ap (λ q. is_none ((q >>- λ x. Some x) >>- λ p. unit_in p (field 9 texts))) is_pollutant) λ places is_places.
-    agree_head value_of (method_in (field 10 texts)) _ _ _ _ BadMethod _ refl λ method is_method.
+    agree value_of (method_in (field 10 texts)) _ _ _ BadMethod _ refl λ method is_method.
     agree_inside value_of (date_in (field 11 texts)) _ _ _ _ _ BadDate _ (or_false (is_none (date_in (field 11 texts)))) λ day is_day.
     agree_inside value_of (time_in (field 12 texts)) _ _ _ _ _ BadTime _ (or_false (is_none (time_in (field 12 texts)))) λ hour is_hour.
     content (is_empty (field 13 texts)) (is_empty (field 14 texts)) (null_in (field 14 texts)) (qualifiers_in (qualifier_fields texts))
@@ -232,3 +231,40 @@ rule-line (Err e) value rule h = h.1
 pub refused-line : (r : Result RdLine Rule) (value : Option LineValue) (rule : Option Rule) → Reads line_of r value rule → OnErr r (value ≡ None)
 refused-line (Ok x) value rule h = tt
 refused-line (Err e) value rule h = h.0
+
+-- what a law says of all values that a line spells holds of the one that is read
+pub spelled-line : (r : Result RdLine Rule) (value : Option LineValue) (rule : Option Rule) → Reads line_of r value rule
+    → ((spelled : LineValue) → value ≡ Some spelled → IsTrue (is_line_value spelled)) → IfOk r (λ x. IsTrue (is_rd_value (value_of x)))
+spelled-line (Ok x) value rule h law = law (OfRd (value_of x)) h.0
+spelled-line (Err e) value rule h law = tt
+
+ends : (least greatest value : ℤ) → (int_le least value && int_le value greatest) ≡ true → (least ≤ℤ value) × (value ≤ℤ greatest)
+ends least greatest value h =
+    let parts = and_parts (int_le least value) (int_le value greatest) h in
+    let low : int_le least value ≡ true = parts.0 in
+    let high : int_le value greatest ≡ true = parts.1 in
+    (grind (arith, ints, low), grind (arith, ints, high))
+
+in_range : (pollutant : Pollutant) (value : ℤ) → is_in_range pollutant value ≡ true → (least_value ≤ℤ value) × (value ≤ℤ greatest_value pollutant)
+in_range Ozone value h = ends _ (pos 9999) value h
+in_range Pm25 value h = ends _ (pos 99999) value h
+in_range Pm10 value h = ends _ (pos 99999) value h
+
+ranged-content : (pollutant : Pollutant) (value : Option ℤ) (null : Option Code) → is_measured pollutant value null ≡ true
+    → IfSome value (λ v. (least_value ≤ℤ v) × (v ≤ℤ greatest_value pollutant))
+ranged-content pollutant None null h = tt
+ranged-content pollutant (Some value) None h = in_range pollutant value h
+ranged-content pollutant (Some value) (Some null) h = absurd (false≢true h)
+
+left : (a b : Bool) → (a && b) ≡ true → a ≡ true
+left a b h = (and_parts a b h).0
+
+right : (a b : Bool) → (a && b) ≡ true → b ≡ true
+right a b h = (and_parts a b h).1
+
+pub ranged-line : (r : Result RdLine Rule) → IfOk r (λ x. IsTrue (is_rd_value (value_of x))) → IfOk r HasLineRange
+ranged-line (Ok (line.Put update monitor duration method hour content)) h =
+    let content_in = right _ (is_content monitor.pollutant content) h in
+    ranged-content monitor.pollutant content.value content.null (left _ _ (left _ _ (left _ _ content_in)))
+ranged-line (Ok (line.Delete monitor hour)) h = tt
+ranged-line (Err e) h = tt

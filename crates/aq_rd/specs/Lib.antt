@@ -1,9 +1,7 @@
-pub mod Front
+pub mod Words
 pub mod PlainForm
 pub mod Ranges
 pub mod Tags
 pub mod FieldPlaces
 pub mod RdReading
 pub mod Printing
-pub mod Spelled
-pub mod Fronts

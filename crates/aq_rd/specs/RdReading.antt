@@ -1,5 +1,5 @@
 -- An RD line as it is read: each field is tested in the order of the rules, and the first one that breaks its rule refuses the line.
-use Rattle.std.specs.Prelude.{ℕ, ◌-◌, Bool, true, false, not, if◌then◌else◌, Some, None, Result, Ok, Err, ℤ, List, take, drop, codes, bytes_eq}
+use Rattle.std.specs.Prelude.{ℕ, Bool, true, false, if◌then◌else◌, Some, None, Result, Ok, Err, ℤ, List, codes, bytes_eq}
 use Rattle.std.specs.Option.{ok_or}
 use Rattle.aq_base.specs.Calendar.{hour_number}
 use Rattle.aq_base.specs.Decimal.{is_decimal}
@@ -8,11 +8,10 @@ use Rattle.aq_base.specs.declared.monitor.MonitorId.{MonitorId}
 use Rattle.aq_base.specs.declared.observation.Observation.{Observation}
 use Rattle.aq_base.specs.declared.rule.Rule.{Rule}
 use Rattle.aq_base.specs.declared.rule.Rule.TheVariants.{BadBytes, BadTag, FieldCount, BadAction, BadSite, ParameterOutOfProfile, BadPoc, BadDuration, BadUnit, BadMethod, BadDate, BadTime, ValueAndNull, NeitherValueNorNull, BadValue, ValueOutOfRange, BadNull, BadQualifier}
-use Rattle.aq_profile.specs.Lines.Fields.{is_empty, fields, field}
+use Rattle.aq_profile.specs.Lines.Fields.{fields, field}
 use Rattle.aq_profile.specs.Lines.Spellings.{Rd, site_in, parameter_in, poc_in, duration_in, unit_in, method_in, date_in, time_in, value_in, null_in, qualifiers_in}
-use Rattle.aq_profile.specs.Lines.RdForm.{RdValue, Put as PutSample, Delete as DeleteSample}
-use Rattle.aq_profile.specs.Lines.Reading.{is_plain, is_deletion, has_wrong_count}
-use Rattle.aq_rd.specs.declared.head.Head.{Head}
+use Rattle.aq_profile.specs.Lines.RdForm.{RdValue, Put as PutSample, Delete as DeleteSample, qualifier_fields}
+use Rattle.aq_profile.specs.Lines.Reading.{is_plain, is_deletion, has_wrong_count, has_value, has_null}
 use Rattle.aq_rd.specs.declared.line.RdLine.{RdLine}
 use Rattle.aq_rd.specs.declared.line.RdLine.TheVariants.{Put, Delete}
 
@@ -33,65 +32,48 @@ monitor_reading texts = do
   poc ← ok_or (poc_in (field 7 texts)) BadPoc
   Ok (record { site = site; pollutant = pollutant; poc = poc })
 
--- The fields from the eleventh on are read of a whole line, or of what stands behind its first fields: `behind` is how many fields stand before these texts.
-
-unfoldable pub start_reading : ℕ → List (List ℕ) → Result ℕ Rule
-start_reading behind texts = do
-  day ← ok_or (date_in (field (11 - behind) texts)) BadDate
-  hour ← ok_or (time_in (field (12 - behind) texts)) BadTime
+unfoldable pub start_reading : List (List ℕ) → Result ℕ Rule
+start_reading texts = do
+  day ← ok_or (date_in (field 11 texts)) BadDate
+  hour ← ok_or (time_in (field 12 texts)) BadTime
   Ok (hour_number day hour)
 
 unfoldable pub value_reading : Pollutant → ℕ → List ℕ → Result ℤ Rule
 value_reading pollutant places text =
     if is_decimal text then ok_or (value_in pollutant places text) ValueOutOfRange else Err BadValue
 
--- fields 17 to 26
-abbrev pub qualifier_texts : ℕ → List (List ℕ) → List (List ℕ)
-qualifier_texts behind texts = take 10 (drop (16 - behind) texts)
-
-unfoldable pub valued_reading : Pollutant → ℕ → ℕ → List (List ℕ) → Result Observation Rule
-valued_reading pollutant places behind texts = do
-  value ← value_reading pollutant places (field (13 - behind) texts)
-  codes ← ok_or (qualifiers_in (qualifier_texts behind texts)) BadQualifier
+unfoldable pub valued_reading : Pollutant → ℕ → List (List ℕ) → Result Observation Rule
+valued_reading pollutant places texts = do
+  value ← value_reading pollutant places (field 13 texts)
+  codes ← ok_or (qualifiers_in (qualifier_fields texts)) BadQualifier
   Ok (record { value = Some value; null = None; quals = codes })
 
-unfoldable pub null_reading : ℕ → List (List ℕ) → Result Observation Rule
-null_reading behind texts = do
-  code ← ok_or (null_in (field (14 - behind) texts)) BadNull
-  codes ← ok_or (qualifiers_in (qualifier_texts behind texts)) BadQualifier
+unfoldable pub null_reading : List (List ℕ) → Result Observation Rule
+null_reading texts = do
+  code ← ok_or (null_in (field 14 texts)) BadNull
+  codes ← ok_or (qualifiers_in (qualifier_fields texts)) BadQualifier
   Ok (record { value = None; null = Some code; quals = codes })
 
-unfoldable pub content_reading : Pollutant → ℕ → ℕ → List (List ℕ) → Result Observation Rule
-content_reading pollutant places behind texts =
-    if not (is_empty (field (13 - behind) texts))
-    then (if not (is_empty (field (14 - behind) texts)) then Err ValueAndNull else valued_reading pollutant places behind texts)
-    else (if not (is_empty (field (14 - behind) texts)) then null_reading behind texts else Err NeitherValueNorNull)
+unfoldable pub content_reading : Pollutant → ℕ → List (List ℕ) → Result Observation Rule
+content_reading pollutant places texts =
+    if has_value texts
+    then (if has_null texts then Err ValueAndNull else valued_reading pollutant places texts)
+    else (if has_null texts then null_reading texts else Err NeitherValueNorNull)
 
--- of a line to be put, the fields up to the method
-unfoldable pub head_reading : Bool → List (List ℕ) → Result Head Rule
-head_reading update texts = do
+unfoldable pub put_reading : Bool → List (List ℕ) → Result RdLine Rule
+put_reading update texts = do
   monitor ← monitor_reading texts
   duration ← ok_or (duration_in monitor.pollutant (field 8 texts)) BadDuration
   places ← ok_or (unit_in monitor.pollutant (field 9 texts)) BadUnit
   method ← ok_or (method_in (field 10 texts)) BadMethod
-  Ok (record { update = update; monitor = monitor; duration = duration; places = places; method = method })
-
--- and those behind it
-unfoldable pub tail_reading : Head → ℕ → List (List ℕ) → Result RdLine Rule
-tail_reading head behind texts = do
-  hour ← start_reading behind texts
-  content ← content_reading head.monitor.pollutant head.places behind texts
-  Ok (Put head.update head.monitor head.duration head.method hour content)
-
-unfoldable pub put_reading : Bool → List (List ℕ) → Result RdLine Rule
-put_reading update texts = do
-  head ← head_reading update texts
-  tail_reading head 0 texts
+  hour ← start_reading texts
+  content ← content_reading monitor.pollutant places texts
+  Ok (Put update monitor duration method hour content)
 
 unfoldable pub delete_reading : List (List ℕ) → Result RdLine Rule
 delete_reading texts = do
   monitor ← monitor_reading texts
-  hour ← start_reading 0 texts
+  hour ← start_reading texts
   Ok (Delete monitor hour)
 
 unfoldable pub form_reading : List (List ℕ) → Result RdLine Rule

@@ -3,20 +3,20 @@ ghost use Rattle.std.specs.Prelude.{◌≡◌, not, ◌&&◌};
 ghost use Rattle.std.specs.List.{list_any};
 ghost use Rattle.aq_profile.specs.Lines.Fields.{fields, field, trimmed, without_front, without_back, is_bar, is_space};
 
+use crate::bytes::has_spaces;
+use aq_base::Rule;
 use std::marker::Model;
 
-/// An RD line has at most this many fields.
-pub(crate) const MOST_FIELDS: usize = 28;
-
-/// Of a line to be put, the fields up to the method.
-pub(crate) const HEAD_FIELDS: usize = 10;
+/// A line's fields are told by their numbers up to this one: no form has more (AQS raw data
+/// transaction format).
+pub const MOST_FIELDS: usize = 28;
 
 const MOST_STARTS: usize = MOST_FIELDS + 1;
 
 /// The fields of a line, without the spaces round each. Contracts see their list. It takes no
 /// memory.
 #[derive(Drop)]
-pub(crate) struct FieldList<'a> {
+pub struct Fields<'a> {
     line: &'a [u8],
     // Where the first fields start, and the one behind them. One that the line has not starts at its
     // end.
@@ -25,7 +25,7 @@ pub(crate) struct FieldList<'a> {
     has_spaces: bool,
 }
 
-impl<'a> Model for FieldList<'a> {
+impl<'a> Model for Fields<'a> {
     ghost use Rattle.std.specs.Prelude.{List, ℕ};
     ghost use Rattle.aq_profile.specs.Lines.Fields.{fields};
     ghost use Rattle.aq_rd.specs.FieldPlaces.{HoldsFields, HasSpaces};
@@ -37,14 +37,27 @@ impl<'a> Model for FieldList<'a> {
     ghost invariant = { λ list. HoldsFields list.line.now list.starts list.count × HasSpaces list.has_spaces list.line.now };
 }
 
-impl<'a> FieldList<'a> {
-    ghost use Rattle.std.specs.Prelude.{◌≡◌, ◌≤◌, length, drop};
+impl<'a> Fields<'a> {
+    ghost use Rattle.std.specs.Prelude.{◌≡◌, ◌≤◌, true, false, IfOk, IfErr, OnOk, OnErr, length, drop};
+    ghost use Rattle.aq_base.specs.declared.rule.Rule.TheVariants.{BadBytes};
     ghost use Rattle.aq_profile.specs.Lines.Fields.{fields, field};
+    ghost use Rattle.aq_profile.specs.Lines.Reading.{is_plain};
     ghost use Rattle.aq_rd.specs.FieldPlaces.{has_text, HasSpaces};
+
+    /// The fields of a line. `BadBytes` exactly where a byte is outside 20 to 7E (hexadecimal).
+    pub fn new(line: &'a [u8]) -> Result<Fields<'a>, Rule>
+        ensures fields { IfOk result (λ texts. texts ≡ fields line.now) }
+        ensures plain { OnOk result (is_plain line.now ≡ true) }
+        ensures rule { IfErr result (λ r. r ≡ BadBytes) }
+        ensures bytes { OnErr result (is_plain line.now ≡ false) }
+    {
+        let has_spaces = has_spaces(line)?;
+        Ok(Fields::cut(line, has_spaces))
+    }
 
     /// The fields of a line, of which it is known whether it may have spaces.
     #[inline(never)]
-    pub(crate) fn new(line: &'a [u8], has_spaces: bool) -> FieldList<'a>
+    pub(crate) fn cut(line: &'a [u8], has_spaces: bool) -> Fields<'a>
         requires { HasSpaces has_spaces line.now }
         ensures { result ≡ fields line.now }
     {
@@ -59,7 +72,7 @@ impl<'a> FieldList<'a> {
                 count += 1;
             }
         }
-        FieldList {
+        Fields {
             line,
             starts,
             count,
@@ -68,14 +81,14 @@ impl<'a> FieldList<'a> {
     }
 
     /// How many fields the line has.
-    pub(crate) fn count(&self) -> usize
+    pub fn count(&self) -> usize
         ensures { result ≡ length self.now }
     {
         self.count
     }
 
     /// Whether a field behind the first so many is not empty.
-    pub(crate) fn has_text_behind(&self, number: usize) -> bool
+    pub fn has_text_behind(&self, number: usize) -> bool
         requires { number ≤ MOST_FIELDS }
         ensures { result ≡ has_text (drop number self.now) }
     {
@@ -83,7 +96,7 @@ impl<'a> FieldList<'a> {
     }
 
     /// A field by its number from 1, empty where the line has none.
-    pub(crate) fn field(&self, number: usize) -> &'a [u8]
+    pub fn field(&self, number: usize) -> &'a [u8]
         requires from { 1 ≤ number }
         requires to { number ≤ MOST_FIELDS }
         ensures { result.now ≡ field number self.now }

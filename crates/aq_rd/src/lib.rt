@@ -1,27 +1,30 @@
-//! Lines of the AQS raw data transaction format (RD): their tags and fields, and the samples that
-//! they insert, update and delete, both ways.
+//! Lines of the AQS raw data transaction format (RD): their tags and fields, the spellings of sites,
+//! dates and numbers, which office lines and words share, and the samples that RD lines insert,
+//! update and delete, both ways.
 #![tactic(auto)]
 
-mod cursor;
-mod dates;
+mod bytes;
 mod digits;
 mod fields;
-mod head;
 mod line;
 mod plain;
 mod print;
 mod read;
-mod reader;
 mod spellings;
 mod tag;
+mod words;
 
-pub use cursor::Cursor;
+pub use digits::{digits_in, number_to};
+pub use fields::{Fields, MOST_FIELDS};
 pub use line::RdLine;
-pub use plain::ozone_monitor;
+pub use plain::plain_monitor;
 pub use print::print_rd;
 pub use read::read_rd;
-pub use reader::Reader;
-pub use tag::{Tag, has_office_tag, tag_of};
+pub use spellings::{
+    date_in, duration_in, null_in, parameter_in, poc_in, site_in, time_in, truth_in, year_in,
+};
+pub use tag::{Tag, has_office_tag, tag_in, tag_of};
+pub use words::{day_word, site_word};
 
 #[cfg(test)]
 mod tests;

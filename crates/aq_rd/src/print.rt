@@ -1,21 +1,21 @@
 //! Writing RD lines.
-ghost use Rattle.std.specs.Prelude.{◌≡◌, ◌≤◌, true, false, length, ◌+◌, ◌%◌, ◌++◌, ◌∷◌, map, if◌then◌else◌, codes, IfOk, OnOk, Some};
+ghost use Rattle.std.specs.Prelude.{◌≡◌, ◌≤◌, true, false, length, ◌+◌, ◌%◌, ◌++◌, ◌∷◌, map, if◌then◌else◌, codes, IfOk, IsTrue, OnOk, Some};
 ghost use Rattle.aq_base.specs.Decimal.{last_digits};
 ghost use Rattle.aq_base.specs.Quals.{all_distinct};
 ghost use Rattle.aq_base.specs.Site.{IsSite};
 ghost use Rattle.aq_base.specs.declared.day.TheConstants.{LAST_HOUR};
 ghost use Rattle.aq_base.specs.declared.quals.TheConstants.{MOST_QUALIFIERS};
 ghost use Rattle.aq_profile.specs.Lines.Reading.{line_value, OfRd};
-ghost use Rattle.aq_profile.specs.Lines.Canonical.{canonical_rd, monitor_texts, start_texts, date_text, code_text, value_text, texts_behind, parameter_text, duration_text, unit_text, value_places};
+ghost use Rattle.aq_profile.specs.Lines.Canonical.{canonical_rd, is_rd_value, monitor_texts, start_texts, date_text, code_text, value_text, texts_behind, parameter_text, duration_text, unit_text, value_places};
 ghost use Rattle.aq_rd.specs.Printing.{behind_bars, null_text};
-ghost use Rattle.aq_rd.specs.Spelled.{IsSpelled, HasTypeRanges};
 ghost use Rattle.aq_rd.specs.RdReading.{value_of};
 ghost use Rattle.aq_rd.specs.Tags.{has_office_tag};
 
 use crate::line::RdLine;
 use aq_base::{Code, Day, Duration, Hour, Memory, MonitorId, Observation, Pollutant};
-use aq_cal::civil_of;
+use aq_cal::{civil_of, last_digits};
 use aq_num::write_fixed;
+use aq_profile::lines::canonical::canonical_samples_are_read_back;
 use std::alloc::Global;
 
 /// Writes the one line by which a sample, or its deletion, is written (own, within the AQS raw data
@@ -24,16 +24,16 @@ pub fn print_rd(alloc: Global, line: &RdLine) -> Result<Vec<u8>, Memory>
     ensures canonical { IfOk result (λ text. text.items ≡ canonical_rd (value_of line.now)) }
     ensures no_office { IfOk result (λ text. has_office_tag text.items ≡ false) }
     // what a line can spell is read again as it was
-    ensures back { IfOk result (λ text. IsSpelled line.now → line_value text.items ≡ Some (OfRd (value_of line.now))) }
+    ensures back { IfOk result (λ text. IsTrue (is_rd_value (value_of line.now)) → line_value text.items ≡ Some (OfRd (value_of line.now))) }
 {
     let mut out = Vec::new(alloc);
     write_line(&mut out, line)?;
+    canonical_samples_are_read_back();
     Ok(out)
 }
 
 fn write_line(out: &mut Vec<u8>, line: &RdLine) -> Result<(), Memory>
-    ensures text { OnOk result (out.new.items ≡ out.old.items ++ canonical_rd (value_of line.now)) }
-    ensures ranges { OnOk result (HasTypeRanges line.now) }
+    ensures { OnOk result (out.new.items ≡ out.old.items ++ canonical_rd (value_of line.now)) }
 {
     match line {
         RdLine::Put {
@@ -49,7 +49,7 @@ fn write_line(out: &mut Vec<u8>, line: &RdLine) -> Result<(), Memory>
             write_monitor(out, monitor)?;
             write_field(out, duration_name(*duration))?;
             write_field(out, unit_name(monitor.pollutant))?;
-            write_field(out, &three_digits(*method))?;
+            write_field(out, &last_digits::<3>(*method))?;
             write_start(out, *hour)?;
             write_value(out, monitor.pollutant, content.value)?;
             write_codes(out, content)?;
@@ -76,13 +76,12 @@ fn write_field(out: &mut Vec<u8>, text: &[u8]) -> Result<(), Memory>
 }
 
 fn write_monitor(out: &mut Vec<u8>, monitor: &MonitorId) -> Result<(), Memory>
-    ensures text { OnOk result (out.new.items ≡ out.old.items ++ behind_bars (monitor_texts monitor.now)) }
-    ensures range { OnOk result (IsSite monitor.now.site) }
+    ensures { OnOk result (out.new.items ≡ out.old.items ++ behind_bars (monitor_texts monitor.now)) }
 {
     let site = &monitor.site;
-    write_field(out, &two_digits(u16::from(site.state())))?;
-    write_field(out, &three_digits(site.county()))?;
-    write_field(out, &four_digits(site.site()))?;
+    write_field(out, &last_digits::<2>(u16::from(site.state())))?;
+    write_field(out, &last_digits::<3>(site.county()))?;
+    write_field(out, &last_digits::<4>(site.site()))?;
     write_field(out, parameter_name(monitor.pollutant))?;
     out.push(b'|')?;
     write_fixed(out, i64::from(monitor.poc), 0)?;
@@ -90,14 +89,22 @@ fn write_monitor(out: &mut Vec<u8>, monitor: &MonitorId) -> Result<(), Memory>
 }
 
 fn write_start(out: &mut Vec<u8>, hour: Hour) -> Result<(), Memory>
-    ensures text { OnOk result (out.new.items ≡ out.old.items ++ behind_bars (start_texts hour)) }
-    ensures range { OnOk result (hour ≤ LAST_HOUR) }
+    ensures { OnOk result (out.new.items ≡ out.old.items ++ behind_bars (start_texts hour)) }
 {
     let number = hour.number();
-    let day = Day::new((number / 24) as u16);
-    write_field(out, &date_name(day))?;
-    write_field(out, &two_digits((number % 24) as u16))?;
+    write_date(out, Day::new((number / 24) as u16))?;
+    write_field(out, &last_digits::<2>((number % 24) as u16))?;
     out.extend_from_slice(b":00")?;
+    Ok(())
+}
+
+fn write_date(out: &mut Vec<u8>, day: Day) -> Result<(), Memory>
+    ensures { OnOk result (out.new.items ≡ out.old.items ++ 124 ∷ date_text day) }
+{
+    let date = civil_of(day);
+    write_field(out, &last_digits::<4>(date.year))?;
+    out.extend_from_slice(&last_digits::<2>(u16::from(date.month)))?;
+    out.extend_from_slice(&last_digits::<2>(u16::from(date.day)))?;
     Ok(())
 }
 
@@ -113,9 +120,7 @@ fn write_value(out: &mut Vec<u8>, pollutant: Pollutant, value: Option<i32>) -> R
 
 // What follows the value, without empty fields at the end.
 fn write_codes(out: &mut Vec<u8>, content: &Observation) -> Result<(), Memory>
-    ensures text { OnOk result (out.new.items ≡ out.old.items ++ behind_bars (texts_behind content.now.null content.now.quals)) }
-    ensures few { OnOk result (length content.now.quals ≤ MOST_QUALIFIERS) }
-    ensures distinct { OnOk result (all_distinct content.now.quals ≡ true) }
+    ensures { OnOk result (out.new.items ≡ out.old.items ++ behind_bars (texts_behind content.now.null content.now.quals)) }
 {
     let quals = content.quals.codes();
     if quals.is_empty() && content.null.is_none() {
@@ -203,55 +208,4 @@ fn places(pollutant: Pollutant) -> u8
         Pollutant::Ozone => 3,
         Pollutant::Pm25 | Pollutant::Pm10 => 1,
     }
-}
-
-// YYYYMMDD
-fn date_name(day: Day) -> [u8; 8]
-    ensures { result ≡ date_text day }
-{
-    let date = civil_of(day);
-    [
-        last_digit(date.year / 1000),
-        last_digit(date.year / 100),
-        last_digit(date.year / 10),
-        last_digit(date.year),
-        last_digit(u16::from(date.month / 10)),
-        last_digit(u16::from(date.month)),
-        last_digit(u16::from(date.day / 10)),
-        last_digit(u16::from(date.day)),
-    ]
-}
-
-fn two_digits(number: u16) -> [u8; 2]
-    ensures { result ≡ last_digits 2 number }
-{
-    [last_digit(number / 10), last_digit(number)]
-}
-
-fn three_digits(number: u16) -> [u8; 3]
-    ensures { result ≡ last_digits 3 number }
-{
-    [
-        last_digit(number / 100),
-        last_digit(number / 10),
-        last_digit(number),
-    ]
-}
-
-fn four_digits(number: u16) -> [u8; 4]
-    ensures { result ≡ last_digits 4 number }
-{
-    [
-        last_digit(number / 1000),
-        last_digit(number / 100),
-        last_digit(number / 10),
-        last_digit(number),
-    ]
-}
-
-// The last decimal digit of a number, as ASCII.
-fn last_digit(number: u16) -> u8
-    ensures { result ≡ 48 + number % 10 }
-{
-    b'0' + (number % 10) as u8
 }

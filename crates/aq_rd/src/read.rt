@@ -1,25 +1,23 @@
 //! Reading RD lines.
-ghost use Rattle.std.specs.Prelude.{◌≡◌, ◌≤◌, true, false, IfOk, IfErr, OnOk, OnErr, IfSome, Some, None};
+ghost use Rattle.std.specs.Prelude.{◌≡◌, ◌≤◌, true, false, IfOk, IfErr, IsTrue, OnOk, OnErr, Some, None};
 ghost use Rattle.std.specs.List.{list_all};
 ghost use Rattle.aq_base.specs.declared.monitor.Pollutant.{Pollutant};
+ghost use Rattle.aq_profile.specs.Lines.Canonical.{is_rd_value};
 ghost use Rattle.aq_profile.specs.Lines.Reading.{reading_rule, line_value, has_wrong_count, is_deletion, OfRd};
 ghost use Rattle.aq_profile.specs.Lines.Spellings.{Rd};
-ghost use Rattle.aq_rd.specs.Fronts.{IsHead, HasHead, BeginsWith, has_wrong_rest, behind_reading};
 ghost use Rattle.aq_rd.specs.Ranges.{HasLineRange};
-ghost use Rattle.aq_rd.specs.RdReading.{monitor_reading, start_reading, content_reading, valued_reading, null_reading, put_reading, head_reading, tail_reading, delete_reading, form_reading, rd_reading, value_of};
-ghost use Rattle.aq_rd.specs.Spelled.{IsSpelled, HasPoc, IsReported, is_qualifier};
+ghost use Rattle.aq_rd.specs.RdReading.{monitor_reading, start_reading, content_reading, valued_reading, null_reading, put_reading, delete_reading, form_reading, rd_reading, value_of};
 ghost use Rattle.aq_rd.specs.Tags.{has_office_tag};
 
-use crate::dates::Dates;
-use crate::fields::{FieldList, HEAD_FIELDS, MOST_FIELDS};
-use crate::head::Head;
+use crate::fields::{Fields, MOST_FIELDS};
 use crate::line::RdLine;
 use crate::spellings::{
-    duration, method, null_code, parameter, poc, qualifiers, site, time, unit_places, value,
+    date_in, duration_in, method_in, null_in, parameter_in, poc_in, qualifiers, site_in, time_in,
+    unit_in, value,
 };
-use crate::tag::has_spaces;
 use aq_base::{Hour, MonitorId, Observation, Pollutant, Rule};
 use aq_cal::hour_of;
+use aq_profile::lines::canonical::what_a_line_spells_is_in_range;
 
 /// Reads a line of the AQS raw data transaction format (RD), whose first field is no tag of the
 /// office's forms. It is refused under the reading rule with the smallest number that it breaks
@@ -31,57 +29,42 @@ pub fn read_rd(line: &[u8]) -> Result<RdLine, Rule>
     ensures rule { IfErr result (λ r. reading_rule line.now ≡ Some r) }
     ensures refused { OnErr result (line_value line.now ≡ None) }
     ensures range { IfOk result HasLineRange }
-    ensures spelled { IfOk result IsSpelled }
+    ensures spelled { IfOk result (λ x. IsTrue (is_rd_value (value_of x))) }
 {
-    let mut head = None;
-    read_line(line, &mut head, &mut Dates::new())
+    let read = read_line(line);
+    what_a_line_spells_is_in_range();
+    read
 }
 
-/// Reads a line in the order of the rules, and notes its fields up to the method where they are
-/// those of a line to be put.
+// In the order of the rules.
 #[tactic(auto, unfolding(crate::specs::RdReading::rd_reading))]
-pub(crate) fn read_line<'a>(
-    line: &'a [u8],
-    head: &mut Option<Head>,
-    dates: &mut Dates<'a>,
-) -> Result<RdLine, Rule>
-    requires { head.old ≡ None }
-    ensures value { result ≡ rd_reading line.now }
-    ensures spelled { IfOk result IsSpelled }
-    ensures head { IfSome head.new (BeginsWith line.now) }
+fn read_line(line: &[u8]) -> Result<RdLine, Rule>
+    ensures { result ≡ rd_reading line.now }
 {
-    let has_spaces = has_spaces(line)?;
-    let texts = FieldList::new(line, has_spaces);
+    let texts = Fields::new(line)?;
     if texts.field(1) != b"RD".as_slice() {
         return Err(Rule::BadTag);
     }
-    read_form(&texts, head, dates)
+    read_form(&texts)
 }
 
 #[tactic(auto, unfolding(crate::specs::RdReading::form_reading))]
-fn read_form<'a>(
-    texts: &FieldList<'a>,
-    head: &mut Option<Head>,
-    dates: &mut Dates<'a>,
-) -> Result<RdLine, Rule>
-    requires { head.old ≡ None }
-    ensures spelled { IfOk result IsSpelled }
-    ensures value { result ≡ form_reading texts.now }
-    ensures head { IfSome head.new (HasHead texts.now) }
+fn read_form(texts: &Fields<'_>) -> Result<RdLine, Rule>
+    ensures { result ≡ form_reading texts.now }
 {
     if has_wrong_count(texts) {
         return Err(Rule::FieldCount);
     }
     match texts.field(2) {
-        b"I" => read_put(false, texts, head, dates),
-        b"U" => read_put(true, texts, head, dates),
-        b"D" => read_delete(texts, dates),
+        b"I" => read_put(false, texts),
+        b"U" => read_put(true, texts),
+        b"D" => read_delete(texts),
         _ => Err(Rule::BadAction),
     }
 }
 
 // A deletion needs the fields up to the time, and another line those up to the value.
-fn has_wrong_count(texts: &FieldList<'_>) -> bool
+fn has_wrong_count(texts: &Fields<'_>) -> bool
     ensures { result ≡ has_wrong_count Rd (is_deletion texts.now) texts.now }
 {
     let fewest = if texts.field(2) == b"D".as_slice() {
@@ -93,91 +76,21 @@ fn has_wrong_count(texts: &FieldList<'_>) -> bool
 }
 
 #[tactic(auto, unfolding(crate::specs::RdReading::put_reading))]
-fn read_put<'a>(
-    update: bool,
-    texts: &FieldList<'a>,
-    head: &mut Option<Head>,
-    dates: &mut Dates<'a>,
-) -> Result<RdLine, Rule>
-    requires { head.old ≡ None }
-    ensures spelled { IfOk result IsSpelled }
-    ensures value { result ≡ put_reading update texts.now }
-    ensures reads { IfSome head.new (λ head. head_reading update texts.now ≡ Ok head) }
-    ensures same { IfSome head.new (λ head. head.update ≡ update) }
-    ensures spells { IfSome head.new IsHead }
-{
-    let read = read_head(update, texts)?;
-    let line = read_tail(&read, 0, texts, dates);
-    *head = Some(read);
-    line
-}
-
-#[tactic(auto, unfolding(crate::specs::RdReading::head_reading))]
-fn read_head(update: bool, texts: &FieldList<'_>) -> Result<Head, Rule>
-    ensures spells { IfOk result IsHead }
-    ensures same { IfOk result (λ head. head.update ≡ update) }
-    ensures value { result ≡ head_reading update texts.now }
+fn read_put(update: bool, texts: &Fields<'_>) -> Result<RdLine, Rule>
+    ensures { result ≡ put_reading update texts.now }
 {
     let monitor = read_monitor(texts)?;
     let pollutant = monitor.pollutant;
-    let duration = duration(pollutant, texts.field(8)).ok_or(Rule::BadDuration)?;
-    let places = unit_places(pollutant, texts.field(9)).ok_or(Rule::BadUnit)?;
-    let method = method(texts.field(10)).ok_or(Rule::BadMethod)?;
-    Ok(Head {
+    let duration = duration_in(pollutant, texts.field(8)).ok_or(Rule::BadDuration)?;
+    let places = unit_in(pollutant, texts.field(9)).ok_or(Rule::BadUnit)?;
+    let method = method_in(texts.field(10)).ok_or(Rule::BadMethod)?;
+    let hour = read_start(texts)?;
+    let content = read_content(pollutant, places, texts)?;
+    Ok(RdLine::Put {
         update,
         monitor,
         duration,
-        places,
         method,
-    })
-}
-
-/// Reads what stands behind the first fields of a line to be put.
-#[tactic(auto, unfolding(crate::specs::Fronts::behind_reading))]
-pub(crate) fn read_behind<'a>(
-    head: &Head,
-    rest: &'a [u8],
-    dates: &mut Dates<'a>,
-) -> Result<RdLine, Rule>
-    requires { IsHead head.now }
-    ensures spelled { IfOk result IsSpelled }
-    ensures value { result ≡ behind_reading head.now rest.now }
-{
-    let has_spaces = has_spaces(rest)?;
-    let texts = FieldList::new(rest, has_spaces);
-    if has_wrong_rest(&texts) {
-        return Err(Rule::FieldCount);
-    }
-    read_tail(head, HEAD_FIELDS, &texts, dates)
-}
-
-fn has_wrong_rest(texts: &FieldList<'_>) -> bool
-    ensures { result ≡ has_wrong_rest texts.now }
-{
-    texts.count() < 13 - HEAD_FIELDS || texts.has_text_behind(MOST_FIELDS - HEAD_FIELDS)
-}
-
-// The fields from the eleventh on are read of a whole line, or of what stands behind its first
-// fields: `behind` is how many fields stand before these.
-#[tactic(auto, unfolding(crate::specs::RdReading::tail_reading))]
-fn read_tail<'a>(
-    head: &Head,
-    behind: usize,
-    texts: &FieldList<'a>,
-    dates: &mut Dates<'a>,
-) -> Result<RdLine, Rule>
-    requires head { IsHead head.now }
-    requires behind { behind ≤ HEAD_FIELDS }
-    ensures spelled { IfOk result IsSpelled }
-    ensures value { result ≡ tail_reading head.now behind texts.now }
-{
-    let hour = read_start(behind, texts, dates)?;
-    let content = read_content(head.monitor.pollutant, head.places, behind, texts)?;
-    Ok(RdLine::Put {
-        update: head.update,
-        monitor: head.monitor,
-        duration: head.duration,
-        method: head.method,
         hour,
         content,
     })
@@ -185,23 +98,21 @@ fn read_tail<'a>(
 
 // Of a deletion, only the monitor and the start are read.
 #[tactic(auto, unfolding(crate::specs::RdReading::delete_reading))]
-fn read_delete<'a>(texts: &FieldList<'a>, dates: &mut Dates<'a>) -> Result<RdLine, Rule>
-    ensures spelled { IfOk result IsSpelled }
-    ensures value { result ≡ delete_reading texts.now }
+fn read_delete(texts: &Fields<'_>) -> Result<RdLine, Rule>
+    ensures { result ≡ delete_reading texts.now }
 {
     let monitor = read_monitor(texts)?;
-    let hour = read_start(0, texts, dates)?;
+    let hour = read_start(texts)?;
     Ok(RdLine::Delete { monitor, hour })
 }
 
 #[tactic(auto, unfolding(crate::specs::RdReading::monitor_reading))]
-fn read_monitor(texts: &FieldList<'_>) -> Result<MonitorId, Rule>
-    ensures poc { IfOk result HasPoc }
-    ensures value { result ≡ monitor_reading texts.now }
+fn read_monitor(texts: &Fields<'_>) -> Result<MonitorId, Rule>
+    ensures { result ≡ monitor_reading texts.now }
 {
-    let site = site(texts.field(3), texts.field(4), texts.field(5)).ok_or(Rule::BadSite)?;
-    let pollutant = parameter(texts.field(6)).ok_or(Rule::ParameterOutOfProfile)?;
-    let poc = poc(texts.field(7)).ok_or(Rule::BadPoc)?;
+    let site = site_in(texts.field(3), texts.field(4), texts.field(5)).ok_or(Rule::BadSite)?;
+    let pollutant = parameter_in(texts.field(6)).ok_or(Rule::ParameterOutOfProfile)?;
+    let poc = poc_in(texts.field(7)).ok_or(Rule::BadPoc)?;
     Ok(MonitorId {
         site,
         pollutant,
@@ -210,53 +121,36 @@ fn read_monitor(texts: &FieldList<'_>) -> Result<MonitorId, Rule>
 }
 
 #[tactic(auto, unfolding(crate::specs::RdReading::start_reading))]
-fn read_start<'a>(behind: usize, texts: &FieldList<'a>, dates: &mut Dates<'a>) -> Result<Hour, Rule>
-    requires { behind ≤ HEAD_FIELDS }
-    ensures { result ≡ start_reading behind texts.now }
+fn read_start(texts: &Fields<'_>) -> Result<Hour, Rule>
+    ensures { result ≡ start_reading texts.now }
 {
-    let day = dates.read(texts.field(11 - behind)).ok_or(Rule::BadDate)?;
-    let hour = time(texts.field(12 - behind)).ok_or(Rule::BadTime)?;
+    let day = date_in(texts.field(11)).ok_or(Rule::BadDate)?;
+    let hour = time_in(texts.field(12)).ok_or(Rule::BadTime)?;
     Ok(hour_of(day, hour))
 }
 
 #[tactic(auto, unfolding(crate::specs::RdReading::content_reading))]
-fn read_content(
-    pollutant: Pollutant,
-    places: u8,
-    behind: usize,
-    texts: &FieldList<'_>,
-) -> Result<Observation, Rule>
-    requires places { places ≤ 6 }
-    requires behind { behind ≤ HEAD_FIELDS }
-    ensures reported { IfOk result (λ content. IsReported pollutant content.value content.null) }
-    ensures quals { IfOk result (λ content. list_all is_qualifier content.quals ≡ true) }
-    ensures value { result ≡ content_reading pollutant places behind texts.now }
+fn read_content(pollutant: Pollutant, places: u8, texts: &Fields<'_>) -> Result<Observation, Rule>
+    requires { places ≤ 6 }
+    ensures { result ≡ content_reading pollutant places texts.now }
 {
-    let has_value = !texts.field(13 - behind).is_empty();
-    let has_null = !texts.field(14 - behind).is_empty();
+    let has_value = !texts.field(13).is_empty();
+    let has_null = !texts.field(14).is_empty();
     match (has_value, has_null) {
         (true, true) => Err(Rule::ValueAndNull),
         (false, false) => Err(Rule::NeitherValueNorNull),
-        (true, false) => read_valued(pollutant, places, behind, texts),
-        (false, true) => read_null(behind, texts),
+        (true, false) => read_valued(pollutant, places, texts),
+        (false, true) => read_null(texts),
     }
 }
 
 #[tactic(auto, unfolding(crate::specs::RdReading::valued_reading))]
-fn read_valued(
-    pollutant: Pollutant,
-    places: u8,
-    behind: usize,
-    texts: &FieldList<'_>,
-) -> Result<Observation, Rule>
-    requires places { places ≤ 6 }
-    requires behind { behind ≤ HEAD_FIELDS }
-    ensures reported { IfOk result (λ content. IsReported pollutant content.value content.null) }
-    ensures quals { IfOk result (λ content. list_all is_qualifier content.quals ≡ true) }
-    ensures value { result ≡ valued_reading pollutant places behind texts.now }
+fn read_valued(pollutant: Pollutant, places: u8, texts: &Fields<'_>) -> Result<Observation, Rule>
+    requires { places ≤ 6 }
+    ensures { result ≡ valued_reading pollutant places texts.now }
 {
-    let value = value(pollutant, places, texts.field(13 - behind))?;
-    let quals = qualifiers(behind, texts).ok_or(Rule::BadQualifier)?;
+    let value = value(pollutant, places, texts.field(13))?;
+    let quals = qualifiers(texts).ok_or(Rule::BadQualifier)?;
     Ok(Observation {
         value: Some(value),
         null: None,
@@ -265,14 +159,11 @@ fn read_valued(
 }
 
 #[tactic(auto, unfolding(crate::specs::RdReading::null_reading))]
-fn read_null(behind: usize, texts: &FieldList<'_>) -> Result<Observation, Rule>
-    requires { behind ≤ HEAD_FIELDS }
-    ensures reported { (pollutant : Pollutant) → IfOk result (λ content. IsReported pollutant content.value content.null) }
-    ensures quals { IfOk result (λ content. list_all is_qualifier content.quals ≡ true) }
-    ensures value { result ≡ null_reading behind texts.now }
+fn read_null(texts: &Fields<'_>) -> Result<Observation, Rule>
+    ensures { result ≡ null_reading texts.now }
 {
-    let null = null_code(texts.field(14 - behind)).ok_or(Rule::BadNull)?;
-    let quals = qualifiers(behind, texts).ok_or(Rule::BadQualifier)?;
+    let null = null_in(texts.field(14)).ok_or(Rule::BadNull)?;
+    let quals = qualifiers(texts).ok_or(Rule::BadQualifier)?;
     Ok(Observation {
         value: None,
         null: Some(null),

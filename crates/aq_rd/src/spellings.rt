@@ -1,46 +1,35 @@
 //! The spelling of each field of an RD line.
-ghost use Rattle.std.specs.Prelude.{◌≡◌, true, ℕ, ◌≤◌, ◌<◌, ◌^◌, length, IfSome, IfOk, Some, ◌≤ℤ◌};
+ghost use Rattle.std.specs.Prelude.{◌≡◌, true, ℕ, ◌≤◌, ◌<◌, ◌^◌, length, take, drop, IfSome, IfOk, Some, ◌≤ℤ◌};
+ghost use Rattle.std.specs.Int.{IsInRange};
 ghost use Rattle.std.specs.List.{list_all};
 ghost use Rattle.aq_base.specs.Values.{least_value, greatest_value};
-ghost use Rattle.aq_profile.specs.Lines.Spellings.{has_duration, site_in, parameter_in, poc_in, duration_in, unit_in, method_in, date_in, time_in, null_in, qualifier_in, qualifiers_in, digits_in, is_code_byte};
-ghost use Rattle.aq_rd.specs.RdReading.{qualifier_texts, value_reading};
-ghost use Rattle.aq_rd.specs.Spelled.{is_null_code, is_qualifier};
+ghost use Rattle.aq_profile.specs.Lines.Spellings.{has_duration, site_in, parameter_in, poc_in, duration_in, unit_in, method_in, date_in, year_in, time_in, truth_in, null_in, qualifier_in, qualifiers_in, digits_in, is_code_byte};
+ghost use Rattle.aq_profile.specs.Lines.RdForm.{qualifier_fields};
+ghost use Rattle.aq_rd.specs.RdReading.{value_reading};
+ghost use Rattle.aq_rd.specs.Words.{date_of};
 
-use crate::digits::number;
-use crate::fields::{FieldList, HEAD_FIELDS};
-use aq_base::{Code, Day, Duration, Pollutant, Quals, Rule, SiteId};
+use crate::digits::{digits_in, number};
+use crate::fields::Fields;
+use aq_base::{Code, Day, Duration, FIRST_YEAR, LAST_YEAR, Pollutant, Quals, Rule, SiteId};
 use aq_cal::day_of;
 use aq_num::{NumberFault, read_decimal};
 
 /// The least value of each pollutant, in thousandths of a ppm or tenths of a µg/m3.
 const LEAST_VALUE: i32 = -999;
 
-/// A number of exactly so many digits, at most eight.
-pub(crate) fn digits(width: usize, text: &[u8]) -> Option<u32>
-    requires { width ≤ 8 }
-    ensures value { result ≡ digits_in width text.now }
-    ensures small { IfSome result (λ n. n < 10 ^ width) }
-{
-    if text.len() == width {
-        number(text)
-    } else {
-        None
-    }
-}
-
 /// A site: state, county and site number in two, three and four digits.
 #[tactic(auto, unfolding(aq_profile::specs::Lines::Spellings::site_in))]
-pub(crate) fn site(state: &[u8], county: &[u8], number: &[u8]) -> Option<SiteId>
+pub fn site_in(state: &[u8], county: &[u8], number: &[u8]) -> Option<SiteId>
     ensures { result ≡ site_in state.now county.now number.now }
 {
-    let state = digits(2, state)?;
-    let county = digits(3, county)?;
-    let number = digits(4, number)?;
+    let state = digits_in(2, state)?;
+    let county = digits_in(3, county)?;
+    let number = digits_in(4, number)?;
     SiteId::new(state as u8, county as u16, number as u16)
 }
 
 /// The pollutant of a parameter.
-pub(crate) fn parameter(text: &[u8]) -> Option<Pollutant>
+pub fn parameter_in(text: &[u8]) -> Option<Pollutant>
     ensures { result ≡ parameter_in text.now }
 {
     match text {
@@ -52,7 +41,7 @@ pub(crate) fn parameter(text: &[u8]) -> Option<Pollutant>
 }
 
 /// A POC: one or two digits, 1 to 99.
-pub(crate) fn poc(text: &[u8]) -> Option<u8>
+pub fn poc_in(text: &[u8]) -> Option<u8>
     ensures value { result ≡ poc_in text.now }
     ensures least { IfSome result (λ poc. 1 ≤ poc) }
     ensures most { IfSome result (λ poc. poc ≤ 99) }
@@ -69,9 +58,8 @@ pub(crate) fn poc(text: &[u8]) -> Option<u8>
 }
 
 /// A sample duration: `1` for an hour, and `7` for 24 hours, which ozone does not have.
-pub(crate) fn duration(pollutant: Pollutant, text: &[u8]) -> Option<Duration>
-    ensures value { result ≡ duration_in pollutant text.now }
-    ensures fits { IfSome result (λ duration. has_duration pollutant duration ≡ true) }
+pub fn duration_in(pollutant: Pollutant, text: &[u8]) -> Option<Duration>
+    ensures { result ≡ duration_in pollutant text.now }
 {
     match text {
         b"1" => Some(Duration::Hour),
@@ -81,7 +69,7 @@ pub(crate) fn duration(pollutant: Pollutant, text: &[u8]) -> Option<Duration>
 }
 
 /// The places behind the point at which a pollutant's values in a unit are cut.
-pub(crate) fn unit_places(pollutant: Pollutant, text: &[u8]) -> Option<u8>
+pub(crate) fn unit_in(pollutant: Pollutant, text: &[u8]) -> Option<u8>
     ensures value { result ≡ unit_in pollutant text.now }
     ensures most { IfSome result (λ places. places ≤ 3) }
 {
@@ -95,40 +83,80 @@ pub(crate) fn unit_places(pollutant: Pollutant, text: &[u8]) -> Option<u8>
 }
 
 /// A method code of three digits.
-pub(crate) fn method(text: &[u8]) -> Option<u16>
+pub(crate) fn method_in(text: &[u8]) -> Option<u16>
     ensures value { result ≡ method_in text.now }
     ensures most { IfSome result (λ method. method ≤ 999) }
 {
-    let number = digits(3, text)?;
+    let number = digits_in(3, text)?;
     Some(number as u16)
 }
 
-/// A date of the profile as YYYYMMDD.
-#[tactic(auto, unfolding(aq_profile::specs::Lines::Spellings::date_in))]
-pub(crate) fn date(text: &[u8]) -> Option<Day>
+/// A date of the profile as `YYYYMMDD`.
+pub fn date_in(text: &[u8]) -> Option<Day>
     ensures { result ≡ date_in text.now }
 {
-    let (year, rest) = text.split_at_checked(4)?;
-    let year = digits(4, year)?;
-    let (month, day) = rest.split_at_checked(2)?;
-    let month = digits(2, month)?;
-    let day = digits(2, day)?;
+    let (year, rest) = front(4, text);
+    let (month, day) = front(2, rest);
+    date_of(year, month, day)
+}
+
+/// A date of the profile by its year, month and day, of four, two and two digits.
+#[tactic(auto, unfolding(crate::specs::Words::date_of))]
+pub(crate) fn date_of(year: &[u8], month: &[u8], day: &[u8]) -> Option<Day>
+    ensures { result ≡ date_of year.now month.now day.now }
+{
+    let year = digits_in(4, year)?;
+    let month = digits_in(2, month)?;
+    let day = digits_in(2, day)?;
     day_of(year as u16, month as u8, day as u8)
 }
 
-/// A full hour as HH:00.
+/// A year of the profile, of four digits.
+#[tactic(auto, unfolding(aq_profile::specs::Lines::Spellings::year_in))]
+pub fn year_in(text: &[u8]) -> Option<u16>
+    ensures value { result ≡ year_in text.now }
+    ensures range { IfSome result (IsInRange FIRST_YEAR LAST_YEAR) }
+{
+    let year = digits_in(4, text)? as u16;
+    if FIRST_YEAR <= year && year <= LAST_YEAR {
+        Some(year)
+    } else {
+        None
+    }
+}
+
+/// A full hour as `HH:00`.
 #[tactic(auto, unfolding(aq_profile::specs::Lines::Spellings::time_in))]
-pub(crate) fn time(text: &[u8]) -> Option<u8>
+pub fn time_in(text: &[u8]) -> Option<u8>
     ensures value { result ≡ time_in text.now }
     ensures most { IfSome result (λ hour. hour ≤ 23) }
 {
-    let (hour, minute) = text.split_at_checked(2)?;
-    let hour = digits(2, hour)?;
+    let (hour, minute) = front(2, text);
+    let hour = digits_in(2, hour)?;
     if minute == b":00".as_slice() && hour <= 23 {
         Some(hour as u8)
     } else {
         None
     }
+}
+
+/// Yes or no, `Y` or `N`.
+pub fn truth_in(text: &[u8]) -> Option<bool>
+    ensures { result ≡ truth_in text.now }
+{
+    match text {
+        b"Y" => Some(true),
+        b"N" => Some(false),
+        _ => None,
+    }
+}
+
+/// The first so many bytes of a text, or all, and those behind them.
+pub(crate) fn front(count: usize, text: &[u8]) -> (&[u8], &[u8])
+    ensures front { result.0.now ≡ take count text.now }
+    ensures behind { result.1.now ≡ drop count text.now }
+{
+    text.split_at(text.len().min(count))
 }
 
 /// A sample value, cut at so many places. `BadValue` where the text is no decimal number, else
@@ -157,9 +185,8 @@ fn greatest(pollutant: Pollutant) -> i32
 }
 
 /// A null data code, of two characters.
-pub(crate) fn null_code(text: &[u8]) -> Option<Code>
-    ensures value { result ≡ null_in text.now }
-    ensures characters { IfSome result (λ code. is_null_code code ≡ true) }
+pub fn null_in(text: &[u8]) -> Option<Code>
+    ensures { result ≡ null_in text.now }
 {
     match text {
         &[first, second] if is_code_byte(first) && is_code_byte(second) => {
@@ -170,13 +197,12 @@ pub(crate) fn null_code(text: &[u8]) -> Option<Code>
 }
 
 /// A qualifier code, of one character or two.
-fn qualifier(text: &[u8]) -> Option<Code>
-    ensures value { result ≡ qualifier_in text.now }
-    ensures characters { IfSome result (λ code. is_qualifier code ≡ true) }
+fn qualifier_in(text: &[u8]) -> Option<Code>
+    ensures { result ≡ qualifier_in text.now }
 {
     match text {
         &[first] if is_code_byte(first) => Some(Code { first, second: 0 }),
-        _ => null_code(text),
+        _ => null_in(text),
     }
 }
 
@@ -186,18 +212,16 @@ fn is_code_byte(byte: u8) -> bool
     byte.is_ascii_uppercase() || byte.is_ascii_digit()
 }
 
-/// The codes of the qualifier fields of a line, where so many fields stand before these. An empty
-/// field is passed over, and a code that came before is dropped.
-pub(crate) fn qualifiers(behind: usize, texts: &FieldList<'_>) -> Option<Quals>
-    requires { behind ≤ HEAD_FIELDS }
-    ensures value { result ≡ qualifiers_in (qualifier_texts behind texts.now) }
-    ensures characters { IfSome result (λ codes. list_all is_qualifier codes ≡ true) }
+/// The codes of the qualifier fields. An empty field is passed over, and a code that came before is
+/// dropped.
+pub(crate) fn qualifiers(texts: &Fields<'_>) -> Option<Quals>
+    ensures { result ≡ qualifiers_in (qualifier_fields texts.now) }
 {
     let mut quals = Quals::new();
-    for number in 17 - behind..texts.count().min(26 - behind) + 1 {
+    for number in 17..texts.count().min(26) + 1 {
         let text = texts.field(number);
         if !text.is_empty() {
-            quals.add(qualifier(text)?);
+            quals.add(qualifier_in(text)?);
         }
     }
     Some(quals)

@@ -8,6 +8,7 @@ ghost use Rattle.aq_base.specs.declared.rule.Rule.TheVariants.{BadBytes};
 ghost use Rattle.aq_rd.specs.FieldPlaces.{HasSpaces, are_between};
 ghost use Rattle.aq_rd.specs.Tags.{tag_value, tag_rule, has_office_tag};
 
+use crate::bytes::is_plain;
 use crate::fields::first_field;
 use aq_base::Rule;
 
@@ -47,7 +48,7 @@ pub fn tag_of(line: &[u8]) -> Result<Tag, Rule>
     if !is_plain(line) {
         return Err(Rule::BadBytes);
     }
-    form_of(first_field(line)).ok_or(Rule::BadTag)
+    tag_in(first_field(line)).ok_or(Rule::BadTag)
 }
 
 /// Whether a line has the tag of one of the agency's own forms, and no byte outside 20 to 7E
@@ -55,48 +56,14 @@ pub fn tag_of(line: &[u8]) -> Result<Tag, Rule>
 pub fn has_office_tag(line: &[u8]) -> bool
     ensures { result ≡ has_office_tag line.now }
 {
-    match form_of(first_field(line)) {
+    match tag_in(first_field(line)) {
         None | Some(Tag::Rd) => false,
         Some(_) => is_plain(line),
     }
 }
 
-/// Whether a line may have spaces. `BadBytes` exactly where a byte is outside 20 to 7E
-/// (hexadecimal).
-pub(crate) fn has_spaces(line: &[u8]) -> Result<bool, Rule>
-    ensures spaces { IfOk result (λ has_spaces. HasSpaces has_spaces line.now) }
-    ensures plain { OnOk result (is_plain line.now ≡ true) }
-    ensures rule { IfErr result (λ r. r ≡ BadBytes) }
-    ensures bytes { OnErr result (is_plain line.now ≡ false) }
-{
-    if are_between(0x21, line) {
-        Ok(false)
-    } else if is_plain(line) {
-        Ok(true)
-    } else {
-        Err(Rule::BadBytes)
-    }
-}
-
-/// Whether a line is of printed ASCII and spaces.
-fn is_plain(line: &[u8]) -> bool
-    ensures { result ≡ is_plain line.now }
-{
-    are_between(0x20, line)
-}
-
-// Whether all bytes are from one to 7E. All are tested in any case, so that many are tested at once.
-fn are_between(least: u8, line: &[u8]) -> bool
-    ensures { result ≡ are_between least line.now }
-{
-    let mut are_between = true;
-    for byte in line {
-        are_between &= least <= *byte && *byte <= 0x7E;
-    }
-    are_between
-}
-
-fn form_of(text: &[u8]) -> Option<Tag>
+/// The form that a first field names.
+pub fn tag_in(text: &[u8]) -> Option<Tag>
     ensures { option_map tag_value result ≡ tag_in text.now }
 {
     match text {

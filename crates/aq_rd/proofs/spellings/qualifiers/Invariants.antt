@@ -1,13 +1,10 @@
-use Rattle.std.proofs.Common.{◌≡◌, ◌≤◌, ◌+◌, ◌-◌, true, length, take, drop}
-use Rattle.std.specs.List.{list_all}
+use Rattle.std.proofs.Common.{◌≡◌, ◌≤◌, ◌+◌, ◌-◌, length, take, drop}
 use Rattle.aq_profile.specs.Lines.Spellings.{qualifiers_in, qualifiers_onto}
-use Rattle.aq_rd.specs.RdReading.{qualifier_texts}
-use Rattle.aq_rd.specs.Spelled.{is_qualifier}
+use Rattle.aq_profile.specs.Lines.RdForm.{qualifier_fields}
 use Rattle.aq_rd.proofs.spellings.qualifiers.Given as goal
 
 abbrev pub invariant-loop-number : goal.invariant-loop-number
 invariant-loop-number l = record {
-  few : length l.quals + 17 ≤ l.number + l.behind;
-  same : qualifiers_in (qualifier_texts l.behind l.texts) ≡ qualifiers_onto l.quals (take (26 - l.behind + 1 - l.number) (drop (l.number - 1) l.texts));
-  characters : list_all is_qualifier l.quals ≡ true;
+  few : length l.quals + 17 ≤ l.number;
+  same : qualifiers_in (qualifier_fields l.texts) ≡ qualifiers_onto l.quals (take (27 - l.number) (drop (l.number - 1) l.texts));
 }

@@ -1,5 +1,0 @@
-use Rattle.aq_rd.proofs.Scans.{Scanned}
-use Rattle.aq_rd.proofs.fields.FieldList.new.Given as goal
-
-abbrev pub invariant-loop-place : goal.invariant-loop-place
-invariant-loop-place l = Scanned l.line l.place l.count l.starts

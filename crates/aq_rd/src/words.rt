@@ -1,0 +1,35 @@
+//! Sites and days as words of a command or a path.
+ghost use Rattle.std.specs.Prelude.{◌≡◌};
+ghost use Rattle.std.specs.Option.{option_map};
+ghost use Rattle.aq_rd.specs.Words.{site_word, day_word, behind_hyphen};
+
+use crate::spellings::{date_of, front, site_in};
+use aq_base::{Day, SiteId};
+
+/// A site as `SS-CCC-NNNN`, in digits.
+#[tactic(auto, unfolding(crate::specs::Words::site_word))]
+pub fn site_word(word: &[u8]) -> Option<SiteId>
+    ensures { result ≡ site_word word.now }
+{
+    let (state, rest) = front(2, word);
+    let (county, rest) = front(3, behind_hyphen(rest)?);
+    let number = behind_hyphen(rest)?;
+    site_in(state, county, number)
+}
+
+/// A date of the profile as `YYYY-MM-DD`.
+#[tactic(auto, unfolding(crate::specs::Words::day_word))]
+pub fn day_word(word: &[u8]) -> Option<Day>
+    ensures { result ≡ day_word word.now }
+{
+    let (year, rest) = front(4, word);
+    let (month, rest) = front(2, behind_hyphen(rest)?);
+    let day = behind_hyphen(rest)?;
+    date_of(year, month, day)
+}
+
+fn behind_hyphen(text: &[u8]) -> Option<&[u8]>
+    ensures { option_map (λ rest. rest.now) result ≡ behind_hyphen text.now }
+{
+    text.strip_prefix(b"-")
+}
