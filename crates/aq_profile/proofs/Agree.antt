@@ -17,7 +17,7 @@ use Rattle.aq_profile.proofs.Least.{true_or_false}
 use Rattle.aq_profile.proofs.FormRules.{rd_put_rule, rd_put-rule, rd_delete_rule, rd_delete-rule, xm_rule, xm-rule, xp_rule, xp-rule, xp_key_rule, xp_key-rule, xs_rule, xs-rule, xs_key_rule, xs_key-rule, xo_rule, xo-rule, xo_key_rule, xo_key-rule, xu_rule, xu-rule, xu_key_rule, xu_key-rule, xe_rule, xe-rule, xe_key_rule, xe_key-rule, xc_rule, xc-rule, xa_rule, xa-rule, xa_key_rule, xa_key-rule}
 use Rattle.aq_profile.specs.Lines.Fields.{is_empty, field, fields}
 use Rattle.aq_profile.specs.Lines.Forms.{acts}
-use Rattle.aq_profile.specs.Lines.Spellings.{◌>>=◌, Action, Insert, Update, Delete, action_in, Tag, Rd, Xm, Xp, Xs, Xo, Xu, Xe, Xc, Xa, digits_in, parameter_in, parameter_of, poc_in, site_in, duration_in, unit_in, method_in, date_in, time_in, value_in, is_in_range, null_in, qualifiers_in, truth_in, primary_in, interval_in, year_in, event_number_in, event_code_in}
+use Rattle.aq_profile.specs.Lines.Spellings.{◌>>=◌, Action, Insert, Update, Delete, action_in, Tag, Rd, Xm, Xp, Xs, Xo, Xu, Xe, Xc, Xa, parameter_in, parameter_of, poc_in, site_in, duration_in, unit_in, method_in, date_in, time_in, value_in, is_in_range, null_in, qualifiers_in, truth_in, primary_in, interval_in, year_in, event_number_in, event_code_in}
 use Rattle.aq_profile.specs.Lines.RdForm.{monitor_in, start_in, content_in, put_in, delete_in, qualifier_fields}
 use Rattle.aq_profile.specs.Lines.OfficeForms.{hour_in, is_season, is_makeup, is_span, xm_record, xp_record, xp_key, xs_record, xs_key, xo_record, xo_key, xu_record, xu_key, xe_record, xe_key, xc_record, xa_record, xa_key}
 use Rattle.aq_profile.specs.Lines.Reading.{FIELD_RULES, demands_on, is_of_rule, breaks_in, rules_of, reported_value, fails, value_for, action_for, form_value, has_wrong_count, is_deletion, breaks_parts, rules_for, line_value, reading_rule, is_plain, tag_of}
@@ -51,23 +51,6 @@ kept_twice : {A B C : Type 0} (part : Option A) (f : A → B) (g : B → C) → 
 kept_twice None f g = refl
 kept_twice (Some x) f g = refl
 
-or_false : (b : Bool) → (b || false) ≡ b
-or_false true = refl
-or_false false = refl
-
--- a site is spelled where its three numbers are
-three-parts : {A B C D : Type 0} (one : Option A) (two : Option B) (three : Option C) (f : A → B → C → D)
-    → (is_none one || (is_none two || (is_none three || false))) ≡ is_none (one >>= λ x. two >>= λ y. three >>= λ z. Some (f x y z))
-three-parts None two three f = refl
-three-parts (Some x) None three f = refl
-three-parts (Some x) (Some y) None f = refl
-three-parts (Some x) (Some y) (Some z) f = refl
-
-pub site-spelled : (state county number : List ℕ)
-    → (is_none (digits_in 2 state) || (is_none (digits_in 3 county) || (is_none (digits_in 4 number) || false))) ≡ is_none (site_in state county number)
-unfolding site_in
-site-spelled state county number = three-parts (digits_in 2 state) (digits_in 3 county) (digits_in 4 number) _
-
 parameter-Rd : (part : Option Pollutant) → is_none (part >>= λ x. Some x) ≡ is_none part
 parameter-Rd None = refl
 parameter-Rd (Some x) = refl
@@ -82,38 +65,38 @@ content : (no_value no_null : Bool) (null : Option Code) (codes : Option (List C
     → (g : ℤ → List Code → Option Observation) → ((v : ℤ) (cs : List Code) → is_some (g v cs) ≡ true)
     → is_some (if no_value then (null >>= λ c. codes >>= λ cs. f c cs)
     else (if no_null then ((if decimal && in_range then Some value else None) >>= λ v. codes >>= λ cs. g v cs) else None))
-    ≡ is_none (cond (not no_value && not no_null || false) (Some ValueAndNull)
-    (cond (not (not no_value) && not (not no_null) || false) (Some NeitherValueNorNull)
-    (cond (not no_value && not decimal || false) (Some BadValue)
-    (cond (not no_value && decimal && is_none reported || false) (Some ValueOutOfRange)
-    (cond (not no_null && is_none null || false) (Some BadNull)
-    (cond (is_none codes || false) (Some BadQualifier) None))))))
+    ≡ is_none (cond (not no_value && not no_null) (Some ValueAndNull)
+    (cond (not (not no_value) && not (not no_null)) (Some NeitherValueNorNull)
+    (cond (not no_value && not decimal) (Some BadValue)
+    (cond (not no_value && decimal && is_none reported) (Some ValueOutOfRange)
+    (cond (not no_null && is_none null) (Some BadNull)
+    (cond (is_none codes) (Some BadQualifier) None))))))
 content true true None codes d r v w h e f hf g hg = refl
 content true true (Some c) codes d r v w h e f hf g hg = absurd (false≢true (h refl))
 content true false None codes d r v w h e f hf g hg = refl
 content true false (Some c) None d r v w h e f hf g hg = refl
 content true false (Some c) (Some cs) d r v w h e f hf g hg = hf c cs
 content false true null codes false r v w h e f hf g hg = refl
-content false true null codes true false v w h e f hf g hg = sym (ap (λ o. is_none (cond (is_none o || false) (Some ValueOutOfRange) (cond (is_none codes || false) (Some BadQualifier) None))) e)
-content false true null None true true v w h e f hf g hg = sym (ap (λ o. is_none (cond (is_none o || false) (Some ValueOutOfRange) (Some BadQualifier))) e)
+content false true null codes true false v w h e f hf g hg = sym (ap (λ o. is_none (cond (is_none o) (Some ValueOutOfRange) (cond (is_none codes) (Some BadQualifier) None))) e)
+content false true null None true true v w h e f hf g hg = sym (ap (λ o. is_none (cond (is_none o) (Some ValueOutOfRange) (Some BadQualifier))) e)
 content false true null (Some cs) true true v w h e f hf g hg =
-    hg v cs ∙ sym (ap (λ o. is_none (cond (is_none o || false) (Some ValueOutOfRange) None)) e)
+    hg v cs ∙ sym (ap (λ o. is_none (cond (is_none o) (Some ValueOutOfRange) None)) e)
 content false false null codes d r v w h e f hf g hg = refl
 
 pub agree-rd_put : (update : Bool) (texts : List (List ℕ))
     → is_some (put_in update texts) ≡ is_none (rd_put_rule texts)
 unfolding put_in monitor_in start_in content_in parameter_of value_in
 agree-rd_put update texts =
-    agree_inside (site_in (field 3 texts) (field 4 texts) (field 5 texts)) _ _ _ BadSite _ (site-spelled (field 3 texts) (field 4 texts) (field 5 texts)) λ site is_site.
-    agree_inside (parameter_in (field 6 texts)) _ _ _ ParameterOutOfProfile _ (or_false (is_none (parameter_of Rd (field 6 texts))) ∙ parameter-Rd (parameter_in (field 6 texts))) λ pollutant is_pollutant.
-    agree_inside (poc_in (field 7 texts)) _ _ _ BadPoc _ (or_false (is_none (poc_in (field 7 texts)))) λ poc is_poc.
+    agree_inside (site_in (field 3 texts) (field 4 texts) (field 5 texts)) _ _ _ BadSite _ refl λ site is_site.
+    agree_inside (parameter_in (field 6 texts)) _ _ _ ParameterOutOfProfile _ (parameter-Rd (parameter_in (field 6 texts))) λ pollutant is_pollutant.
+    agree_inside (poc_in (field 7 texts)) _ _ _ BadPoc _ refl λ poc is_poc.
     agree (duration_in pollutant (field 8 texts)) _ _ BadDuration _
-    (or_false (is_none (parameter_of Rd (field 6 texts) >>= λ p. duration_in p (field 8 texts))) ∙ ap (λ q. is_none ((q >>= λ x. Some x) >>= λ p. duration_in p (field 8 texts))) is_pollutant) λ duration is_duration.
+    (ap (λ q. is_none ((q >>= λ x. Some x) >>= λ p. duration_in p (field 8 texts))) is_pollutant) λ duration is_duration.
     agree (unit_in pollutant (field 9 texts)) _ _ BadUnit _
-    (or_false (is_none (parameter_of Rd (field 6 texts) >>= λ p. unit_in p (field 9 texts))) ∙ ap (λ q. is_none ((q >>= λ x. Some x) >>= λ p. unit_in p (field 9 texts))) is_pollutant) λ places is_places.
-    agree (method_in (field 10 texts)) _ _ BadMethod _ (or_false (is_none (method_in (field 10 texts)))) λ method is_method.
-    agree_inside (date_in (field 11 texts)) _ _ _ BadDate _ (or_false (is_none (date_in (field 11 texts)))) λ day is_day.
-    agree_inside (time_in (field 12 texts)) _ _ _ BadTime _ (or_false (is_none (time_in (field 12 texts)))) λ hour is_hour.
+    (ap (λ q. is_none ((q >>= λ x. Some x) >>= λ p. unit_in p (field 9 texts))) is_pollutant) λ places is_places.
+    agree (method_in (field 10 texts)) _ _ BadMethod _ refl λ method is_method.
+    agree_inside (date_in (field 11 texts)) _ _ _ BadDate _ refl λ day is_day.
+    agree_inside (time_in (field 12 texts)) _ _ _ BadTime _ refl λ hour is_hour.
     kept (content_in pollutant places texts) _
     ∙ content (is_empty (field 13 texts)) (is_empty (field 14 texts)) (null_in (field 14 texts)) (qualifiers_in (qualifier_fields texts))
     (is_decimal (field 13 texts)) (is_in_range pollutant (cut (field 13 texts) places)) (cut (field 13 texts) places) (reported_value texts)
@@ -127,11 +110,11 @@ pub agree-rd_delete : (texts : List (List ℕ))
     → is_some (delete_in texts) ≡ is_none (rd_delete_rule texts)
 unfolding delete_in monitor_in start_in parameter_of
 agree-rd_delete texts =
-    agree_inside (site_in (field 3 texts) (field 4 texts) (field 5 texts)) _ _ _ BadSite _ (site-spelled (field 3 texts) (field 4 texts) (field 5 texts)) λ site is_site.
-    agree_inside (parameter_in (field 6 texts)) _ _ _ ParameterOutOfProfile _ (or_false (is_none (parameter_of Rd (field 6 texts))) ∙ parameter-Rd (parameter_in (field 6 texts))) λ pollutant is_pollutant.
-    agree_inside (poc_in (field 7 texts)) _ _ _ BadPoc _ (or_false (is_none (poc_in (field 7 texts)))) λ poc is_poc.
-    agree_inside (date_in (field 11 texts)) _ _ _ BadDate _ (or_false (is_none (date_in (field 11 texts)))) λ day is_day.
-    agree_inside (time_in (field 12 texts)) _ _ _ BadTime _ (or_false (is_none (time_in (field 12 texts)))) λ hour is_hour.
+    agree_inside (site_in (field 3 texts) (field 4 texts) (field 5 texts)) _ _ _ BadSite _ refl λ site is_site.
+    agree_inside (parameter_in (field 6 texts)) _ _ _ ParameterOutOfProfile _ (parameter-Rd (parameter_in (field 6 texts))) λ pollutant is_pollutant.
+    agree_inside (poc_in (field 7 texts)) _ _ _ BadPoc _ refl λ poc is_poc.
+    agree_inside (date_in (field 11 texts)) _ _ _ BadDate _ refl λ day is_day.
+    agree_inside (time_in (field 12 texts)) _ _ _ BadTime _ refl λ hour is_hour.
     refl
 
 -- XM
@@ -139,36 +122,36 @@ agree-xm : (texts : List (List ℕ))
     → is_some (xm_record texts) ≡ is_none (xm_rule texts)
 unfolding xm_record monitor_in parameter_of
 agree-xm texts =
-    agree_inside (site_in (field 3 texts) (field 4 texts) (field 5 texts)) _ _ _ BadSite _ (site-spelled (field 3 texts) (field 4 texts) (field 5 texts)) λ site is_site.
-    agree_inside (parameter_in (field 6 texts)) _ _ _ ParameterOutOfProfile _ (or_false (is_none (parameter_of Rd (field 6 texts))) ∙ parameter-Rd (parameter_in (field 6 texts))) λ pollutant is_pollutant.
-    agree_inside (poc_in (field 7 texts)) _ _ _ BadPoc _ (or_false (is_none (poc_in (field 7 texts)))) λ poc is_poc.
+    agree_inside (site_in (field 3 texts) (field 4 texts) (field 5 texts)) _ _ _ BadSite _ refl λ site is_site.
+    agree_inside (parameter_in (field 6 texts)) _ _ _ ParameterOutOfProfile _ (parameter-Rd (parameter_in (field 6 texts))) λ pollutant is_pollutant.
+    agree_inside (poc_in (field 7 texts)) _ _ _ BadPoc _ refl λ poc is_poc.
     agree (duration_in pollutant (field 8 texts)) _ _ BadDuration _
-    (or_false (is_none (parameter_of Rd (field 6 texts) >>= λ p. duration_in p (field 8 texts))) ∙ ap (λ q. is_none ((q >>= λ x. Some x) >>= λ p. duration_in p (field 8 texts))) is_pollutant) λ duration is_duration.
-    agree (truth_in (field 9 texts)) _ _ BadCode _ (or_false (is_none (truth_in (field 9 texts)))) λ eligible is_eligible.
+    (ap (λ q. is_none ((q >>= λ x. Some x) >>= λ p. duration_in p (field 8 texts))) is_pollutant) λ duration is_duration.
+    agree (truth_in (field 9 texts)) _ _ BadCode _ refl λ eligible is_eligible.
     refl
 
 -- XP
 agree-xp : (texts : List (List ℕ)) → is_some (xp_record texts) ≡ is_none (xp_rule texts)
 unfolding xp_record
 agree-xp texts =
-    agree (site_in (field 3 texts) (field 4 texts) (field 5 texts)) _ _ BadSite _ (site-spelled (field 3 texts) (field 4 texts) (field 5 texts)) λ site is_site.
-    agree (parameter_of Xp (field 6 texts)) _ _ ParameterOutOfProfile _ (or_false (is_none (parameter_of Xp (field 6 texts)))) λ pollutant is_pollutant.
-    agree (primary_in (field 8 texts)) _ _ BadPoc _ (or_false (is_none (primary_in (field 8 texts)))) λ poc is_poc.
-    agree (date_in (field 7 texts)) _ _ BadDate _ (or_false (is_none (date_in (field 7 texts)))) λ from is_from.
+    agree (site_in (field 3 texts) (field 4 texts) (field 5 texts)) _ _ BadSite _ refl λ site is_site.
+    agree (parameter_of Xp (field 6 texts)) _ _ ParameterOutOfProfile _ refl λ pollutant is_pollutant.
+    agree (primary_in (field 8 texts)) _ _ BadPoc _ refl λ poc is_poc.
+    agree (date_in (field 7 texts)) _ _ BadDate _ refl λ from is_from.
     refl
 
 agree-xp_key : (texts : List (List ℕ)) → is_some (xp_key texts) ≡ is_none (xp_key_rule texts)
 unfolding xp_key
 agree-xp_key texts =
-    agree (site_in (field 3 texts) (field 4 texts) (field 5 texts)) _ _ BadSite _ (site-spelled (field 3 texts) (field 4 texts) (field 5 texts)) λ site is_site.
-    agree (parameter_of Xp (field 6 texts)) _ _ ParameterOutOfProfile _ (or_false (is_none (parameter_of Xp (field 6 texts)))) λ pollutant is_pollutant.
-    agree (date_in (field 7 texts)) _ _ BadDate _ (or_false (is_none (date_in (field 7 texts)))) λ from is_from.
+    agree (site_in (field 3 texts) (field 4 texts) (field 5 texts)) _ _ BadSite _ refl λ site is_site.
+    agree (parameter_of Xp (field 6 texts)) _ _ ParameterOutOfProfile _ refl λ pollutant is_pollutant.
+    agree (date_in (field 7 texts)) _ _ BadDate _ refl λ from is_from.
     refl
 
 -- two parts under one rule
 agree_two : {A B C : Type 0} (one : Option A) (two : Option B) (next : A → B → Option C) (rule : Rule) (rest : Option Rule)
     → ((x : A) (y : B) → one ≡ Some x → two ≡ Some y → is_some (next x y) ≡ is_none rest)
-    → is_some (one >>= λ x. two >>= λ y. next x y) ≡ is_none (cond (is_none one || (is_none two || false)) (Some rule) rest)
+    → is_some (one >>= λ x. two >>= λ y. next x y) ≡ is_none (cond (is_none one || is_none two) (Some rule) rest)
 agree_two None two next rule rest go = refl
 agree_two (Some x) None next rule rest go = refl
 agree_two (Some x) (Some y) next rule rest go = go x y refl refl
@@ -177,31 +160,31 @@ agree_two (Some x) (Some y) next rule rest go = go x y refl refl
 agree-xs : (texts : List (List ℕ)) → is_some (xs_record texts) ≡ is_none (xs_rule texts)
 unfolding xs_record
 agree-xs texts =
-    agree (site_in (field 3 texts) (field 4 texts) (field 5 texts)) _ _ BadSite _ (site-spelled (field 3 texts) (field 4 texts) (field 5 texts)) λ site is_site.
-    agree (parameter_of Xs (field 6 texts)) _ _ ParameterOutOfProfile _ (or_false (is_none (parameter_of Xs (field 6 texts)))) λ pollutant is_pollutant.
+    agree (site_in (field 3 texts) (field 4 texts) (field 5 texts)) _ _ BadSite _ refl λ site is_site.
+    agree (parameter_of Xs (field 6 texts)) _ _ ParameterOutOfProfile _ refl λ pollutant is_pollutant.
     agree_two (date_in (field 7 texts)) (date_in (field 9 texts)) _ BadDate _ λ from anchor is_from is_anchor.
-    agree (interval_in (field 8 texts)) _ _ BadInterval _ (or_false (is_none (interval_in (field 8 texts)))) λ interval is_interval.
+    agree (interval_in (field 8 texts)) _ _ BadInterval _ refl λ interval is_interval.
     refl
 
 agree-xs_key : (texts : List (List ℕ)) → is_some (xs_key texts) ≡ is_none (xs_key_rule texts)
 unfolding xs_key
 agree-xs_key texts =
-    agree (site_in (field 3 texts) (field 4 texts) (field 5 texts)) _ _ BadSite _ (site-spelled (field 3 texts) (field 4 texts) (field 5 texts)) λ site is_site.
-    agree (parameter_of Xs (field 6 texts)) _ _ ParameterOutOfProfile _ (or_false (is_none (parameter_of Xs (field 6 texts)))) λ pollutant is_pollutant.
-    agree (date_in (field 7 texts)) _ _ BadDate _ (or_false (is_none (date_in (field 7 texts)))) λ from is_from.
+    agree (site_in (field 3 texts) (field 4 texts) (field 5 texts)) _ _ BadSite _ refl λ site is_site.
+    agree (parameter_of Xs (field 6 texts)) _ _ ParameterOutOfProfile _ refl λ pollutant is_pollutant.
+    agree (date_in (field 7 texts)) _ _ BadDate _ refl λ from is_from.
     refl
 
 -- a test at the end
 tested : {A : Type 0} (passed : Bool) (value : A) (rule : Rule)
-    → is_some (if passed then Some value else None) ≡ is_none (cond (not passed || false) (Some rule) None)
+    → is_some (if passed then Some value else None) ≡ is_none (cond (not passed) (Some rule) None)
 tested true value rule = refl
 tested false value rule = refl
 
 -- XO
 xo_end : (year first last : Option ℕ) (f : ℕ → ℕ → ℕ → Bool) (h : ℕ → ℕ → ℕ → OfficeRecord)
     → is_some (year >>= λ y. first >>= λ a. last >>= λ b. if f y a b then Some (h y a b) else None)
-    ≡ is_none (cond (is_none year || (is_none first || (is_none last || false))) (Some BadDate)
-    (cond (fails (year >>= λ y. first >>= λ a. last >>= λ b. Some (f y a b)) || false) (Some BadSeason) None))
+    ≡ is_none (cond (is_none year || (is_none first || is_none last)) (Some BadDate)
+    (cond (fails (year >>= λ y. first >>= λ a. last >>= λ b. Some (f y a b))) (Some BadSeason) None))
 xo_end None first last f h = refl
 xo_end (Some y) None last f h = refl
 xo_end (Some y) (Some a) None f h = refl
@@ -210,21 +193,21 @@ xo_end (Some y) (Some a) (Some b) f h = tested (f y a b) (h y a b) BadSeason
 agree-xo : (texts : List (List ℕ)) → is_some (xo_record texts) ≡ is_none (xo_rule texts)
 unfolding xo_record
 agree-xo texts =
-    agree (site_in (field 3 texts) (field 4 texts) (field 5 texts)) _ _ BadSite _ (site-spelled (field 3 texts) (field 4 texts) (field 5 texts)) λ site is_site.
+    agree (site_in (field 3 texts) (field 4 texts) (field 5 texts)) _ _ BadSite _ refl λ site is_site.
     xo_end (year_in (field 6 texts)) (date_in (field 7 texts)) (date_in (field 8 texts)) is_season (λ y a b. Season site y a b)
 
 agree-xo_key : (texts : List (List ℕ)) → is_some (xo_key texts) ≡ is_none (xo_key_rule texts)
 unfolding xo_key
 agree-xo_key texts =
-    agree (site_in (field 3 texts) (field 4 texts) (field 5 texts)) _ _ BadSite _ (site-spelled (field 3 texts) (field 4 texts) (field 5 texts)) λ site is_site.
-    agree (year_in (field 6 texts)) _ _ BadDate _ (or_false (is_none (year_in (field 6 texts)))) λ year is_year.
+    agree (site_in (field 3 texts) (field 4 texts) (field 5 texts)) _ _ BadSite _ refl λ site is_site.
+    agree (year_in (field 6 texts)) _ _ BadDate _ refl λ year is_year.
     refl
 
 -- XU
 xu_end : (missed makeup : Option ℕ) (f : ℕ → ℕ → Bool) (h : ℕ → ℕ → OfficeRecord)
     → is_some (missed >>= λ a. makeup >>= λ b. if f a b then Some (h a b) else None)
-    ≡ is_none (cond (is_none missed || (is_none makeup || false)) (Some BadDate)
-    (cond (fails (missed >>= λ a. makeup >>= λ b. Some (f a b)) || false) (Some BadMakeup) None))
+    ≡ is_none (cond (is_none missed || is_none makeup) (Some BadDate)
+    (cond (fails (missed >>= λ a. makeup >>= λ b. Some (f a b))) (Some BadMakeup) None))
 xu_end None makeup f h = refl
 xu_end (Some a) None f h = refl
 xu_end (Some a) (Some b) f h = tested (f a b) (h a b) BadMakeup
@@ -232,22 +215,22 @@ xu_end (Some a) (Some b) f h = tested (f a b) (h a b) BadMakeup
 agree-xu : (texts : List (List ℕ)) → is_some (xu_record texts) ≡ is_none (xu_rule texts)
 unfolding xu_record
 agree-xu texts =
-    agree (site_in (field 3 texts) (field 4 texts) (field 5 texts)) _ _ BadSite _ (site-spelled (field 3 texts) (field 4 texts) (field 5 texts)) λ site is_site.
-    agree (parameter_of Xu (field 6 texts)) _ _ ParameterOutOfProfile _ (or_false (is_none (parameter_of Xu (field 6 texts)))) λ pollutant is_pollutant.
+    agree (site_in (field 3 texts) (field 4 texts) (field 5 texts)) _ _ BadSite _ refl λ site is_site.
+    agree (parameter_of Xu (field 6 texts)) _ _ ParameterOutOfProfile _ refl λ pollutant is_pollutant.
     xu_end (date_in (field 7 texts)) (date_in (field 8 texts)) is_makeup (λ a b. Makeup site a b)
 
 agree-xu_key : (texts : List (List ℕ)) → is_some (xu_key texts) ≡ is_none (xu_key_rule texts)
 unfolding xu_key
 agree-xu_key texts =
-    agree (site_in (field 3 texts) (field 4 texts) (field 5 texts)) _ _ BadSite _ (site-spelled (field 3 texts) (field 4 texts) (field 5 texts)) λ site is_site.
-    agree (parameter_of Xu (field 6 texts)) _ _ ParameterOutOfProfile _ (or_false (is_none (parameter_of Xu (field 6 texts)))) λ pollutant is_pollutant.
-    agree (date_in (field 7 texts)) _ _ BadDate _ (or_false (is_none (date_in (field 7 texts)))) λ missed is_missed.
+    agree (site_in (field 3 texts) (field 4 texts) (field 5 texts)) _ _ BadSite _ refl λ site is_site.
+    agree (parameter_of Xu (field 6 texts)) _ _ ParameterOutOfProfile _ refl λ pollutant is_pollutant.
+    agree (date_in (field 7 texts)) _ _ BadDate _ refl λ missed is_missed.
     refl
 
 -- XE
 xe_end : (number : Option ℕ) (code : Option Code) (passed : Bool) (h : ℕ → Code → OfficeRecord)
     → is_some (number >>= λ n. code >>= λ c. if passed then Some (h n c) else None)
-    ≡ is_none (cond (not passed || false) (Some BadSpan) (cond (is_none number || (is_none code || false)) (Some BadCode) None))
+    ≡ is_none (cond (not passed) (Some BadSpan) (cond (is_none number || is_none code) (Some BadCode) None))
 xe_end None code true h = refl
 xe_end None code false h = refl
 xe_end (Some n) None true h = refl
@@ -261,7 +244,7 @@ hour_of day hour = day >>= λ d. hour >>= λ h. Some (hour_number d h)
 xe_hours : {A : Type 0} (day hour last_day last_hour : Option ℕ) (next : ℕ → ℕ → Option A) (rest : Option Rule)
     → ((first last : ℕ) → hour_of day hour ≡ Some first → hour_of last_day last_hour ≡ Some last → is_some (next first last) ≡ is_none rest)
     → is_some (hour_of day hour >>= λ first. hour_of last_day last_hour >>= λ last. next first last)
-    ≡ is_none (cond (is_none day || (is_none last_day || false)) (Some BadDate) (cond (is_none hour || (is_none last_hour || false)) (Some BadTime) rest))
+    ≡ is_none (cond (is_none day || is_none last_day) (Some BadDate) (cond (is_none hour || is_none last_hour) (Some BadTime) rest))
 unfolding hour_of
 xe_hours None hour last_day last_hour next rest go = refl
 xe_hours (Some d) None None last_hour next rest go = refl
@@ -273,17 +256,17 @@ xe_hours (Some d) (Some h) (Some e) (Some i) next rest go = go (hour_number d h)
 agree-xe : (texts : List (List ℕ)) → is_some (xe_record texts) ≡ is_none (xe_rule texts)
 unfolding xe_record hour_of
 agree-xe texts =
-    agree (site_in (field 4 texts) (field 5 texts) (field 6 texts)) _ _ BadSite _ (site-spelled (field 4 texts) (field 5 texts) (field 6 texts)) λ site is_site.
-    agree (parameter_of Xe (field 7 texts)) _ _ ParameterOutOfProfile _ (or_false (is_none (parameter_of Xe (field 7 texts)))) λ pollutant is_pollutant.
+    agree (site_in (field 4 texts) (field 5 texts) (field 6 texts)) _ _ BadSite _ refl λ site is_site.
+    agree (parameter_of Xe (field 7 texts)) _ _ ParameterOutOfProfile _ refl λ pollutant is_pollutant.
     xe_hours (date_in (field 8 texts)) (time_in (field 9 texts)) (date_in (field 10 texts)) (time_in (field 11 texts)) _ _ λ first last is_first is_last.
     xe_end (event_number_in (field 3 texts)) (event_code_in (field 12 texts)) (is_span first last) (λ n c. Event n site pollutant first last c)
-    ∙ sym (ap (λ o. is_none (cond (fails o || false) (Some BadSpan) (cond (is_none (event_number_in (field 3 texts)) || (is_none (event_code_in (field 12 texts)) || false)) (Some BadCode) None)))
+    ∙ sym (ap (λ o. is_none (cond (fails o) (Some BadSpan) (cond (is_none (event_number_in (field 3 texts)) || is_none (event_code_in (field 12 texts))) (Some BadCode) None)))
     (ap (λ q. q >>= λ a. hour_in (field 10 texts) (field 11 texts) >>= λ b. Some (is_span a b)) is_first ∙ ap (λ q. q >>= λ b. Some (is_span first b)) is_last))
 
 agree-xe_key : (texts : List (List ℕ)) → is_some (xe_key texts) ≡ is_none (xe_key_rule texts)
 unfolding xe_key
 agree-xe_key texts =
-    agree (event_number_in (field 3 texts)) _ _ BadCode _ (or_false (is_none (event_number_in (field 3 texts)))) λ number is_number.
+    agree (event_number_in (field 3 texts)) _ _ BadCode _ refl λ number is_number.
     refl
 
 -- XC
@@ -291,7 +274,7 @@ agree-xc : (texts : List (List ℕ)) → is_some (xc_record texts) ≡ is_none (
 unfolding xc_record
 agree-xc texts = xc_end (event_number_in (field 3 texts)) (truth_in (field 4 texts))
   where
-    xc_end : (number : Option ℕ) (flag : Option Bool) → is_some (number >>= λ n. flag >>= λ f. Some (Concurrence n f)) ≡ is_none (cond (is_none number || (is_none flag || false)) (Some BadCode) None)
+    xc_end : (number : Option ℕ) (flag : Option Bool) → is_some (number >>= λ n. flag >>= λ f. Some (Concurrence n f)) ≡ is_none (cond (is_none number || is_none flag) (Some BadCode) None)
     xc_end None flag = refl
     xc_end (Some n) None = refl
     xc_end (Some n) (Some f) = refl
@@ -300,15 +283,15 @@ agree-xc texts = xc_end (event_number_in (field 3 texts)) (truth_in (field 4 tex
 agree-xa : (texts : List (List ℕ)) → is_some (xa_record texts) ≡ is_none (xa_rule texts)
 unfolding xa_record
 agree-xa texts =
-    agree (site_in (field 3 texts) (field 4 texts) (field 5 texts)) _ _ BadSite _ (site-spelled (field 3 texts) (field 4 texts) (field 5 texts)) λ site is_site.
-    agree (date_in (field 6 texts)) _ _ BadDate _ (or_false (is_none (date_in (field 6 texts)))) λ day is_day.
+    agree (site_in (field 3 texts) (field 4 texts) (field 5 texts)) _ _ BadSite _ refl λ site is_site.
+    agree (date_in (field 6 texts)) _ _ BadDate _ refl λ day is_day.
     refl
 
 agree-xa_key : (texts : List (List ℕ)) → is_some (xa_key texts) ≡ is_none (xa_key_rule texts)
 unfolding xa_key
 agree-xa_key texts =
-    agree (site_in (field 3 texts) (field 4 texts) (field 5 texts)) _ _ BadSite _ (site-spelled (field 3 texts) (field 4 texts) (field 5 texts)) λ site is_site.
-    agree (date_in (field 6 texts)) _ _ BadDate _ (or_false (is_none (date_in (field 6 texts)))) λ day is_day.
+    agree (site_in (field 3 texts) (field 4 texts) (field 5 texts)) _ _ BadSite _ refl λ site is_site.
+    agree (date_in (field 6 texts)) _ _ BadDate _ refl λ day is_day.
     refl
 
 -- ---- the whole line
