@@ -33,6 +33,16 @@ module _ {K : Type 0} (rank : K → List ℕ) where
       let first = some_left (is_same (rank key) at) key (row_at rank at before) (sym (found-with rank at key before) ∙ none-of_first at (with_row rank key before) now none) in
       ap (λ b. cond b (Some key) (row_at rank at now)) first.0 ∙ none-of_second at (with_row rank key before) now none
 
+pub keys-rise : {X K : Type 0} (key : X → K) (rank : K → List ℕ) (rows : List X) → rises (λ x. rank (key x)) rows ≡ true → rises rank (map key rows) ≡ true
+keys-rise key rank [] rising = refl
+keys-rise {X = X} key rank (x ∷ rows) rising = from x rows rising
+  where
+    from : (first : X) (rest : List X) → rises_from (λ x. rank (key x)) first rest ≡ true → rises_from rank (key first) (map key rest) ≡ true
+    from first [] rising = refl
+    from first (next ∷ rest) rising =
+        let parts = both (comes_before (rank (key first)) (rank (key next))) (rises_from (λ x. rank (key x)) next rest) rising in
+        and_true _ _ parts.0 (from next rest parts.1)
+
 -- ---- the changes of a list of rows
 
 abbrev pub done_if : {X C : Type 0} → (List X → C → List X) → List X → Option C → List X
@@ -117,16 +127,6 @@ module _ {X K C : Type 0} (key : X → K) (rank : K → List ℕ) (change : K �
     unchanged [] = tt
     unchanged (k ∷ keys) = (refl, unchanged keys)
 
-    keys-rise : (rows : List X) → rises rank_of rows ≡ true → rises rank (map key rows) ≡ true
-    keys-rise [] rising = refl
-    keys-rise (x ∷ rows) rising = from x rows rising
-      where
-        from : (first : X) (rest : List X) → rises_from rank_of first rest ≡ true → rises_from rank (key first) (map key rest) ≡ true
-        from first [] rising = refl
-        from first (next ∷ rest) rising =
-            let parts = both (comes_before (rank_of first) (rank_of next)) (rises_from rank_of next rest) rising in
-            and_true _ _ parts.0 (from next rest parts.1)
-
     no-key : (at : List ℕ) (rows : List X) → row_at rank at (map key rows) ≡ None → At at rows ≡ None
     no-key at [] none = refl
     no-key at (x ∷ rows) none =
@@ -137,7 +137,7 @@ module _ {X K C : Type 0} (key : X → K) (rank : K → List ℕ) (change : K �
         → fold applied before (filter_map change (keys_of_either rank (map key before) (map key now))) ≡ now
     changes-done before_rises =
         let keys = keys_of_either rank (map key before) (map key now) in
-        after-changes keys before (either-rises rank (map key before) (map key now) (keys-rise before before_rises)) before_rises (unchanged keys)
+        after-changes keys before (either-rises rank (map key before) (map key now) (keys-rise key rank before before_rises)) before_rises (unchanged keys)
         (λ at none.
         no-key at before (none-of_first rank at (map key before) (map key now) none)
         ∙ sym (no-key at now (none-of_second rank at (map key before) (map key now) none)))

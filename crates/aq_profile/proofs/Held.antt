@@ -1,5 +1,5 @@
 -- Numbers between two bounds: quotients, sums and means of them.
-use Rattle.std.proofs.Common.{◌≡◌, ℕ, zero, suc, ◌+◌, ◌*◌, ◌/◌, ◌<◌, ◌≤◌, Bool, true, false, cond, List, [], ◌∷◌, length, refl, ap, ◌∙◌, arith}
+use Rattle.std.proofs.Common.{◌≡◌, ℕ, zero, suc, ◌+◌, ◌*◌, ◌/◌, ◌<◌, ◌≤◌, Bool, true, false, cond, List, [], ◌∷◌, length, refl, sym, ap, ◌∙◌, arith}
 use Rattle.std.specs.Prelude.{ℤ, pos, negsuc, neg_ℤ, ◌≤ℤ◌, ◌+ℤ◌, ◌*ℤ◌, Option, Some, None, option_map, ⊤}
 use Rattle.std.specs.Int.{int_div_euclid}
 use Rattle.std.specs.List.{list_all}
@@ -8,9 +8,8 @@ use Rattle.std.proofs.lemmas.Int.{ints}
 use Rattle.std.proofs.lemmas.Nat.{div_below}
 use Rattle.std.proofs.Math.IntN.{suc_ℤ-*ℤ, *ℤ_comm, *ℤ-zero}
 use Rattle.aq_base.specs.Decimal.{half_up}
-use Rattle.aq_profile.specs.Lists.{total}
+use Rattle.aq_profile.specs.Lists.{total, all_of}
 use Rattle.aq_profile.specs.Particles.Means.{Fraction, sum_of_fractions, has_days, mean_of_means}
-use Rattle.aq_profile.specs.Particles.Substitution.{all_of}
 use Rattle.aq_profile.proofs.Spans.{Every}
 use Rattle.aq_profile.proofs.Sums.{total-cons}
 
@@ -132,3 +131,15 @@ all_of-every {X = X} P (Some x ∷ os) every = onto (all_of os) (all_of-every P 
     onto : (o : Option (List X)) → IfSome o (Every P) → IfSome (option_map (λ others. x ∷ others) o) (Every P)
     onto None h = tt
     onto (Some xs) h = (every.0, h)
+
+same_list : {X : Type 0} (a b : List X) → Some a ≡ Some b → a ≡ b
+same_list a b e = cc
+
+pub all_of-length : {X : Type 0} (os : List (Option X)) (all : List X) → all_of os ≡ Some all → length all ≡ length os
+all_of-length [] all e = sym (ap length (same_list [] all e))
+all_of-length (None ∷ os) all e = cc
+all_of-length {X = X} (Some x ∷ os) all e = by_rest (all_of os) (all_of-length os) e
+  where
+    by_rest : (o : Option (List X)) → ((others : List X) → o ≡ Some others → length others ≡ length os) → option_map (λ others. x ∷ others) o ≡ Some all → length all ≡ suc (length os)
+    by_rest None h e = cc
+    by_rest (Some others) h e = sym (ap length (same_list (x ∷ others) all e)) ∙ ap suc (h others refl)

@@ -70,3 +70,7 @@ pub mod RowOrder
 pub mod RowBatch
 pub mod ValidReplies
 pub mod ValidLoads
+pub mod BatchOrder
+pub mod BatchAlters
+pub mod WellFormedValues
+pub mod MembersOnce

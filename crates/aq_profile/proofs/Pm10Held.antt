@@ -9,14 +9,12 @@ use Rattle.std.proofs.lemmas.List.{length-map}
 use Rattle.std.proofs.lemmas.List.Sums.{sum_by-cons}
 use Rattle.std.proofs.Math.Nat.{mul-le-mul}
 use Rattle.aq_base.specs.Decimal.{half_up}
-use Rattle.aq_profile.specs.Lists.{total}
+use Rattle.aq_profile.specs.Lists.{total, all_of}
 use Rattle.aq_profile.specs.Kept.Summaries.{KeepsPm10Quarter, KeepsPm10Year}
 use Rattle.aq_profile.specs.Particles.Pm10Estimate.{Pm10Quarter, quarter_estimate, quarter_lower, year_of_quarters, mean_of_years}
 use Rattle.aq_profile.specs.Particles.Pm10Verdict.{exceedances_in}
-use Rattle.aq_profile.specs.Particles.Substitution.{all_of}
 use Rattle.aq_profile.proofs.Spans.{Every}
-use Rattle.aq_profile.proofs.KeptDaily.{all_of-length}
-use Rattle.aq_profile.proofs.Held.{Held, IfHeld, if_held-wider, half_up-held, total-held, all_of-every}
+use Rattle.aq_profile.proofs.Held.{Held, IfHeld, if_held-wider, half_up-held, total-held, all_of-every, all_of-length}
 
 -- days * part ≤ 92 * whole, in hundredths
 few_days : (days part whole : ℕ) → days ≤ 92 → part ≤ whole → 100 * days * part ≤ 9200 * whole
@@ -27,25 +25,25 @@ pub estimate-held : (q : Pm10Quarter) → KeepsPm10Quarter q → IfHeld 0 9200 (
 estimate-held q keeps =
     by_test (q.strata == 0) refl
   where
-    by_test : (b : Bool) → (q.strata == 0) ≡ b → IfHeld 0 9200 (cond b None (Some (half_up (pos (100 * q.days * q.sixtieths)) (pos (60 * q.strata)))))
+    by_test : (b : Bool) → (q.strata == 0) ≡ b → IfHeld 0 9200 (cond b None (Some (half_up (pos (100 * q.calendar_days * q.sixtieths)) (pos (60 * q.strata)))))
     by_test true e = tt
     by_test false e =
         let some : 0 < q.strata = grind (arith, nat_tests) in
-        let few = few_days q.days q.sixtieths (60 * q.strata) keeps.at_most keeps.sixtieths in
-        half_up-held (pos (100 * q.days * q.sixtieths)) (60 * q.strata) 0 9200 (omega arith) (omega (arith, ints)) (omega (arith, ints, few))
+        let few = few_days q.calendar_days q.sixtieths (60 * q.strata) keeps.at_most keeps.sixtieths in
+        half_up-held (pos (100 * q.calendar_days * q.sixtieths)) (60 * q.strata) 0 9200 (omega arith) (omega (arith, ints)) (omega (arith, ints, few))
 
 pub lower-held : (q : Pm10Quarter) → KeepsPm10Quarter q → IfHeld 0 9200 (quarter_lower q)
 lower-held q keeps =
     by_test (q.scheduled == 0) refl
   where
-    by_test : (b : Bool) → (q.scheduled == 0) ≡ b → IfHeld 0 9200 (cond b (Some (pos 0)) (Some (half_up (pos (100 * q.days * q.scheduled_exceedances)) (pos q.scheduled))))
+    by_test : (b : Bool) → (q.scheduled == 0) ≡ b → IfHeld 0 9200 (cond b (Some (pos 0)) (Some (half_up (pos (100 * q.calendar_days * q.scheduled_exceedances)) (pos q.scheduled))))
     by_test true e = (omega (arith, ints), omega (arith, ints))
     by_test false e =
         let some : 0 < q.scheduled = grind (arith, nat_tests) in
         let captured = keeps.captured in
         let exceeding = keeps.captured_exceedances in
-        let few = few_days q.days q.scheduled_exceedances q.scheduled keeps.at_most (omega arith) in
-        half_up-held (pos (100 * q.days * q.scheduled_exceedances)) q.scheduled 0 9200 some (omega (arith, ints)) (omega (arith, ints, few))
+        let few = few_days q.calendar_days q.scheduled_exceedances q.scheduled keeps.at_most (omega arith) in
+        half_up-held (pos (100 * q.calendar_days * q.scheduled_exceedances)) q.scheduled 0 9200 some (omega (arith, ints)) (omega (arith, ints, few))
 
 -- ---- years
 

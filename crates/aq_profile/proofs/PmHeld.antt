@@ -1,19 +1,20 @@
 -- Means, percentiles and tests of PM2.5 values in range are in range.
-use Rattle.std.proofs.Common.{◌≡◌, ℕ, zero, suc, ◌-◌, ◌≤◌, Bool, true, false, cond, List, [], ◌∷◌, ◌++◌, length, map, replicate, arith}
-use Rattle.std.specs.Prelude.{ℤ, ◌+ℤ◌, Option, Some, None, option_map, option_and_then, ◌==◌, nat_le, int_lt, slice_get}
+use Rattle.std.proofs.Common.{◌≡◌, ℕ, zero, suc, ◌+◌, ◌-◌, ◌≤◌, Bool, true, false, cond, List, [], ◌∷◌, ◌++◌, length, map, replicate, arith}
+use Rattle.std.specs.Prelude.{ℤ, ◌+ℤ◌, Option, Some, None, option_map, option_and_then, ◌==◌, int_lt, slice_get}
 use Rattle.std.specs.List.{filter_map, cons_option, flat_map, list_all, zip}
 use Rattle.std.specs.Option.{IfSome}
 use Rattle.std.proofs.lemmas.Int.{ints}
 use Rattle.std.proofs.lemmas.Bool.Decides.{nat_tests}
 use Rattle.aq_base.specs.Site.{Site}
-use Rattle.aq_profile.specs.Lists.{greatest, ranked}
+use Rattle.aq_profile.specs.Lists.{least, greatest, ranked, all_of}
 use Rattle.aq_profile.specs.Office.Office.{Office, IsOffice}
-use Rattle.aq_profile.specs.Particles.Means.{quarterly_mean, has_days}
+use Rattle.aq_profile.specs.Particles.Means.{Fraction, quarterly_mean, has_days, mean_of_means}
 use Rattle.aq_profile.specs.Particles.Percentile.{percentile, rank_of}
-use Rattle.aq_profile.specs.Particles.QuarterCounts.{QuarterDays, values_in, pm25_quarter, pm25_year, quarters_of}
-use Rattle.aq_profile.specs.Particles.Substitution.{least, across, copies_for, minimum_for, maximum_for, with_copies, filled_year, filled}
-use Rattle.aq_profile.specs.Particles.AnnualVerdict.{annual_test, annual_value, mean_in, are_all}
-use Rattle.aq_profile.specs.Particles.DailyVerdict.{daily_test, daily_value_in, percentile_in, value_of_three}
+use Rattle.aq_profile.specs.Particles.QuarterCounts.{QuarterDays, counted_in, values_in, pm25_quarter, pm25_year, quarters_of}
+use Rattle.aq_profile.specs.Particles.YearParts.{of_values}
+use Rattle.aq_profile.specs.Particles.Substitution.{Matched, minimum_for, maximum_for, same_part, matched}
+use Rattle.aq_profile.specs.Particles.AnnualVerdict.{annual_test, annual_value, filled_mean, filled_value, are_all}
+use Rattle.aq_profile.specs.Particles.DailyVerdict.{daily_test, daily_value_of, percentile_of, filled_percentile, value_of_three}
 use Rattle.aq_profile.proofs.Least.{both}
 use Rattle.aq_profile.proofs.Spans.{Every}
 use Rattle.aq_profile.proofs.Pm25Range.{least-in_range, greatest-in_range, every-ranked, quarter_values-in_range}
@@ -45,31 +46,46 @@ pub years-in : (office : Office) (site : Site) (years : List ℕ) → IsOffice o
 years-in office site [] valid = tt
 years-in office site (year ∷ years) valid = (year-in office site year valid, years-in office site years valid)
 
--- ---- means
-
-parts-of : (year : List QuarterDays) → YearIn year → list_all has_days (map quarterly_mean (map (λ (q : QuarterDays). q.values) year)) ≡ true
-    → Every (Part 999 99999) (map quarterly_mean (map (λ (q : QuarterDays). q.values) year))
-parts-of [] every days = tt
-parts-of (q ∷ qs) every days =
-    let d = both (nat_le 1 (length q.values)) (list_all has_days (map quarterly_mean (map (λ (q : QuarterDays). q.values) qs))) days in
-    let some : 1 ≤ length q.values = grind (arith, nat_tests, d.0) in
-    let sum = total-held 999 99999 q.values every.0 in
-    (record { some = some; least = sum.0; most = sum.1 }, parts-of qs every.1 d.1)
-
-pub mean-in : (year : List QuarterDays) → YearIn year → IfIn (mean_in year)
-mean-in year every =
-    mean_of_means-held 999 99999 (map quarterly_mean (map (λ (q : QuarterDays). q.values) year)) (parts-of year every)
-
-every-join : {X : Type 0} (P : X → Type 0) (xs ys : List X) → Every P xs → Every P ys → Every P (xs ++ ys)
+pub every-join : {X : Type 0} (P : X → Type 0) (xs ys : List X) → Every P xs → Every P ys → Every P (xs ++ ys)
 every-join P [] ys every more = more
 every-join P (x ∷ xs) ys every more = (every.0, every-join P xs ys every.1 more)
 
-all_quarters-in : (years : List (List QuarterDays)) → Every YearIn years → YearIn (flat_map (λ quarters. quarters) years)
-all_quarters-in [] every = tt
-all_quarters-in (year ∷ years) every = every-join QuarterIn year (flat_map (λ quarters. quarters) years) every.0 (all_quarters-in years every.1)
+pub every-map : {X Y : Type 0} (P : X → Type 0) (Q : Y → Type 0) (f : X → Y) → ((x : X) → P x → Q (f x)) → (xs : List X) → Every P xs → Every Q (map f xs)
+every-map P Q f h [] every = tt
+every-map P Q f h (x ∷ xs) every = (h x every.0, every-map P Q f h xs every.1)
 
-pub annual_value-in : (years : List (List QuarterDays)) → Every YearIn years → IfIn (annual_value years)
-annual_value-in years every = mean-in (flat_map (λ quarters. quarters) years) (all_quarters-in years every)
+every-flat : {X Y : Type 0} (P : X → Type 0) (Q : Y → Type 0) (f : X → List Y) → ((x : X) → P x → Every Q (f x)) → (xs : List X) → Every P xs → Every Q (flat_map f xs)
+every-flat P Q f h [] every = tt
+every-flat P Q f h (x ∷ xs) every = every-join Q (f x) (flat_map f xs) (h x every.0) (every-flat P Q f h xs every.1)
+
+-- ---- means
+
+-- where the quarter has a day
+abbrev pub MeanIn : Fraction → Type 0
+MeanIn f = has_days f ≡ true → Part 999 99999 f
+
+parts-of : (fs : List Fraction) → Every MeanIn fs → list_all has_days fs ≡ true → Every (Part 999 99999) fs
+parts-of [] every days = tt
+parts-of (f ∷ fs) every days =
+    let d = both (has_days f) (list_all has_days fs) days in (every.0 d.0, parts-of fs every.1 d.1)
+
+pub mean_of_means-in : (fs : List Fraction) → Every MeanIn fs → IfIn (mean_of_means fs)
+mean_of_means-in fs every = mean_of_means-held 999 99999 fs (parts-of fs every)
+
+list-mean : (values : List ℤ) → Every In values → MeanIn (quarterly_mean values)
+list-mean values every days =
+    let some : 1 ≤ length values = grind (arith, nat_tests, days) in
+    let sum = total-held 999 99999 values every in
+    record { some = some; least = sum.0; most = sum.1 }
+
+mean_with-in : (copies : List ℤ) (q : QuarterDays) → Every In copies → QuarterIn q → MeanIn (of_values.mean_with copies q)
+mean_with-in copies q more every = list-mean (q.values ++ copies) (every-join In q.values copies every more)
+
+pub annual_value-in : (years : List (List QuarterDays)) → Every YearIn years → IfIn (annual_value of_values years)
+annual_value-in years every =
+    mean_of_means-in (map (of_values.mean_with []) (flat_map of_values.quarters years))
+    (every-map QuarterIn MeanIn (of_values.mean_with []) (λ q h. mean_with-in [] q tt h) (flat_map of_values.quarters years)
+    (every-flat YearIn QuarterIn of_values.quarters (λ year h. h) years every))
 
 -- ---- percentiles
 
@@ -86,8 +102,11 @@ percentile-in values counted every =
     ]
 
 pub values-in : (year : List QuarterDays) → YearIn year → Every In (values_in year)
-values-in [] every = tt
-values-in (q ∷ qs) every = every-join In q.values (values_in qs) every.0 (values-in qs every.1)
+values-in year every = every-flat QuarterIn In (λ (q : QuarterDays). q.values) (λ q h. h) year every
+
+percentile_with-in : (copies : List ℤ) (year : List QuarterDays) → Every In copies → YearIn year → IfIn (of_values.percentile_with copies year)
+percentile_with-in copies year more every =
+    percentile-in (values_in year ++ copies) (counted_in year + length copies) (every-join In (values_in year) copies (values-in year every) more)
 
 of_three : (os : List (Option ℤ)) → Every IfIn os → IfIn (value_of_three os)
 of_three [] every = tt
@@ -100,12 +119,9 @@ of_three (Some a ∷ None ∷ c ∷ []) every = tt
 of_three (Some a ∷ Some b ∷ None ∷ []) every = tt
 of_three (a ∷ b ∷ c ∷ d ∷ os) every = tt
 
-pub daily_value-in : (years : List (List QuarterDays)) → Every YearIn years → IfIn (daily_value_in years)
-daily_value-in years every = of_three (map percentile_in years) (each years every)
-  where
-    each : (ys : List (List QuarterDays)) → Every YearIn ys → Every IfIn (map percentile_in ys)
-    each [] every = tt
-    each (y ∷ ys) every = (percentile-in (values_in y) _ (values-in y every.0), each ys every.1)
+pub daily_value-in : (years : List (List QuarterDays)) → Every YearIn years → IfIn (daily_value_of of_values years)
+daily_value-in years every =
+    of_three (map (percentile_of of_values) years) (every-map YearIn IfIn (percentile_of of_values) (λ year h. percentile_with-in [] year tt h) years every)
 
 -- ---- copies
 
@@ -125,15 +141,30 @@ by_tests true b n o h = tt
 by_tests false true n o h = copies-of n o h
 by_tests false false n o h = tt
 
--- copies of a quarter are in range where the values of its three quarters are
-abbrev CopiesIn : (QuarterDays → List QuarterDays → Option (List ℤ)) → Type 0
-CopiesIn copies = (q : QuarterDays) (three : List QuarterDays) → YearIn three → IfCopies (copies q three)
+-- a quarter with the three that match it
+abbrev RowIn : Matched of_values → Type 0
+RowIn row = QuarterIn row.0 × YearIn row.1
 
-pub minimum-in : CopiesIn minimum_for
-minimum-in q three every = by_tests _ _ (11 - q.counts.creditable) (least (values_in three)) (least-in_range (values_in three) (values-in three every))
+abbrev CopiesIn : (Matched of_values → Option (List ℤ)) → Type 0
+CopiesIn copies = (row : Matched of_values) → RowIn row → IfCopies (copies row)
 
-pub maximum-in : CopiesIn maximum_for
-maximum-in q three every = by_tests _ _ (q.counts.scheduled - q.counts.creditable) (greatest (values_in three)) (greatest-in_range (values_in three) (values-in three every))
+value-onto : (o : Option ℤ) (values : List ℤ) → IfIn o → Every In values → Every In (cons_option o values)
+value-onto None values h every = every
+value-onto (Some v) values h every = (h, every)
+
+kept-in : (f : QuarterDays → Option ℤ) → ((q : QuarterDays) → QuarterIn q → IfIn (f q)) → (qs : List QuarterDays) → YearIn qs → Every In (filter_map f qs)
+kept-in f h [] every = tt
+kept-in f h (q ∷ qs) every = value-onto (f q) (filter_map f qs) (h q every.0) (kept-in f h qs every.1)
+
+minimum-in : CopiesIn (minimum_for of_values)
+minimum-in row h =
+    by_tests _ _ (11 - row.0.counts.creditable) (least (filter_map of_values.least_value row.1))
+    (least-in_range (filter_map of_values.least_value row.1) (kept-in of_values.least_value (λ q k. least-in_range q.values k) row.1 h.1))
+
+maximum-in : CopiesIn (maximum_for of_values)
+maximum-in row h =
+    by_tests _ _ (row.0.counts.scheduled - row.0.counts.creditable) (greatest (filter_map of_values.greatest_value row.1))
+    (greatest-in_range (filter_map of_values.greatest_value row.1) (kept-in of_values.greatest_value (λ q k. greatest-in_range q.values k) row.1 h.1))
 
 onto-in : (o : Option QuarterDays) (qs : List QuarterDays) → IfSome o QuarterIn → YearIn qs → YearIn (cons_option o qs)
 onto-in None qs h every = every
@@ -144,50 +175,57 @@ quarter_at-in [] k every = tt
 quarter_at-in (q ∷ qs) zero every = every.0
 quarter_at-in (q ∷ qs) (suc k) every = quarter_at-in qs k every.1
 
-part-in : (years : List (List QuarterDays)) (k : ℕ) → Every YearIn years → YearIn (filter_map (λ year. slice_get year k) years)
+part-in : (years : List (List QuarterDays)) (k : ℕ) → Every YearIn years → YearIn (same_part of_values years k)
 part-in [] k every = tt
-part-in (year ∷ years) k every = onto-in (slice_get year k) (filter_map (λ y. slice_get y k) years) (quarter_at-in year k every.0) (part-in years k every.1)
+part-in (year ∷ years) k every = onto-in (slice_get year k) (same_part of_values years k) (quarter_at-in year k every.0) (part-in years k every.1)
 
-across-in : (years : List (List QuarterDays)) → Every YearIn years → Every YearIn (across years)
-across-in years every = (part-in years 0 every, (part-in years 1 every, (part-in years 2 every, (part-in years 3 every, tt))))
+rows-in : (year : List QuarterDays) (triples : List (List QuarterDays)) → YearIn year → Every YearIn triples → Every RowIn (zip year triples)
+rows-in [] triples every more = tt
+rows-in (q ∷ qs) [] every more = tt
+rows-in (q ∷ qs) (three ∷ triples) every more = ((every.0, more.0), rows-in qs triples every.1 more.1)
 
-module _ (copies : QuarterDays → List QuarterDays → Option (List ℤ)) (are_in : CopiesIn copies) where
-  wanted-in : (year : List QuarterDays) (triples : List (List QuarterDays)) → Every YearIn triples
-      → Every IfCopies (map (λ (q, three). copies q three) (zip year triples))
-  wanted-in [] triples every = tt
-  wanted-in (q ∷ qs) [] every = tt
-  wanted-in (q ∷ qs) (three ∷ triples) every = (are_in q three every.0, wanted-in qs triples every.1)
-
-  with-in : (year : List QuarterDays) (all : List (List ℤ)) → YearIn year → Every (Every In) all → YearIn (map (λ (q, more). with_copies q more) (zip year all))
-  with-in [] all every more = tt
-  with-in (q ∷ qs) [] every more = tt
-  with-in (q ∷ qs) (copies ∷ all) every more = (every-join In q.values copies every.0 more.0, with-in qs all every.1 more.1)
-
-  filled_by : (year : List QuarterDays) (o : Option (List (List ℤ))) → YearIn year → IfSome o (Every (Every In))
-      → IfSome (option_map (λ all. map (λ (q, more). with_copies q more) (zip year all)) o) YearIn
-  filled_by year None every h = tt
-  filled_by year (Some all) every h = with-in year all every h
-
-  filled-each : (years : List (List QuarterDays)) → Every YearIn years → (some : List (List QuarterDays)) → Every YearIn some
-      → Every (λ o. IfSome o YearIn) (map (filled_year copies years) some)
-  filled-each years every [] these = tt
-  filled-each years every (year ∷ some) these = (
-    filled_by year (copies_for copies years year) these.0 (all_of-every (Every In) (map (λ (q, three). copies q three) (zip year (across years))) (wanted-in year (across years) (across-in years every))),
-    filled-each years every some these.1,
-  )
-
-  filled-in : (years : List (List QuarterDays)) → Every YearIn years → IfSome (filled copies years) (Every YearIn)
-  filled-in years every = all_of-every YearIn (map (filled_year copies years) years) (filled-each years every years every)
-
-  pub tested-in : (value : List (List QuarterDays) → Option ℤ) → ((ys : List (List QuarterDays)) → Every YearIn ys → IfIn (value ys))
-      → (years : List (List QuarterDays)) → Every YearIn years → IfIn (option_and_then value (filled copies years))
-  tested-in value h years every = by_value (filled copies years) (filled-in years every)
-    where
-      by_value : (o : Option (List (List QuarterDays))) → IfSome o (Every YearIn) → IfIn (option_and_then value o)
-      by_value None k = tt
-      by_value (Some ys) k = h ys k
+matched-in : (years : List (List QuarterDays)) → Every YearIn years → (year : List QuarterDays) → YearIn year → Every RowIn (matched of_values years year)
+matched-in years every year h =
+    rows-in year (map (same_part of_values years) (0 ∷ 1 ∷ 2 ∷ 3 ∷ [])) h (part-in years 0 every, (part-in years 1 every, (part-in years 2 every, (part-in years 3 every, tt))))
 
 -- ---- the values of the tests
+
+mean_by : (q : QuarterDays) (o : Option (List ℤ)) → QuarterIn q → IfCopies o → IfSome (option_map (λ copies. of_values.mean_with copies q) o) MeanIn
+mean_by q None every h = tt
+mean_by q (Some copies) every h = mean_with-in copies q h every
+
+filled_value-in : (copies : Matched of_values → Option (List ℤ)) → CopiesIn copies → (years : List (List QuarterDays)) → Every YearIn years → IfIn (filled_value of_values copies years)
+filled_value-in copies are years every =
+    let rows = flat_map (matched of_values years) years in
+    let all : Every RowIn rows = every-flat YearIn RowIn (matched of_values years) (matched-in years every) years every in
+    by_means (all_of (map (filled_mean of_values copies) rows))
+    (all_of-every MeanIn (map (filled_mean of_values copies) rows)
+    (every-map RowIn (λ o. IfSome o MeanIn) (filled_mean of_values copies) (λ row h. mean_by row.0 (copies row) h.0 (are row h)) rows all))
+  where
+    by_means : (o : Option (List Fraction)) → IfSome o (Every MeanIn) → IfIn (option_and_then mean_of_means o)
+    by_means None h = tt
+    by_means (Some fs) h = mean_of_means-in fs h
+
+pub minimum_value-in : (years : List (List QuarterDays)) → Every YearIn years → IfIn (filled_value of_values (minimum_for of_values) years)
+minimum_value-in years every = filled_value-in (minimum_for of_values) minimum-in years every
+
+pub maximum_value-in : (years : List (List QuarterDays)) → Every YearIn years → IfIn (filled_value of_values (maximum_for of_values) years)
+maximum_value-in years every = filled_value-in (maximum_for of_values) maximum-in years every
+
+filled_percentile-in : (years : List (List QuarterDays)) → Every YearIn years → (year : List QuarterDays) → YearIn year → IfIn (filled_percentile of_values years year)
+filled_percentile-in years every year h =
+    by_copies (all_of (map (maximum_for of_values) (matched of_values years year)))
+    (all_of-every (Every In) (map (maximum_for of_values) (matched of_values years year))
+    (every-map RowIn IfCopies (maximum_for of_values) maximum-in (matched of_values years year) (matched-in years every year h)))
+  where
+    by_copies : (o : Option (List (List ℤ))) → IfSome o (Every (Every In))
+        → IfIn (option_and_then (λ copies. of_values.percentile_with copies year) (option_map (flat_map (λ copies. copies)) o))
+    by_copies None k = tt
+    by_copies (Some all) k = percentile_with-in (flat_map (λ copies. copies) all) year (every-flat (Every In) In (λ copies. copies) (λ copies e. e) all k) h
+
+pub maximum_daily-in : (years : List (List QuarterDays)) → Every YearIn years → IfIn (value_of_three (map (filled_percentile of_values years) years))
+maximum_daily-in years every =
+    of_three (map (filled_percentile of_values years) years) (every-map YearIn IfIn (filled_percentile of_values years) (filled_percentile-in years every) years every)
 
 pub annual_test-in : (level : ℤ) (value : Option ℤ) (valid : List Bool) (minimum maximum : Option ℤ) → IfIn minimum → IfIn maximum → IfIn (annual_test level value valid minimum maximum)
 annual_test-in level None valid minimum maximum h k = tt

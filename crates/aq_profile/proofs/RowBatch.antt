@@ -80,11 +80,11 @@ drop-others : (key : RowKey) (rows : List Row) → Others key rows → drop_row 
 drop-others key [] others = refl
 drop-others key (row ∷ rows) others = λ i. cond (not (others.0 i)) (row ∷ drop-others key rows others.1 i) (drop-others key rows others.1 i)
 
-each : {X : Type 0} (P : Row → Type 0) (write : X → Row) → ((x : X) → P (write x)) → (xs : List X) → Every P (map write xs)
+pub each : {X : Type 0} (P : Row → Type 0) (write : X → Row) → ((x : X) → P (write x)) → (xs : List X) → Every P (map write xs)
 each P write h [] = tt
 each P write h (x ∷ xs) = (h x, each P write h xs)
 
-every-append : {X : Type 0} (P : X → Type 0) (xs ys : List X) → Every P xs → Every P ys → Every P (xs ++ ys)
+pub every-append : {X : Type 0} (P : X → Type 0) (xs ys : List X) → Every P xs → Every P ys → Every P (xs ++ ys)
 every-append P [] ys h k = k
 every-append P (x ∷ xs) ys h k = (h.0, every-append P xs ys h.1 k)
 
@@ -95,24 +95,24 @@ drop-three key a b c =
 
 -- ---- one change
 
-abbrev R : OfficeRecord → Row
+abbrev pub R : OfficeRecord → Row
 R r = OfOfficeRow (office_row r)
 
-abbrev O : ObsKey × Observation → Row
+abbrev pub O : ObsKey × Observation → Row
 O o = OfObsRow (obs_row o)
 
-abbrev L : StoredLoad → Row
+abbrev pub L : StoredLoad → Row
 L l = OfLoadRow (load_row l)
 
 -- a change to rows that lines can spell
-IsSpelledChange : OfficeChange → Type 0
+unfoldable pub IsSpelledChange : OfficeChange → Type 0
 IsSpelledChange (PutRecord r) = is_record r ≡ true
 IsSpelledChange (DropRecord key) = is_key key ≡ true
 IsSpelledChange (PutObservation key content) = IsSpelled (key, content)
 IsSpelledChange (DropObservation key) = is_site key.monitor.site ≡ true
 IsSpelledChange (PutLoad kept) = Unit {0}
 
-record-key : (r : OfficeRecord) → is_record r ≡ true → is_key (key_of r) ≡ true
+pub record-key : (r : OfficeRecord) → is_record r ≡ true → is_key (key_of r) ≡ true
 record-key r is = (both (is_key (key_of r)) (is_content_of r) is).0
 
 module _ (office : Office) (all : AllSpelled office) where
@@ -188,11 +188,11 @@ changes-written (change ∷ changes) office all every =
 
 -- ---- the changes of a load are spelled
 
-pub IfOne : {X : Type 0} → (X → Type 0) → Option X → Type 0
+unfoldable pub IfOne : {X : Type 0} → (X → Type 0) → Option X → Type 0
 IfOne P None = Unit {0}
 IfOne P (Some x) = P x
 
-found-every : {X : Type 0} (P : X → Type 0) (rank : X → List ℕ) (key : List ℕ) (rows : List X) → Every P rows → IfOne P (row_at rank key rows)
+pub found-every : {X : Type 0} (P : X → Type 0) (rank : X → List ℕ) (key : List ℕ) (rows : List X) → Every P rows → IfOne P (row_at rank key rows)
 unfolding IfOne
 found-every P rank key [] every = tt
 found-every P rank key (first ∷ rows) every = by_test (is_same (rank first) key) (found-every P rank key rows every.1)
@@ -247,13 +247,13 @@ every-mapped P Q f h [] every = tt
 every-mapped P Q f h (x ∷ xs) every = (h x every.0, every-mapped P Q f h xs every.1)
 
 module _ (before now : Office) (was : AllSpelled before) (is : AllSpelled now) where
-  record-keys : Every (λ k. is_key k ≡ true) (keys_of_either key_numbers (map key_of before.records) (map key_of now.records))
+  pub record-keys : Every (λ k. is_key k ≡ true) (keys_of_either key_numbers (map key_of before.records) (map key_of now.records))
   record-keys =
       either-every (λ k. is_key k ≡ true) key_numbers (map key_of before.records) (map key_of now.records)
       (every-mapped (λ r. is_record r ≡ true) (λ k. is_key k ≡ true) key_of record-key before.records was.records)
       (every-mapped (λ r. is_record r ≡ true) (λ k. is_key k ≡ true) key_of record-key now.records is.records)
 
-  observation-keys : Every (λ (k : ObsKey). is_site k.monitor.site ≡ true) (keys_of_either observation_numbers (map observation_key before.observations) (map observation_key now.observations))
+  pub observation-keys : Every (λ (k : ObsKey). is_site k.monitor.site ≡ true) (keys_of_either observation_numbers (map observation_key before.observations) (map observation_key now.observations))
   observation-keys =
       either-every (λ (k : ObsKey). is_site k.monitor.site ≡ true) observation_numbers (map observation_key before.observations) (map observation_key now.observations)
       (every-mapped IsSpelled (λ (k : ObsKey). is_site k.monitor.site ≡ true) observation_key (λ o h. h.site) before.observations was.observations)
@@ -285,7 +285,7 @@ module _ (office : Office) (valid : IsOffice office) (number : ℕ) (digest body
   was : AllSpelled office
   was = valid-spelled office valid
 
-  batch-spelled : Every IsSpelledChange (batch office number digest body)
+  pub batch-spelled : Every IsSpelledChange (batch office number digest body)
   batch-spelled =
       let is = spelled-after_all (body_lines body) office was in
       every-append IsSpelledChange (record_changes office now ++ observation_changes office now) (load_change (stored office number digest body))

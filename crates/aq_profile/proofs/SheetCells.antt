@@ -15,10 +15,9 @@ use Rattle.aq_base.specs.declared.standard.Standard.{Standard}
 use Rattle.aq_base.specs.declared.standard.Standard.TheVariants.{Ozone2015, Annual2012, AnnualSecondary, Daily2006, Pm10Of1987}
 use Rattle.aq_base.specs.declared.standard.Verdict.{Verdict}
 use Rattle.aq_base.specs.declared.standard.Verdict.TheVariants.{Met, NotMet, Incomplete, NoValue}
-use Rattle.aq_profile.specs.Shown.Sheet.{SheetCell, Head, site_text, day_text, hour_text, truth_text, count_cell, ppm_cell}
+use Rattle.aq_profile.specs.Shown.Sheet.{SheetCell, Head, site_text, day_text, hour_text, truth_text, count_cell, fixed_cell, whole_cell, ppm_cell}
 use Rattle.aq_profile.specs.Shown.Sheet.SheetCell.{Fixed}
 use Rattle.aq_profile.specs.Shown.Sheets.{verdict_name}
-use Rattle.aq_profile.specs.Shown.ParticleSheets.{fixed_cell, whole_cell}
 use Rattle.aq_profile.specs.Shown.OtherSheets.{digest_text, hex_digit}
 use Rattle.aq_profile.specs.Shown.WellFormed.{is_word_byte, is_word, is_whole, is_cell, is_head, is_row}
 use Rattle.aq_profile.proofs.JoinedFields.{and_true}

@@ -394,7 +394,7 @@ drop-valid office (ApprovedKey site day) is spelled = drop_key office (ApprovedK
 
 -- ---- the line
 
-changed-valid : (office : Office) (value : LineValue) → IsOffice office → is_line_value value ≡ true → broken office value ≡ None → IsOffice (changed office value)
+pub changed-valid : (office : Office) (value : LineValue) → IsOffice office → is_line_value value ≡ true → broken office value ≡ None → IsOffice (changed office value)
 changed-valid office (OfRd value) is spelled unbroken = sample-valid office value is spelled unbroken
 changed-valid office (OfOffice (Put r)) is spelled unbroken = put-valid office r is spelled unbroken
 changed-valid office (OfOffice (Change r)) is spelled unbroken = change-valid office r is spelled unbroken

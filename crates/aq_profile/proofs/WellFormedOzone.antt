@@ -108,7 +108,7 @@ day-row most day row few is =
     row-of days_columns (day_cells (day, row)) refl
     (day-word day, (count row.0.averages (omega arith), (truth-word row.0.valid, (truth-word row.1, (if_ppm row.0.maximum is.maximum, tt)))))
 
-if_in : (o : Option ℤ) → is_value Ozone o ≡ true → IfHeld 999 9999 o
+pub if_in : (o : Option ℤ) → is_value Ozone o ≡ true → IfHeld 999 9999 o
 if_in None h = tt
 if_in (Some v) h = from_test v h
 

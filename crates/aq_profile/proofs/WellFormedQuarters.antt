@@ -1,6 +1,7 @@
 -- The sheets of PM2.5 and PM10 quarters are well formed.
-use Rattle.std.proofs.Common.{◌≡◌, ℕ, ◌*◌, ◌<◌, ◌≤◌, Bool, true, false, cond, List, [], ◌∷◌, length, refl, arith}
+use Rattle.std.proofs.Common.{◌≡◌, ℕ, ◌+◌, ◌*◌, ◌<◌, ◌≤◌, Bool, true, false, cond, List, [], ◌∷◌, ◌++◌, length, map, refl, arith}
 use Rattle.std.specs.Prelude.{pos, ◌==◌, codes, All, unsigned_abs}
+use Rattle.std.proofs.lemmas.Int.{ints}
 use Rattle.std.proofs.lemmas.Bool.Decides.{nat_tests}
 use Rattle.std.proofs.lemmas.List.Elements.{All-head, All-tail}
 use Rattle.std.proofs.lemmas.List.Sums.{sum_by-cons}
@@ -13,7 +14,7 @@ use Rattle.aq_profile.specs.Particles.QuarterCounts.{QuarterCounts, capture, val
 use Rattle.aq_profile.specs.Particles.Percentile.{rank_of}
 use Rattle.aq_profile.specs.Particles.Pm10Estimate.{Pm10Quarter, pm10_year, quarter_estimate, quarter_lower, year_of_quarters}
 use Rattle.aq_profile.specs.Kept.Summaries.{PmQuarter, PmYear, KeepsPm10Quarter, KeepsPm10Year, counts_of, eight_greatest, summary_of_quarter, pm25_summary}
-use Rattle.aq_profile.specs.Kept.SummaryVerdicts.{mean_of_sums, kept_percentile, kept_counted}
+use Rattle.aq_profile.specs.Kept.SummaryVerdicts.{of_summaries, mean_of_sums, kept_percentile, kept_counted}
 use Rattle.aq_profile.specs.Shown.Sheet.{count_cell}
 use Rattle.aq_profile.specs.Shown.Sheet.SheetCell.{Missing}
 use Rattle.aq_profile.specs.Shown.ParticleSheets.{pm25_cells, rank_cell, pm25_sheet, pm25_answer, pm10_cells, pm10_sheet, pm10_answer}
@@ -23,7 +24,7 @@ use Rattle.aq_profile.proofs.Pm25Range.{pm25_quarter-keeps, quarter_values-in_ra
 use Rattle.aq_profile.proofs.Pm10Facts.{pm10_year-keeps}
 use Rattle.aq_profile.proofs.Quarters.{quarter-holds}
 use Rattle.aq_profile.proofs.Held.{Held, held-wider, total-held}
-use Rattle.aq_profile.proofs.PmHeld.{In, IfIn, year-in, values-in, mean-in, percentile-in}
+use Rattle.aq_profile.proofs.PmHeld.{In, IfIn, MeanIn, year-in, values-in, mean_of_means-in, percentile-in, every-join, every-map}
 use Rattle.aq_profile.proofs.Pm10Held.{estimate-held, lower-held, year_estimate-held}
 use Rattle.aq_profile.proofs.SheetCells.{site-word, count, fixed, if_fixed, percent-few, row-of, heads-of, numbered-rows}
 use Rattle.aq_profile.proofs.WellFormedOzone.{of_profile}
@@ -34,8 +35,8 @@ pub record QuarterHeld (q : PmQuarter) : Type 0 where
   pub scheduled : q.scheduled ≤ 92
   pub creditable : q.creditable ≤ q.scheduled
   pub counted : q.counted ≤ 92
-  pub days : q.days ≤ 92
-  pub sum : Held (999 * 92) (99999 * 92) q.sum
+  pub days : q.net_days ≤ 92
+  pub sum : Held (999 * q.net_days) (99999 * q.net_days) q.sum
   pub least : IfIn q.least
   pub greatest : IfIn q.greatest
 
@@ -47,7 +48,7 @@ quarter-held office site quarter valid =
     let scheduled = keeps.scheduled in
     let creditable = keeps.creditable in
     let counted = keeps.counted in
-    let room = keeps.days in
+    let room = keeps.net_days in
     let few : length values ≤ 92 = omega (arith, room, creditable) in
     let sum : Held (999 * length values) (99999 * length values) (total values) = total-held 999 99999 values every in
     record {
@@ -55,7 +56,7 @@ quarter-held office site quarter valid =
       creditable = creditable;
       counted = omega arith;
       days = few;
-      sum = held-wider (999 * length values) (99999 * length values) (999 * 92) (99999 * 92) (total values) (omega (arith, few)) (omega (arith, few)) sum;
+      sum = sum;
       least = least-in_range values every;
       greatest = greatest-in_range values every;
     }
@@ -79,6 +80,7 @@ pm25-row quarter q few held =
     let creditable = held.creditable in
     let counted = held.counted in
     let days = held.days in
+    let sum = held-wider (999 * q.net_days) (99999 * q.net_days) (999 * 92) (99999 * 92) q.sum (omega arith) (omega arith) held.sum in
     let share = capture-few (counts_of q) creditable in
     row-of pm25_columns (pm25_cells (quarter, q)) refl (
       count quarter (omega arith),
@@ -91,8 +93,8 @@ pm25-row quarter q few held =
             (
               count q.counted (omega arith),
               (
-                count q.days (omega arith),
-                (fixed (999 * 92) (99999 * 92) 1 q.sum (omega arith) (omega arith) refl held.sum, (if_fixed 999 99999 1 q.least (omega arith) (omega arith) refl held.least, (if_fixed 999 99999 1 q.greatest (omega arith) (omega arith) refl held.greatest, tt))),
+                count q.net_days (omega arith),
+                (fixed (999 * 92) (99999 * 92) 1 q.sum (omega arith) (omega arith) refl sum, (if_fixed 999 99999 1 q.least (omega arith) (omega arith) refl held.least, (if_fixed 999 99999 1 q.greatest (omega arith) (omega arith) refl held.greatest, tt))),
               ),
             ),
           ),
@@ -106,6 +108,16 @@ pub counted-few : (quarters : List PmQuarter) → Every QuarterHeld quarters →
 counted-few [] every = omega arith
 counted-few (q ∷ qs) every =
     omega (arith, every.0.counted, counted-few qs every.1, sum_by-cons (λ (o : PmQuarter). o.counted) q qs)
+
+no_copies : (q : PmQuarter) → QuarterHeld q → MeanIn (of_summaries.mean_with [] q)
+no_copies q held days =
+    let some : 1 ≤ q.net_days + 0 = grind (arith, nat_tests, days) in
+    let few = held.sum.0 in
+    let many = held.sum.1 in
+    record { some = some; least = omega (arith, ints, few); most = omega (arith, ints, many) }
+
+mean-held : (quarters : List PmQuarter) → Every QuarterHeld quarters → IfIn (mean_of_sums quarters)
+mean-held quarters every = mean_of_means-in (map (of_summaries.mean_with []) quarters) (every-map QuarterHeld MeanIn (of_summaries.mean_with []) no_copies quarters every)
 
 pub record YearHeld (year : PmYear) : Type 0 where
   pub four : length year.quarters ≡ 4
@@ -125,8 +137,8 @@ year-held office site year valid =
       four = refl;
       quarters = each;
       counted = counted-few (pm25_summary office site year).quarters each;
-      percentile = percentile-in (eight_greatest (values_in days)) (kept_counted (pm25_summary office site year).quarters) (every-take 8 (ranked (values_in days)) (every-ranked (values_in days) (values-in days all)));
-      mean = mean-in days all;
+      percentile = percentile-in (eight_greatest (values_in days) ++ []) (kept_counted (pm25_summary office site year).quarters + 0) (every-join In (eight_greatest (values_in days)) [] (every-take 8 (ranked (values_in days)) (every-ranked (values_in days) (values-in days all))) tt);
+      mean = mean-held (pm25_summary office site year).quarters each;
     }
 
 rank-cell : (counted : ℕ) → counted ≤ 368 → is_cell (rank_cell counted) ≡ true
@@ -183,7 +195,7 @@ pm10-row quarter q few keeps =
     row-of pm10_columns (pm10_cells (quarter, q)) refl (
       count quarter (omega arith),
       (
-        count q.days (omega arith),
+        count q.calendar_days (omega arith),
         (
           count q.scheduled (omega arith),
           (

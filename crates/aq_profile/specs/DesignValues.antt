@@ -4,11 +4,10 @@ use Rattle.aq_base.specs.Site.{Site}
 use Rattle.aq_base.specs.declared.standard.Standard.{Standard}
 use Rattle.aq_base.specs.declared.standard.Standard.TheVariants.{Ozone2015, Annual2012, AnnualSecondary, Daily2006, Pm10Of1987}
 use Rattle.aq_base.specs.declared.standard.Verdict.{Verdict}
-use Rattle.aq_profile.specs.Standards.{level_of}
+use Rattle.aq_profile.specs.Standards.{level_of, years_to}
 use Rattle.aq_profile.specs.Office.Office.{Office}
 use Rattle.aq_profile.specs.Ozone.OzoneYear.{OzoneYear}
 use Rattle.aq_profile.specs.Ozone.OzoneVerdict.{OzoneDv, three_years, ozone_design}
-use Rattle.aq_profile.specs.Particles.QuarterCounts.{years_to}
 use Rattle.aq_profile.specs.Particles.AnnualVerdict.{ParticleDv, annual_design}
 use Rattle.aq_profile.specs.Particles.DailyVerdict.{daily_design}
 use Rattle.aq_profile.specs.Particles.Pm10Estimate.{Pm10Quarter, pm10_year}

@@ -8,3 +8,4 @@ pub mod Json
 pub mod Export
 pub mod Answer
 pub mod Generator
+pub mod ShownExamples

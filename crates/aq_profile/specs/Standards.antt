@@ -1,5 +1,5 @@
 -- The national ambient air quality standards: the pollutant of each, and its level (40 CFR 50.6, 50.13, 50.18 and 50.19).
-use Rattle.std.specs.Prelude.{Bool, false, Option, ℤ, pos, int_lt, int_le}
+use Rattle.std.specs.Prelude.{ℕ, ◌-◌, Bool, false, List, [], ◌∷◌, Option, ℤ, pos, int_lt, int_le}
 use Rattle.std.specs.Option.{option_map_or}
 use Rattle.aq_base.specs.declared.monitor.Pollutant.{Pollutant}
 use Rattle.aq_base.specs.declared.monitor.Pollutant.TheVariants.{Ozone, Pm25, Pm10}
@@ -24,6 +24,10 @@ level_of Pm10Of1987 = pos 10
 -- above which a day of PM10 exceeds: 150 µg/m3, in tens (40 CFR 50.6)
 abbrev pub PM10_DAY_LEVEL : ℤ
 PM10_DAY_LEVEL = pos 15
+
+-- a design value is of three years: those that end with `year`, the oldest first
+abbrev pub years_to : ℕ → List ℕ
+years_to year = (year - 2) ∷ (year - 1) ∷ year ∷ []
 
 -- a missing value is above no level (own)
 abbrev pub is_above : ℤ → Option ℤ → Bool

@@ -11,7 +11,7 @@ use Rattle.aq_base.specs.declared.monitor.Pollutant.TheVariants.{Ozone, Pm25, Pm
 use Rattle.aq_base.specs.declared.observation.ObsKey.{ObsKey}
 use Rattle.aq_base.specs.declared.observation.Observation.{Observation}
 use Rattle.aq_base.specs.declared.office.OfficeRecord.{OfficeRecord}
-use Rattle.aq_base.specs.declared.office.OfficeRecord.TheVariants.{Monitor, Season, Event, Concurrence, Approved}
+use Rattle.aq_base.specs.declared.office.OfficeRecord.TheVariants.{Monitor, Primary, Season, Event, Concurrence, Approved}
 use Rattle.aq_profile.specs.Office.Office.{Office}
 use Rattle.aq_profile.specs.Ozone.OzoneYear.{OzoneYear}
 
@@ -60,10 +60,24 @@ events =
 abbrev pub watched : List (ObsKey × Observation) → Office
 watched observations = record { records = monitors ++ events; observations = observations; loads = [] }
 
+-- the same office, in which POC 3 is the primary of the west's ozone, and POC 1 of its PM2.5 and of the east's ozone
+abbrev pub designated : List (ObsKey × Observation) → Office
+designated observations = record {
+  records =
+      monitors ++ Primary west Ozone 0 3 ∷ Primary west Pm25 0 1 ∷ Primary east Ozone 0 1 ∷ events;
+  observations = observations;
+  loads = [];
+}
+
 -- a value, in thousandths of a ppm or tenths of a µg/m3
 abbrev pub measured : Site → Pollutant → ℕ → ℕ → List Code → ℕ → (ObsKey × Observation)
 measured site pollutant poc value codes hour =
     (record { monitor = monitor_at site pollutant poc; hour = hour }, record { value = Some (pos value); null = None; quals = codes })
+
+-- a null code, AN, in place of a value
+abbrev pub missed : Site → Pollutant → ℕ → ℕ → (ObsKey × Observation)
+missed site pollutant poc hour =
+    (record { monitor = monitor_at site pollutant poc; hour = hour }, record { value = None; null = Some (record { first = 65; second = 78 }); quals = [] })
 
 -- a sample of 24 hours
 abbrev pub sampled : Site → Pollutant → ℕ → ℕ → ℕ → (ObsKey × Observation)

@@ -6,12 +6,11 @@ use Rattle.aq_base.specs.Decimal.{half_up}
 use Rattle.aq_base.specs.Site.{Site}
 use Rattle.aq_base.specs.declared.monitor.Pollutant.TheVariants.{Pm10}
 use Rattle.aq_profile.specs.Office.Office.{Office}
-use Rattle.aq_profile.specs.Lists.{total}
+use Rattle.aq_profile.specs.Lists.{total, all_of}
 use Rattle.aq_profile.specs.Standards.{PM10_DAY_LEVEL}
 use Rattle.aq_profile.specs.Particles.ParticleDay.{net_day}
 use Rattle.aq_profile.specs.Particles.QuarterCounts.{scheduled_days, is_sampled, quarters_of}
 use Rattle.aq_profile.specs.Particles.Strata.{strata_of}
-use Rattle.aq_profile.specs.Particles.Substitution.{all_of}
 
 -- a value in tenths, rounded to the nearest 10 µg/m3 (Appendix K, 1.0(b)), in tens
 abbrev pub in_tens : ℤ → ℤ
@@ -23,9 +22,9 @@ exceeds value = int_lt PM10_DAY_LEVEL (in_tens value)
 
 -- ---- what a site has for a quarter
 
--- a quarter's days, its scheduled days and those of them with a sample; its strata with a sample, its samples, and how many exceed, of all and of those on scheduled days; and the sum over the strata of the part of their samples that exceed, in sixtieths. What is excluded is no sample but for `captured`
+-- the days of the calendar quarter, its scheduled days and those of them with a sample; its strata with a sample, its samples, and how many exceed, of all and of those on scheduled days; and the sum over the strata of the part of their samples that exceed, in sixtieths. What is excluded is no sample but for `captured`
 pub record Pm10Quarter : Type 0 where
-  pub days : ℕ
+  pub calendar_days : ℕ
   pub scheduled : ℕ
   pub captured : ℕ
   pub strata : ℕ
@@ -48,7 +47,7 @@ sixtieths_of values = 60 * count_by exceeds values / length values
 -- the quarter of these days, scheduled days, captured ones and exceeding ones, with the samples of each stratum
 abbrev pub quarter_of_strata : ℕ → ℕ → ℕ → ℕ → List (List ℤ) → Pm10Quarter
 quarter_of_strata days scheduled captured scheduled_exceedances strata = record {
-  days = days;
+  calendar_days = days;
   scheduled = scheduled;
   captured = captured;
   strata = length (sampled_strata strata);
@@ -83,13 +82,13 @@ pm10_year office site year = map (pm10_quarter office site) (quarters_of year)
 abbrev pub quarter_estimate : Pm10Quarter → Option ℤ
 quarter_estimate q =
     if q.strata == 0 then None
-    else Some (half_up (pos (100 * q.days * q.sixtieths)) (pos (60 * q.strata)))
+    else Some (half_up (pos (100 * q.calendar_days * q.sixtieths)) (pos (60 * q.strata)))
 
--- the lower estimate of a quarter, in hundredths: as if no scheduled day without a sample exceeded, and 0 where nothing is scheduled (own)
+-- the lower estimate of a quarter, in hundredths: its days times the exceedances on scheduled days that are not excluded, over the scheduled days; 0 where nothing is scheduled (own)
 abbrev pub quarter_lower : Pm10Quarter → Option ℤ
 quarter_lower q =
     if q.scheduled == 0 then Some (pos 0)
-    else Some (half_up (pos (100 * q.days * q.scheduled_exceedances)) (pos q.scheduled))
+    else Some (half_up (pos (100 * q.calendar_days * q.scheduled_exceedances)) (pos q.scheduled))
 
 -- of a year, in tenths: the sum of its quarters' hundredths, rounded
 abbrev pub year_of_quarters : (Pm10Quarter → Option ℤ) → List Pm10Quarter → Option ℤ

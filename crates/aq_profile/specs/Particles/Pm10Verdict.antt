@@ -5,17 +5,16 @@ use Rattle.aq_base.specs.Site.{Site}
 use Rattle.aq_base.specs.declared.standard.Standard.TheVariants.{Pm10Of1987}
 use Rattle.aq_base.specs.declared.standard.Verdict.{Verdict}
 use Rattle.aq_base.specs.declared.standard.Verdict.TheVariants.{Met, NotMet, Incomplete, NoValue}
-use Rattle.aq_profile.specs.Standards.{level_of, is_above}
+use Rattle.aq_profile.specs.Standards.{level_of, years_to, is_above}
 use Rattle.aq_profile.specs.Office.Office.{Office}
-use Rattle.aq_profile.specs.Particles.QuarterCounts.{years_to}
 use Rattle.aq_profile.specs.Particles.Pm10Estimate.{Pm10Quarter, pm10_year, quarter_estimate, quarter_lower, mean_of_years}
 
 -- three quarters of the scheduled days have a sample
-abbrev pub is_complete : Pm10Quarter → Bool
-is_complete q = nat_le 1 q.scheduled && nat_le (3 * q.scheduled) (4 * q.captured)
+abbrev pub is_complete_quarter : Pm10Quarter → Bool
+is_complete_quarter q = nat_le 1 q.scheduled && nat_le (3 * q.scheduled) (4 * q.captured)
 
 abbrev pub is_complete_year : List Pm10Quarter → Bool
-is_complete_year quarters = list_all is_complete quarters
+is_complete_year quarters = list_all is_complete_quarter quarters
 
 abbrev pub exceedances_in : List Pm10Quarter → ℕ
 exceedances_in quarters = sum_by (λ (q : Pm10Quarter). q.exceedances) quarters

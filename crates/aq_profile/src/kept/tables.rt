@@ -1,12 +1,10 @@
 //! The rows of an office, and where damaged rows are found.
 #![tactic(auto)]
 
-ghost use Rattle.std.specs.Prelude.{◌≡◌, ◌↔◌, ℕ, IsTrue, true, List, ◌∷◌, [], codes, map, replicate, Some, None, pos};
+ghost use Rattle.std.specs.Prelude.{◌≡◌, ◌↔◌, IsTrue, true, List, ◌∷◌, [], codes, map, replicate, Some, None, pos};
 ghost use Rattle.aq_base.specs.declared.monitor.Pollutant.TheVariants.{Pm25};
 ghost use Rattle.aq_base.specs.declared.monitor.Duration.TheVariants.{Day};
 ghost use Rattle.aq_profile.specs.Office.Office.{IsOffice, Office};
-ghost use Rattle.aq_profile.specs.Office.Load.{load};
-ghost use Rattle.aq_profile.specs.Kept.RowChanges.{row_batch, with_row_changes};
 ghost use Rattle.aq_profile.specs.Kept.Rows.{FirstDamaged, Place, Row, are_office_rows, damage, is_valid, load_row, obs_row, office_in, office_of_rows, office_row, rows_of};
 ghost use Rattle.aq_profile.specs.Particles.ParticleExamples.{empty_load, exported, first_sampler, load_of_three_lines, primary_of, sample_at, sampler, stray_designation};
 
@@ -62,9 +60,4 @@ pub fn valid_offices_come_back()
     ensures rows { (office : Office) → IsOffice office → are_office_rows (rows_of office) ≡ true }
     ensures office { (office : Office) → IsOffice office → office_of_rows (rows_of office) ≡ Some office }
     ensures undamaged { (office : Office) → IsOffice office → damage (rows_of office) ≡ None }
-{}
-
-/// The batch of a load, done to the rows of the office, gives the rows of the office after it.
-pub fn batch_gives_the_rows_after()
-    ensures { (office : Office) (number : ℕ) (digest body : List ℕ) → IsOffice office → with_row_changes (rows_of office) (row_batch office number digest body) ≡ rows_of (load office number digest body) }
 {}

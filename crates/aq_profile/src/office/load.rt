@@ -1,5 +1,5 @@
 //! What a load makes of an office.
-ghost use Rattle.std.specs.Prelude.{◌≡◌, ◌↔◌, IsTrue, ℕ, ◌<◌, ◌≤◌, ◌∷◌, [], List, length, Some, None, codes, pos, true, map, fold};
+ghost use Rattle.std.specs.Prelude.{◌≡◌, ◌↔◌, IsTrue, ℕ, ◌<◌, ◌≤◌, ◌∷◌, ◌++◌, [], All, List, length, Some, None, codes, pos, true, map, fold};
 ghost use Rattle.std.specs.List.{range_with_len};
 ghost use Rattle.aq_base.specs.declared.monitor.Duration.TheVariants.{Hour};
 ghost use Rattle.aq_base.specs.declared.observation.Observation.{Observation};
@@ -84,6 +84,12 @@ pub fn answers_follow_the_decision()
 pub fn a_known_number_changes_nothing()
     ensures known { (office : Office) (number : ℕ) (digest body : List ℕ) (kept : StoredLoad) → load_at office number ≡ Some kept → post office number digest body ≡ office }
     ensures not_new { (office : Office) (number : ℕ) (digest body : List ℕ) → (decide office number digest ≡ New → ⊥) → post office number digest body ≡ office }
+{}
+
+/// The load's own row is the last change of its batch, and a load with the number 0 has none.
+pub fn the_load_is_the_last_change()
+    ensures last { (office : Office) (number : ℕ) (digest body : List ℕ) → 1 ≤ number → batch office number digest body ≡ batch office 0 digest body ++ PutLoad (record { number = number; digest = digest; reply = reply office number body }) ∷ [] }
+    ensures none { (office : Office) (digest body : List ℕ) → All (λ change. (load : StoredLoad) → change ≡ PutLoad load → ⊥) (batch office 0 digest body) }
 {}
 
 /// Two records that test as the same are equal, and two observations.

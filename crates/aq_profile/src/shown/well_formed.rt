@@ -5,16 +5,20 @@ ghost use Rattle.std.specs.Prelude.{◌≡◌, ℕ, ◌^◌, ◌<◌, ◌≤◌,
 ghost use Rattle.std.specs.List.{list_all};
 ghost use Rattle.aq_base.specs.Site.{Site};
 ghost use Rattle.aq_base.specs.declared.reply.LoadReply.{LoadReply};
+ghost use Rattle.aq_base.specs.declared.standard.Standard.{Standard};
 ghost use Rattle.aq_profile.specs.Limits.{LAST_LOAD_NUMBER};
 ghost use Rattle.aq_profile.specs.Office.Office.{IsOffice, Office, StoredLoad, is_reply, load_at};
+ghost use Rattle.aq_profile.specs.Shown.Sheet.{Sheet};
 ghost use Rattle.aq_profile.specs.Shown.Sheets.{days_answer, load_sheet, windows_answer};
 ghost use Rattle.aq_profile.specs.Shown.ParticleSheets.{pm10_answer, pm25_answer};
-ghost use Rattle.aq_profile.specs.Shown.OtherSheets.{conflict_sheet, error_names, error_sheet, summary_sheet};
-ghost use Rattle.aq_profile.specs.Shown.Answer.{Days, Pm10Quarters, Pm25Quarters, Windows, is_asked};
+ghost use Rattle.aq_profile.specs.Shown.OtherSheets.{conflict_sheet, error_names, error_sheet, report_answer, summary_sheet, value_answer};
+ghost use Rattle.aq_profile.specs.Shown.Answer.{Ask, Days, OfSheet, Pm10Quarters, Pm25Quarters, Report, Value, Windows, answer, is_asked};
 ghost use Rattle.aq_profile.specs.Shown.WellFormed.{IsWellFormed};
 
-/// The sheets of loads, windows, days and quarters of a valid office are well formed.
+/// Each sheet that answers a question about a valid office is well formed.
 pub fn answers_are_well_formed()
+    ensures answer { (office : Office) (ask : Ask) (sheet : Sheet)
+        → IsOffice office → IsTrue (is_asked ask) → answer office ask ≡ OfSheet sheet → IsWellFormed sheet }
     ensures reply { (office : Office) (number : ℕ) (load : StoredLoad)
         → IsOffice office → load_at office number ≡ Some load → IsWellFormed (load_sheet load.reply) }
     ensures windows { (office : Office) (site : Site) (day : ℕ)
@@ -25,6 +29,10 @@ pub fn answers_are_well_formed()
         → IsOffice office → IsTrue (is_asked (Pm25Quarters site year)) → IsWellFormed (pm25_answer office site year) }
     ensures coarse { (office : Office) (site : Site) (year : ℕ)
         → IsOffice office → IsTrue (is_asked (Pm10Quarters site year)) → IsWellFormed (pm10_answer office site year) }
+    ensures value { (office : Office) (standard : Standard) (site : Site) (year : ℕ)
+        → IsOffice office → IsTrue (is_asked (Value standard site year)) → IsWellFormed (value_answer standard office site year) }
+    ensures report { (office : Office) (standard : Standard) (year : ℕ)
+        → IsOffice office → IsTrue (is_asked (Report standard year)) → IsWellFormed (report_answer standard office year) }
 {}
 
 /// So are the sheets of a load's reply, of a conflict of two digests, of each error, and of a summary
