@@ -22,13 +22,13 @@ pub data FieldName : Type 0 where
 
 -- a row of a form's table: where a field stands, its name, and the rule that a wrong spelling of it breaks
 pub data Row : Type 0 where
-  -- a field of the key: a deletion reads these alone
+  -- a field of the key; of a deletion nothing else is read
   Key : (place : ℕ) (name : FieldName) (rule : Rule) → Row
-  -- a field that an insertion or update has too
+  -- a field that an insertion or update must have too
   Content : (place : ℕ) (name : FieldName) (rule : Rule) → Row
-  -- the same, and the line may end before it
+  -- a field that an insertion or update may have, or end before it
   Optional : (place : ℕ) (name : FieldName) (rule : Rule) → Row
-  -- a field that no line's value has
+  -- a field that may hold any text
   Unread : (place : ℕ) → Row
 
 -- what a form may do, and its fields behind the tag and the action
@@ -39,7 +39,7 @@ pub record Form : Type 0 where
   pub rows : List Row
 
 abbrev pub form : Tag → Form
--- a sample; the fields that are not read are the collection frequency, the protocol, the detection limit and the uncertainty
+-- a sample; the qualifiers take the fields 17 to 26, and those that are not read are the collection frequency, the monitor protocol, the detection limit and the uncertainty
 form Rd = record {
   inserts = true;
   updates = true;

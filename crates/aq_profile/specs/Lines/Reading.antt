@@ -209,6 +209,7 @@ pub data LineValue : Type 0 where
   OfRd : (value : RdValue) → LineValue
   OfOffice : (line : OfficeLine) → LineValue
 
+-- RD spells a sample, and each other form an office line
 abbrev pub value_for : Tag → Action → List (List ℕ) → Option LineValue
 value_for Rd Insert texts = put_in false texts >>= λ value. Some (OfRd value)
 value_for Rd Update texts = put_in true texts >>= λ value. Some (OfRd value)
