@@ -16,7 +16,7 @@ use Rattle.aq_base.specs.declared.observation.Observation.{Observation}
 use Rattle.aq_shelf.specs.declared.shelf.TheConstants.{MOST_OBSERVATIONS}
 use Rattle.aq_shelf.specs.Keys.{key_cmp, same_key, same_monitor}
 use Rattle.aq_base.specs.Values.{HasValueInRange}
-use Rattle.aq_shelf.specs.Entries.{ChangesOnly, IsStanding, IsShelf, in_span, hour_content, observations_in, observation_at, with_entry, with_content, without_key}
+use Rattle.aq_shelf.specs.Entries.{ChangesOnly, IsStanding, IsEntries, in_span, hour_content, observations_in, observation_at, with_entry, with_content, without_key}
 use Rattle.aq_shelf.proofs.Order.{first_of_both, monitor_from_same, key_cmp_total, key_test, is_eq-key_cmp}
 use Rattle.aq_shelf.proofs.MapLemmas.{lookup-insert_entry, sorted-insert_entry, sorted-remove_entry, length-insert_entry}
 
@@ -66,15 +66,15 @@ all-insert_entry key content (e ∷ es) new h =
 
 -- ---- the shelf's facts after a change
 
-pub IsShelf-remove : (key : ObsKey) (es fs : List (ObsKey × Observation)) → IsShelf es → fs ≡ without_key key es → IsShelf fs
-IsShelf-remove key es fs old new = record {
+pub IsEntries-remove : (key : ObsKey) (es fs : List (ObsKey × Observation)) → IsEntries es → fs ≡ without_key key es → IsEntries fs
+IsEntries-remove key es fs old new = record {
   rising = rw new (sorted-remove_entry key_cmp key_cmp_total (same_key key) es old.rising);
   few = let few = old.few in rw new (omega (arith, length-remove_entry-le (same_key key) es));
   standing = rw new (all-remove_entry (same_key key) es old.standing);
 }
 
-pub IsShelf-update : (key : ObsKey) (content : Observation) (es fs : List (ObsKey × Observation)) → HasValueInRange key.monitor.pollutant content → IsShelf es → fs ≡ with_content key content es → IsShelf fs
-IsShelf-update key content es fs range old new = record {
+pub IsEntries-update : (key : ObsKey) (content : Observation) (es fs : List (ObsKey × Observation)) → HasValueInRange key.monitor.pollutant content → IsEntries es → fs ≡ with_content key content es → IsEntries fs
+IsEntries-update key content es fs range old new = record {
   rising = rw (new, keys-set_value (same_key key) es content) old.rising;
   few = rw (new, length-set_value (same_key key) es content) old.few;
   standing = rw new (all-set_value key content es range old.standing);
@@ -85,8 +85,8 @@ pub length-with_entry : (key : ObsKey) (content : Observation) (es : List (ObsKe
 length-with_entry key content es absent =
     length-insert_entry key_cmp key_cmp_total key content es (ap (λ (t : ObsKey → Bool). lookup t es) (key_test key) ∙ absent)
 
-pub IsShelf-insert : (key : ObsKey) (content : Observation) (es fs : List (ObsKey × Observation)) → IsStanding (key, content) → observation_at key es ≡ None → length es < MOST_OBSERVATIONS → IsShelf es → fs ≡ with_entry key content es → IsShelf fs
-IsShelf-insert key content es fs entry absent room old new =
+pub IsEntries-insert : (key : ObsKey) (content : Observation) (es fs : List (ObsKey × Observation)) → IsStanding (key, content) → observation_at key es ≡ None → length es < MOST_OBSERVATIONS → IsEntries es → fs ≡ with_entry key content es → IsEntries fs
+IsEntries-insert key content es fs entry absent room old new =
     let more = length-with_entry key content es absent in
     record {
       rising = rw new (sorted-insert_entry key_cmp key_cmp_total key content es old.rising);
@@ -116,7 +116,7 @@ ChangesOnly-update key content es stands other =
     ∙ ap (λ (t : ObsKey → Bool). cond (t other) (Some content) (lookup (is_at (key_cmp other)) es)) (key_test key)
     ∙ ap (λ (t : ObsKey → Bool). cond (same_key key other) (Some content) (lookup t es)) (key_test other)
 
-pub ChangesOnly-remove : (key : ObsKey) (es : List (ObsKey × Observation)) → IsShelf es → ChangesOnly key None es (without_key key es)
+pub ChangesOnly-remove : (key : ObsKey) (es : List (ObsKey × Observation)) → IsEntries es → ChangesOnly key None es (without_key key es)
 ChangesOnly-remove key es shelf other =
     ap (λ (t : ObsKey → Bool). lookup t (without_key key es)) (sym (key_test other))
     ∙ ap (λ (t : ObsKey → Bool). lookup (is_at (key_cmp other)) (remove_entry t es)) (sym (key_test key))
@@ -136,7 +136,7 @@ IfSome-observation_at key (e ∷ es) h =
     in
     at (same_key key e.0) refl
 
-pub HasValueInRange-found : (key : ObsKey) (content : Observation) (es : List (ObsKey × Observation)) → IsShelf es → observation_at key es ≡ Some content → HasValueInRange key.monitor.pollutant content
+pub HasValueInRange-found : (key : ObsKey) (content : Observation) (es : List (ObsKey × Observation)) → IsEntries es → observation_at key es ≡ Some content → HasValueInRange key.monitor.pollutant content
 HasValueInRange-found key content es shelf found =
     rw found at (IfSome-observation_at key es shelf.standing)
 

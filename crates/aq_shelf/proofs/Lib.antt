@@ -4,6 +4,7 @@ pub mod MapLemmas
 pub mod PartLemmas
 pub mod FlatLemmas
 pub mod EntryLemmas
+pub mod Book
 pub mod LatestLemmas
 pub mod Cases
 pub mod PlaceLemmas

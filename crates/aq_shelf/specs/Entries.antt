@@ -1,5 +1,5 @@
 -- The standing observations: a list of entries, in rising order of distinct keys.
-use Rattle.std.specs.Prelude.{◌≡◌, ℕ, ◌+◌, ◌<◌, ◌≤◌, Bool, ◌&&◌, nat_le, nat_lt, if◌then◌else◌, Option, None, List, length, map, filter, IsSome}
+use Rattle.std.specs.Prelude.{◌≡◌, ℕ, ◌+◌, ◌≤◌, Bool, ◌&&◌, nat_le, nat_lt, if◌then◌else◌, Option, List, length, map, filter}
 use Rattle.std.specs.List.{AllByRecursion}
 use Rattle.std.specs.List.Sorted.{IsStrictlySortedBy}
 use Rattle.std.specs.Map.{lookup, keys_of, set_value, remove_entry}
@@ -9,8 +9,6 @@ use Rattle.aq_base.specs.declared.monitor.MonitorId.{MonitorId}
 use Rattle.aq_base.specs.declared.observation.ObsKey.{ObsKey}
 use Rattle.aq_base.specs.declared.observation.Observation.{Observation}
 use Rattle.aq_shelf.specs.declared.shelf.TheConstants.{MOST_OBSERVATIONS}
-use Rattle.aq_shelf.specs.declared.fault.ShelfFault.{ShelfFault}
-use Rattle.aq_shelf.specs.declared.fault.ShelfFault.TheVariants.{AlreadyThere, Full, Memory}
 use Rattle.aq_shelf.specs.Keys.{key_cmp, same_key, same_monitor}
 use Rattle.aq_base.specs.Values.{HasValueInRange}
 
@@ -53,13 +51,7 @@ abbrev pub IsStanding : ObsKey × Observation → Type 0
 IsStanding entry = (entry.0.hour ≤ LAST_HOUR) × HasValueInRange entry.0.monitor.pollutant entry.1
 
 -- what holds of the entries of every shelf
-pub record IsShelf (entries : List (ObsKey × Observation)) : Type 0 where
+pub record IsEntries (entries : List (ObsKey × Observation)) : Type 0 where
   pub rising : IsStrictlySortedBy key_cmp (keys_of entries)
   pub few : length entries ≤ MOST_OBSERVATIONS
   pub standing : AllByRecursion IsStanding entries
-
--- when an observation is not put among the entries
-abbrev pub IsInsertFault : ShelfFault → ObsKey → List (ObsKey × Observation) → Type 0
-IsInsertFault AlreadyThere key entries = IsSome (observation_at key entries)
-IsInsertFault Full key entries = (observation_at key entries ≡ None) × (length entries ≡ MOST_OBSERVATIONS)
-IsInsertFault Memory key entries = (observation_at key entries ≡ None) × (length entries < MOST_OBSERVATIONS)

@@ -10,7 +10,7 @@ use Rattle.aq_base.specs.declared.observation.Observation.{Observation}
 use Rattle.aq_shelf.specs.declared.fault.ShelfFault.{ShelfFault}
 use Rattle.aq_shelf.specs.declared.fault.ShelfFault.TheVariants.{AlreadyThere, Full, Memory}
 use Rattle.aq_shelf.specs.Keys.{monitor_cmp, same_monitor}
-use Rattle.aq_shelf.specs.Entries.{IsShelf, observation_at}
+use Rattle.aq_shelf.specs.Entries.{IsEntries, observation_at}
 
 -- what stands at an hour
 abbrev pub at_hour : ℕ → List (ℕ × Observation) → Option Observation
@@ -55,5 +55,5 @@ AreRising monitors = IsStrictlySortedBy monitor_cmp (keys_of monitors)
 -- what holds of the monitors of every shelf
 pub record AreMonitors (monitors : List (MonitorId × List (ℕ × Observation))) (count : ℕ) : Type 0 where
   pub rising : AreRising monitors
-  pub shelf : IsShelf (flat monitors)
+  pub shelf : IsEntries (flat monitors)
   pub counted : count ≡ length (flat monitors)

@@ -5,7 +5,9 @@ ghost use Rattle.std.specs.Map.{lookup};
 ghost use Rattle.aq_base.specs.Values.{HasValueInRange};
 ghost use Rattle.aq_shelf.specs.declared.fault.ShelfFault.TheVariants.{Memory};
 ghost use Rattle.aq_shelf.specs.Keys.{same_monitor};
-ghost use Rattle.aq_shelf.specs.Entries.{ChangesOnly, observation_at, with_entry, with_content, without_key, observations_in, IsShelf, IsInsertFault};
+ghost use Rattle.aq_profile.specs.Office.Office.{observation_numbers, observation_rank, with_row, without_row};
+ghost use Rattle.aq_shelf.specs.Entries.{observation_at, with_entry, with_content, without_key};
+ghost use Rattle.aq_shelf.specs.Standing.{ChangesOnly, content_at, observations_in, IsShelf, IsInsertFault};
 ghost use Rattle.aq_shelf.specs.Monitors.{flat, hours_of, AreRising, IsPutFault};
 
 use crate::fault::{NotThere, ShelfFault};
@@ -20,8 +22,9 @@ use std::sync::ledger::Ledger;
 /// As many observations may stand (own).
 pub const MOST_OBSERVATIONS: u32 = 4_000_000;
 
-/// The observations that stand, one for each key. Contracts see the list of its entries, in the order
-/// of keys: by state, county, site number, pollutant, POC and hour.
+/// The observations that stand, one for each key. Contracts see the list of them as the book of rules
+/// has it in an office: in rising order of keys, by state, county, site number, pollutant, POC and
+/// hour.
 #[derive(Drop)]
 pub struct Shelf {
     monitors: BTreeMap<MonitorId, Hours>,
@@ -72,9 +75,9 @@ impl Shelf {
     /// in its pollutant's range.
     pub fn insert(&mut self, key: ObsKey, content: Observation) -> Result<(), ShelfFault>
         requires { HasValueInRange key.monitor.pollutant content }
-        ensures ok { OnOk result (self.new ≡ with_entry key content self.old) }
+        ensures ok { OnOk result (self.new ≡ with_row observation_rank (key, content) self.old) }
         ensures keys { OnOk result (ChangesOnly key (Some content) self.old self.new) }
-        ensures absent { OnOk result (observation_at key self.old ≡ None) }
+        ensures absent { OnOk result (content_at key self.old ≡ None) }
         ensures room { OnOk result (length self.old < MOST_OBSERVATIONS) }
         ensures refused { IfErr result (λ fault. IsInsertFault fault key self.old) }
         ensures unchanged { OnErr result (self.new ≡ self.old) }
@@ -92,11 +95,11 @@ impl Shelf {
     /// its pollutant's range.
     pub fn update(&mut self, key: ObsKey, content: Observation) -> Result<Observation, NotThere>
         requires { HasValueInRange key.monitor.pollutant content }
-        ensures before { IfOk result (λ before. observation_at key self.old ≡ Some before) }
+        ensures before { IfOk result (λ before. content_at key self.old ≡ Some before) }
         ensures range { IfOk result (HasValueInRange key.monitor.pollutant) }
-        ensures ok { OnOk result (self.new ≡ with_content key content self.old) }
+        ensures ok { OnOk result (self.new ≡ with_row observation_rank (key, content) self.old) }
         ensures keys { OnOk result (ChangesOnly key (Some content) self.old self.new) }
-        ensures not_there { OnErr result (observation_at key self.old ≡ None) }
+        ensures not_there { OnErr result (content_at key self.old ≡ None) }
         ensures unchanged { OnErr result (self.new ≡ self.old) }
         ensures shelf { IsShelf self.old }
     {
@@ -109,22 +112,24 @@ impl Shelf {
     /// Takes the observation at a key away, and answers it. It takes no memory. It is refused where
     /// none stands there, and the shelf is then as before.
     pub fn remove(&mut self, key: ObsKey) -> Result<Observation, NotThere>
-        ensures before { IfOk result (λ before. observation_at key self.old ≡ Some before) }
+        ensures before { IfOk result (λ before. content_at key self.old ≡ Some before) }
         ensures range { IfOk result (HasValueInRange key.monitor.pollutant) }
-        ensures ok { OnOk result (self.new ≡ without_key key self.old) }
+        ensures ok { OnOk result (self.new ≡ without_row observation_rank (observation_numbers key) self.old) }
         ensures keys { OnOk result (ChangesOnly key None self.old self.new) }
-        ensures not_there { OnErr result (observation_at key self.old ≡ None) }
+        ensures not_there { OnErr result (content_at key self.old ≡ None) }
         ensures unchanged { OnErr result (self.new ≡ self.old) }
         ensures shelf { IsShelf self.old }
     {
-        let before = take_out(&mut self.monitors, &key).ok_or(NotThere)?;
+        let Some(before) = take_out(&mut self.monitors, &key) else {
+            return Err(NotThere);
+        };
         self.count -= 1;
         Ok(before)
     }
 
     /// The observation at a key, if one stands there, in one step.
     pub fn at<L: Ledger>(&self, key: ObsKey, steps: &mut Steps<L>) -> Option<Observation>
-        ensures content { result ≡ observation_at key self.now }
+        ensures content { result ≡ content_at key self.now }
         ensures range { IfSome result (HasValueInRange key.monitor.pollutant) }
         ensures steps { steps.new ≡ steps.old + 1 }
         ensures shelf { IsShelf self.now }
