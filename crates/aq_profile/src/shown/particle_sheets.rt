@@ -4,13 +4,14 @@
 ghost use Rattle.std.specs.Prelude.{◌≡◌, ◌∷◌, [], ◌++◌, codes, map, replicate, Some, None, pos};
 ghost use Rattle.aq_base.specs.declared.standard.Standard.TheVariants.{Annual2012, Daily2006};
 ghost use Rattle.aq_base.specs.declared.standard.Verdict.TheVariants.{NotMet, NoValue};
+ghost use Rattle.aq_profile.specs.Standards.{level_of};
 ghost use Rattle.aq_profile.specs.Particles.AnnualVerdict.{annual_dv};
 ghost use Rattle.aq_profile.specs.Particles.DailyVerdict.{daily_dv};
 ghost use Rattle.aq_profile.specs.Particles.Pm10Verdict.{pm10_dv};
 ghost use Rattle.aq_profile.specs.Kept.Summaries.{summary_of_year};
 ghost use Rattle.aq_profile.specs.Shown.Sheet.{text_of};
 ghost use Rattle.aq_profile.specs.Shown.ParticleSheets.{pm25_sheet, pm10_sheet, annual_value_sheet, daily_value_sheet, pm10_value_sheet};
-ghost use Rattle.aq_profile.specs.Shown.OtherSheets.{ANNUAL_LEVEL, report_sheet, conflict_sheet, summary_sheet};
+ghost use Rattle.aq_profile.specs.Shown.OtherSheets.{report_sheet, conflict_sheet, summary_sheet};
 ghost use Rattle.aq_profile.specs.Ozone.OzoneExamples.{site};
 ghost use Rattle.aq_profile.specs.Particles.ParticleExamples.{calm_quarter, calm_year, empty_quarter, exceeding_quarter, daily_year, even_quarter, year_of_percentile};
 
@@ -39,7 +40,7 @@ pub fn pm10_quarters_print()
 /// The design values of three years.
 pub fn particle_values_print()
     ensures annual { text_of (annual_value_sheet Annual2012 site 2023 (map summary_of_year (daily_year 90 ∷ daily_year 90 ∷ daily_year 54 ∷ []))
-        (annual_dv ANNUAL_LEVEL (daily_year 90 ∷ daily_year 90 ∷ daily_year 54 ∷ [])))
+        (annual_dv (level_of Annual2012) (daily_year 90 ∷ daily_year 90 ∷ daily_year 54 ∷ [])))
         ≡ codes "standard PM25-ANNUAL-2012\nsite 06-037-1103\nyear 2023\nvalue 11.2\ntest 11.2\nverdict Met\n"
         ++ codes "year mean capture1 capture2 capture3 capture4 valid\n"
         ++ codes "2021 11.2 100 100 100 100 Y\n2022 11.2 100 100 100 100 Y\n2023 11.2 60 100 100 100 N\n" }

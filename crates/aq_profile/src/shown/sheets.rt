@@ -5,12 +5,14 @@ ghost use Rattle.std.specs.Prelude.{◌≡◌, ℕ, List, ◌+◌, length, true,
 ghost use Rattle.std.specs.List.{flat_map};
 ghost use Rattle.aq_base.specs.Calendar.{days_in_year};
 ghost use Rattle.aq_base.specs.Site.{Site};
+ghost use Rattle.aq_base.specs.declared.standard.Standard.{Standard};
 ghost use Rattle.aq_profile.specs.Office.Office.{Office};
 ghost use Rattle.aq_profile.specs.Office.Season.{Season};
 ghost use Rattle.aq_profile.specs.Ozone.OzoneDay.{OzoneDay};
 ghost use Rattle.aq_profile.specs.Ozone.OzoneVerdict.{ozone_dv};
 ghost use Rattle.aq_profile.specs.Shown.Sheet.{line_of, text_of};
-ghost use Rattle.aq_profile.specs.Shown.Sheets.{days_answer, days_sheet, ozone_value_answer, ozone_value_sheet, windows_answer};
+ghost use Rattle.aq_profile.specs.Shown.Sheets.{days_answer, days_sheet, ozone_value_sheet, windows_answer};
+ghost use Rattle.aq_profile.specs.Shown.OtherSheets.{value_answer};
 ghost use Rattle.aq_profile.specs.Ozone.OzoneExamples.{site, day_with, year_with, year_without_fourth};
 
 /// The first two days of a year, of which the second has no average and is approved.
@@ -45,7 +47,7 @@ pub fn design_value_prints()
 pub fn sheets_have_their_rows()
     ensures windows { (office : Office) (site : Site) (day : ℕ) → length (windows_answer office site day).rows ≡ 17 }
     ensures days { (office : Office) (site : Site) (year : ℕ) → length (days_answer office site year).rows ≡ days_in_year year }
-    ensures value { (office : Office) (site : Site) (year : ℕ) → length (ozone_value_answer office site year).rows ≡ 3 }
+    ensures value { (standard : Standard) (office : Office) (site : Site) (year : ℕ) → length (value_answer standard office site year).rows ≡ 3 }
 {}
 
 /// A line is its first word, each further one behind a space, and LF.
