@@ -1,5 +1,5 @@
 -- The standing observations in the words of the book of rules: what stands at a key, what a span is, and what holds of every shelf.
-use Rattle.std.specs.Prelude.{◌≡◌, ℕ, ◌+◌, ◌<◌, ◌≤◌, Bool, ◌&&◌, nat_le, nat_lt, if◌then◌else◌, IsTrue, Option, None, List, length, map, filter, option_map, IsSome}
+use Rattle.std.specs.Prelude.{◌≡◌, ℕ, ◌+◌, ◌<◌, ◌≤◌, Bool, true, false, ◌&&◌, nat_le, nat_lt, if◌then◌else◌, IsTrue, Option, None, List, length, map, filter, option_map, IsSome}
 use Rattle.std.specs.List.{AllByRecursion}
 use Rattle.aq_base.specs.Values.{HasValueInRange}
 use Rattle.aq_base.specs.declared.day.TheConstants.{LAST_HOUR}
@@ -49,3 +49,9 @@ abbrev pub IsInsertFault : ShelfFault → ObsKey → List (ObsKey × Observation
 IsInsertFault AlreadyThere key rows = IsSome (content_at key rows)
 IsInsertFault Full key rows = (content_at key rows ≡ None) × (length rows ≡ MOST_OBSERVATIONS)
 IsInsertFault Memory key rows = (content_at key rows ≡ None) × (length rows < MOST_OBSERVATIONS)
+
+-- the same where `found` is what stands at the key, and the shelf is full or not
+abbrev pub IsPutFault : ShelfFault → Bool → Option Observation → Type 0
+IsPutFault AlreadyThere full found = IsSome found
+IsPutFault Full full found = (found ≡ None) × (full ≡ true)
+IsPutFault Memory full found = (found ≡ None) × (full ≡ false)
