@@ -1,10 +1,7 @@
--- Lemmas on the order of keys, on lists of entries, on monitors, on their stretches and on hours.
+-- Lemmas on the order of keys, on rows, on stretches, on hours and on the whole shelf.
 pub mod Order
-pub mod MapLemmas
-pub mod PartLemmas
-pub mod FlatLemmas
-pub mod EntryLemmas
-pub mod LatestLemmas
-pub mod Cases
-pub mod PlaceLemmas
+pub mod RowLemmas
+pub mod HourLemmas
 pub mod StretchLemmas
+pub mod ShelfLemmas
+pub mod Cases

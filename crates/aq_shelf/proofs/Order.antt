@@ -1,136 +1,215 @@
--- The order of keys, by their parts, is the one that the code derives.
-use Rattle.std.proofs.Common.{◌≡◌, ℕ, Bool, true, false, ◌&&◌, ◌==◌, nat_eq, eqb-true, refl, ap, ◌∙◌, arith}
-use Rattle.std.proofs.lemmas.Bool.{false≢true}
+-- The order of keys, and of the stretches that they lie in, is that of their ranks.
+use Rattle.std.proofs.Common.{◌≡◌, ℕ, ◌<◌, Bool, true, false, ◌&&◌, ◌||◌, ◌==◌, refl, ap, sym, ◌∙◌, arith}
+use Rattle.std.specs.Prelude.{nat_lt, ◌/◌}
 use Rattle.std.specs.declared.cmp.Ordering.{Ordering}
 use Rattle.std.specs.declared.cmp.Ordering.TheVariants.{Less, Equal, Greater}
-use Rattle.std.specs.Ordering.{nat_cmp, ordering_then, is_eq}
+use Rattle.std.specs.Ordering.{is_eq, is_lt, nat_cmp, ordering_then}
 use Rattle.std.specs.Cmp.{IsTotalOrder}
-use Rattle.std.specs.BTreeMap.{is_at}
-use mathlib.Core.Path.{fun_ext}
-use Rattle.std.proofs.lemmas.Cmp.{nat_cmp_total, on_total, then_total}
 use Rattle.std.proofs.lemmas.Bool.Decides.{nat_tests}
+use Rattle.std.proofs.lemmas.Cmp.{tied_itself}
 use Rattle.aq_base.specs.declared.monitor.Pollutant.{Pollutant}
 use Rattle.aq_base.specs.declared.monitor.Pollutant.TheVariants.{Ozone, Pm25, Pm10}
 use Rattle.aq_base.specs.declared.monitor.MonitorId.{MonitorId}
 use Rattle.aq_base.specs.declared.observation.ObsKey.{ObsKey}
-use Rattle.aq_base.specs.contracts.monitor.MonitorIdOrd.TheImpl as derived
 use Rattle.aq_base.specs.contracts.monitor.PollutantOrd.TheImpl as pollutant_derived
-use Rattle.aq_base.specs.Site.{Site}
-use Rattle.aq_shelf.specs.Keys.{key_cmp, monitor_cmp, site_cmp, same_key, same_monitor, same_site, pollutant_place}
+use Rattle.aq_base.specs.contracts.monitor.MonitorIdOrd.TheImpl as monitor_derived
+use Rattle.aq_base.specs.contracts.monitor.MonitorIdOrd.TheImpl.Laws as monitor_laws
+use Rattle.aq_base.specs.contracts.observation.ObsKeyOrd.TheImpl as key_derived
+use Rattle.aq_profile.specs.Office.Monitors.{is_same_site, is_same_pollutant, is_same_monitor, is_same_key}
+use Rattle.aq_profile.specs.Office.Office.{observation_numbers, pollutant_number, is_same, comes_before}
+use Rattle.aq_profile.proofs.Sameness as sameness
+use Rattle.aq_shelf.specs.declared.stretch.Stretch.{Stretch}
+use Rattle.aq_shelf.specs.contracts.stretch.StretchOrd.TheImpl as stretch_derived
+use Rattle.aq_shelf.specs.contracts.stretch.StretchOrd.TheImpl.Laws as stretch_laws
+use Rattle.aq_shelf.specs.Stretches.{stretch_of}
 
--- the order of monitors that the code derives
-abbrev pub derived_cmp : MonitorId → MonitorId → Ordering
-derived_cmp = (derived.ghosts).cmp
+-- ---- the orders that the code derives
 
--- pollutants in the order of their places, case by case
-pollutant_cmp-is : (p q : Pollutant) → (pollutant_derived.ghosts).cmp p q ≡ nat_cmp (pollutant_place p) (pollutant_place q)
-pollutant_cmp-is Ozone Ozone = refl
-pollutant_cmp-is Ozone Pm25 = refl
-pollutant_cmp-is Ozone Pm10 = refl
-pollutant_cmp-is Pm25 Ozone = refl
-pollutant_cmp-is Pm25 Pm25 = refl
-pollutant_cmp-is Pm25 Pm10 = refl
-pollutant_cmp-is Pm10 Ozone = refl
-pollutant_cmp-is Pm10 Pm25 = refl
-pollutant_cmp-is Pm10 Pm10 = refl
+abbrev pub pollutant_cmp : Pollutant → Pollutant → Ordering
+pollutant_cmp = (pollutant_derived.ghosts).cmp
 
-derived_cmp-is : (a b : MonitorId) → derived_cmp a b ≡ monitor_cmp a b
-derived_cmp-is a b =
-    ap (λ o. ordering_then (site_cmp a.site b.site) (ordering_then o (nat_cmp a.poc b.poc))) (pollutant_cmp-is a.pollutant b.pollutant)
+abbrev pub monitor_cmp : MonitorId → MonitorId → Ordering
+monitor_cmp = (monitor_derived.ghosts).cmp
 
-site_total : IsTotalOrder site_cmp
-site_total =
-    then_total (on_total (λ (s : Site). s.state) nat_cmp_total)
-    (then_total (on_total (λ (s : Site). s.county) nat_cmp_total) (on_total (λ (s : Site). s.number) nat_cmp_total))
+abbrev pub key_cmp : ObsKey → ObsKey → Ordering
+key_cmp = (key_derived.ghosts).cmp
+
+abbrev pub stretch_cmp : Stretch → Stretch → Ordering
+stretch_cmp = (stretch_derived.ghosts).cmp
+
+pub stretch_total : IsTotalOrder stretch_cmp
+stretch_total = stretch_laws.total-law
 
 pub monitor_total : IsTotalOrder monitor_cmp
-monitor_total =
-    then_total (on_total (λ (m : MonitorId). m.site) site_total)
-    (then_total (on_total (λ (m : MonitorId). pollutant_place m.pollutant) nat_cmp_total) (on_total (λ (m : MonitorId). m.poc) nat_cmp_total))
+monitor_total = monitor_laws.total-law
 
--- the laws of the order
-pub key_cmp_total : IsTotalOrder key_cmp
-key_cmp_total =
-    then_total (on_total (λ (k : ObsKey). k.monitor) monitor_total) (on_total (λ (k : ObsKey). k.hour) nat_cmp_total)
+-- ---- which keys are the same
+
+is_lt-nat_cmp : (x y : ℕ) → nat_lt x y ≡ is_lt (nat_cmp x y)
+is_lt-nat_cmp x y = grind (arith, nat_tests)
+
+is_eq-nat_cmp : (x y : ℕ) → is_eq (nat_cmp x y) ≡ (x == y)
+is_eq-nat_cmp x y = grind (arith, nat_tests)
+
+is_eq-pollutant_cmp : (p q : Pollutant) → is_eq (pollutant_cmp p q) ≡ is_same_pollutant p q
+is_eq-pollutant_cmp Ozone Ozone = refl
+is_eq-pollutant_cmp Ozone Pm25 = refl
+is_eq-pollutant_cmp Ozone Pm10 = refl
+is_eq-pollutant_cmp Pm25 Ozone = refl
+is_eq-pollutant_cmp Pm25 Pm25 = refl
+is_eq-pollutant_cmp Pm25 Pm10 = refl
+is_eq-pollutant_cmp Pm10 Ozone = refl
+is_eq-pollutant_cmp Pm10 Pm25 = refl
+is_eq-pollutant_cmp Pm10 Pm10 = refl
 
 is_eq-then : (o p : Ordering) (x y : Bool) → is_eq o ≡ x → is_eq p ≡ y → is_eq (ordering_then o p) ≡ (x && y)
 is_eq-then Less p x y e f = ap (λ b. b && y) e
 is_eq-then Equal p x y e f = f ∙ ap (λ b. b && y) e
 is_eq-then Greater p x y e f = ap (λ b. b && y) e
 
-is_eq-then_then : (o p q : Ordering) (x y z : Bool) → is_eq o ≡ x → is_eq p ≡ y → is_eq q ≡ z → is_eq (ordering_then o (ordering_then p q)) ≡ (x && y && z)
-is_eq-then_then Less p q x y z e f g = ap (λ b. b && y && z) e
-is_eq-then_then Equal p q x y z e f g = is_eq-then p q y z f g ∙ ap (λ b. b && y && z) e
-is_eq-then_then Greater p q x y z e f g = ap (λ b. b && y && z) e
+is_eq-three : (o p q : Ordering) (x y z : Bool) → is_eq o ≡ x → is_eq p ≡ y → is_eq q ≡ z → is_eq (ordering_then o (ordering_then p q)) ≡ (x && y && z)
+is_eq-three Less p q x y z e f g = ap (λ b. b && y && z) e
+is_eq-three Equal p q x y z e f g = is_eq-then p q y z f g ∙ ap (λ b. b && y && z) e
+is_eq-three Greater p q x y z e f g = ap (λ b. b && y && z) e
 
-is_eq-nat_cmp : (m n : ℕ) → is_eq (nat_cmp m n) ≡ (m == n)
-is_eq-nat_cmp m n = grind (arith, nat_tests)
-
-is_eq-site_cmp : (a b : Site) → is_eq (site_cmp a b) ≡ same_site a b
-is_eq-site_cmp a b =
-    is_eq-then_then _ _ _ _ _ _ (is_eq-nat_cmp a.state b.state) (is_eq-nat_cmp a.county b.county) (is_eq-nat_cmp a.number b.number)
-
-pub is_eq-monitor_cmp : (a b : MonitorId) → is_eq (monitor_cmp a b) ≡ same_monitor a b
+pub is_eq-monitor_cmp : (a b : MonitorId) → is_eq (monitor_cmp a b) ≡ is_same_monitor a b
 is_eq-monitor_cmp a b =
-    is_eq-then_then (site_cmp a.site b.site) (nat_cmp (pollutant_place a.pollutant) (pollutant_place b.pollutant)) (nat_cmp a.poc b.poc) _ _ _
-    (is_eq-site_cmp a.site b.site) (is_eq-nat_cmp (pollutant_place a.pollutant) (pollutant_place b.pollutant)) (is_eq-nat_cmp a.poc b.poc)
+    let site = is_eq-three (nat_cmp a.site.state b.site.state) (nat_cmp a.site.county b.site.county) (nat_cmp a.site.number b.site.number) _ _ _
+    (is_eq-nat_cmp a.site.state b.site.state) (is_eq-nat_cmp a.site.county b.site.county) (is_eq-nat_cmp a.site.number b.site.number) in
+    is_eq-three _ (pollutant_cmp a.pollutant b.pollutant) (nat_cmp a.poc b.poc) _ _ _ site (is_eq-pollutant_cmp a.pollutant b.pollutant) (is_eq-nat_cmp a.poc b.poc)
 
--- two keys are the same where neither comes first
-pub is_eq-key_cmp : (a b : ObsKey) → is_eq (key_cmp a b) ≡ same_key a b
-is_eq-key_cmp a b =
-    is_eq-then (monitor_cmp a.monitor b.monitor) (nat_cmp a.hour b.hour) _ _ (is_eq-monitor_cmp a.monitor b.monitor) (is_eq-nat_cmp a.hour b.hour)
+monitor_itself : (monitor : MonitorId) → is_same_monitor monitor monitor ≡ true
+monitor_itself monitor = sym (is_eq-monitor_cmp monitor monitor) ∙ ap is_eq (tied_itself monitor_total monitor)
 
--- the same of the whole functions
-pub same_order : derived_cmp ≡ monitor_cmp
-same_order = fun_ext (λ a. fun_ext (λ b. derived_cmp-is a b))
+-- two stretches of which neither comes first are one
+one_monitor : (a b : Stretch) → stretch_cmp a b ≡ Equal → a.monitor ≡ b.monitor
+one_monitor a b h =
+    let same = sym (is_eq-monitor_cmp a.monitor b.monitor) ∙ first (monitor_cmp a.monitor b.monitor) (nat_cmp a.number b.number) h in
+    ap (λ (k : ObsKey). k.monitor)
+    (sameness.same_key (record { monitor = a.monitor; hour = 0 }) (record { monitor = b.monitor; hour = 0 }) (ap (λ b. b && (0 == 0)) same))
+  where
+    first : (o p : Ordering) → ordering_then o p ≡ Equal → is_eq o ≡ true
+    first Less p h = cc
+    first Equal p h = refl
+    first Greater p h = cc
 
-pub same_test : (monitor : MonitorId) → is_at (derived_cmp monitor) ≡ same_monitor monitor
-same_test monitor = fun_ext (λ m. ap is_eq (derived_cmp-is monitor m) ∙ is_eq-monitor_cmp monitor m)
+pub one_stretch : (a b : Stretch) → stretch_cmp a b ≡ Equal → a ≡ b
+one_stretch a b h =
+    let monitor = one_monitor a b h in
+    let number = same_number a.number b.number (second (monitor_cmp a.monitor b.monitor) (nat_cmp a.number b.number) h) in
+    λ i. record { monitor = monitor i; number = number i }
+  where
+    second : (o p : Ordering) → ordering_then o p ≡ Equal → p ≡ Equal
+    second Less p h = cc
+    second Equal p h = h
+    second Greater p h = cc
 
-pub monitor_test : (monitor : MonitorId) → is_at (monitor_cmp monitor) ≡ same_monitor monitor
-monitor_test monitor = fun_ext (λ m. is_eq-monitor_cmp monitor m)
+    same_number : (x y : ℕ) → nat_cmp x y ≡ Equal → x ≡ y
+    same_number x y h = grind (arith, nat_tests)
 
-pub hour_test : (hour : ℕ) → is_at (nat_cmp hour) ≡ nat_eq hour
-hour_test hour = fun_ext (λ h. is_eq-nat_cmp hour h)
+regroup : (s c n p q h : Bool) → (s && (c && (n && (p && (q && (h && true)))))) ≡ (s && c && n && p && q && h)
+regroup false c n p q h = refl
+regroup true false n p q h = refl
+regroup true true false p q h = refl
+regroup true true true false q h = refl
+regroup true true true true false h = refl
+regroup true true true true true false = refl
+regroup true true true true true true = refl
 
-pub key_test : (key : ObsKey) → is_at (key_cmp key) ≡ same_key key
-key_test key = fun_ext (λ k. is_eq-key_cmp key k)
+same_pollutant_number : (p q : Pollutant) → (pollutant_number p == pollutant_number q) ≡ is_same_pollutant p q
+same_pollutant_number Ozone Ozone = refl
+same_pollutant_number Ozone Pm25 = refl
+same_pollutant_number Ozone Pm10 = refl
+same_pollutant_number Pm25 Ozone = refl
+same_pollutant_number Pm25 Pm25 = refl
+same_pollutant_number Pm25 Pm10 = refl
+same_pollutant_number Pm10 Ozone = refl
+same_pollutant_number Pm10 Pm25 = refl
+same_pollutant_number Pm10 Pm10 = refl
 
--- ---- what the same parts say
+-- by their ranks, as by their parts
+pub same_rank : (a b : ObsKey) → is_same (observation_numbers a) (observation_numbers b) ≡ is_same_key a b
+same_rank a b =
+    regroup (a.monitor.site.state == b.monitor.site.state) (a.monitor.site.county == b.monitor.site.county) (a.monitor.site.number == b.monitor.site.number) (pollutant_number a.monitor.pollutant == pollutant_number b.monitor.pollutant) (a.monitor.poc == b.monitor.poc) (a.hour == b.hour)
+    ∙ ap (λ p. is_same_site a.monitor.site b.monitor.site && p && (a.monitor.poc == b.monitor.poc) && (a.hour == b.hour)) (same_pollutant_number a.monitor.pollutant b.monitor.pollutant)
 
-pub first_of_both : (a b : Bool) → (a && b) ≡ true → a ≡ true
-first_of_both true b h = refl
-first_of_both false b h = absurd (false≢true h)
+-- ---- which key comes first
 
-pub second_of_both : (a b : Bool) → (a && b) ≡ true → b ≡ true
-second_of_both true b h = h
-second_of_both false b h = absurd (false≢true h)
+is_lt-then : (o p : Ordering) → (is_lt o || (is_eq o && is_lt p)) ≡ is_lt (ordering_then o p)
+is_lt-then Less p = refl
+is_lt-then Equal p = refl
+is_lt-then Greater p = refl
 
-pollutant_from_place : (p q : Pollutant) → (nat_eq (pollutant_place p) (pollutant_place q)) ≡ true → p ≡ q
-pollutant_from_place Ozone Ozone h = refl
-pollutant_from_place Ozone Pm25 h = absurd (false≢true h)
-pollutant_from_place Ozone Pm10 h = absurd (false≢true h)
-pollutant_from_place Pm25 Ozone h = absurd (false≢true h)
-pollutant_from_place Pm25 Pm25 h = refl
-pollutant_from_place Pm25 Pm10 h = absurd (false≢true h)
-pollutant_from_place Pm10 Ozone h = absurd (false≢true h)
-pollutant_from_place Pm10 Pm25 h = absurd (false≢true h)
-pollutant_from_place Pm10 Pm10 h = refl
+-- one number before the rest
+first_decides : (x y : ℕ) (o : Ordering) (rest : Bool) → rest ≡ is_lt o → (nat_lt x y || ((x == y) && rest)) ≡ is_lt (ordering_then (nat_cmp x y) o)
+first_decides x y o rest h =
+    ap (λ b. b || ((x == y) && rest)) (is_lt-nat_cmp x y)
+    ∙ ap (λ b. is_lt (nat_cmp x y) || (b && rest)) (sym (is_eq-nat_cmp x y))
+    ∙ ap (λ b. is_lt (nat_cmp x y) || (is_eq (nat_cmp x y) && b)) h
+    ∙ is_lt-then (nat_cmp x y) o
 
-site_from_same : (a b : Site) → same_site a b ≡ true → a ≡ b
-site_from_same a b h =
-    let front = first_of_both (nat_eq a.state b.state && nat_eq a.county b.county) (nat_eq a.number b.number) h in
-    let state = eqb-true a.state b.state (first_of_both (nat_eq a.state b.state) (nat_eq a.county b.county) front) in
-    let county = eqb-true a.county b.county (second_of_both (nat_eq a.state b.state) (nat_eq a.county b.county) front) in
-    let number = eqb-true a.number b.number (second_of_both (nat_eq a.state b.state && nat_eq a.county b.county) (nat_eq a.number b.number) h) in
-    λ i. record { state = state i; county = county i; number = number i }
+last_decides : (x y : ℕ) → (nat_lt x y || ((x == y) && false)) ≡ is_lt (nat_cmp x y)
+last_decides x y = grind (arith, nat_tests)
 
--- a monitor is the same where its parts are
-pub monitor_from_same : (a b : MonitorId) → same_monitor a b ≡ true → a ≡ b
-monitor_from_same a b h =
-    let places = nat_eq (pollutant_place a.pollutant) (pollutant_place b.pollutant) in
-    let front = first_of_both (same_site a.site b.site && places) (nat_eq a.poc b.poc) h in
-    let site = site_from_same a.site b.site (first_of_both (same_site a.site b.site) places front) in
-    let pollutant = pollutant_from_place a.pollutant b.pollutant (second_of_both (same_site a.site b.site) places front) in
-    let poc = eqb-true a.poc b.poc (second_of_both (same_site a.site b.site && places) (nat_eq a.poc b.poc) h) in
-    λ i. record { site = site i; pollutant = pollutant i; poc = poc i }
+pollutant_number-cmp : (p q : Pollutant) → nat_cmp (pollutant_number p) (pollutant_number q) ≡ pollutant_cmp p q
+pollutant_number-cmp Ozone Ozone = refl
+pollutant_number-cmp Ozone Pm25 = refl
+pollutant_number-cmp Ozone Pm10 = refl
+pollutant_number-cmp Pm25 Ozone = refl
+pollutant_number-cmp Pm25 Pm25 = refl
+pollutant_number-cmp Pm25 Pm10 = refl
+pollutant_number-cmp Pm10 Ozone = refl
+pollutant_number-cmp Pm10 Pm25 = refl
+pollutant_number-cmp Pm10 Pm10 = refl
+
+-- six orders, one after another, however they are grouped
+group_six : (s c n p q h : Ordering) → ordering_then s (ordering_then c (ordering_then n (ordering_then p (ordering_then q h)))) ≡ ordering_then (ordering_then (ordering_then s (ordering_then c n)) (ordering_then p q)) h
+group_six Less c n p q h = refl
+group_six Equal Less n p q h = refl
+group_six Equal Equal Less p q h = refl
+group_six Equal Equal Equal Less q h = refl
+group_six Equal Equal Equal Equal q h = refl
+group_six Equal Equal Equal Greater q h = refl
+group_six Equal Equal Greater p q h = refl
+group_six Equal Greater n p q h = refl
+group_six Greater c n p q h = refl
+
+before_rank : (a b : ObsKey) → comes_before (observation_numbers a) (observation_numbers b) ≡ is_lt (key_cmp a b)
+before_rank a b =
+    let site = ordering_then (nat_cmp a.monitor.site.state b.monitor.site.state) (ordering_then (nat_cmp a.monitor.site.county b.monitor.site.county) (nat_cmp a.monitor.site.number b.monitor.site.number)) in
+    first_decides a.monitor.site.state b.monitor.site.state _ _
+    (first_decides a.monitor.site.county b.monitor.site.county _ _
+    (first_decides a.monitor.site.number b.monitor.site.number _ _
+    (first_decides (pollutant_number a.monitor.pollutant) (pollutant_number b.monitor.pollutant) _ _
+    (first_decides a.monitor.poc b.monitor.poc (nat_cmp a.hour b.hour) _ (last_decides a.hour b.hour)))))
+    ∙ ap is_lt (group_six (nat_cmp a.monitor.site.state b.monitor.site.state) (nat_cmp a.monitor.site.county b.monitor.site.county) (nat_cmp a.monitor.site.number b.monitor.site.number) (nat_cmp (pollutant_number a.monitor.pollutant) (pollutant_number b.monitor.pollutant)) (nat_cmp a.monitor.poc b.monitor.poc) (nat_cmp a.hour b.hour))
+    ∙ ap (λ o. is_lt (ordering_then (ordering_then site (ordering_then o (nat_cmp a.monitor.poc b.monitor.poc))) (nat_cmp a.hour b.hour))) (pollutant_number-cmp a.monitor.pollutant b.monitor.pollutant)
+
+less_hour : (x y : ℕ) → nat_cmp (x / 256) (y / 256) ≡ Less → nat_cmp x y ≡ Less
+less_hour x y h =
+    let less : x / 256 < y / 256 = grind (arith, nat_tests) in
+    let hour : x < y = omega arith in
+    grind (arith, nat_tests)
+
+-- a key of an earlier stretch
+pub earlier_stretch : (a b : ObsKey) → stretch_cmp (stretch_of a) (stretch_of b) ≡ Less → comes_before (observation_numbers a) (observation_numbers b) ≡ true
+earlier_stretch a b h = before_rank a b ∙ ap is_lt (by_monitor (monitor_cmp a.monitor b.monitor) h)
+  where
+    by_monitor : (o : Ordering) → ordering_then o (nat_cmp (a.hour / 256) (b.hour / 256)) ≡ Less → ordering_then o (nat_cmp a.hour b.hour) ≡ Less
+    by_monitor Less h = refl
+    by_monitor Equal h = less_hour a.hour b.hour h
+    by_monitor Greater h = h
+
+-- ---- keys of one monitor
+
+module _ (monitor : MonitorId) (x y : ℕ) where
+  pub before_hour : comes_before (observation_numbers (record { monitor = monitor; hour = x })) (observation_numbers (record { monitor = monitor; hour = y })) ≡ nat_lt x y
+  before_hour =
+      before_rank (record { monitor = monitor; hour = x }) (record { monitor = monitor; hour = y })
+      ∙ ap (λ o. is_lt (ordering_then o (nat_cmp x y))) (tied_itself monitor_total monitor)
+      ∙ sym (is_lt-nat_cmp x y)
+
+  pub same_hour : is_same (observation_numbers (record { monitor = monitor; hour = x })) (observation_numbers (record { monitor = monitor; hour = y })) ≡ (x == y)
+  same_hour =
+      same_rank (record { monitor = monitor; hour = x }) (record { monitor = monitor; hour = y })
+      ∙ ap (λ b. b && (x == y)) (monitor_itself monitor)

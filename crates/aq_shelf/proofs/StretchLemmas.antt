@@ -1,382 +1,425 @@
--- A change of one stretch's hours is the change of the list of all hours.
-use Rattle.std.proofs.Common.{◌≡◌, ℕ, ◌<◌, ◌≤◌, Bool, true, false, ◌&&◌, nat_eq, eqb-true, Option, Result, Ok, Err, is_some, List, [], ◌∷◌, ◌++◌, cond, Some, None, unwrap_or, refl, ap, sym, subst, ◌∙◌, arith}
-use Rattle.std.specs.Prelude.{nat_le, nat_lt, filter, OnOk, OnErr, OnSome, IfNone}
+-- A change of one stretch's rows is the change of the list of all rows.
+use Rattle.std.proofs.Common.{◌≡◌, ℕ, ◌+◌, ◌-◌, ◌/◌, ◌<◌, ◌≤◌, ◌⊎◌, inl, inr, Bool, true, false, not, ◌&&◌, nat_eq, length, Option, List, [], ◌∷◌, ◌++◌, map, cond, Some, None, unwrap_or, refl, ap, sym, subst, ◌∙◌, append_assoc, arith}
+use Rattle.std.specs.Prelude.{nat_le, nat_lt, filter, option_map}
 use Rattle.std.specs.declared.cmp.Reverse.{Reverse}
 use Rattle.std.specs.declared.cmp.Ordering.{Ordering}
 use Rattle.std.specs.declared.cmp.Ordering.TheVariants.{Less, Equal, Greater}
-use Rattle.std.specs.declared.ops.Bound.TheVariants.{Included}
-use Rattle.std.specs.Ordering.{nat_cmp, is_eq, match_ordering}
+use Rattle.std.specs.Ordering.{nat_cmp, is_eq, is_le, is_lt, match_ordering, ordering_then, ordering_reverse}
 use Rattle.std.specs.List.{AllByRecursion}
 use Rattle.std.specs.List.Sorted.{IsStrictlySortedBy}
-use Rattle.std.specs.Map.{lookup, keys_of, set_value, remove_entry}
+use Rattle.std.specs.Map.{lookup, keys_of, set_value}
 use Rattle.std.specs.BTreeMap.{insert_entry, is_at}
-use Rattle.std.specs.BTreeMap.Range.{range_contains}
-use Rattle.std.proofs.lemmas.Bool.{false≢true}
 use Rattle.std.proofs.lemmas.Bool.Decides.{nat_tests}
-use Rattle.std.proofs.lemmas.Cmp.{nat_cmp_total}
+use Rattle.std.proofs.lemmas.List.{append-nil, map-append}
 use Rattle.std.proofs.lemmas.List.Elements.{filter-append}
-use Rattle.std.proofs.lemmas.Map.{NonePasses, lookup-none, keys-set_value}
+use Rattle.std.proofs.lemmas.Map.{NonePasses, lookup-none}
 use Rattle.std.proofs.lemmas.Map.Keys.{sorted_head, sorted_tail}
+use Rattle.std.proofs.lemmas.Map.Steps.{set_value_same}
+use Rattle.aq_base.specs.declared.monitor.MonitorId.{MonitorId}
+use Rattle.aq_base.specs.declared.observation.ObsKey.{ObsKey}
 use Rattle.aq_base.specs.declared.observation.Observation.{Observation}
-use Rattle.aq_shelf.specs.declared.fault.ShelfFault.{ShelfFault}
-use Rattle.aq_shelf.specs.declared.fault.ShelfFault.TheVariants.{AlreadyThere, Full, Memory}
-use Rattle.aq_shelf.specs.Latest.{rising}
-use Rattle.aq_shelf.specs.Monitors.{at_hour, between, IsHourFault}
-use Rattle.aq_shelf.specs.Stretches.{stretch_of, joined, LieIn, AreStretches}
-use Rattle.aq_shelf.proofs.MapLemmas.{not_found, sorted-insert_entry}
-use Rattle.aq_shelf.proofs.PartLemmas.{all_append, lookup_past, lookup_before, set_past, set_before, remove_past, remove_before, insert_past, insert_before}
-use Rattle.aq_shelf.proofs.LatestLemmas.{back, lookup-latest, set_value-latest, insert_entry-latest}
+use Rattle.aq_profile.specs.Office.Monitors.{is_same_monitor}
+use Rattle.aq_profile.specs.Office.Office.{observation_numbers, observation_rank, comes_before, content_of, row_at, with_row, without_row, rises}
+use Rattle.aq_profile.proofs.Rising.{with_row-rises, without_row-rises}
+use Rattle.aq_shelf.specs.declared.stretch.Stretch.{Stretch}
+use Rattle.aq_shelf.specs.Standing.{content_at, in_span, hour_content, observations_in}
+use Rattle.aq_shelf.specs.Stretches.{stretch_of, rows_of, rows_in, rows_under, joined, LieIn, AreStretches, between, hours_between}
+use Rattle.aq_shelf.proofs.Order.{stretch_cmp, stretch_total, monitor_cmp, one_stretch, earlier_stretch, is_eq-monitor_cmp}
+use Rattle.aq_shelf.proofs.RowLemmas.{with_row-past, with_row-before, without_row-past, without_row-before, row_at-none, row_at-past, row_at-before, others-before, others-behind, all-with_row, all-without_row}
 
--- ---- numbers and their tests
+abbrev Rows : Type 0
+Rows = List (ObsKey × Observation)
 
-same_from_order : (a b : ℕ) (o : Ordering) → nat_cmp a b ≡ o → nat_eq a b ≡ is_eq o
-same_from_order a b Less h = grind (arith, nat_tests)
-same_from_order a b Equal h = grind (arith, nat_tests)
-same_from_order a b Greater h = grind (arith, nat_tests)
+abbrev Hours : Type 0
+Hours = List (ℕ × Observation)
 
-is_less : (a b : ℕ) → nat_cmp a b ≡ Less → a < b
-is_less a b h = grind (arith, nat_tests)
+abbrev Stretches : Type 0
+Stretches = List (Reverse Stretch × Hours)
 
-is_equal : (a b : ℕ) → nat_cmp a b ≡ Equal → a ≡ b
-is_equal a b h = grind (arith, nat_tests)
+-- ---- the order of the map, and what it finds
 
-is_greater : (a b : ℕ) → nat_cmp a b ≡ Greater → b < a
-is_greater a b h = grind (arith, nat_tests)
+-- the latest first
+abbrev pub back : Reverse Stretch → Reverse Stretch → Ordering
+back x y = stretch_cmp y.0 x.0
 
-less_is : (a b : ℕ) → a < b → nat_cmp a b ≡ Less
-less_is a b h = grind (arith, nat_tests)
+abbrev pub is_stretch : Stretch → Reverse Stretch → Bool
+is_stretch stretch = is_at (back (record { 0 = stretch }))
 
-greater_is : (a b : ℕ) → b < a → nat_cmp a b ≡ Greater
-greater_is a b h = grind (arith, nat_tests)
+-- what the map has for the stretch of a key
+abbrev pub hours_at : ObsKey → Stretches → Option Hours
+hours_at key ss = lookup (is_stretch (stretch_of key)) ss
 
-apart_from_less : (a b : ℕ) → a < b → nat_eq a b ≡ false
-apart_from_less a b h = grind (arith, nat_tests)
+abbrev Apart : Stretches → Type 0
+Apart ss = AllByRecursion (λ (s : Reverse Stretch × Hours). LieIn s.0.0 (rows_in s)) ss
 
-apart_from_greater : (a b : ℕ) → b < a → nat_eq a b ≡ false
-apart_from_greater a b h = grind (arith, nat_tests)
+abbrev Falls : Stretches → Type 0
+Falls ss = IsStrictlySortedBy back (keys_of ss)
 
--- the hours of an earlier stretch are earlier
-earlier : (a b : ℕ) → stretch_of a < stretch_of b → a < b
-earlier a b h = omega arith
+-- each of the stretches is earlier
+abbrev AreEarlier : Stretch → Stretches → Type 0
+AreEarlier stretch ss = AllByRecursion (λ (k : Reverse Stretch). stretch_cmp k.0 stretch ≡ Less) (keys_of ss)
 
--- ---- the hours before an hour, and those behind it
+-- each row comes before the key, or behind it
+abbrev pub AreBefore : ObsKey → Rows → Type 0
+AreBefore key rows = AllByRecursion (λ (row : ObsKey × Observation). comes_before (observation_rank row) (observation_numbers key) ≡ true) rows
 
-lie_before : (hour stretch : ℕ) (es : List (ℕ × Observation)) → stretch < stretch_of hour → LieIn stretch es → AllByRecursion (λ (e : ℕ × Observation). e.0 < hour) es
-lie_before hour stretch [] less lie = tt
-lie_before hour stretch (e ∷ es) less lie =
-    (earlier e.0 hour (subst (λ (s : ℕ). s < stretch_of hour) (sym lie.0) less), lie_before hour stretch es less lie.1)
+abbrev pub AreBehind : ObsKey → Rows → Type 0
+AreBehind key rows = AllByRecursion (λ (row : ObsKey × Observation). comes_before (observation_numbers key) (observation_rank row) ≡ true) rows
 
-lie_behind : (hour stretch : ℕ) (es : List (ℕ × Observation)) → stretch_of hour < stretch → LieIn stretch es → AllByRecursion (λ (e : ℕ × Observation). hour < e.0) es
-lie_behind hour stretch [] less lie = tt
-lie_behind hour stretch (e ∷ es) less lie =
-    (earlier hour e.0 (subst (λ (s : ℕ). stretch_of hour < s) (sym lie.0) less), lie_behind hour stretch es less lie.1)
+all_append : {E : Type 0} (P : E → Type 0) (es fs : List E) → AllByRecursion P es → AllByRecursion P fs → AllByRecursion P (es ++ fs)
+all_append P [] fs all more = more
+all_append P (e ∷ es) fs all more = (all.0, all_append P es fs all.1 more)
 
-none_before : (hour : ℕ) (es : List (ℕ × Observation)) → AllByRecursion (λ (e : ℕ × Observation). e.0 < hour) es → NonePasses (nat_eq hour) es
-none_before hour [] all = tt
-none_before hour (e ∷ es) all = (apart_from_greater hour e.0 all.0, none_before hour es all.1)
+earlier_than : (a b : Stretch) (ss : Stretches) → stretch_cmp a b ≡ Less → AreEarlier a ss → AreEarlier b ss
+earlier_than a b [] less all = tt
+earlier_than a b (s ∷ ss) less all = (stretch_total.trans s.0.0 a b all.0 less, earlier_than a b ss less all.1)
 
-none_behind : {X : Type 0} (hour : ℕ) (es : List (ℕ × X)) → AllByRecursion (λ (e : ℕ × X). hour < e.0) es → NonePasses (nat_eq hour) es
-none_behind hour [] all = tt
-none_behind hour (e ∷ es) all = (apart_from_less hour e.0 all.0, none_behind hour es all.1)
+none_at : (stretch : Stretch) (ss : Stretches) → AreEarlier stretch ss → lookup (is_stretch stretch) ss ≡ None
+none_at stretch ss all = lookup-none (is_stretch stretch) ss (none stretch ss all)
+  where
+    none : (stretch : Stretch) (ss : Stretches) → AreEarlier stretch ss → NonePasses (is_stretch stretch) ss
+    none stretch [] all = tt
+    none stretch (s ∷ ss) all = (ap is_eq all.0, none stretch ss all.1)
 
-greater_before : (hour : ℕ) (es : List (ℕ × Observation)) → AllByRecursion (λ (e : ℕ × Observation). e.0 < hour) es → AllByRecursion (λ (e : ℕ × Observation). nat_cmp hour e.0 ≡ Greater) es
-greater_before hour [] all = tt
-greater_before hour (e ∷ es) all = (greater_is hour e.0 all.0, greater_before hour es all.1)
+later_from : (a b : Stretch) → stretch_cmp a b ≡ Greater → stretch_cmp b a ≡ Less
+later_from a b h = stretch_total.antisymm b a ∙ ap ordering_reverse h
 
-less_behind : (hour : ℕ) (es : List (ℕ × Observation)) → AllByRecursion (λ (e : ℕ × Observation). hour < e.0) es → AllByRecursion (λ (e : ℕ × Observation). nat_cmp hour e.0 ≡ Less) es
-less_behind hour [] all = tt
-less_behind hour (e ∷ es) all = (less_is hour e.0 all.0, less_behind hour es all.1)
+-- ---- the rows of earlier and later stretches
 
-joined_behind : (hour : ℕ) (ss : List (ℕ × List (ℕ × Observation))) → AllByRecursion (λ (s : ℕ × List (ℕ × Observation)). stretch_of hour < s.0) ss → AllByRecursion (λ (s : ℕ × List (ℕ × Observation)). LieIn s.0 s.1) ss → AllByRecursion (λ (e : ℕ × Observation). hour < e.0) (joined ss)
-joined_behind hour [] later apart = tt
-joined_behind hour (s ∷ ss) later apart =
-    all_append (λ (e : ℕ × Observation). hour < e.0) s.1 (joined ss) (lie_behind hour s.0 s.1 later.0 apart.0) (joined_behind hour ss later.1 apart.1)
+lie_before : (key : ObsKey) (stretch : Stretch) (rows : Rows) → LieIn stretch rows → stretch_cmp stretch (stretch_of key) ≡ Less → AreBefore key rows
+lie_before key stretch [] lie less = tt
+lie_before key stretch (row ∷ rows) lie less =
+    (earlier_stretch row.0 key (ap (λ (s : Stretch). stretch_cmp s (stretch_of key)) lie.0 ∙ less), lie_before key stretch rows lie.1 less)
 
-all_later : (k s : ℕ) (ss : List (ℕ × List (ℕ × Observation))) → k ≤ s → AllByRecursion (λ y. nat_cmp s y ≡ Less) (keys_of ss) → AllByRecursion (λ (t : ℕ × List (ℕ × Observation)). k < t.0) ss
-all_later k s [] most all = tt
-all_later k s (t ∷ ss) most all = let h = is_less s t.0 all.0 in (omega arith, all_later k s ss most all.1)
+lie_behind : (key : ObsKey) (stretch : Stretch) (rows : Rows) → LieIn stretch rows → stretch_cmp (stretch_of key) stretch ≡ Less → AreBehind key rows
+lie_behind key stretch [] lie less = tt
+lie_behind key stretch (row ∷ rows) lie less =
+    (earlier_stretch key row.0 (ap (stretch_cmp (stretch_of key)) lie.0 ∙ less), lie_behind key stretch rows lie.1 less)
 
--- ---- an hour beside the first of the stretches
+joined_before : (key : ObsKey) (ss : Stretches) → Apart ss → AreEarlier (stretch_of key) ss → AreBefore key (joined ss)
+joined_before key [] apart all = tt
+joined_before key (s ∷ ss) apart all =
+    all_append (λ (row : ObsKey × Observation). comes_before (observation_rank row) (observation_numbers key) ≡ true) (joined ss) (rows_in s)
+    (joined_before key ss apart.1 all.1) (lie_before key s.0.0 (rows_in s) apart.0 all.0)
 
-module _ (hour : ℕ) (s : ℕ × List (ℕ × Observation)) (ss : List (ℕ × List (ℕ × Observation))) (are : AreStretches (s ∷ ss)) where
-  tail : AreStretches ss
-  tail = record { rising = sorted_tail nat_cmp s.0 (keys_of ss) are.rising; apart = are.apart.1 }
+module _ (key : ObsKey) (s : Reverse Stretch × Hours) (ss : Stretches) (falls : Falls (s ∷ ss)) where
+  rest_falls : Falls ss
+  rest_falls = sorted_tail back s.0 (keys_of ss) falls
 
-  rest_later : stretch_of hour ≤ s.0 → AllByRecursion (λ (t : ℕ × List (ℕ × Observation)). stretch_of hour < t.0) ss
-  rest_later most = all_later (stretch_of hour) s.0 ss most (sorted_head nat_cmp s.0 (keys_of ss) are.rising)
+  -- where the key's stretch is the first, or later
+  rest_earlier : stretch_cmp s.0.0 (stretch_of key) ≡ Equal → AreEarlier (stretch_of key) ss
+  rest_earlier same = subst (λ (k : Stretch). AreEarlier k ss) (one_stretch s.0.0 (stretch_of key) same) (sorted_head back s.0 (keys_of ss) falls)
 
-  rest_behind : stretch_of hour ≤ s.0 → AllByRecursion (λ (e : ℕ × Observation). hour < e.0) (joined ss)
-  rest_behind most = joined_behind hour ss (rest_later most) are.apart.1
-
-  all_behind : stretch_of hour < s.0 → AllByRecursion (λ (e : ℕ × Observation). hour < e.0) (joined (s ∷ ss))
-  all_behind less = joined_behind hour (s ∷ ss) (less, rest_later (omega arith)) are.apart
-
-  first_before : s.0 < stretch_of hour → AllByRecursion (λ (e : ℕ × Observation). e.0 < hour) s.1
-  first_before less = lie_before hour s.0 s.1 less are.apart.0
-
-  not_there : stretch_of hour < s.0 → lookup (nat_eq (stretch_of hour)) (s ∷ ss) ≡ None
-  not_there less = lookup-none (nat_eq (stretch_of hour)) (s ∷ ss) (none_behind (stretch_of hour) (s ∷ ss) (less, rest_later (omega arith)))
+  all_earlier : stretch_cmp s.0.0 (stretch_of key) ≡ Less → AreEarlier (stretch_of key) (s ∷ ss)
+  all_earlier less = (less, earlier_than s.0.0 (stretch_of key) ss less (sorted_head back s.0 (keys_of ss) falls))
 
 -- ---- a look-up
 
-pub lookup-joined : (hour : ℕ) (ss : List (ℕ × List (ℕ × Observation))) → AreStretches ss → at_hour hour (joined ss) ≡ at_hour hour (unwrap_or (lookup (nat_eq (stretch_of hour)) ss) [])
-lookup-joined hour [] are = refl
-lookup-joined hour (s ∷ ss) are =
-    let at : (o : Ordering) → nat_cmp (stretch_of hour) s.0 ≡ o → at_hour hour (s.1 ++ joined ss) ≡ at_hour hour (unwrap_or (cond (is_eq o) (Some s.1) (lookup (nat_eq (stretch_of hour)) ss)) []) =
+row_at-joined : (key : ObsKey) (ss : Stretches) → Apart ss → Falls ss → row_at observation_rank (observation_numbers key) (joined ss) ≡ row_at observation_rank (observation_numbers key) (rows_of key.monitor (unwrap_or (hours_at key ss) []))
+row_at-joined key [] apart falls = refl
+row_at-joined key (s ∷ ss) apart falls =
+    let numbers = observation_numbers key in
+    let find = row_at observation_rank numbers in
+    let at : (o : Ordering) → stretch_cmp s.0.0 (stretch_of key) ≡ o → find (joined ss ++ rows_in s) ≡ find (rows_of key.monitor (unwrap_or (cond (is_eq o) (Some s.1) (hours_at key ss)) [])) =
     elim [
-      | Less ↦ λ h.
-          let less = is_less (stretch_of hour) s.0 h in
-          lookup-none (nat_eq hour) (joined (s ∷ ss)) (none_behind hour (joined (s ∷ ss)) (all_behind hour s ss are less))
-          ∙ ap (λ (o : Option (List (ℕ × Observation))). at_hour hour (unwrap_or o [])) (sym (lookup-none (nat_eq (stretch_of hour)) ss (none_behind (stretch_of hour) ss (rest_later hour s ss are (omega arith)))))
-      | Equal ↦ λ h.
-          let same = is_equal (stretch_of hour) s.0 h in
-          lookup_before (nat_eq hour) s.1 (joined ss) (none_behind hour (joined ss) (rest_behind hour s ss are (omega arith)))
-      | Greater ↦ λ h.
-          lookup_past (nat_eq hour) s.1 (joined ss) (none_before hour s.1 (first_before hour s ss are (is_greater (stretch_of hour) s.0 h)))
-          ∙ lookup-joined hour ss (tail hour s ss are)
+      | Less ↦ λ less.
+          let earlier = all_earlier key s ss falls less in
+          row_at-none observation_rank numbers (joined (s ∷ ss)) (others-before observation_rank numbers (joined (s ∷ ss)) (joined_before key (s ∷ ss) apart earlier))
+          ∙ ap (λ (o : Option Hours). find (rows_of key.monitor (unwrap_or o []))) (sym (none_at (stretch_of key) ss earlier.1))
+      | Equal ↦ λ same.
+          row_at-past observation_rank numbers (joined ss) (rows_in s) (others-before observation_rank numbers (joined ss) (joined_before key ss apart.1 (rest_earlier key s ss falls same)))
+          ∙ ap (λ (k : Stretch). find (rows_of k.monitor s.1)) (one_stretch s.0.0 (stretch_of key) same)
+      | Greater ↦ λ later.
+          row_at-before observation_rank numbers (joined ss) (rows_in s) (others-behind observation_rank numbers (rows_in s) (lie_behind key s.0.0 (rows_in s) apart.0 (later_from s.0.0 (stretch_of key) later)))
+          ∙ row_at-joined key ss apart.1 (rest_falls key s ss falls)
     ]
     in
-    at (nat_cmp (stretch_of hour) s.0) refl
-    ∙ ap (λ b. at_hour hour (unwrap_or (cond b (Some s.1) (lookup (nat_eq (stretch_of hour)) ss)) [])) (sym (same_from_order (stretch_of hour) s.0 (nat_cmp (stretch_of hour) s.0) refl))
+    at (stretch_cmp s.0.0 (stretch_of key)) refl
 
-pub lookup-joined-at : (hour : ℕ) (ss : List (ℕ × List (ℕ × Observation))) (o : Option (List (ℕ × Observation))) → AreStretches ss → lookup (nat_eq (stretch_of hour)) ss ≡ o → at_hour hour (joined ss) ≡ at_hour hour (unwrap_or o [])
-lookup-joined-at hour ss o are found =
-    lookup-joined hour ss are ∙ ap (λ (o : Option (List (ℕ × Observation))). at_hour hour (unwrap_or o [])) found
+pub content_at-joined : (key : ObsKey) (ss : Stretches) (o : Option Hours) → AreStretches ss → Falls ss → hours_at key ss ≡ o → content_at key (joined ss) ≡ content_at key (rows_of key.monitor (unwrap_or o []))
+content_at-joined key ss o are falls found =
+    ap (option_map content_of) (row_at-joined key ss are.apart falls)
+    ∙ ap (λ (o : Option Hours). content_at key (rows_of key.monitor (unwrap_or o []))) found
 
--- ---- a change of the stretch that an hour lies in
+-- ---- a change of the rows at a key
 
-module _ (hour : ℕ) (change : List (ℕ × Observation) → List (ℕ × Observation))
-    (past : (es fs : List (ℕ × Observation)) → AllByRecursion (λ (e : ℕ × Observation). e.0 < hour) es → change (es ++ fs) ≡ es ++ change fs)
-    (before : (es fs : List (ℕ × Observation)) → AllByRecursion (λ (e : ℕ × Observation). hour < e.0) fs → change (es ++ fs) ≡ change es ++ fs)
-  where
-    change-joined : (ss : List (ℕ × List (ℕ × Observation))) (hs : List (ℕ × Observation)) → AreStretches ss → lookup (nat_eq (stretch_of hour)) ss ≡ Some hs → joined (set_value (nat_eq (stretch_of hour)) ss (change hs)) ≡ change (joined ss)
-    change-joined [] hs are found = not_found hs (sym found)
-    change-joined (s ∷ ss) hs are found =
-        let new = change hs in
-        let at : (o : Ordering) → nat_cmp (stretch_of hour) s.0 ≡ o → cond (is_eq o) (Some s.1) (lookup (nat_eq (stretch_of hour)) ss) ≡ Some hs → joined (cond (is_eq o) ((s.0, new) ∷ ss) (s ∷ set_value (nat_eq (stretch_of hour)) ss new)) ≡ change (s.1 ++ joined ss) =
-        elim [
-          | Less ↦ λ h _. not_found hs (sym found ∙ not_there hour s ss are (is_less (stretch_of hour) s.0 h))
-          | Equal ↦ λ h here.
-              let same = is_equal (stretch_of hour) s.0 h in
-              let is : hs ≡ s.1 = cc in
-              ap (λ (l : List (ℕ × Observation)). change l ++ joined ss) is
-              ∙ sym (before s.1 (joined ss) (rest_behind hour s ss are (omega arith)))
-          | Greater ↦ λ h rest.
-              ap (λ (l : List (ℕ × Observation)). s.1 ++ l) (change-joined ss hs (tail hour s ss are) rest)
-              ∙ sym (past s.1 (joined ss) (first_before hour s ss are (is_greater (stretch_of hour) s.0 h)))
-        ]
-        in
-        let order = same_from_order (stretch_of hour) s.0 (nat_cmp (stretch_of hour) s.0) refl in
-        ap (λ b. joined (cond b ((s.0, new) ∷ ss) (s ∷ set_value (nat_eq (stretch_of hour)) ss new))) order
-        ∙ at (nat_cmp (stretch_of hour) s.0) refl (ap (λ b. cond b (Some s.1) (lookup (nat_eq (stretch_of hour)) ss)) (sym order) ∙ found)
+-- what a change of the rows of the key's stretch keeps, and that it leaves the rows of the others
+pub record ChangesAt (key : ObsKey) (change : Rows → Rows) : Type 0 where
+  pub past : (es fs : Rows) → AreBefore key es → change (es ++ fs) ≡ es ++ change fs
+  pub before : (es fs : Rows) → AreBehind key fs → change (es ++ fs) ≡ change es ++ fs
+  pub lie : (rows : Rows) → LieIn (stretch_of key) rows → LieIn (stretch_of key) (change rows)
+  pub rise : (rows : Rows) → rises observation_rank rows ≡ true → rises observation_rank (change rows) ≡ true
 
-pub insert-joined : (hour : ℕ) (content : Observation) (ss : List (ℕ × List (ℕ × Observation))) (hs : List (ℕ × Observation)) → AreStretches ss → lookup (nat_eq (stretch_of hour)) ss ≡ Some hs → joined (set_value (nat_eq (stretch_of hour)) ss (insert_entry nat_cmp hs hour content)) ≡ insert_entry nat_cmp (joined ss) hour content
-insert-joined hour content =
-    change-joined hour (λ (es : List (ℕ × Observation)). insert_entry nat_cmp es hour content)
-    (λ es fs all. insert_past nat_cmp hour content es fs (greater_before hour es all))
-    (λ es fs all. insert_before nat_cmp hour content es fs (less_behind hour fs all))
+pub changes-put : (key : ObsKey) (content : Observation) → ChangesAt key (with_row observation_rank (key, content))
+changes-put key content = record {
+  past = λ es fs all. with_row-past observation_rank (key, content) es fs all;
+  before = λ es fs all. with_row-before observation_rank (key, content) es fs all;
+  lie = λ rows lie. all-with_row observation_rank (λ (row : ObsKey × Observation). stretch_of row.0 ≡ stretch_of key) (key, content) rows refl lie;
+  rise = λ rows rising. with_row-rises observation_rank (key, content) rows rising;
+}
 
-pub set-joined : (hour : ℕ) (content : Observation) (ss : List (ℕ × List (ℕ × Observation))) (hs : List (ℕ × Observation)) → AreStretches ss → lookup (nat_eq (stretch_of hour)) ss ≡ Some hs → joined (set_value (nat_eq (stretch_of hour)) ss (set_value (nat_eq hour) hs content)) ≡ set_value (nat_eq hour) (joined ss) content
-set-joined hour content =
-    change-joined hour (λ (es : List (ℕ × Observation)). set_value (nat_eq hour) es content)
-    (λ es fs all. set_past (nat_eq hour) es fs content (none_before hour es all))
-    (λ es fs all. set_before (nat_eq hour) es fs content (none_behind hour fs all))
+pub changes-drop : (key : ObsKey) → ChangesAt key (without_row observation_rank (observation_numbers key))
+changes-drop key = record {
+  past = λ es fs all. without_row-past observation_rank (observation_numbers key) es fs (others-before observation_rank (observation_numbers key) es all);
+  before = λ es fs all. without_row-before observation_rank (observation_numbers key) es fs (others-behind observation_rank (observation_numbers key) fs all);
+  lie = λ rows lie. all-without_row observation_rank (λ (row : ObsKey × Observation). stretch_of row.0 ≡ stretch_of key) (observation_numbers key) rows lie;
+  rise = λ rows rising. without_row-rises observation_rank (observation_numbers key) rows rising;
+}
 
-pub remove-joined : (hour : ℕ) (ss : List (ℕ × List (ℕ × Observation))) (hs : List (ℕ × Observation)) → AreStretches ss → lookup (nat_eq (stretch_of hour)) ss ≡ Some hs → joined (set_value (nat_eq (stretch_of hour)) ss (remove_entry (nat_eq hour) hs)) ≡ remove_entry (nat_eq hour) (joined ss)
-remove-joined hour =
-    change-joined hour (remove_entry (nat_eq hour))
-    (λ es fs all. remove_past (nat_eq hour) es fs (none_before hour es all))
-    (λ es fs all. remove_before (nat_eq hour) es fs (none_behind hour fs all))
+module _ (key : ObsKey) (change : Rows → Rows) (law : ChangesAt key change) where
+  pub change-joined : (ss : Stretches) (hs new : Hours) → Apart ss → Falls ss → hours_at key ss ≡ Some hs → rows_of key.monitor new ≡ change (rows_of key.monitor hs) → joined (set_value (is_stretch (stretch_of key)) ss new) ≡ change (joined ss)
+  change-joined [] hs new apart falls found is = cc
+  change-joined (s ∷ ss) hs new apart falls found is =
+      let set = set_value (is_stretch (stretch_of key)) ss new in
+      let at : (o : Ordering) → stretch_cmp s.0.0 (stretch_of key) ≡ o → cond (is_eq o) (Some s.1) (hours_at key ss) ≡ Some hs → joined (cond (is_eq o) ((s.0, new) ∷ ss) (s ∷ set)) ≡ change (joined ss ++ rows_in s) =
+      elim [
+        | Less ↦ λ less found.
+            let none = none_at (stretch_of key) ss (all_earlier key s ss falls less).1 in
+            let no : None ≡ Some hs = sym none ∙ found in
+            cc
+        | Equal ↦ λ same found.
+            let one = one_stretch s.0.0 (stretch_of key) same in
+            let here : hs ≡ s.1 = cc in
+            ap (λ (k : Stretch). joined ss ++ rows_of k.monitor new) one
+            ∙ ap (λ (l : Rows). joined ss ++ l) is
+            ∙ sym (law.past (joined ss) (rows_of key.monitor hs) (joined_before key ss apart.1 (rest_earlier key s ss falls same)))
+            ∙ ap (λ (h : Hours). change (joined ss ++ rows_of key.monitor h)) here
+            ∙ ap (λ (k : Stretch). change (joined ss ++ rows_of k.monitor s.1)) (sym one)
+        | Greater ↦ λ later found.
+            ap (λ (l : Rows). l ++ rows_in s) (change-joined ss hs new apart.1 (rest_falls key s ss falls) found is)
+            ∙ sym (law.before (joined ss) (rows_in s) (lie_behind key s.0.0 (rows_in s) apart.0 (later_from s.0.0 (stretch_of key) later)))
+      ]
+      in
+      at (stretch_cmp s.0.0 (stretch_of key)) refl found
 
--- the first of a stretch
-pub insert-joined-new : (hour : ℕ) (content : Observation) (ss : List (ℕ × List (ℕ × Observation))) → AreStretches ss → lookup (nat_eq (stretch_of hour)) ss ≡ None → joined (insert_entry nat_cmp ss (stretch_of hour) ((hour, content) ∷ [])) ≡ insert_entry nat_cmp (joined ss) hour content
-insert-joined-new hour content [] are none = refl
-insert-joined-new hour content (s ∷ ss) are none =
-    let k = stretch_of hour in
-    let new : List (ℕ × Observation) = (hour, content) ∷ [] in
-    let at : (o : Ordering) → nat_cmp k s.0 ≡ o → cond (is_eq o) (Some s.1) (lookup (nat_eq k) ss) ≡ None → joined (match_ordering o ((k, new) ∷ s ∷ ss) ((s.0, new) ∷ ss) (s ∷ insert_entry nat_cmp ss k new)) ≡ insert_entry nat_cmp (joined (s ∷ ss)) hour content =
+-- ---- where each row lies
+
+lie_found : (key : ObsKey) (ss : Stretches) (hs : Hours) → Apart ss → hours_at key ss ≡ Some hs → LieIn (stretch_of key) (rows_of key.monitor hs)
+lie_found key [] hs apart found = cc
+lie_found key (s ∷ ss) hs apart found =
+    let at : (o : Ordering) → stretch_cmp s.0.0 (stretch_of key) ≡ o → cond (is_eq o) (Some s.1) (hours_at key ss) ≡ Some hs → LieIn (stretch_of key) (rows_of key.monitor hs) =
     elim [
-      | Less ↦ λ h _.
-          sym (insert_before nat_cmp hour content [] (joined (s ∷ ss)) (less_behind hour (joined (s ∷ ss)) (all_behind hour s ss are (is_less k s.0 h))))
-      | Equal ↦ λ _ found. not_found s.1 found
-      | Greater ↦ λ h rest.
-          ap (λ (l : List (ℕ × Observation)). s.1 ++ l) (insert-joined-new hour content ss (tail hour s ss are) rest)
-          ∙ sym (insert_past nat_cmp hour content s.1 (joined ss) (greater_before hour s.1 (first_before hour s ss are (is_greater k s.0 h))))
+      | Less ↦ λ _ found. lie_found key ss hs apart.1 found
+      | Equal ↦ λ same found.
+          let here : s.1 ≡ hs = cc in
+          subst (λ (h : Hours). LieIn (stretch_of key) (rows_of key.monitor h)) here
+          (subst (λ (k : Stretch). LieIn k (rows_of k.monitor s.1)) (one_stretch s.0.0 (stretch_of key) same) apart.0)
+      | Greater ↦ λ _ found. lie_found key ss hs apart.1 found
     ]
     in
-    let order = same_from_order k s.0 (nat_cmp k s.0) refl in
-    at (nat_cmp k s.0) refl (ap (λ b. cond b (Some s.1) (lookup (nat_eq k) ss)) (sym order) ∙ none)
+    at (stretch_cmp s.0.0 (stretch_of key)) refl found
 
--- ---- each hour lies in its stretch after a change
-
-pub LieIn-insert_entry : (stretch hour : ℕ) (content : Observation) (es : List (ℕ × Observation)) → stretch_of hour ≡ stretch → LieIn stretch es → LieIn stretch (insert_entry nat_cmp es hour content)
-LieIn-insert_entry stretch hour content [] new lie = (new, tt)
-LieIn-insert_entry stretch hour content (e ∷ es) new lie =
-    elim (nat_cmp hour e.0) as (λ r. LieIn stretch (match_ordering r ((hour, content) ∷ e ∷ es) ((e.0, content) ∷ es) (e ∷ insert_entry nat_cmp es hour content))) [
-      | Less ↦ (new, lie)
-      | Equal ↦ lie
-      | Greater ↦ (lie.0, LieIn-insert_entry stretch hour content es new lie.1)
-    ]
-
-pub LieIn-set_value : (stretch : ℕ) (test : ℕ → Bool) (content : Observation) (es : List (ℕ × Observation)) → LieIn stretch es → LieIn stretch (set_value test es content)
-LieIn-set_value stretch test content [] lie = lie
-LieIn-set_value stretch test content (e ∷ es) lie =
-    elim (test e.0) as (λ b. LieIn stretch (cond b ((e.0, content) ∷ es) (e ∷ set_value test es content))) [
-      | true ↦ lie
-      | false ↦ (lie.0, LieIn-set_value stretch test content es lie.1)
-    ]
-
-pub LieIn-remove_entry : (stretch : ℕ) (test : ℕ → Bool) (es : List (ℕ × Observation)) → LieIn stretch es → LieIn stretch (remove_entry test es)
-LieIn-remove_entry stretch test [] lie = lie
-LieIn-remove_entry stretch test (e ∷ es) lie =
-    elim (test e.0) as (λ b. LieIn stretch (cond b es (e ∷ remove_entry test es))) [
-      | true ↦ lie.1
-      | false ↦ (lie.0, LieIn-remove_entry stretch test es lie.1)
-    ]
-
-pub LieIn-found : (k : ℕ) (ss : List (ℕ × List (ℕ × Observation))) (hs : List (ℕ × Observation)) → AllByRecursion (λ (s : ℕ × List (ℕ × Observation)). LieIn s.0 s.1) ss → lookup (nat_eq k) ss ≡ Some hs → LieIn k hs
-LieIn-found k [] hs apart found = not_found hs (sym found)
-LieIn-found k (s ∷ ss) hs apart found =
-    let at : (b : Bool) → nat_eq k s.0 ≡ b → cond b (Some s.1) (lookup (nat_eq k) ss) ≡ Some hs → LieIn k hs =
+apart-set : (key : ObsKey) (new : Hours) (ss : Stretches) → LieIn (stretch_of key) (rows_of key.monitor new) → Apart ss → Apart (set_value (is_stretch (stretch_of key)) ss new)
+apart-set key new [] lie apart = tt
+apart-set key new (s ∷ ss) lie apart =
+    let set = set_value (is_stretch (stretch_of key)) ss new in
+    let at : (o : Ordering) → stretch_cmp s.0.0 (stretch_of key) ≡ o → Apart (cond (is_eq o) ((s.0, new) ∷ ss) (s ∷ set)) =
     elim [
-      | true ↦ λ same here.
-          let is : s.1 ≡ hs = cc in
-          subst (λ (l : List (ℕ × Observation)). LieIn k l) is (subst (λ (n : ℕ). LieIn n s.1) (sym (eqb-true k s.0 same)) apart.0)
-      | false ↦ λ _ rest. LieIn-found k ss hs apart.1 rest
+      | Less ↦ λ _. (apart.0, apart-set key new ss lie apart.1)
+      | Equal ↦ λ same. (subst (λ (k : Stretch). LieIn k (rows_of k.monitor new)) (sym (one_stretch s.0.0 (stretch_of key) same)) lie, apart.1)
+      | Greater ↦ λ _. (apart.0, apart-set key new ss lie apart.1)
     ]
     in
-    at (nat_eq k s.0) refl found
+    at (stretch_cmp s.0.0 (stretch_of key)) refl
 
-apart-set_value : (k : ℕ) (hs : List (ℕ × Observation)) (ss : List (ℕ × List (ℕ × Observation))) → LieIn k hs → AllByRecursion (λ (s : ℕ × List (ℕ × Observation)). LieIn s.0 s.1) ss → AllByRecursion (λ (s : ℕ × List (ℕ × Observation)). LieIn s.0 s.1) (set_value (nat_eq k) ss hs)
-apart-set_value k hs [] lie apart = tt
-apart-set_value k hs (s ∷ ss) lie apart =
-    let at : (b : Bool) → nat_eq k s.0 ≡ b → AllByRecursion (λ (s : ℕ × List (ℕ × Observation)). LieIn s.0 s.1) (cond b ((s.0, hs) ∷ ss) (s ∷ set_value (nat_eq k) ss hs)) =
-    elim [
-      | true ↦ λ same. (subst (λ (n : ℕ). LieIn n hs) (eqb-true k s.0 same) lie, apart.1)
-      | false ↦ λ _. (apart.0, apart-set_value k hs ss lie apart.1)
-    ]
-    in
-    at (nat_eq k s.0) refl
-
-apart-insert_entry : (k : ℕ) (hs : List (ℕ × Observation)) (ss : List (ℕ × List (ℕ × Observation))) → LieIn k hs → AllByRecursion (λ (s : ℕ × List (ℕ × Observation)). LieIn s.0 s.1) ss → AllByRecursion (λ (s : ℕ × List (ℕ × Observation)). LieIn s.0 s.1) (insert_entry nat_cmp ss k hs)
-apart-insert_entry k hs [] lie apart = (lie, tt)
-apart-insert_entry k hs (s ∷ ss) lie apart =
-    let at : (o : Ordering) → nat_cmp k s.0 ≡ o → AllByRecursion (λ (s : ℕ × List (ℕ × Observation)). LieIn s.0 s.1) (match_ordering o ((k, hs) ∷ s ∷ ss) ((s.0, hs) ∷ ss) (s ∷ insert_entry nat_cmp ss k hs)) =
+apart-insert : (key : ObsKey) (new : Hours) (ss : Stretches) → LieIn (stretch_of key) (rows_of key.monitor new) → Apart ss → Apart (insert_entry back ss (record { 0 = stretch_of key }) new)
+apart-insert key new [] lie apart = (lie, tt)
+apart-insert key new (s ∷ ss) lie apart =
+    let k : Reverse Stretch = record { 0 = stretch_of key } in
+    let at : (o : Ordering) → stretch_cmp s.0.0 (stretch_of key) ≡ o → Apart (match_ordering o ((k, new) ∷ s ∷ ss) ((s.0, new) ∷ ss) (s ∷ insert_entry back ss k new)) =
     elim [
       | Less ↦ λ _. (lie, apart)
-      | Equal ↦ λ same. (subst (λ (n : ℕ). LieIn n hs) (is_equal k s.0 same) lie, apart.1)
-      | Greater ↦ λ _. (apart.0, apart-insert_entry k hs ss lie apart.1)
+      | Equal ↦ λ same. (subst (λ (k : Stretch). LieIn k (rows_of k.monitor new)) (sym (one_stretch s.0.0 (stretch_of key) same)) lie, apart.1)
+      | Greater ↦ λ _. (apart.0, apart-insert key new ss lie apart.1)
     ]
     in
-    at (nat_cmp k s.0) refl
+    at (stretch_cmp s.0.0 (stretch_of key)) refl
 
-pub AreStretches-set_value : (k : ℕ) (hs : List (ℕ × Observation)) (ss ts : List (ℕ × List (ℕ × Observation))) → AreStretches ss → LieIn k hs → ts ≡ set_value (nat_eq k) ss hs → AreStretches ts
-AreStretches-set_value k hs ss ts are lie is =
-    subst AreStretches (sym is)
-    (record {
-      rising = subst (IsStrictlySortedBy nat_cmp) (sym (keys-set_value (nat_eq k) ss hs)) are.rising;
-      apart = apart-set_value k hs ss lie are.apart;
-    })
+-- ---- the first row of a stretch
 
-pub AreStretches-insert_entry : (k : ℕ) (hs : List (ℕ × Observation)) (ss ts : List (ℕ × List (ℕ × Observation))) → AreStretches ss → LieIn k hs → ts ≡ insert_entry nat_cmp ss k hs → AreStretches ts
-AreStretches-insert_entry k hs ss ts are lie is =
-    subst AreStretches (sym is)
-    (record {
-      rising = sorted-insert_entry nat_cmp nat_cmp_total k hs ss are.rising;
-      apart = apart-insert_entry k hs ss lie are.apart;
-    })
-
--- ---- the hours between two hours
-
-fails : (from end : ℕ) (p : ℕ → Bool) (stretch : ℕ) (es : List (ℕ × Observation)) → ((e : ℕ × Observation) → p (stretch_of e.0) ≡ false → between from end e ≡ false) → p stretch ≡ false → LieIn stretch es → filter (between from end) es ≡ []
-fails from end p stretch [] so none lie = refl
-fails from end p stretch (e ∷ es) so none lie =
-    ap (λ b. cond b (e ∷ filter (between from end) es) (filter (between from end) es)) (so e (ap p lie.0 ∙ none))
-    ∙ fails from end p stretch es so none lie.1
-
-filter-joined : (from end : ℕ) (p : ℕ → Bool) (ss : List (ℕ × List (ℕ × Observation))) → ((e : ℕ × Observation) → p (stretch_of e.0) ≡ false → between from end e ≡ false) → AllByRecursion (λ (s : ℕ × List (ℕ × Observation)). LieIn s.0 s.1) ss → filter (between from end) (joined (filter (λ (s : ℕ × List (ℕ × Observation)). p s.0) ss)) ≡ filter (between from end) (joined ss)
-filter-joined from end p [] so apart = refl
-filter-joined from end p (s ∷ ss) so apart =
-    let q = between from end in
-    let kept = filter (λ (s : ℕ × List (ℕ × Observation)). p s.0) ss in
-    let rest = filter-joined from end p ss so apart.1 in
-    let at : (b : Bool) → p s.0 ≡ b → filter q (joined (cond b (s ∷ kept) kept)) ≡ filter q s.1 ++ filter q (joined ss) =
+put-joined : (key : ObsKey) (content : Observation) (new : Hours) (ss : Stretches) → rows_of key.monitor new ≡ (key, content) ∷ [] → Apart ss → Falls ss → hours_at key ss ≡ None → joined (insert_entry back ss (record { 0 = stretch_of key }) new) ≡ with_row observation_rank (key, content) (joined ss)
+put-joined key content new [] is apart falls none = is
+put-joined key content new (s ∷ ss) is apart falls none =
+    let k : Reverse Stretch = record { 0 = stretch_of key } in
+    let put = with_row observation_rank (key, content) in
+    let at : (o : Ordering) → stretch_cmp s.0.0 (stretch_of key) ≡ o → cond (is_eq o) (Some s.1) (hours_at key ss) ≡ None → joined (match_ordering o ((k, new) ∷ s ∷ ss) ((s.0, new) ∷ ss) (s ∷ insert_entry back ss k new)) ≡ put (joined ss ++ rows_in s) =
     elim [
-      | true ↦ λ _. filter-append q s.1 (joined kept) ∙ ap (λ (l : List (ℕ × Observation)). filter q s.1 ++ l) rest
-      | false ↦ λ none. rest ∙ ap (λ (l : List (ℕ × Observation)). l ++ filter q (joined ss)) (sym (fails from end p s.0 s.1 so none apart.0))
+      | Less ↦ λ less _.
+          let rows = joined (s ∷ ss) in
+          ap (λ (l : Rows). rows ++ l) is
+          ∙ sym (with_row-past observation_rank (key, content) rows [] (joined_before key (s ∷ ss) apart (all_earlier key s ss falls less)))
+          ∙ ap put (append-nil rows)
+      | Equal ↦ λ _ none. cc
+      | Greater ↦ λ later none.
+          ap (λ (l : Rows). l ++ rows_in s) (put-joined key content new ss is apart.1 (rest_falls key s ss falls) none)
+          ∙ sym (with_row-before observation_rank (key, content) (joined ss) (rows_in s) (lie_behind key s.0.0 (rows_in s) apart.0 (later_from s.0.0 (stretch_of key) later)))
     ]
     in
-    at (p s.0) refl ∙ sym (filter-append q s.1 (joined ss))
+    at (stretch_cmp s.0.0 (stretch_of key)) refl none
 
--- the stretches from that of the first hour to that of the end
-abbrev pub in_stretches : ℕ → ℕ → ℕ → Bool
-in_stretches from end k = range_contains (back nat_cmp) (Included (record { 0 = stretch_of end })) (Included (record { 0 = stretch_of from })) (record { 0 = k })
+-- ---- by the stretch that the code computes
 
-contains : (first latest k : ℕ) → first ≤ k → k ≤ latest → range_contains (back nat_cmp) (Included (record { 0 = latest })) (Included (record { 0 = first })) (record { 0 = k }) ≡ true
-contains first latest k from to = grind (arith, nat_tests)
+module _ (key : ObsKey) (stretch : Stretch) (ss : Stretches) (is : stretch ≡ stretch_of key) where
+  pub found-at : (o : Option Hours) → o ≡ lookup (is_stretch stretch) ss → hours_at key ss ≡ o
+  found-at o h = ap (λ (k : Stretch). lookup (is_stretch k) ss) (sym is) ∙ sym h
 
-later_stretch : (a b : ℕ) → a ≤ b → stretch_of a ≤ stretch_of b
-later_stretch a b h = omega arith
+  pub written-at : (ts : Stretches) (new : Hours) → ts ≡ set_value (is_stretch stretch) ss new → ts ≡ set_value (is_stretch (stretch_of key)) ss new
+  written-at ts new h = h ∙ ap (λ (k : Stretch). set_value (is_stretch k) ss new) is
 
-is_from : (a b : ℕ) → nat_le a b ≡ true → a ≤ b
-is_from a b h = grind (arith, nat_tests)
+  module _ (content : Observation) (new : Hours) (ts : Stretches) (rows : rows_of key.monitor new ≡ (key, content) ∷ []) (are : AreStretches ss) (falls : Falls ss) (none : hours_at key ss ≡ None) (put : ts ≡ insert_entry back ss (record { 0 = stretch }) new) where
+    at_key : ts ≡ insert_entry back ss (record { 0 = stretch_of key }) new
+    at_key = put ∙ ap (λ (k : Stretch). insert_entry back ss (record { 0 = k }) new) is
 
-is_below : (a b : ℕ) → nat_lt a b ≡ true → a < b
-is_below a b h = grind (arith, nat_tests)
+    pub put-first : joined ts ≡ with_row observation_rank (key, content) (joined ss)
+    put-first = ap joined at_key ∙ put-joined key content new ss rows are.apart falls none
 
-outside : (from end : ℕ) (e : ℕ × Observation) → in_stretches from end (stretch_of e.0) ≡ false → between from end e ≡ false
-outside from end e none =
-    let at : (b c : Bool) → nat_le from e.0 ≡ b → nat_lt e.0 end ≡ c → (b && c) ≡ false =
-    λ b c. elim b as (λ b. nat_le from e.0 ≡ b → nat_lt e.0 end ≡ c → (b && c) ≡ false) [
-      | true ↦ elim c as (λ c. nat_le from e.0 ≡ true → nat_lt e.0 end ≡ c → c ≡ false) [
-        | true ↦ λ h k.
-            let less = is_below e.0 end k in
-            let inside = contains (stretch_of from) (stretch_of end) (stretch_of e.0) (later_stretch from e.0 (is_from from e.0 h)) (later_stretch e.0 end (omega arith)) in
-            absurd (false≢true (sym none ∙ inside))
-        | false ↦ λ _ _. refl
+    pub AreStretches-first : AreStretches ts
+    AreStretches-first = record {
+      apart = subst Apart (sym at_key) (apart-insert key new ss (subst (LieIn (stretch_of key)) (sym rows) (refl, tt)) are.apart);
+      rising = ap (rises observation_rank) put-first ∙ with_row-rises observation_rank (key, content) (joined ss) are.rising;
+    }
+
+-- ---- what stands after a change
+
+module _ (key : ObsKey) (change : Rows → Rows) (law : ChangesAt key change) (ss ts : Stretches) (hs new : Hours) (are : AreStretches ss) (falls : Falls ss) (found : hours_at key ss ≡ Some hs) (written : ts ≡ set_value (is_stretch (stretch_of key)) ss new) where
+  pub changed-joined : rows_of key.monitor new ≡ change (rows_of key.monitor hs) → joined ts ≡ change (joined ss)
+  changed-joined is = ap joined written ∙ change-joined key change law ss hs new are.apart falls found is
+
+  stays : new ≡ hs → ts ≡ ss
+  stays is = written ∙ ap (set_value (is_stretch (stretch_of key)) ss) is ∙ set_value_same (is_stretch (stretch_of key)) ss hs found
+
+  pub unchanged-joined : new ≡ hs → joined ts ≡ joined ss
+  unchanged-joined is = ap joined (stays is)
+
+  pub AreStretches-change : (rows_of key.monitor new ≡ change (rows_of key.monitor hs)) ⊎ (new ≡ hs) → AreStretches ts
+  AreStretches-change = elim [
+    | inl is ↦ record {
+      apart = subst Apart (sym written) (apart-set key new ss (subst (LieIn (stretch_of key)) (sym is) (law.lie (rows_of key.monitor hs) (lie_found key ss hs are.apart found))) are.apart);
+      rising = ap (rises observation_rank) (changed-joined is) ∙ law.rise (joined ss) are.rising;
+    }
+    | inr is ↦ subst AreStretches (sym (stays is)) are
+  ]
+
+-- ---- the stretches from the last, which is the first in the order of keys
+
+pub joined_last : (ss : Stretches) (s : Reverse Stretch × Hours) → joined (ss ++ s ∷ []) ≡ rows_in s ++ joined ss
+joined_last [] s = sym (append-nil (rows_in s))
+joined_last (t ∷ ss) s =
+    ap (λ (l : Rows). l ++ rows_in t) (joined_last ss s) ∙ append_assoc (rows_in s) (joined ss) (rows_in t)
+
+pub hours_of_last : (from end : ℕ) (ss : Stretches) (s : Reverse Stretch × Hours) → hours_between from end (ss ++ s ∷ []) ≡ filter (between from end) s.1 ++ hours_between from end ss
+hours_of_last from end [] s = sym (append-nil (filter (between from end) s.1))
+hours_of_last from end (t ∷ ss) s =
+    ap (λ (l : Hours). l ++ filter (between from end) t.1) (hours_of_last from end ss s)
+    ∙ append_assoc (filter (between from end) s.1) (hours_between from end ss) (filter (between from end) t.1)
+
+-- a stretch is begun where nothing is left of the one before
+pub hours-begun : (from end : ℕ) (left all : Hours) (behind ss : Stretches) (s : Reverse Stretch × Hours) → nat_eq (length left) 0 ≡ true → behind ≡ ss ++ s ∷ [] → left ++ hours_between from end behind ≡ all → filter (between from end) s.1 ++ hours_between from end ss ≡ all
+hours-begun from end [] all behind ss s none is rest =
+    sym (hours_of_last from end ss s) ∙ ap (hours_between from end) (sym is) ∙ rest
+hours-begun from end (h ∷ left) all behind ss s none is rest = some (length (h ∷ left)) none (omega arith)
+  where
+    some : {P : Type 0} (n : ℕ) → nat_eq n 0 ≡ true → 1 ≤ n → P
+    some n h k = absurd (grind (arith, nat_tests))
+
+pub rows-begun : (monitor : Option MonitorId) (left : Hours) (all : Rows) (behind ss : Stretches) (s : Reverse Stretch × Hours) → nat_eq (length left) 0 ≡ true → behind ≡ ss ++ s ∷ [] → rows_under monitor left ++ joined behind ≡ all → rows_in s ++ joined ss ≡ all
+rows-begun None left all behind ss s none is rest = sym (joined_last ss s) ∙ ap joined (sym is) ∙ rest
+rows-begun (Some m) [] all behind ss s none is rest = sym (joined_last ss s) ∙ ap joined (sym is) ∙ rest
+rows-begun (Some m) (h ∷ left) all behind ss s none is rest = some (length (h ∷ left)) none (omega arith)
+  where
+    some : {P : Type 0} (n : ℕ) → nat_eq n 0 ≡ true → 1 ≤ n → P
+    some n h k = absurd (grind (arith, nat_tests))
+
+-- ---- the hours of a span
+
+-- whether a stretch lies among those from the one of hour `from` to the one of hour `end`
+abbrev pub is_among : MonitorId → ℕ → ℕ → Reverse Stretch → Bool
+is_among monitor from end stretch =
+    is_le (stretch_cmp stretch.0 (record { monitor = monitor; number = end / 256 }))
+    && not (is_lt (stretch_cmp stretch.0 (record { monitor = monitor; number = from / 256 })))
+
+module _ (monitor : MonitorId) (from end : ℕ) where
+  abbrev test : ObsKey × Observation → Bool
+  test = in_span monitor from (end - from)
+
+  abbrev hours_in : Rows → Hours
+  hours_in rows = map hour_content (filter test rows)
+
+  hours_in-append : (xs ys : Rows) → hours_in (xs ++ ys) ≡ hours_in xs ++ hours_in ys
+  hours_in-append xs ys = ap (map hour_content) (filter-append test xs ys) ∙ map-append hour_content (filter test xs) (filter test ys)
+
+  same_end : from ≤ end → from + (end - from) ≡ end
+  same_end h = omega arith
+
+  own_rows : (m : MonitorId) (hs : Hours) → from ≤ end → is_same_monitor m monitor ≡ true → hours_in (rows_of m hs) ≡ filter (between from end) hs
+  own_rows m [] order same = refl
+  own_rows m (h ∷ hs) order same =
+      let row : ObsKey × Observation = (record { monitor = m; hour = h.0 }, h.1) in
+      let rest = filter test (rows_of m hs) in
+      let at : (b : Bool) → map hour_content (cond b (row ∷ rest) rest) ≡ cond b (h ∷ filter (between from end) hs) (filter (between from end) hs) =
+      elim [ true ↦ ap (λ (l : Hours). h ∷ l) (own_rows m hs order same) | false ↦ own_rows m hs order same ]
+      in
+      ap (λ b. map hour_content (cond (b && nat_le from h.0 && nat_lt h.0 (from + (end - from))) (row ∷ rest) rest)) same
+      ∙ ap (λ n. map hour_content (cond (nat_le from h.0 && nat_lt h.0 n) (row ∷ rest) rest)) (same_end order)
+      ∙ at (nat_le from h.0 && nat_lt h.0 end)
+
+  other_rows : (m : MonitorId) (hs : Hours) → is_same_monitor m monitor ≡ false → hours_in (rows_of m hs) ≡ []
+  other_rows m [] apart = refl
+  other_rows m (h ∷ hs) apart =
+      let row : ObsKey × Observation = (record { monitor = m; hour = h.0 }, h.1) in
+      let rest = filter test (rows_of m hs) in
+      ap (λ b. map hour_content (cond (b && nat_le from h.0 && nat_lt h.0 (from + (end - from))) (row ∷ rest) rest)) apart
+      ∙ other_rows m hs apart
+
+  outside : (n hour : ℕ) → hour / 256 ≡ n → (is_le (nat_cmp n (end / 256)) && not (is_lt (nat_cmp n (from / 256)))) ≡ false → (nat_le from hour && nat_lt hour end) ≡ false
+  outside n hour lie none = by_tests (nat_le from hour) (nat_lt hour end) refl refl
+    where
+      inside : (n hour : ℕ) → hour / 256 ≡ n → nat_le from hour ≡ true → nat_lt hour end ≡ true → (is_le (nat_cmp n (end / 256)) && not (is_lt (nat_cmp n (from / 256)))) ≡ true
+      inside n hour lie least less =
+          let low : from ≤ hour = grind (arith, nat_tests) in
+          let high : hour < end = grind (arith, nat_tests) in
+          let first : from / 256 ≤ n = omega arith in
+          let last : n ≤ end / 256 = omega arith in
+          grind (arith, nat_tests)
+
+      by_tests : (b c : Bool) → nat_le from hour ≡ b → nat_lt hour end ≡ c → (b && c) ≡ false
+      by_tests true true least less = sym (inside n hour lie least less) ∙ none
+      by_tests true false least less = refl
+      by_tests false c least less = refl
+
+  none_inside : (s : Stretch) (hs : Hours) → LieIn s (rows_of s.monitor hs) → (is_le (nat_cmp s.number (end / 256)) && not (is_lt (nat_cmp s.number (from / 256)))) ≡ false → filter (between from end) hs ≡ []
+  none_inside s [] lie none = refl
+  none_inside s (h ∷ hs) lie none =
+      ap (λ b. cond b (h ∷ filter (between from end) hs) (filter (between from end) hs)) (outside s.number h.0 (ap (λ (k : Stretch). k.number) lie.0) none)
+      ∙ none_inside s hs lie.1 none
+
+  hours_of_stretch : (s : Reverse Stretch × Hours) → from ≤ end → LieIn s.0.0 (rows_in s) → hours_in (rows_in s) ≡ cond (is_among monitor from end s.0) (filter (between from end) s.1) []
+  hours_of_stretch s order lie =
+      let n = s.0.0.number in
+      let at : (o : Ordering) → is_same_monitor s.0.0.monitor monitor ≡ is_eq o → hours_in (rows_in s) ≡ cond (is_le (ordering_then o (nat_cmp n (end / 256))) && not (is_lt (ordering_then o (nat_cmp n (from / 256))))) (filter (between from end) s.1) [] =
+      elim [
+        | Less ↦ λ apart. other_rows s.0.0.monitor s.1 apart
+        | Equal ↦ λ same.
+            let by_test : (b : Bool) → (is_le (nat_cmp n (end / 256)) && not (is_lt (nat_cmp n (from / 256)))) ≡ b → filter (between from end) s.1 ≡ cond b (filter (between from end) s.1) [] =
+            elim [ true ↦ λ _. refl | false ↦ λ none. none_inside s.0.0 s.1 lie none ]
+            in
+            own_rows s.0.0.monitor s.1 order same ∙ by_test (is_le (nat_cmp n (end / 256)) && not (is_lt (nat_cmp n (from / 256)))) refl
+        | Greater ↦ λ apart. other_rows s.0.0.monitor s.1 apart
       ]
-      | false ↦ λ _ _. refl
-    ]
-    in
-    at (nat_le from e.0) (nat_lt e.0 end) refl refl
+      in
+      at (monitor_cmp s.0.0.monitor monitor) (sym (is_eq-monitor_cmp s.0.0.monitor monitor))
 
-pub filter-stretches : (from end : ℕ) (ss : List (ℕ × List (ℕ × Observation))) → AreStretches ss → filter (between from end) (joined (filter (λ (s : ℕ × List (ℕ × Observation)). in_stretches from end s.0) ss)) ≡ filter (between from end) (joined ss)
-filter-stretches from end ss are = filter-joined from end (in_stretches from end) ss (outside from end) are.apart
-
--- ---- what the map of stretches answers, by the number that the code computes
-
-module _ (hour k : ℕ) (es : List (Reverse ℕ × List (ℕ × Observation))) (is : k ≡ stretch_of hour) (sorted : IsStrictlySortedBy (back nat_cmp) (keys_of es)) where
-  pub found-stretch : (o : Option (List (ℕ × Observation))) → o ≡ lookup (is_at (back nat_cmp (record { 0 = k }))) es → lookup (nat_eq (stretch_of hour)) (rising es) ≡ o
-  found-stretch o h =
-      ap (λ (n : ℕ). lookup (nat_eq n) (rising es)) (sym is) ∙ sym (lookup-latest (record { 0 = k }) es sorted) ∙ sym h
-
-  pub set-stretch : (fs : List (Reverse ℕ × List (ℕ × Observation))) (hs : List (ℕ × Observation)) → fs ≡ set_value (is_at (back nat_cmp (record { 0 = k }))) es hs → rising fs ≡ set_value (nat_eq (stretch_of hour)) (rising es) hs
-  set-stretch fs hs h =
-      set_value-latest (record { 0 = k }) es sorted fs hs hs h refl
-      ∙ ap (λ (n : ℕ). set_value (nat_eq n) (rising es) hs) is
-
-  pub insert-stretch : (fs : List (Reverse ℕ × List (ℕ × Observation))) (hs : List (ℕ × Observation)) → fs ≡ insert_entry (back nat_cmp) es (record { 0 = k }) hs → rising fs ≡ insert_entry nat_cmp (rising es) (stretch_of hour) hs
-  insert-stretch fs hs h =
-      ap rising h
-      ∙ insert_entry-latest (record { 0 = k }) es sorted hs
-      ∙ ap (λ (n : ℕ). insert_entry nat_cmp (rising es) n hs) is
-
--- why an observation is not put
-pub IsHourFault-same : (fault : ShelfFault) (full : Bool) (hour : ℕ) (hs es : List (ℕ × Observation)) → at_hour hour es ≡ at_hour hour hs → IsHourFault fault full hour hs → IsHourFault fault full hour es
-IsHourFault-same AlreadyThere full hour hs es same h = ap is_some same ∙ h
-IsHourFault-same Full full hour hs es same h = (same ∙ h.0, h.1)
-IsHourFault-same Memory full hour hs es same h = (same ∙ h.0, h.1)
-
--- a stretch's hours lie in it, whether one was put among them or not
-pub LieIn-put : {T E : Type 0} (r : Result T E) (hour : ℕ) (content : Observation) (hs new : List (ℕ × Observation)) → OnOk r (new ≡ insert_entry nat_cmp hs hour content) → OnErr r (new ≡ hs) → LieIn (stretch_of hour) hs → LieIn (stretch_of hour) new
-LieIn-put (Ok x) hour content hs new put stays lie =
-    subst (λ (l : List (ℕ × Observation)). LieIn (stretch_of hour) l) (sym put) (LieIn-insert_entry (stretch_of hour) hour content hs refl lie)
-LieIn-put (Err e) hour content hs new put stays lie =
-    subst (λ (l : List (ℕ × Observation)). LieIn (stretch_of hour) l) (sym stays) lie
-
--- the same where one's content was changed or not
-pub LieIn-changed : {T : Type 0} (o : Option T) (stretch : ℕ) (test : ℕ → Bool) (content : Observation) (hs new : List (ℕ × Observation)) → OnSome o (new ≡ set_value test hs content) → IfNone o (new ≡ hs) → LieIn stretch hs → LieIn stretch new
-LieIn-changed None stretch test content hs new changed stays lie =
-    subst (λ (l : List (ℕ × Observation)). LieIn stretch l) (sym stays) lie
-LieIn-changed (Some x) stretch test content hs new changed stays lie =
-    subst (λ (l : List (ℕ × Observation)). LieIn stretch l) (sym changed) (LieIn-set_value stretch test content hs lie)
+  pub hours-joined : (ss : Stretches) → from ≤ end → Apart ss → hours_between from end (filter (λ (s : Reverse Stretch × Hours). is_among monitor from end s.0) ss) ≡ observations_in monitor from (end - from) (joined ss)
+  hours-joined [] order apart = refl
+  hours-joined (s ∷ ss) order apart =
+      let kept = filter (λ (s : Reverse Stretch × Hours). is_among monitor from end s.0) ss in
+      let rest = hours-joined ss order apart.1 in
+      let at : (b : Bool) → hours_between from end (cond b (s ∷ kept) kept) ≡ hours_in (joined ss) ++ cond b (filter (between from end) s.1) [] =
+      elim [
+        | true ↦ ap (λ (l : Hours). l ++ filter (between from end) s.1) rest
+        | false ↦ rest ∙ sym (append-nil (hours_in (joined ss)))
+      ]
+      in
+      at (is_among monitor from end s.0)
+      ∙ ap (λ (l : Hours). hours_in (joined ss) ++ l) (sym (hours_of_stretch s order apart.0))
+      ∙ sym (hours_in-append (joined ss) (rows_in s))

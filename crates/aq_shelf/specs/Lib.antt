@@ -1,8 +1,5 @@
--- The shelf as a list of entries, in the order of keys.
-pub mod Keys
-pub mod Latest
-pub mod Entries
+-- The shelf in the words of the book of rules, and how it keeps its rows.
+pub mod Standing
 pub mod Faults
-pub mod Monitors
-pub mod Places
 pub mod Stretches
+pub mod Places

@@ -1,46 +1,37 @@
-//! One monitor's observations, by hour.
-ghost use Rattle.std.specs.Prelude.{◌≡◌, ◌+◌, ◌≤◌, nat_eq, true, false, Some, None, [], filter, IfErr, OnOk, OnErr, OnSome, IfNone};
-ghost use Rattle.std.specs.Map.{lookup, set_value, remove_entry};
+//! The observations of one stretch, by hour.
+ghost use Rattle.std.specs.Prelude.{◌≡◌, ◌<◌, ◌≤◌, false, None, [], length, filter, IfErr, OnOk, OnErr, OnSome, IfNone, MatchResult};
+ghost use Rattle.std.specs.Map.{keys_of};
+ghost use Rattle.std.specs.List.Sorted.{IsStrictlySortedBy};
 ghost use Rattle.std.specs.Ordering.{nat_cmp};
-ghost use Rattle.std.specs.BTreeMap.{insert_entry};
-ghost use Rattle.aq_shelf.specs.declared.fault.ShelfFault.TheVariants.{Memory};
-ghost use Rattle.aq_shelf.specs.Latest.{rising};
-ghost use Rattle.aq_shelf.specs.Monitors.{at_hour, in_hours, IsHourFault};
-ghost use Rattle.aq_shelf.specs.Stretches.{joined, stretch_of, AreStretches};
+ghost use Rattle.aq_profile.specs.Office.Office.{observation_numbers, observation_rank, with_row, without_row};
+ghost use Rattle.aq_shelf.specs.Places.{place_of, StandsAt, IsGapAt};
+ghost use Rattle.aq_shelf.specs.Standing.{content_at, IsPutFault};
+ghost use Rattle.aq_shelf.specs.Stretches.{between, rows_of};
 
 use crate::fault::ShelfFault;
-use crate::span::Span;
-use crate::stretch::{STRETCH_HOURS, Stretch};
-use aq_base::{Hour, Observation};
+use aq_base::{Hour, ObsKey, Observation};
 use std::alloc::Global;
-use std::cmp::Reverse;
-use std::collections::BTreeMap;
 use std::marker::Model;
-use std::ops::Bound;
 
-/// The observations of one monitor. Contracts see the list of them, rising by hour.
-///
-/// Each stretch of hours has a list of its own, so that an hour takes little memory, and a load in any
-/// order moves few of them. The map has the stretches latest first: a load mostly brings later and later
-/// hours, and a search of the map goes through each node from its front.
+/// The observations of one stretch of a monitor's hours. Contracts see the list of them, rising by
+/// hour; with the monitor they are rows.
 #[derive(Drop)]
 pub(crate) struct Hours {
-    /// By the stretch's number, of the hours that lie in it.
-    stretches: BTreeMap<Reverse<u32>, Stretch>,
-    alloc: Global,
+    items: Vec<(Hour, Observation)>,
 }
 
 impl Model for Hours {
     ghost use Rattle.std.specs.Prelude.{List, ℕ};
+    ghost use Rattle.std.specs.List.Sorted.{IsStrictlySortedBy};
+    ghost use Rattle.std.specs.Map.{keys_of};
+    ghost use Rattle.std.specs.Ordering.{nat_cmp};
     ghost use Rattle.aq_base.specs.declared.observation.Observation.{Observation};
-    ghost use Rattle.aq_shelf.specs.Latest.{rising};
-    ghost use Rattle.aq_shelf.specs.Stretches.{joined, AreStretches};
 
     ghost Value = { List (ℕ × Observation) };
 
-    ghost view = { λ hours. joined (rising hours.stretches.entries) };
+    ghost view = { λ hours. hours.items.items };
 
-    ghost invariant = { λ hours. AreStretches (rising hours.stretches.entries) };
+    ghost invariant = { λ hours. IsStrictlySortedBy nat_cmp (keys_of hours.items.items) };
 }
 
 impl Hours {
@@ -49,157 +40,153 @@ impl Hours {
         ensures { result ≡ [] }
     {
         Hours {
-            stretches: BTreeMap::new(alloc),
-            alloc,
+            items: Vec::new(alloc),
         }
     }
 
-    /// Puts an observation at an hour. It is refused where one stands there, and else where the
-    /// shelf is full.
+    /// Puts an observation at a key of the monitor. It is refused where one stands there, and else
+    /// where the shelf is full.
     pub(crate) fn insert(
         &mut self,
-        hour: Hour,
+        key: &ObsKey,
         content: Observation,
         full: bool,
     ) -> Result<(), ShelfFault>
-        ensures ok { OnOk result (self.new ≡ insert_entry nat_cmp self.old hour content) }
-        ensures absent { OnOk result (at_hour hour self.old ≡ None) }
+        ensures ok { OnOk result (rows_of key.now.monitor self.new ≡ with_row observation_rank (key.now, content) (rows_of key.now.monitor self.old)) }
+        ensures absent { OnOk result (content_at key.now (rows_of key.now.monitor self.old) ≡ None) }
         ensures room { OnOk result (full ≡ false) }
-        ensures refused { IfErr result (λ fault. IsHourFault fault full hour self.old) }
+        ensures refused { IfErr result (λ fault. IsPutFault fault full (content_at key.now (rows_of key.now.monitor self.old))) }
         ensures unchanged { OnErr result (self.new ≡ self.old) }
     {
-        put(&mut self.stretches, self.alloc, hour, content, full)
-    }
-
-    /// Gives the observation at an hour another content, and answers the one before.
-    pub(crate) fn update(&mut self, hour: Hour, content: Observation) -> Option<Observation>
-        ensures before { result ≡ at_hour hour self.old }
-        ensures ok { OnSome result (self.new ≡ set_value (nat_eq hour) self.old content) }
-        ensures unchanged { IfNone result (self.new ≡ self.old) }
-    {
-        change(&mut self.stretches, hour, content)
-    }
-
-    /// Takes the observation at an hour away, and answers it.
-    pub(crate) fn remove(&mut self, hour: Hour) -> Option<Observation>
-        ensures before { result ≡ at_hour hour self.old }
-        ensures after { self.new ≡ remove_entry (nat_eq hour) self.old }
-        ensures unchanged { IfNone result (self.new ≡ self.old) }
-    {
-        take_out(&mut self.stretches, hour)
-    }
-
-    /// The observation at an hour.
-    pub(crate) fn at(&self, hour: Hour) -> Option<Observation>
-        ensures { result ≡ at_hour hour self.now }
-    {
-        find(&self.stretches, hour)
-    }
-
-    /// The observations in the `hours` hours from `from` on, one after another.
-    pub(crate) fn range(&self, from: Hour, hours: u32) -> Span<'_>
-        requires { hours ≤ 1000000 }
-        ensures { result ≡ filter (in_hours from hours) self.now }
-    {
-        let start = from.number();
-        let end = start + hours;
-        let latest = Bound::Included(Reverse(end / STRETCH_HOURS));
-        let first = Bound::Included(Reverse(start / STRETCH_HOURS));
-        Span::new(self.stretches.range((latest, first)), start, end)
-    }
-}
-
-/// The number of the stretch that an hour lies in.
-fn stretch_number(hour: Hour) -> u32
-    ensures { result ≡ stretch_of hour }
-{
-    hour.number() / STRETCH_HOURS
-}
-
-/// Puts an observation at an hour. It is refused where one stands there, and else where the shelf is
-/// full.
-fn put(
-    stretches: &mut BTreeMap<Reverse<u32>, Stretch>,
-    alloc: Global,
-    hour: Hour,
-    content: Observation,
-    full: bool,
-) -> Result<(), ShelfFault>
-    requires { AreStretches (rising stretches.old.entries) }
-    ensures ok { OnOk result (joined (rising stretches.new.entries) ≡ insert_entry nat_cmp (joined (rising stretches.old.entries)) hour content) }
-    ensures absent { OnOk result (at_hour hour (joined (rising stretches.old.entries)) ≡ None) }
-    ensures room { OnOk result (full ≡ false) }
-    ensures refused { IfErr result (λ fault. IsHourFault fault full hour (joined (rising stretches.old.entries))) }
-    ensures unchanged { OnErr result (joined (rising stretches.new.entries) ≡ joined (rising stretches.old.entries)) }
-    ensures stretches { AreStretches (rising stretches.new.entries) }
-{
-    match stretches.get_mut(&Reverse(stretch_number(hour))) {
-        Some(stretch) => stretch.insert(hour, content, full),
-        None => {
-            if full {
-                return Err(ShelfFault::Full);
+        match search(self.items.as_slice(), key.hour) {
+            Ok(_) => Err(ShelfFault::AlreadyThere),
+            Err(place) => {
+                if full {
+                    return Err(ShelfFault::Full);
+                }
+                match self.items.insert(place, (key.hour, content)) {
+                    Ok(()) => Ok(()),
+                    Err(_) => Err(ShelfFault::Memory),
+                }
             }
-            put_first(stretches, alloc, hour, content)
         }
     }
-}
 
-/// Puts the first observation of a stretch. Only want of memory refuses it.
-fn put_first(
-    stretches: &mut BTreeMap<Reverse<u32>, Stretch>,
-    alloc: Global,
-    hour: Hour,
-    content: Observation,
-) -> Result<(), ShelfFault>
-    requires stretches { AreStretches (rising stretches.old.entries) }
-    requires absent { lookup (nat_eq (stretch_of hour)) (rising stretches.old.entries) ≡ None }
-    ensures ok { OnOk result (joined (rising stretches.new.entries) ≡ insert_entry nat_cmp (joined (rising stretches.old.entries)) hour content) }
-    ensures refused { IfErr result (λ fault. fault ≡ Memory) }
-    ensures unchanged { OnErr result (joined (rising stretches.new.entries) ≡ joined (rising stretches.old.entries)) }
-    ensures stretches { AreStretches (rising stretches.new.entries) }
-{
-    let mut stretch = Stretch::new(alloc);
-    stretch.insert(hour, content, false)?;
-    match stretches.insert(Reverse(stretch_number(hour)), stretch) {
-        Ok(_) => Ok(()),
-        Err(_) => Err(ShelfFault::Memory),
+    /// Gives the observation at a key of the monitor another content, and answers the one before.
+    pub(crate) fn update(&mut self, key: &ObsKey, content: Observation) -> Option<Observation>
+        ensures before { result ≡ content_at key.now (rows_of key.now.monitor self.old) }
+        ensures ok { OnSome result (rows_of key.now.monitor self.new ≡ with_row observation_rank (key.now, content) (rows_of key.now.monitor self.old)) }
+        ensures unchanged { IfNone result (self.new ≡ self.old) }
+    {
+        match search(self.items.as_slice(), key.hour) {
+            Ok(place) => {
+                let before = self.items[place].1;
+                self.items[place] = (key.hour, content);
+                Some(before)
+            }
+            Err(_) => None,
+        }
+    }
+
+    /// Takes the observation at a key of the monitor away, and answers it.
+    pub(crate) fn remove(&mut self, key: &ObsKey) -> Option<Observation>
+        ensures before { result ≡ content_at key.now (rows_of key.now.monitor self.old) }
+        ensures ok { OnSome result (rows_of key.now.monitor self.new ≡ without_row observation_rank (observation_numbers key.now) (rows_of key.now.monitor self.old)) }
+        ensures unchanged { IfNone result (self.new ≡ self.old) }
+    {
+        match search(self.items.as_slice(), key.hour) {
+            Ok(place) => Some(self.items.remove(place).1),
+            Err(_) => None,
+        }
+    }
+
+    /// The observation at a key of the monitor.
+    pub(crate) fn at(&self, key: &ObsKey) -> Option<Observation>
+        ensures { result ≡ content_at key.now (rows_of key.now.monitor self.now) }
+    {
+        match search(self.items.as_slice(), key.hour) {
+            Ok(place) => Some(self.items[place].1),
+            Err(_) => None,
+        }
+    }
+
+    /// All of them, rising.
+    pub(crate) fn as_slice(&self) -> &[(Hour, Observation)]
+        ensures { result.now ≡ self.now }
+    {
+        self.items.as_slice()
+    }
+
+    /// Those from the hour `from` on and before the hour `end`, rising.
+    pub(crate) fn between(&self, from: u32, end: u32) -> &[(Hour, Observation)]
+        ensures { result.now ≡ filter (between from end) self.now }
+    {
+        cut(self.items.as_slice(), from, end)
     }
 }
 
-/// Gives the observation at an hour another content, and answers the one before.
-fn change(
-    stretches: &mut BTreeMap<Reverse<u32>, Stretch>,
-    hour: Hour,
-    content: Observation,
-) -> Option<Observation>
-    requires { AreStretches (rising stretches.old.entries) }
-    ensures before { result ≡ at_hour hour (joined (rising stretches.old.entries)) }
-    ensures ok { OnSome result (joined (rising stretches.new.entries) ≡ set_value (nat_eq hour) (joined (rising stretches.old.entries)) content) }
-    ensures unchanged { IfNone result (joined (rising stretches.new.entries) ≡ joined (rising stretches.old.entries)) }
-    ensures stretches { AreStretches (rising stretches.new.entries) }
+/// The part of rising hours from the hour `from` on and before the hour `end`.
+fn cut(items: &[(Hour, Observation)], from: u32, end: u32) -> &[(Hour, Observation)]
+    requires { IsStrictlySortedBy nat_cmp (keys_of items.now) }
+    ensures { result.now ≡ filter (between from end) items.now }
 {
-    let stretch = stretches.get_mut(&Reverse(stretch_number(hour)))?;
-    stretch.update(hour, content)
+    let first = place(items, from);
+    let rest = &items[first..];
+    let count = place(rest, end);
+    &rest[..count]
 }
 
-/// Takes the observation at an hour away, and answers it.
-fn take_out(stretches: &mut BTreeMap<Reverse<u32>, Stretch>, hour: Hour) -> Option<Observation>
-    requires { AreStretches (rising stretches.old.entries) }
-    ensures before { result ≡ at_hour hour (joined (rising stretches.old.entries)) }
-    ensures after { joined (rising stretches.new.entries) ≡ remove_entry (nat_eq hour) (joined (rising stretches.old.entries)) }
-    ensures unchanged { IfNone result (joined (rising stretches.new.entries) ≡ joined (rising stretches.old.entries)) }
-    ensures stretches { AreStretches (rising stretches.new.entries) }
+/// The place of an hour among rising hours, or the place where it would stand.
+fn search(items: &[(Hour, Observation)], hour: Hour) -> Result<usize, usize>
+    requires { IsStrictlySortedBy nat_cmp (keys_of items.now) }
+    ensures place { MatchResult result (StandsAt hour items.now) (IsGapAt hour items.now) }
+    ensures within { MatchResult result (λ place. place < length items.now) (λ place. place ≤ length items.now) }
 {
-    let stretch = stretches.get_mut(&Reverse(stretch_number(hour)))?;
-    stretch.remove(hour)
+    let place = place(items, hour.number());
+    if place == items.len() {
+        return Err(place);
+    }
+    let entry = &items[place];
+    if entry.0.number() == hour.number() {
+        Ok(place)
+    } else {
+        Err(place)
+    }
 }
 
-/// The observation at an hour.
-fn find(stretches: &BTreeMap<Reverse<u32>, Stretch>, hour: Hour) -> Option<Observation>
-    requires { AreStretches (rising stretches.now.entries) }
-    ensures { result ≡ at_hour hour (joined (rising stretches.now.entries)) }
+/// How many of rising hours are before an hour. One comparison finds an hour behind all of them.
+fn place(items: &[(Hour, Observation)], hour: u32) -> usize
+    requires { IsStrictlySortedBy nat_cmp (keys_of items.now) }
+    ensures place { result ≡ place_of hour items.now }
+    ensures within { result ≤ length items.now }
 {
-    // The proof learns that the stretches are in order.
-    let _ = stretches.len();
-    stretches.get(&Reverse(stretch_number(hour)))?.at(hour)
+    let count = items.len();
+    if count == 0 {
+        return 0;
+    }
+    let last = &items[count - 1];
+    if last.0.number() < hour {
+        return count;
+    }
+    halve(items, hour)
+}
+
+/// The same by halving what is left.
+fn halve(items: &[(Hour, Observation)], hour: u32) -> usize
+    requires { IsStrictlySortedBy nat_cmp (keys_of items.now) }
+    ensures place { result ≡ place_of hour items.now }
+    ensures within { result ≤ length items.now }
+{
+    let mut low = 0;
+    let mut high = items.len();
+    while low < high {
+        let middle = low + (high - low) / 2;
+        let entry = &items[middle];
+        if entry.0.number() < hour {
+            low = middle + 1;
+        } else {
+            high = middle;
+        }
+    }
+    low
 }

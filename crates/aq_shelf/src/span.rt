@@ -1,7 +1,7 @@
 //! A monitor's observations in some hours.
 ghost use Rattle.std.specs.Iterator.{YieldsFirst, item_count};
-ghost use Rattle.std.specs.Prelude.{◌≡◌, ◌++◌, filter};
 
+use crate::hours::Hours;
 use crate::stretch::Stretch;
 use aq_base::{Hour, Observation};
 use std::cmp::Reverse;
@@ -14,37 +14,37 @@ use std::marker::Model;
 #[derive(Drop)]
 pub struct Span<'a> {
     /// What is left of a stretch.
-    entries: &'a [(Hour, Observation)],
+    hours: &'a [(Hour, Observation)],
     /// The stretches behind it, latest first.
-    behind: Range<'a, Reverse<u32>, Stretch>,
+    behind: Range<'a, Reverse<Stretch>, Hours>,
     from: u32,
     end: u32,
 }
 
 impl<'a> Model for Span<'a> {
-    ghost use Rattle.std.specs.Prelude.{ℕ, List, ◌++◌, filter};
+    ghost use Rattle.std.specs.Prelude.{ℕ, List, ◌++◌};
     ghost use Rattle.aq_base.specs.declared.observation.Observation.{Observation};
-    ghost use Rattle.aq_shelf.specs.Latest.{rising};
-    ghost use Rattle.aq_shelf.specs.Monitors.{between};
-    ghost use Rattle.aq_shelf.specs.Stretches.{joined};
+    ghost use Rattle.aq_shelf.specs.Stretches.{hours_between};
 
     ghost Value = { List (ℕ × Observation) };
 
-    ghost view = { λ span. span.entries.now ++ filter (between span.from span.end) (joined (rising span.behind)) };
+    ghost view = { λ span. span.hours.now ++ hours_between span.from span.end span.behind };
 }
 
 impl<'a> Span<'a> {
     ghost use Rattle.std.specs.Prelude.{◌≡◌};
-    ghost use Rattle.aq_shelf.specs.Latest.{rising};
-    ghost use Rattle.aq_shelf.specs.Monitors.{between};
-    ghost use Rattle.aq_shelf.specs.Stretches.{joined};
+    ghost use Rattle.aq_shelf.specs.Stretches.{hours_between};
 
     /// What starts at `from` or later and before `end` in some stretches, which are latest first.
-    pub(crate) fn new(stretches: Range<'a, Reverse<u32>, Stretch>, from: u32, end: u32) -> Span<'a>
-        ensures { result ≡ filter (between from end) (joined (rising stretches.entry)) }
+    pub(crate) fn new(
+        stretches: Range<'a, Reverse<Stretch>, Hours>,
+        from: u32,
+        end: u32,
+    ) -> Span<'a>
+        ensures { result ≡ hours_between from end stretches.entry }
     {
         Span {
-            entries: &[],
+            hours: &[],
             behind: stretches,
             from,
             end,
@@ -60,12 +60,12 @@ impl<'a> Iterator for Span<'a> {
     ghost remaining = { item_count (λ rest. rest) };
 
     fn next(&mut self) -> Option<(Hour, Observation)> {
-        while self.entries.is_empty() {
-            let (_, stretch) = self.behind.next_back()?;
-            self.entries = stretch.between(self.from, self.end);
+        while self.hours.is_empty() {
+            let (_, hours) = self.behind.next_back()?;
+            self.hours = hours.between(self.from, self.end);
         }
-        let first = &self.entries[0];
-        self.entries = &self.entries[1..];
+        let first = &self.hours[0];
+        self.hours = &self.hours[1..];
         Some((first.0, first.1))
     }
 }

@@ -120,6 +120,15 @@ fn compare_span<L: Ledger>(
     assert_eq!(rt; span.next(), None);
 }
 
+/// The rows of the shelf are those of the plain list.
+fn compare_rows(rt: &impl Abort, shelf: &Shelf, plain: &[(ObsKey, Observation)]) {
+    for (key, content) in shelf.rows() {
+        let key = &key;
+        assert_eq!(rt; plain_at(plain, key), Some(content));
+    }
+    assert_eq!(rt; shelf.rows().count(), plain.len());
+}
+
 /// Some hundred changes of sixty keys, at five hours from `first` on.
 fn compare_changes<L: Ledger>(
     rt: &impl Abort,
@@ -164,6 +173,7 @@ fn compare_changes<L: Ledger>(
             &mut steps,
         );
     }
+    compare_rows(rt, &shelf, plain.as_slice());
     Ok(())
 }
 

@@ -1,15 +1,18 @@
-use Rattle.std.proofs.Common.{◌∙◌, ap, Bool, List, ℕ, [], unwrap_or, Option}
-use Rattle.std.specs.Map.{lookup}
-use Rattle.aq_base.specs.declared.monitor.MonitorId.{MonitorId}
-use Rattle.aq_base.specs.declared.observation.Observation.{Observation}
-use Rattle.aq_shelf.proofs.Order.{same_test}
+use Rattle.std.proofs.Common.{◌∙◌, sym, Some, None}
+use Rattle.aq_shelf.proofs.StretchLemmas.{found-at, content_at-joined}
 use Rattle.aq_shelf.proofs.shelf.find.Goals as goal
 
-pub returns-in-Some : goal.returns-in-Some
-returns-in-Some c =
-    ap (λ (o : Option (List (ℕ × Observation))). unwrap_or o []) (c.in-Some.ensures.value ∙ ap (λ (t : MonitorId → Bool). lookup t c.args.monitors.now.entries) (same_test c.args.monitor.now))
+pub returns-in_err-get : goal.returns-in_err-get
+returns-in_err-get c =
+    let key = c.args.key.now in
+    let ss = c.args.stretches.now.entries in
+    let none = found-at key c.of.result ss c.of.ensures None c.in_err-get.ensures.value in
+    c.from_residual.ensures ∙ sym (content_at-joined key ss None c.requires c.len.ensures.ordered none)
 
-pub returns-in-None : goal.returns-in-None
-returns-in-None c =
-    c.requires
-    ∙ ap (λ (o : Option (List (ℕ × Observation))). unwrap_or o []) (c.in-None.ensures.value ∙ ap (λ (t : MonitorId → Bool). lookup t c.args.monitors.now.entries) (same_test c.args.monitor.now))
+pub returns : goal.returns
+returns c =
+    let key = c.args.key.now in
+    let ss = c.args.stretches.now.entries in
+    let hs = c.in_ok-get.field-0.now in
+    let found = found-at key c.of.result ss c.of.ensures (Some hs) c.in_ok-get.ensures.value in
+    c.at.ensures ∙ sym (content_at-joined key ss (Some hs) c.requires c.len.ensures.ordered found)

@@ -1,11 +1,12 @@
-use Rattle.std.proofs.Common.{◌≡◌, ◌∙◌, ◌<◌, ◌≤◌, ℕ, ap, sym, subst, nat_eq, false, Some, List, length, arith}
+use Rattle.std.proofs.Common.{◌≡◌, ◌∙◌, ◌<◌, ◌≤◌, ℕ, ap, refl, sym, subst, nat_eq, false, Some, List, length, arith}
 use Rattle.std.proofs.lemmas.Bool.Decides.{nat_tests}
+use Rattle.std.proofs.lemmas.Result.{err_from_is_err_and}
 use Rattle.aq_base.specs.declared.observation.ObsKey.{ObsKey}
 use Rattle.aq_base.specs.declared.observation.Observation.{Observation}
 use Rattle.aq_shelf.specs.declared.shelf.TheConstants.{MOST_OBSERVATIONS}
-use Rattle.aq_shelf.specs.Entries.{ChangesOnly}
-use Rattle.aq_shelf.specs.Monitors.{flat}
-use Rattle.aq_shelf.proofs.EntryLemmas.{IsShelf-insert, length-with_entry, ChangesOnly-insert}
+use Rattle.aq_shelf.specs.Standing.{ChangesOnly, IsInsertFault}
+use Rattle.aq_shelf.specs.Stretches.{joined}
+use Rattle.aq_shelf.proofs.ShelfLemmas.{IsShelf-put, length-put, ChangesOnly-put, IsInsertFault-put}
 use Rattle.aq_shelf.proofs.shelf.Shelf.insert.Goals as goal
 
 -- fewer than the most stand where the shelf is not full
@@ -14,28 +15,31 @@ room count few other = grind (arith, nat_tests)
 
 pub invariant_of-self-2 : goal.invariant_of-self-2
 invariant_of-self-2 c =
-    let was = c.self.invariant.0 in
-    let es = flat c.self.inside.monitors.entries in
+    let rows = joined c.self.inside.stretches.entries in
     let ok = c.in_ok-put.ensures.ok in
-    let absent = c.in_ok-put.ensures.absent in
-    let counted = was.counted in
-    let few = was.shelf.few in
+    let counted = c.self.invariant.2 in
+    let few = c.self.invariant.1.few in
     let within : c.self.inside.count ≤ MOST_OBSERVATIONS = omega arith in
     let less = room c.self.inside.count within c.in_ok-put.ensures.room in
-    let short : length es < MOST_OBSERVATIONS = omega arith in
-    let more = ap length ok ∙ length-with_entry c.args.key c.args.content es absent in (
-      record {
-        rising = c.put.ensures.rising;
-        shelf = IsShelf-insert c.args.key c.args.content es (flat c.put.new.monitors.entries) (rw c.number-full.ensures.value at c.number-full.ensures.range, c.requires) absent short was.shelf ok;
-        counted = omega arith;
-      },
-      c.self.invariant.1,
+    let more = ap length ok ∙ length-put c.args.key c.args.content rows c.in_ok-put.ensures.absent in
+    let most : length (joined c.put.new.stretches.entries) ≤ MOST_OBSERVATIONS = omega arith in (
+      c.put.ensures.stretches,
+      IsShelf-put c.args.key c.args.content rows (joined c.put.new.stretches.entries) (rw c.number-full.ensures.value at c.number-full.ensures.range, c.requires) most c.self.invariant.1 ok,
+      omega arith,
     )
+
+pub returns-in_err-put-clause-refused : goal.returns-in_err-put-clause-refused
+returns-in_err-put-clause-refused c =
+    let rows = joined c.self.inside.stretches.entries in
+    let fault = c.in_err-put.field-0.0 in
+    let why = IsInsertFault-put fault c.args.key _ c.self.inside.count rows c.self.invariant.2 c.self.invariant.1.few refl c.in_err-put.ensures.refused in
+    let p = err_from_is_err_and c.from_residual.result c.from_residual.ensures.1 in
+    rw (p.1, p.2) (subst (λ (rows : List (ObsKey × Observation)). IsInsertFault fault c.args.key rows) c.self.view_is why)
 
 pub returns-clause-keys : goal.returns-clause-keys
 returns-clause-keys c =
-    let es = flat c.self.inside.monitors.entries in
-    let changes : ChangesOnly c.args.key (Some c.args.content) es (flat c.put.new.monitors.entries) =
-    subst (λ (fs : List (ObsKey × Observation)). ChangesOnly c.args.key (Some c.args.content) es fs) (sym c.in_ok-put.ensures.ok) (ChangesOnly-insert c.args.key c.args.content es)
+    let rows = joined c.self.inside.stretches.entries in
+    let changes : ChangesOnly c.args.key (Some c.args.content) rows (joined c.put.new.stretches.entries) =
+    subst (λ (new : List (ObsKey × Observation)). ChangesOnly c.args.key (Some c.args.content) rows new) (sym c.in_ok-put.ensures.ok) (ChangesOnly-put c.args.key c.args.content rows)
     in
-    subst (λ (fs : List (ObsKey × Observation)). ChangesOnly c.args.key (Some c.args.content) fs (flat c.put.new.monitors.entries)) c.self.view_is changes
+    subst (λ (old : List (ObsKey × Observation)). ChangesOnly c.args.key (Some c.args.content) old (joined c.put.new.stretches.entries)) c.self.view_is changes

@@ -1,22 +1,18 @@
-use Rattle.std.proofs.Common.{◌∙◌, ap, sym, subst, List, ℕ}
-use Rattle.std.specs.Prelude.{filter}
+use Rattle.std.proofs.Common.{◌∙◌, ◌≤◌, ℕ, sym, subst, List, length}
 use Rattle.std.specs.List.{AllByRecursion}
 use Rattle.aq_base.specs.Values.{HasValueInRange}
 use Rattle.aq_base.specs.declared.observation.Observation.{Observation}
-use Rattle.aq_shelf.specs.Entries.{observations_in}
-use Rattle.aq_shelf.specs.Monitors.{flat, in_hours}
-use Rattle.aq_shelf.proofs.EntryLemmas.{all-observations_in}
-use Rattle.aq_shelf.proofs.FlatLemmas.{span-flat}
+use Rattle.aq_shelf.specs.declared.shelf.TheConstants.{MOST_OBSERVATIONS}
+use Rattle.aq_shelf.specs.Stretches.{joined}
+use Rattle.aq_shelf.proofs.ShelfLemmas.{all-observations_in, few-observations_in}
 use Rattle.aq_shelf.proofs.shelf.Shelf.span.Goals as goal
 
-pub returns-clause-observations : goal.returns-clause-observations
-returns-clause-observations g c =
-    c.range-2.ensures ∙ ap (filter (in_hours c.args.from c.args.hours)) c.find-found.ensures
-    ∙ sym (span-flat c.args.monitor c.args.from c.args.hours c.self.inside.monitors.entries c.self.invariant.0.rising)
-    ∙ ap (observations_in c.args.monitor c.args.from c.args.hours) c.self.view_is
+pub count_between-count-requires : goal.count_between-count-requires
+count_between-count-requires g c =
+    subst (λ (l : List (ℕ × Observation)). length l ≤ MOST_OBSERVATIONS) (sym c.stretches_from.ensures)
+    (few-observations_in c.args.monitor c.number-start.result _ (joined c.self.inside.stretches.entries) c.self.invariant.1)
 
 pub returns-clause-ranges : goal.returns-clause-ranges
 returns-clause-ranges g c =
-    let given = c.range-2.ensures ∙ ap (filter (in_hours c.args.from c.args.hours)) c.find-found.ensures ∙ sym (span-flat c.args.monitor c.args.from c.args.hours c.self.inside.monitors.entries c.self.invariant.0.rising) in
-    subst (λ (l : List (ℕ × Observation)). AllByRecursion (λ (item : ℕ × Observation). HasValueInRange c.args.monitor.pollutant item.1) l) (sym given)
-    (all-observations_in c.args.monitor c.args.from c.args.hours (flat c.self.inside.monitors.entries) c.self.invariant.0.shelf.standing)
+    subst (λ (l : List (ℕ × Observation)). AllByRecursion (λ (item : ℕ × Observation). HasValueInRange c.args.monitor.pollutant item.1) l) (sym (c.new.ensures ∙ c.stretches_from-2.ensures))
+    (all-observations_in c.args.monitor c.number-start.result _ (joined c.self.inside.stretches.entries) c.self.invariant.1.standing)

@@ -1,0 +1,37 @@
+use Rattle.std.proofs.Common.{◌∙◌, ap, sym, List, ℕ}
+use Rattle.aq_profile.specs.Office.Office.{observation_numbers, observation_rank, without_row}
+use Rattle.aq_base.specs.declared.observation.Observation.{Observation}
+use Rattle.aq_shelf.specs.Standing.{content_at}
+use Rattle.aq_shelf.specs.Stretches.{rows_of}
+use Rattle.aq_shelf.proofs.HourLemmas.{content_at-stands, content_at-gap, remove-stands, drop-rises}
+use Rattle.aq_shelf.proofs.hours.Hours.remove.Goals as goal
+
+pub invariant_of-self : goal.invariant_of-self
+invariant_of-self c =
+    let key = c.args.key.now in
+    let es = c.self.inside.items.items in
+    let stands = rw c.as_slice.ensures.value at c.in-Ok.ensures.place in
+    drop-rises key es _ c.self.invariant
+    (ap (rows_of key.monitor) c.remove.ensures.items ∙ remove-stands key.monitor key.hour es c.in-Ok.place c.self.invariant stands)
+
+pub returns-in-Ok-clause-before : goal.returns-in-Ok-clause-before
+returns-in-Ok-clause-before c =
+    let key = c.args.key.now in
+    let stands = rw c.as_slice.ensures.value at c.in-Ok.ensures.place in
+    sym (content_at-stands key.monitor key.hour c.remove.result.1 c.self.inside.items.items c.in-Ok.place c.remove.result stands c.remove.ensures.value)
+    ∙ ap (λ (hs : List (ℕ × Observation)). content_at key (rows_of key.monitor hs)) c.self.view_is
+
+pub returns-in-Ok-clause-ok : goal.returns-in-Ok-clause-ok
+returns-in-Ok-clause-ok c =
+    let key = c.args.key.now in
+    let stands = rw c.as_slice.ensures.value at c.in-Ok.ensures.place in
+    ap (rows_of key.monitor) c.remove.ensures.items
+    ∙ remove-stands key.monitor key.hour c.self.inside.items.items c.in-Ok.place c.self.invariant stands
+    ∙ ap (λ (hs : List (ℕ × Observation)). without_row observation_rank (observation_numbers key) (rows_of key.monitor hs)) c.self.view_is
+
+pub returns-in-Err-clause-before : goal.returns-in-Err-clause-before
+returns-in-Err-clause-before c =
+    let key = c.args.key.now in
+    let gap = rw c.as_slice.ensures.value at c.in-Err.ensures.place in
+    sym (content_at-gap key.monitor key.hour c.self.inside.items.items c.in-Err.field-0 c.self.invariant gap)
+    ∙ ap (λ (hs : List (ℕ × Observation)). content_at key (rows_of key.monitor hs)) c.self.view_is
