@@ -52,6 +52,10 @@ one_sample = record {
   loads = [];
 }
 
+-- a PM2.5 monitor of hours stands
+abbrev pub hourly_particles : Office
+hourly_particles = record nothing { records = Monitor (record { site = home; pollutant = Pm25; poc = 2 }) Hour true ∷ [] }
+
 -- so many monitors of the site's ozone
 abbrev pub many_monitors : ℕ → Office
 many_monitors count = record nothing {

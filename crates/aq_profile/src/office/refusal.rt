@@ -11,7 +11,7 @@ ghost use Rattle.aq_profile.specs.Lines.Reading.{LineValue, OfRd};
 ghost use Rattle.aq_profile.specs.Office.Refusal.{broken, breaks_office, office_rules, sample_stands};
 ghost use Rattle.aq_profile.specs.Least.{IsLeastBroken};
 ghost use Rattle.aq_profile.specs.Office.Load.{refusal};
-ghost use Rattle.aq_profile.specs.Lines.LineExamples.{one_monitor, one_hour, one_sample, one_of_each, many_monitors, many_sites, many_primaries, many_makeups, many_events};
+ghost use Rattle.aq_profile.specs.Lines.LineExamples.{one_monitor, one_hour, one_sample, one_of_each, hourly_particles, many_monitors, many_sites, many_primaries, many_makeups, many_events};
 
 /// Samples, against an office with an ozone hour or a PM2.5 sample.
 #[tactic(auto, unfolding(crate::specs::Lines::Spellings::site_in, crate::specs::Lines::Spellings::parameter_of, crate::specs::Lines::Spellings::date_in, crate::specs::Lines::Spellings::time_in, crate::specs::Lines::Spellings::value_in, crate::specs::Lines::Spellings::qualifiers_in, crate::specs::Lines::RdForm::monitor_in, crate::specs::Lines::RdForm::start_in, crate::specs::Lines::RdForm::content_in, crate::specs::Lines::RdForm::put_in, crate::specs::Lines::RdForm::delete_in, aq_base::specs::Calendar::days_of_years, aq_base::specs::Calendar::days_of_months))]
@@ -113,6 +113,8 @@ pub fn monitors_that_office_lines_need()
 pub fn samples_of_the_other_duration()
     ensures inserted { refusal one_sample (codes "RD|I|06|037|1103|88101|1|1|105|145|20240109|00:00|1") ≡ Some WrongDuration }
     ensures updated { refusal one_sample (codes "RD|U|06|037|1103|88101|1|1|105|145|20240107|00:00|1") ≡ Some WrongDuration }
+    ensures days_of_a_monitor_of_hours { refusal hourly_particles (codes "RD|I|06|037|1103|88101|2|7|105|145|20240109|00:00|1") ≡ Some WrongDuration }
+    ensures hours_of_a_monitor_of_hours { refusal hourly_particles (codes "RD|I|06|037|1103|88101|2|1|105|145|20240109|00:00|1") ≡ None }
     ensures updated_at_noon { refusal one_sample (codes "RD|U|06|037|1103|88101|1|7|105|145|20240107|12:00|1") ≡ None }
     ensures deleted { refusal one_sample (codes "RD|D|06|037|1103|88101|1|1|105|145|20240107|12:00") ≡ None }
     ensures deleted_of_no_monitor { refusal one_sample (codes "RD|D|06|037|1103|88101|2||||20240107|12:00") ≡ Some UnknownMonitor }
