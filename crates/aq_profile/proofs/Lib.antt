@@ -8,7 +8,6 @@ pub mod Exclusions
 pub mod Greatest
 pub mod Rows
 pub mod Least
-pub mod FormRules
 pub mod Agree
 pub mod Descent
 pub mod Percentiles

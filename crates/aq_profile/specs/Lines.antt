@@ -6,5 +6,6 @@ pub mod Forms
 pub mod RdForm
 pub mod OfficeForms
 pub mod Reading
+pub mod FormRules
 pub mod Canonical
 pub mod LineExamples

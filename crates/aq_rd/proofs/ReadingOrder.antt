@@ -21,6 +21,8 @@ use Rattle.aq_profile.specs.Lines.Spellings as spellings
 use Rattle.aq_profile.specs.Lines.Spellings.{Tag, Rd, Xm, Xp, Xs, Xo, Xu, Xe, Xc, Xa, Insert, Update, Delete, tag_in, action_in, parameter_in, parameter_of, poc_in, site_in, duration_in, unit_in, method_in, date_in, time_in, value_in, is_in_range, null_in, qualifiers_in}
 use Rattle.aq_profile.specs.Lines.RdForm.{RdValue, monitor_in, start_in, content_in, put_in, delete_in, qualifier_fields}
 use Rattle.aq_profile.specs.Lines.Reading.{LineValue, OfRd, breaks_in, rules_of, reported_value, value_for, action_for, form_value, has_wrong_count, is_deletion, breaks_parts, rules_for, line_value, reading_rule, is_plain, tag_of}
+use Rattle.aq_profile.specs.Lines.Forms.{acts}
+use Rattle.aq_profile.specs.Lines.FormRules.{rd_put_rule, rd_put-rule, rd_delete_rule, rd_delete-rule}
 use Rattle.aq_rd.specs.declared.line.RdLine.{RdLine}
 use Rattle.aq_rd.specs.declared.line.RdLine.TheVariants as line
 use Rattle.aq_rd.specs.Ranges.{HasLineRange}
@@ -51,10 +53,6 @@ agree_inside : {A B C D E : Type 0} (f : C → B) (part : Option A) (go : A → 
 agree_inside f None go go_on next next_on is_broken rule rest same k = (refl, ap (λ b. cond b (Some rule) rest) same)
 agree_inside f (Some x) go go_on next next_on is_broken rule rest same k =
     subst (Reads f (go x >>= go_on) (next x >>- next_on)) (sym (ap (λ b. cond b (Some rule) rest) same)) (k x refl)
-
-or_false : (b : Bool) → (b || false) ≡ b
-or_false true = refl
-or_false false = refl
 
 parameter-Rd : (part : Option Pollutant) → is_none (part >>- λ x. Some x) ≡ is_none part
 parameter-Rd None = refl
@@ -94,10 +92,9 @@ content false true null None true true v w h e f g k =
 content false true null (Some cs) true true v w h e f g k = (refl, ap (λ o. cond (is_none o) (Some ValueOutOfRange) None) e)
 content false false null codes d r v w h e f g k = (refl, refl)
 
-reads-put : (update : Bool) (texts : List (List ℕ))
-    → Reads value_of (put_reading update texts) (put_in update texts) (find (λ rule. breaks_in rule Rd false texts) (rules_of Rd false))
+put-fields : (update : Bool) (texts : List (List ℕ)) → Reads value_of (put_reading update texts) (put_in update texts) (rd_put_rule texts)
 unfolding put_reading monitor_reading start_reading value_reading valued_reading null_reading content_reading put_in monitor_in start_in content_in parameter_of value_in
-reads-put update texts =
+put-fields update texts =
     agree_inside value_of (site_in (field 3 texts) (field 4 texts) (field 5 texts)) _ _ _ _ _ BadSite _ refl λ site is_site.
     agree_inside value_of (parameter_in (field 6 texts)) _ _ _ _ _ ParameterOutOfProfile _ (parameter-Rd (parameter_in (field 6 texts))) λ pollutant is_pollutant.
     agree_inside value_of (poc_in (field 7 texts)) _ _ _ _ _ BadPoc _ refl λ poc is_poc.
@@ -106,8 +103,8 @@ reads-put update texts =
     agree value_of (unit_in pollutant (field 9 texts)) _ _ _ BadUnit _
     (ap (λ q. is_none ((q >>- λ x. Some x) >>- λ p. unit_in p (field 9 texts))) is_pollutant) λ places is_places.
     agree value_of (method_in (field 10 texts)) _ _ _ BadMethod _ refl λ method is_method.
-    agree_inside value_of (date_in (field 11 texts)) _ _ _ _ _ BadDate _ (or_false (is_none (date_in (field 11 texts)))) λ day is_day.
-    agree_inside value_of (time_in (field 12 texts)) _ _ _ _ _ BadTime _ (or_false (is_none (time_in (field 12 texts)))) λ hour is_hour.
+    agree_inside value_of (date_in (field 11 texts)) _ _ _ _ _ BadDate _ refl λ day is_day.
+    agree_inside value_of (time_in (field 12 texts)) _ _ _ _ _ BadTime _ refl λ hour is_hour.
     content (is_empty (field 13 texts)) (is_empty (field 14 texts)) (null_in (field 14 texts)) (qualifiers_in (qualifier_fields texts))
     (is_decimal (field 13 texts)) (is_in_range pollutant (cut (field 13 texts) places)) (cut (field 13 texts) places) (reported_value texts)
     (null-empty (field 14 texts))
@@ -117,16 +114,23 @@ reads-put update texts =
     (λ value codes. record { value = Some value; null = None; quals = codes })
     (λ content. line.Put update (record { site = site; pollutant = pollutant; poc = poc }) duration method (hour_number day hour) content)
 
-reads-delete : (texts : List (List ℕ))
-    → Reads value_of (delete_reading texts) (delete_in texts) (find (λ rule. breaks_in rule Rd true texts) (rules_of Rd true))
+reads-put : (update : Bool) (texts : List (List ℕ))
+    → Reads value_of (put_reading update texts) (put_in update texts) (find (λ rule. breaks_in rule Rd false texts) (rules_of Rd false))
+reads-put update texts = subst (Reads value_of (put_reading update texts) (put_in update texts)) (sym (rd_put-rule texts)) (put-fields update texts)
+
+delete-fields : (texts : List (List ℕ)) → Reads value_of (delete_reading texts) (delete_in texts) (rd_delete_rule texts)
 unfolding delete_reading monitor_reading start_reading delete_in monitor_in start_in parameter_of
-reads-delete texts =
+delete-fields texts =
     agree_inside value_of (site_in (field 3 texts) (field 4 texts) (field 5 texts)) _ _ _ _ _ BadSite _ refl λ site is_site.
     agree_inside value_of (parameter_in (field 6 texts)) _ _ _ _ _ ParameterOutOfProfile _ (parameter-Rd (parameter_in (field 6 texts))) λ pollutant is_pollutant.
     agree_inside value_of (poc_in (field 7 texts)) _ _ _ _ _ BadPoc _ refl λ poc is_poc.
-    agree_inside value_of (date_in (field 11 texts)) _ _ _ _ _ BadDate _ (or_false (is_none (date_in (field 11 texts)))) λ day is_day.
-    agree_inside value_of (time_in (field 12 texts)) _ _ _ _ _ BadTime _ (or_false (is_none (time_in (field 12 texts)))) λ hour is_hour.
+    agree_inside value_of (date_in (field 11 texts)) _ _ _ _ _ BadDate _ refl λ day is_day.
+    agree_inside value_of (time_in (field 12 texts)) _ _ _ _ _ BadTime _ refl λ hour is_hour.
     (refl, refl)
+
+reads-delete : (texts : List (List ℕ))
+    → Reads value_of (delete_reading texts) (delete_in texts) (find (λ rule. breaks_in rule Rd true texts) (rules_of Rd true))
+reads-delete texts = subst (Reads value_of (delete_reading texts) (delete_in texts)) (sym (rd_delete-rule texts)) (delete-fields texts)
 
 -- ---- the action
 
@@ -139,8 +143,8 @@ lift (Err e) value rule h = (ap (λ o. o >>- λ v. Some (OfRd v)) h.0, h.1)
 
 by-action : (i u d : Bool) (texts : List (List ℕ)) → (i ≡ true → d ≡ false) → (u ≡ true → d ≡ false)
     → Reads line_of (cond i (put_reading false texts) (cond u (put_reading true texts) (cond d (delete_reading texts) (Err BadAction))))
-    ((cond i (Some Insert) (cond u (Some Update) (cond d (Some Delete) None)) >>- λ action. Some action) >>- λ action. value_for Rd action texts)
-    (cond (is_none (cond i (Some Insert) (cond u (Some Update) (cond d (Some Delete) None)) >>- λ action. Some action)) (Some BadAction)
+    ((cond i (Some Insert) (cond u (Some Update) (cond d (Some Delete) None)) >>- λ action. if acts Rd action then Some action else None) >>- λ action. value_for Rd action texts)
+    (cond (is_none (cond i (Some Insert) (cond u (Some Update) (cond d (Some Delete) None)) >>- λ action. if acts Rd action then Some action else None)) (Some BadAction)
     (find (λ rule. breaks_in rule Rd d texts) (rules_of Rd d)))
 by-action true u d texts not_i not_u =
     subst (λ b. Reads line_of (put_reading false texts) (put_in false texts >>- λ v. Some (OfRd v)) (find (λ rule. breaks_in rule Rd b texts) (rules_of Rd b)))
@@ -170,15 +174,11 @@ by-count texts false rest same =
     (λ i. ap (λ t. bytes_eq t (codes "D")) ((bytes_eq-Decides (field 2 texts) (codes "I")).0 i))
     (λ u. ap (λ t. bytes_eq t (codes "D")) ((bytes_eq-Decides (field 2 texts) (codes "U")).0 u)))
 
-same_find : (p q : Rule → Bool) → ((rule : Rule) → p rule ≡ q rule) → (rules : List Rule) → find p rules ≡ find q rules
-same_find p q same [] = refl
-same_find p q same (rule ∷ rules) =
-    ap (λ b. cond b (Some rule) (find p rules)) (same rule) ∙ ap (λ o. cond (q rule) (Some rule) o) (same_find p q same rules)
-
-same_breaks : (texts : List (List ℕ)) (rule : Rule) → breaks_in rule Rd (is_deletion texts) texts ≡ breaks_parts rule true (Some Rd) texts
-same_breaks texts BadBytes = refl
-same_breaks texts BadTag = refl
-same_breaks texts rule = refl
+-- the rules of a form's fields are broken by its fields
+same_rules : (texts : List (List ℕ)) (deletes : Bool)
+    → find (λ rule. breaks_in rule Rd (is_deletion texts) texts) (rules_of Rd deletes) ≡ find (λ rule. breaks_parts rule true (Some Rd) texts) (rules_of Rd deletes)
+same_rules texts true = refl
+same_rules texts false = refl
 
 -- ---- the line
 
@@ -197,7 +197,7 @@ by-tag false rd other tag texts is no_other none = (refl, refl)
 by-tag true true other tag texts is no_other none =
     subst (λ t. Reads line_of (form_reading texts) (t >>- λ t. form_value t texts) (find (λ rule. breaks_parts rule true t texts) (BadBytes ∷ BadTag ∷ FieldCount ∷ BadAction ∷ rules_for t texts)))
     (sym is)
-    (by-count texts (has_wrong_count Rd (is_deletion texts) texts) _ (sym (same_find _ _ (same_breaks texts) (rules_of Rd (is_deletion texts)))))
+    (by-count texts (has_wrong_count Rd (is_deletion texts) texts) _ (sym (same_rules texts (is_deletion texts))))
 by-tag true false other tag texts is no_other none =
     let nothing : tag ≡ None = is ∙ no_other (sym (ap is_office is) ∙ none) in
     subst (λ t. Reads line_of (Err BadTag) (t >>- λ t. form_value t texts) (find (λ rule. breaks_parts rule true t texts) (BadBytes ∷ BadTag ∷ FieldCount ∷ BadAction ∷ rules_for t texts)))
