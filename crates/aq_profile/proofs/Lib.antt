@@ -59,3 +59,5 @@ pub mod RowBatch
 pub mod BatchOrder
 pub mod BatchAlters
 pub mod MoreLoads
+pub mod RowsInOrder
+pub mod OfficeInOrder
