@@ -74,3 +74,5 @@ pub mod BatchAlters
 pub mod WellFormedValues
 pub mod MembersOnce
 pub mod MoreLoads
+pub mod RowsInOrder
+pub mod OfficeInOrder

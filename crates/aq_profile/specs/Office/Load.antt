@@ -201,6 +201,7 @@ pub data OfficeChange : Type 0 where
   DropObservation : (key : ObsKey) → OfficeChange
   PutLoad : (load : StoredLoad) → OfficeChange
 
+-- the office with a change
 abbrev pub with_change : Office → OfficeChange → Office
 with_change office (PutRecord row) = with_record row office
 with_change office (DropRecord key) = without_record key office

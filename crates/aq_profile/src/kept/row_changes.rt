@@ -7,7 +7,7 @@ ghost use Rattle.aq_profile.specs.Particles.ParticleExamples.{empty_load, first_
 ghost use Rattle.aq_profile.specs.Office.Office.{IsOffice, Office, load_at};
 ghost use Rattle.aq_profile.specs.Office.Load.{load};
 ghost use Rattle.aq_profile.specs.Kept.Rows.{OfLoadRow, OfObsRow, Row, rows_of};
-ghost use Rattle.aq_profile.specs.Kept.RowChanges.{Alters, DropRow, LoadRowKey, OfficeRowKey, ObsRowKey, PutRow, RowChange, changed_key, key_before, keys_rise, row_batch, table_name, with_row_change, with_row_changes};
+ghost use Rattle.aq_profile.specs.Kept.RowChanges.{Alters, DropRow, LoadRowKey, OfficeRowKey, ObsRowKey, PutRow, RowChange, changed_key, key_before, keys_rise, row_batch, row_key, table_name, with_row_change, with_row_changes};
 
 /// The tables by their numbers.
 pub fn tables_have_names()
@@ -64,4 +64,10 @@ pub fn batch_holds_what_changes()
 /// A change that alters rows gives other rows.
 pub fn a_change_that_alters_gives_other_rows()
     ensures { (rows : List Row) (change : RowChange) → Alters rows change → with_row_change rows change ≡ rows → ⊥ }
+{}
+
+/// The rows of a valid office are in the order of tables and keys, and rows in order stay in it.
+pub fn rows_stay_in_order()
+    ensures office { (office : Office) → IsOffice office → IsTrue (keys_rise (map row_key (rows_of office))) }
+    ensures change { (rows : List Row) (change : RowChange) → IsTrue (keys_rise (map row_key rows)) → IsTrue (keys_rise (map row_key (with_row_change rows change))) }
 {}
