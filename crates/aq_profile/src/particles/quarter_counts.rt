@@ -4,7 +4,7 @@
 ghost use Rattle.std.specs.Prelude.{◌≡◌, true, false, ◌∷◌, []};
 ghost use Rattle.aq_profile.specs.Standards.{years_to};
 ghost use Rattle.aq_profile.specs.Particles.QuarterCounts.{capture, gives_credit, quarter_counts};
-ghost use Rattle.aq_base.specs.Calendar.{quarter_number};
+ghost use Rattle.aq_base.specs.Calendar.{day_number, quarter_number};
 ghost use Rattle.aq_profile.specs.Ozone.OzoneExamples.{site};
 ghost use Rattle.aq_profile.specs.Particles.ParticleExamples.{makeup_on, makeups_every, sampled_quarter, with_makeups};
 
@@ -20,7 +20,8 @@ pub fn capture_is_rounded_to_a_percent()
 /// Every sixth day is scheduled, and 7 January is missed. A sample makes up for it before the 13th or
 /// exactly a week later; the 13th is scheduled, and on the 8th there is none. Where every day is
 /// scheduled, one a week later makes up for none. Where every third day is, one before the 10th does and
-/// one after it does not, but a week later one does.
+/// one after it does not, but a week later one does. A day with a sample of its own is not missed, and
+/// neither is one that is not scheduled.
 pub fn makeup_days_give_credit()
     ensures ninth { gives_credit with_makeups site (makeup_on 9) ≡ true }
     ensures twelfth { gives_credit with_makeups site (makeup_on 12) ≡ true }
@@ -31,6 +32,8 @@ pub fn makeup_days_give_credit()
     ensures before_the_next { gives_credit (makeups_every 3) site (makeup_on 9) ≡ true }
     ensures behind_the_next { gives_credit (makeups_every 3) site (makeup_on 12) ≡ false }
     ensures week_behind_the_next { gives_credit (makeups_every 3) site (makeup_on 14) ≡ true }
+    ensures missed_is_sampled { gives_credit with_makeups site (record { missed = day_number 2024 1 13; makeup = day_number 2024 1 14 }) ≡ false }
+    ensures missed_is_unscheduled { gives_credit with_makeups site (record { missed = day_number 2024 1 8; makeup = day_number 2024 1 9 }) ≡ false }
 {}
 
 /// Of the 91 days of the first quarter of 2024 every sixth, 16, is scheduled. Three of these have a

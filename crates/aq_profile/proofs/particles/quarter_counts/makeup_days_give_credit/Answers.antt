@@ -42,3 +42,11 @@ returns-clause-behind_the_next c = refl
 pub returns-clause-week_behind_the_next : goal.returns-clause-week_behind_the_next
 unfolding days_of_years days_of_months excluded primary_on is_eligible eligible_pocs monitor_day site_day is_scheduled
 returns-clause-week_behind_the_next c = refl
+
+pub returns-clause-missed_is_sampled : goal.returns-clause-missed_is_sampled
+unfolding days_of_years days_of_months excluded primary_on is_eligible eligible_pocs monitor_day site_day is_scheduled
+returns-clause-missed_is_sampled c = refl
+
+pub returns-clause-missed_is_unscheduled : goal.returns-clause-missed_is_unscheduled
+unfolding days_of_years days_of_months excluded primary_on is_eligible eligible_pocs monitor_day site_day is_scheduled
+returns-clause-missed_is_unscheduled c = refl
