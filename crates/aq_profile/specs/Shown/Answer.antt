@@ -4,8 +4,8 @@ use Rattle.std.specs.List.{list_any}
 use Rattle.aq_base.specs.Calendar.{is_year}
 use Rattle.aq_base.specs.Site.{Site}
 use Rattle.aq_base.specs.declared.day.TheConstants.{FIRST_YEAR, LAST_YEAR}
-use Rattle.aq_base.specs.declared.monitor.Pollutant.{Pollutant}
-use Rattle.aq_base.specs.declared.standard.Standard.{Standard}
+pub use Rattle.aq_base.specs.declared.ask.Ask.{Ask}
+pub use Rattle.aq_base.specs.declared.ask.Ask.TheVariants.{Reply, Windows, Days, Pm25, Pm10, Value, Report, Export}
 use Rattle.aq_profile.specs.Limits.{LAST_LOAD_NUMBER}
 use Rattle.aq_profile.specs.Office.Office.{Office, StoredLoad, load_at, sites_of, is_day}
 use Rattle.aq_profile.specs.Office.Monitors.{is_same_site}
@@ -14,17 +14,6 @@ use Rattle.aq_profile.specs.Shown.Sheets.{load_sheet, windows_answer, days_answe
 use Rattle.aq_profile.specs.Shown.ParticleSheets.{pm25_answer, pm10_answer}
 use Rattle.aq_profile.specs.Shown.OtherSheets.{value_answer, report_answer}
 use Rattle.aq_profile.specs.Shown.Export.{export_answer}
-
--- what can be asked: a load's reply; a day's averages; a year's ozone days, PM2.5 quarters or PM10 quarters; a design value; a report; an export
-pub data Ask : Type 0 where
-  Reply : (number : ℕ) → Ask
-  Windows : (site : Site) (day : ℕ) → Ask
-  Days : (site : Site) (year : ℕ) → Ask
-  Pm25Quarters : (site : Site) (year : ℕ) → Ask
-  Pm10Quarters : (site : Site) (year : ℕ) → Ask
-  Value : (standard : Standard) (site : Site) (year : ℕ) → Ask
-  Report : (standard : Standard) (year : ℕ) → Ask
-  Export : (site : Site) (pollutant : Pollutant) (year : ℕ) → Ask
 
 -- ---- what is asked: words and routes take nothing else
 
@@ -39,8 +28,8 @@ abbrev pub is_asked : Ask → Bool
 is_asked (Reply number) = is_load_number number
 is_asked (Windows site day) = is_day day
 is_asked (Days site year) = is_year year
-is_asked (Pm25Quarters site year) = is_year year
-is_asked (Pm10Quarters site year) = is_year year
+is_asked (Pm25 site year) = is_year year
+is_asked (Pm10 site year) = is_year year
 is_asked (Value standard site year) = is_design_year year
 is_asked (Report standard year) = is_design_year year
 is_asked (Export site pollutant year) = is_year year
@@ -68,8 +57,8 @@ unfoldable pub answer : Office → Ask → Answer
 answer office (Reply number) = of_load (load_at office number)
 answer office (Windows site day) = of_site office site (OfSheet (windows_answer office site day))
 answer office (Days site year) = of_site office site (OfSheet (days_answer office site year))
-answer office (Pm25Quarters site year) = of_site office site (OfSheet (pm25_answer office site year))
-answer office (Pm10Quarters site year) = of_site office site (OfSheet (pm10_answer office site year))
+answer office (Pm25 site year) = of_site office site (OfSheet (pm25_answer office site year))
+answer office (Pm10 site year) = of_site office site (OfSheet (pm10_answer office site year))
 answer office (Value standard site year) = of_site office site (OfSheet (value_answer standard office site year))
 answer office (Report standard year) = OfSheet (report_answer standard office year)
 answer office (Export site pollutant year) = of_site office site (OfExport (export_answer office site pollutant year))

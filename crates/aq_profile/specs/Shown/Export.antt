@@ -4,6 +4,7 @@ use Rattle.std.specs.List.{join_with_byte}
 use Rattle.aq_base.specs.Calendar.{year_of, day_of_hour, hour_of_day}
 use Rattle.aq_base.specs.Decimal.{last_digits}
 use Rattle.aq_base.specs.Site.{Site}
+pub use Rattle.aq_base.specs.declared.ask.Shown.{Shown}
 use Rattle.aq_base.specs.declared.code.Code.{Code}
 use Rattle.aq_base.specs.declared.monitor.Pollutant.{Pollutant}
 use Rattle.aq_base.specs.declared.observation.ObsKey.{ObsKey}
@@ -13,12 +14,6 @@ use Rattle.aq_profile.specs.Office.Monitors.{is_same_site, is_same_pollutant}
 use Rattle.aq_profile.specs.Office.Exclusion.{excluded}
 use Rattle.aq_profile.specs.Shown.Sheet.{site_text, day_text, truth_text}
 use Rattle.aq_profile.specs.Lines.Canonical.{parameter_text, value_text, code_text}
-
--- an observation, and whether it is excluded
-pub record Shown : Type 0 where
-  pub key : ObsKey
-  pub content : Observation
-  pub excluded : Bool
 
 -- fields need no quotes: none has a comma, a quote or the end of a line
 abbrev pub csv_record : List (List ℕ) → List ℕ

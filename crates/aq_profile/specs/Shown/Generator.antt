@@ -3,6 +3,7 @@ use Rattle.std.specs.Prelude.{ℕ, ◌+◌, ◌-◌, ◌*◌, ◌/◌, ◌%◌, 
 use Rattle.std.specs.List.{range_with_len}
 use Rattle.aq_base.specs.Calendar.{day_number, hour_number, days_in_year, year_first}
 use Rattle.aq_base.specs.Site.{Site}
+use Rattle.aq_base.specs.Standard.{standards}
 use Rattle.aq_base.specs.declared.code.Code.{Code}
 use Rattle.aq_base.specs.declared.monitor.MonitorId.{MonitorId}
 use Rattle.aq_base.specs.declared.monitor.Pollutant.{Pollutant}
@@ -13,8 +14,6 @@ use Rattle.aq_base.specs.declared.observation.Observation.{Observation}
 use Rattle.aq_base.specs.declared.office.OfficeRecord.{OfficeRecord}
 use Rattle.aq_base.specs.declared.office.OfficeRecord.TheVariants.{Monitor, Primary, Schedule, Season}
 use Rattle.aq_base.specs.declared.office.OfficeLine.TheVariants.{Put}
-use Rattle.aq_base.specs.declared.standard.Standard.{Standard}
-use Rattle.aq_base.specs.declared.standard.Standard.TheVariants.{Ozone2015, Annual2012, AnnualSecondary, Daily2006, Pm10Of1987}
 use Rattle.aq_profile.specs.Lines.Lines.{line_count}
 use Rattle.aq_profile.specs.Ozone.OzoneYear.{days_of}
 use Rattle.aq_profile.specs.Lines.RdForm.{Put as PutSample}
@@ -146,11 +145,8 @@ generated_office digest start sites years =
 unfoldable pub generated_lines : ℕ → ℕ → ℕ → ℕ
 generated_lines start sites years = sum_by (λ load. line_count (generated_load start sites years load)) (loads_to_take sites years)
 
-abbrev pub all_standards : List Standard
-all_standards = Ozone2015 ∷ Annual2012 ∷ AnnualSecondary ∷ Daily2006 ∷ Pm10Of1987 ∷ []
-
 -- the summary, and the report of each standard for the last year
 unfoldable pub simulation : (List ℕ → List ℕ) → ℕ → ℕ → ℕ → List ℕ
 simulation digest start sites years =
     text_of (summary_sheet (load_count sites years) (generated_lines start sites years) (length (generated_office digest start sites years).observations))
-    ++ flat_map (λ standard. text_of (report_answer standard (generated_office digest start sites years) (FIRST_GENERATED_YEAR + years - 1))) all_standards
+    ++ flat_map (λ standard. text_of (report_answer standard (generated_office digest start sites years) (FIRST_GENERATED_YEAR + years - 1))) standards

@@ -1,11 +1,11 @@
 -- A sheet and its text: heads, and a table under column names (own).
-use Rattle.std.specs.Prelude.{ℕ, Bool, true, false, List, [], ◌∷◌, ◌++◌, map, codes, flat_map, find, bytes_eq, ℤ, pos, Option, Some, None}
+use Rattle.std.specs.Prelude.{ℕ, List, [], ◌∷◌, ◌++◌, map, codes, flat_map, find, bytes_eq, ℤ, pos, Option, Some, None}
 use Rattle.std.specs.List.{join_with_byte}
 use Rattle.std.specs.Option.{option_map_or}
 use Rattle.std.specs.Fmt.{signed_decimal}
-use Rattle.aq_base.specs.Calendar.{year_of, month_of, day_of_month}
-use Rattle.aq_base.specs.Decimal.{fixed, last_digits}
-use Rattle.aq_base.specs.Site.{Site}
+use Rattle.aq_base.specs.Decimal.{fixed}
+unfoldable pub use Rattle.aq_base.specs.Text.{site_text, day_text, hour_text}
+pub use Rattle.aq_profile.specs.Lines.Canonical.{truth_text}
 
 -- a whole number; v / 10 ^ places; a text; or no value
 pub data SheetCell : Type 0 where
@@ -47,24 +47,6 @@ table_text (column ∷ columns) rows = line_of (column ∷ columns) ++ flat_map 
 
 unfoldable pub text_of : Sheet → List ℕ
 text_of sheet = flat_map head_text sheet.heads ++ table_text sheet.columns sheet.rows
-
--- ---- how things of the field print
-
--- SS-CCC-NNNN
-unfoldable pub site_text : Site → List ℕ
-site_text site = last_digits 2 site.state ++ codes "-" ++ last_digits 3 site.county ++ codes "-" ++ last_digits 4 site.number
-
--- YYYY-MM-DD
-unfoldable pub day_text : ℕ → List ℕ
-day_text day = last_digits 4 (year_of day) ++ codes "-" ++ last_digits 2 (month_of day) ++ codes "-" ++ last_digits 2 (day_of_month day)
-
--- an hour of a day, HH:00
-unfoldable pub hour_text : ℕ → List ℕ
-hour_text hour = last_digits 2 hour ++ codes ":00"
-
-abbrev pub truth_text : Bool → List ℕ
-truth_text true = codes "Y"
-truth_text false = codes "N"
 
 -- ---- cells
 

@@ -17,14 +17,14 @@ ghost use Rattle.aq_profile.specs.Shown.Sheet.{cell_at, count_cell, day_text, si
 ghost use Rattle.aq_profile.specs.Shown.Export.{export_answer};
 ghost use Rattle.aq_profile.specs.Shown.ShownExamples.{between_levels, map_sheet, other_site, outline, third_site, two_sites, value_columns};
 ghost use Rattle.aq_profile.specs.Shown.Sheet.SheetCell.{Text};
-ghost use Rattle.aq_profile.specs.Shown.Answer.{Days, Export, NoLoad, NoSite, OfExport, Pm10Quarters, Pm25Quarters, Reply, Report, Value, Windows, answer, is_asked, is_design_year, is_registered};
+ghost use Rattle.aq_profile.specs.Shown.Answer.{Days, Export, NoLoad, NoSite, OfExport, Pm10, Pm25, Reply, Report, Value, Windows, answer, is_asked, is_design_year, is_registered};
 
 /// Days, quarters and exports are asked of 2000 to 2049, design values and reports of 2002 to 2049,
 /// windows of a day up to 31 December 2049, and loads have numbers from 1 to 4294967295.
 pub fn years_are_asked()
     ensures days { (site : Site) → map (λ year. is_asked (Days site year)) (1999 ∷ 2000 ∷ 2049 ∷ 2050 ∷ []) ≡ false ∷ true ∷ true ∷ false ∷ [] }
-    ensures fine { (site : Site) → map (λ year. is_asked (Pm25Quarters site year)) (1999 ∷ 2000 ∷ 2049 ∷ 2050 ∷ []) ≡ false ∷ true ∷ true ∷ false ∷ [] }
-    ensures coarse { (site : Site) → map (λ year. is_asked (Pm10Quarters site year)) (1999 ∷ 2000 ∷ 2049 ∷ 2050 ∷ []) ≡ false ∷ true ∷ true ∷ false ∷ [] }
+    ensures fine { (site : Site) → map (λ year. is_asked (Pm25 site year)) (1999 ∷ 2000 ∷ 2049 ∷ 2050 ∷ []) ≡ false ∷ true ∷ true ∷ false ∷ [] }
+    ensures coarse { (site : Site) → map (λ year. is_asked (Pm10 site year)) (1999 ∷ 2000 ∷ 2049 ∷ 2050 ∷ []) ≡ false ∷ true ∷ true ∷ false ∷ [] }
     ensures export { (site : Site) (pollutant : Pollutant) → map (λ year. is_asked (Export site pollutant year)) (1999 ∷ 2000 ∷ 2049 ∷ 2050 ∷ []) ≡ false ∷ true ∷ true ∷ false ∷ [] }
     ensures value { (standard : Standard) (site : Site) → map (λ year. is_asked (Value standard site year)) (2001 ∷ 2002 ∷ 2049 ∷ 2050 ∷ []) ≡ false ∷ true ∷ true ∷ false ∷ [] }
     ensures report { (standard : Standard) → map (λ year. is_asked (Report standard year)) (2001 ∷ 2002 ∷ 2049 ∷ 2050 ∷ []) ≡ false ∷ true ∷ true ∷ false ∷ [] }
@@ -42,8 +42,8 @@ pub fn design_years_have_three_years()
 pub fn unknown_things_have_no_answer()
     ensures windows { (office : Office) (site : Site) (day : ℕ) → is_registered office site ≡ false → answer office (Windows site day) ≡ NoSite }
     ensures days { (office : Office) (site : Site) (year : ℕ) → is_registered office site ≡ false → answer office (Days site year) ≡ NoSite }
-    ensures fine { (office : Office) (site : Site) (year : ℕ) → is_registered office site ≡ false → answer office (Pm25Quarters site year) ≡ NoSite }
-    ensures coarse { (office : Office) (site : Site) (year : ℕ) → is_registered office site ≡ false → answer office (Pm10Quarters site year) ≡ NoSite }
+    ensures fine { (office : Office) (site : Site) (year : ℕ) → is_registered office site ≡ false → answer office (Pm25 site year) ≡ NoSite }
+    ensures coarse { (office : Office) (site : Site) (year : ℕ) → is_registered office site ≡ false → answer office (Pm10 site year) ≡ NoSite }
     ensures site { (office : Office) (standard : Standard) (site : Site) (year : ℕ) → is_registered office site ≡ false → answer office (Value standard site year) ≡ NoSite }
     ensures export { (office : Office) (site : Site) (pollutant : Pollutant) (year : ℕ) → is_registered office site ≡ false → answer office (Export site pollutant year) ≡ NoSite }
     ensures load { (office : Office) (number : ℕ) → load_at office number ≡ None → answer office (Reply number) ≡ NoLoad }
@@ -62,13 +62,13 @@ pub fn each_ask_has_its_own_sheet()
         → outline (codes "site" ∷ codes "year" ∷ []) (answer office (Days site year))
         ≡ Some (Text (site_text site) ∷ count_cell year ∷ [], codes "day" ∷ codes "averages" ∷ codes "valid" ∷ codes "approved" ∷ codes "maximum" ∷ []) }
     ensures fine { (office : Office) (site : Site) (year : ℕ) → is_registered office site ≡ true
-        → outline (codes "site" ∷ codes "year" ∷ []) (answer office (Pm25Quarters site year))
+        → outline (codes "site" ∷ codes "year" ∷ []) (answer office (Pm25 site year))
         ≡ Some (
           Text (site_text site) ∷ count_cell year ∷ [],
           codes "quarter" ∷ codes "scheduled" ∷ codes "creditable" ∷ codes "capture" ∷ codes "counted" ∷ codes "days" ∷ codes "sum" ∷ codes "least" ∷ codes "greatest" ∷ [],
         ) }
     ensures coarse { (office : Office) (site : Site) (year : ℕ) → is_registered office site ≡ true
-        → outline (codes "site" ∷ codes "year" ∷ []) (answer office (Pm10Quarters site year))
+        → outline (codes "site" ∷ codes "year" ∷ []) (answer office (Pm10 site year))
         ≡ Some (
           Text (site_text site) ∷ count_cell year ∷ [],
           codes "quarter" ∷ codes "days" ∷ codes "scheduled" ∷ codes "captured" ∷ codes "strata" ∷ codes "samples" ∷ codes "exceedances" ∷ codes "estimate" ∷ codes "lower" ∷ [],
@@ -87,7 +87,7 @@ pub fn each_ask_has_its_own_sheet()
 /// pollutant of which it has no monitor, with nothing counted.
 pub fn sites_are_answered_if_they_are_registered()
     ensures other { answer two_sites (Windows third_site 0) ≡ NoSite }
-    ensures without { map_sheet text_of (answer two_sites (Pm25Quarters other_site 2024))
+    ensures without { map_sheet text_of (answer two_sites (Pm25 other_site 2024))
         ≡ Some (codes "site 06-037-1104\nyear 2024\ncounted 0\nrank -\npercentile -\nmean -\n"
         ++ codes "quarter scheduled creditable capture counted days sum least greatest\n"
         ++ codes "1 0 0 0 0 0 0.0 - -\n2 0 0 0 0 0 0.0 - -\n3 0 0 0 0 0 0.0 - -\n4 0 0 0 0 0 0.0 - -\n") }

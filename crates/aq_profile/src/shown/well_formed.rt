@@ -12,7 +12,7 @@ ghost use Rattle.aq_profile.specs.Shown.Sheet.{Sheet};
 ghost use Rattle.aq_profile.specs.Shown.Sheets.{days_answer, load_sheet, windows_answer};
 ghost use Rattle.aq_profile.specs.Shown.ParticleSheets.{pm10_answer, pm25_answer};
 ghost use Rattle.aq_profile.specs.Shown.OtherSheets.{conflict_sheet, error_names, error_sheet, report_answer, summary_sheet, value_answer};
-ghost use Rattle.aq_profile.specs.Shown.Answer.{Ask, Days, OfSheet, Pm10Quarters, Pm25Quarters, Report, Value, Windows, answer, is_asked};
+ghost use Rattle.aq_profile.specs.Shown.Answer.{Ask, Days, OfSheet, Pm10, Pm25, Report, Value, Windows, answer, is_asked};
 ghost use Rattle.aq_profile.specs.Shown.WellFormed.{IsWellFormed};
 
 /// Each sheet that answers a question about a valid office is well formed.
@@ -26,9 +26,9 @@ pub fn answers_are_well_formed()
     ensures days { (office : Office) (site : Site) (year : ℕ)
         → IsOffice office → IsTrue (is_asked (Days site year)) → IsWellFormed (days_answer office site year) }
     ensures fine { (office : Office) (site : Site) (year : ℕ)
-        → IsOffice office → IsTrue (is_asked (Pm25Quarters site year)) → IsWellFormed (pm25_answer office site year) }
+        → IsOffice office → IsTrue (is_asked (Pm25 site year)) → IsWellFormed (pm25_answer office site year) }
     ensures coarse { (office : Office) (site : Site) (year : ℕ)
-        → IsOffice office → IsTrue (is_asked (Pm10Quarters site year)) → IsWellFormed (pm10_answer office site year) }
+        → IsOffice office → IsTrue (is_asked (Pm10 site year)) → IsWellFormed (pm10_answer office site year) }
     ensures value { (office : Office) (standard : Standard) (site : Site) (year : ℕ)
         → IsOffice office → IsTrue (is_asked (Value standard site year)) → IsWellFormed (value_answer standard office site year) }
     ensures report { (office : Office) (standard : Standard) (year : ℕ)

@@ -5,8 +5,8 @@ use Rattle.aq_base.specs.Decimal.{last_digits}
 use Rattle.aq_profile.specs.DesignValues.{design_value}
 use Rattle.aq_profile.specs.Lists.{ranked}
 use Rattle.aq_profile.specs.Office.Designation.{primary_on}
-use Rattle.aq_profile.specs.Office.Monitors.{is_eligible}
 use Rattle.aq_profile.specs.Office.Exclusion.{excluded}
+use Rattle.aq_profile.specs.Office.Monitors.{is_eligible}
 use Rattle.aq_profile.specs.Office.Schedule.{is_scheduled}
 use Rattle.aq_profile.specs.Particles.ParticleDay.{eligible_pocs, monitor_day, site_day}
 use Rattle.aq_profile.specs.Particles.QuarterCounts.{days_of_quarter, credits, quarter_counts, quarter_values, pm25_year}
@@ -15,7 +15,8 @@ use Rattle.aq_profile.specs.Kept.Summaries.{pm25_summary}
 use Rattle.aq_profile.specs.Shown.Answer.{answer}
 use Rattle.aq_profile.specs.Shown.ParticleSheets.{pm25_answer, pm25_sheet}
 use Rattle.aq_profile.specs.Shown.OtherSheets.{judged, report_answer, report_sheet, sites_with}
-use Rattle.aq_profile.specs.Shown.Sheet.{text_of, site_text}
+use Rattle.aq_profile.specs.Shown.Sheet.{text_of}
+use Rattle.aq_base.specs.Text.{site_text}
 use Rattle.aq_profile.proofs.shown.answer.sites_are_answered_if_they_are_registered.Goals as goal
 
 pub returns-clause-other : goal.returns-clause-other
@@ -23,9 +24,9 @@ unfolding answer
 returns-clause-other c = refl
 
 pub returns-clause-without : goal.returns-clause-without
-unfolding digits days_of_years days_of_months year_of month_of last_digits ranked primary_on excluded is_scheduled is_eligible eligible_pocs monitor_day site_day days_of_quarter credits quarter_counts quarter_values pm25_year pm25_summary text_of site_text answer pm25_answer pm25_sheet
+unfolding digits days_of_years days_of_months year_of month_of last_digits ranked primary_on excluded is_eligible is_scheduled eligible_pocs monitor_day site_day days_of_quarter credits quarter_counts quarter_values pm25_year pm25_summary text_of site_text answer pm25_answer pm25_sheet
 returns-clause-without c = refl
 
 pub returns-clause-report : goal.returns-clause-report
-unfolding digits days_of_years days_of_months year_of month_of last_digits ranked primary_on excluded is_scheduled is_eligible eligible_pocs monitor_day site_day days_of_quarter credits quarter_counts quarter_values pm25_year pm25_summary text_of site_text answer design_value annual_design judged report_answer report_sheet sites_with
+unfolding digits days_of_years days_of_months year_of month_of last_digits ranked primary_on excluded is_eligible is_scheduled eligible_pocs monitor_day site_day days_of_quarter credits quarter_counts quarter_values pm25_year pm25_summary text_of site_text answer design_value annual_design judged report_answer report_sheet sites_with
 returns-clause-report c = refl

@@ -4,7 +4,7 @@ use Rattle.aq_profile.specs.Office.Office.{StoredLoad, load_at}
 use Rattle.aq_profile.specs.Shown.Sheet.{Sheet}
 use Rattle.aq_profile.specs.Shown.Sheets.{load_sheet}
 use Rattle.aq_profile.specs.Shown.WellFormed.{IsWellFormed}
-use Rattle.aq_profile.specs.Shown.Answer.{Reply, Windows, Days, Pm25Quarters, Pm10Quarters, Value, Report, Export, OfSheet, OfExport, NoSite, answer, of_load, is_registered}
+use Rattle.aq_profile.specs.Shown.Answer.{Reply, Windows, Days, Pm25, Pm10, Value, Report, Export, OfSheet, OfExport, NoSite, answer, of_load, is_registered}
 use Rattle.aq_profile.proofs.WellFormed.{reply-well_formed}
 use Rattle.aq_profile.proofs.WellFormedOzone.{windows-well_formed, days-well_formed}
 use Rattle.aq_profile.proofs.WellFormedQuarters.{pm25-well_formed, pm10-well_formed}
@@ -34,8 +34,8 @@ unfolding answer
 returns-clause-answer c office (Reply number) sheet valid asked e = at-load (load_at office number) sheet (λ load h. reply-well_formed office number load valid h) e
 returns-clause-answer c office (Windows site day) sheet valid asked e = at-site (is_registered office site) _ sheet (windows-well_formed office site day valid) e
 returns-clause-answer c office (Days site year) sheet valid asked e = at-site (is_registered office site) _ sheet (days-well_formed office site year valid asked) e
-returns-clause-answer c office (Pm25Quarters site year) sheet valid asked e = at-site (is_registered office site) _ sheet (pm25-well_formed office site year valid asked) e
-returns-clause-answer c office (Pm10Quarters site year) sheet valid asked e = at-site (is_registered office site) _ sheet (pm10-well_formed office site year asked) e
+returns-clause-answer c office (Pm25 site year) sheet valid asked e = at-site (is_registered office site) _ sheet (pm25-well_formed office site year valid asked) e
+returns-clause-answer c office (Pm10 site year) sheet valid asked e = at-site (is_registered office site) _ sheet (pm10-well_formed office site year asked) e
 returns-clause-answer c office (Value standard site year) sheet valid asked e = at-site (is_registered office site) _ sheet (value-well_formed office standard site year valid asked) e
 returns-clause-answer c office (Report standard year) sheet valid asked e = at _ sheet (report-well_formed office standard year valid asked) e
 returns-clause-answer c office (Export site pollutant year) sheet valid asked e = no-sheet (is_registered office site) _ sheet e
