@@ -67,7 +67,6 @@ monitor-keeps : (before now : Office) → Keeps before now → (r : OfficeRecord
 monitor-keeps before now keeps (Monitor id duration eligible) h = refl
 monitor-keeps before now keeps (Primary site pollutant from poc) h = choose (poc == 0) h
   where
-
     choose : (b : Bool) → (if b then has_monitor before site pollutant else is_some (duration_at before (record { site = site; pollutant = pollutant; poc = poc }))) ≡ true
         → (if b then has_monitor now site pollutant else is_some (duration_at now (record { site = site; pollutant = pollutant; poc = poc }))) ≡ true
     choose true h = keeps.monitors site pollutant h
