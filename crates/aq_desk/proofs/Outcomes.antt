@@ -105,23 +105,11 @@ pub at_ok : (P : Type 0) (answer : Result Unit Ending) → is_err answer ≡ fal
 at_ok P (Ok done) went holds = holds
 at_ok P (Err ending) went holds = cc
 
--- a rise since a later moment is one since an earlier
-risen_since : (before between after : ℕ) → before ≤ between → HasRisen between after → HasRisen before after
-risen_since before between after grows risen = elim risen [ inl more ↦ inl (omega arith) | inr most ↦ inr most ]
-
-pub reason_since : (no_words too_long whole : Type 0) (before between after : ℕ) (ending : Ending) → before ≤ between → HasReason no_words ⊥ (HasRisen between after) too_long whole ending → HasReason no_words ⊥ (HasRisen before after) too_long whole ending
-reason_since no_words too_long whole before between after Done grows reason = reason
-reason_since no_words too_long whole before between after NoCommand grows reason = reason
-reason_since no_words too_long whole before between after InputFailed grows reason = reason
-reason_since no_words too_long whole before between after OutputFailed grows reason = (risen_since before between after grows reason.0, reason.1)
-reason_since no_words too_long whole before between after Memory grows reason = reason
-reason_since no_words too_long whole before between after TooManyBytes grows reason = reason
-reason_since no_words too_long whole before between after (TooManyLines lines) grows reason = reason
-reason_since no_words too_long whole before between after (NoSite site) grows reason = reason
-
-pub reason_since_at : (no_words too_long whole : Type 0) (before between after : ℕ) (answer : Result Unit Ending) → before ≤ between → IfErr answer (HasReason no_words ⊥ (HasRisen between after) too_long whole) → IfErr answer (HasReason no_words ⊥ (HasRisen before after) too_long whole)
-reason_since_at no_words too_long whole before between after (Ok done) grows reason = tt
-reason_since_at no_words too_long whole before between after (Err ending) grows reason = reason_since no_words too_long whole before between after ending grows reason
+-- a rise since a later moment is one since an earlier, where the count was the same
+pub reason_since_at : (no_words too_long whole : Type 0) (before between after : ℕ) (answer : Result Unit Ending) → between ≡ before → IfErr answer (HasReason no_words ⊥ (HasRisen between after) too_long whole) → IfErr answer (HasReason no_words ⊥ (HasRisen before after) too_long whole)
+reason_since_at no_words too_long whole before between after answer same reason =
+    let P = λ (n : ℕ). IfErr answer (HasReason no_words ⊥ (HasRisen n after) too_long whole) in
+    subst P same reason
 
 -- a text that was printed whole or in front, as an outcome of status 0
 pub prints : (risen : Type 0) (outcome : Outcome) (text : List ℕ) (answer : Result Unit Ending) (before after : Option (List ℕ)) → outcome ≡ record { status = 0; output = text }

@@ -20,8 +20,8 @@ IsBody before body = IfSome before (λ left. left ≡ body)
 abbrev pub TellsTooMany : Option (List ℕ) → Type 0
 TellsTooMany before = IfSome before (λ left. MOST_BYTES < length left)
 
--- why a body is not read: the source's count rose, or there are too many bytes; want of memory has no cause that is told
+-- why a body is not read: the source's count rose, or, where it did not, there are too many bytes; want of memory has no cause that is told
 abbrev pub IsBodyFault : ℕ → ℕ → Type 0 → BodyFault → Type 0
 IsBodyFault before after too_many InputFailed = HasRisen before after
-IsBodyFault before after too_many Memory = Unit {0}
-IsBodyFault before after too_many TooManyBytes = too_many
+IsBodyFault before after too_many Memory = after ≡ before
+IsBodyFault before after too_many TooManyBytes = (after ≡ before) × too_many

@@ -48,7 +48,7 @@ fn read_piece<S: Source>(
     requires { 0 < length buffer.old }
     ensures count { IfOk result (λ n. Extends (S.left input.old) (S.left input.new) body.old.items body.new.items n) }
     ensures within { IfOk result (λ n. n ≤ length buffer.old) }
-    ensures grows { S.faults input.old ≤ S.faults input.new }
+    ensures steady { OnOk result (S.faults input.new ≡ S.faults input.old) }
     ensures fault { IfErr result (λ fault. IsBodyFault (S.faults input.old) (S.faults input.new) ⊥ fault) }
 {
     let n = input.read(buffer)?;
@@ -62,7 +62,7 @@ fn fill<S: Source>(input: &mut S, buffer: &mut [u8], body: &mut Vec<u8>) -> Resu
     requires empty { body.old.items ≡ [] }
     ensures body { OnOk result (IsBody (S.left input.old) body.new.items) }
     ensures few { OnOk result (vec_len body.new ≤ MOST_BYTES) }
-    ensures grows { S.faults input.old ≤ S.faults input.new }
+    ensures steady { OnOk result (S.faults input.new ≡ S.faults input.old) }
     ensures fault { IfErr result (λ fault. IsBodyFault (S.faults input.old) (S.faults input.new) (TellsTooMany (S.left input.old)) fault) }
 {
     while body.len() <= MOST_BYTES {
@@ -79,7 +79,7 @@ fn fill<S: Source>(input: &mut S, buffer: &mut [u8], body: &mut Vec<u8>) -> Resu
 pub(crate) fn read_body<S: Source>(alloc: Global, input: &mut S) -> Result<Vec<u8>, BodyFault>
     ensures body { IfOk result (λ body. IsBody (S.left input.old) body.items) }
     ensures few { IfOk result (λ body. vec_len body ≤ MOST_BYTES) }
-    ensures grows { S.faults input.old ≤ S.faults input.new }
+    ensures steady { OnOk result (S.faults input.new ≡ S.faults input.old) }
     ensures fault { IfErr result (λ fault. IsBodyFault (S.faults input.old) (S.faults input.new) (TellsTooMany (S.left input.old)) fault) }
 {
     let mut buffer = vec![in alloc; 0; PIECE]?;

@@ -165,7 +165,7 @@ fn print_reply<O: Sink>(alloc: Global, reply: &LoadReply, output: &mut O) -> Res
     ensures whole { OnOk result (O.written output.new ≡ option_map (λ bytes. bytes ++ text_of (load_sheet reply.now)) (O.written output.old)) }
     ensures front { WritesFront (O.written output.old) (O.written output.new) (text_of (load_sheet reply.now)) }
     ensures fault { IfErr result (IsOutputFault (HasRisen (O.faults output.old) (O.faults output.new))) }
-    ensures grows { O.faults output.old ≤ O.faults output.new }
+    ensures steady { OnOk result (O.faults output.new ≡ O.faults output.old) }
 {
     let text = load_text(alloc, reply)?;
     print(output, &text)
@@ -205,7 +205,7 @@ fn print<O: Sink>(output: &mut O, text: &[u8]) -> Result<(), Ending>
     ensures whole { OnOk result (O.written output.new ≡ option_map (λ bytes. bytes ++ text.now) (O.written output.old)) }
     ensures front { WritesFront (O.written output.old) (O.written output.new) text.now }
     ensures fault { IfErr result (IsOutputFault (HasRisen (O.faults output.old) (O.faults output.new))) }
-    ensures grows { O.faults output.old ≤ O.faults output.new }
+    ensures steady { OnOk result (O.faults output.new ≡ O.faults output.old) }
 {
     match write_all(output, text) {
         Ok(()) => Ok(()),

@@ -18,4 +18,4 @@ returns-clause-told g c =
     c.print_windows.ensures.told
 
 pub returns-clause-reason : goal.returns-clause-reason
-returns-clause-reason g c = reason_since_at _ _ _ _ _ _ c.print_windows.result c.print_reply-printed.ensures.grows c.print_windows.ensures.reason
+returns-clause-reason g c = reason_since_at _ _ _ _ _ _ c.print_windows.result (at_ok _ c.print_reply-printed.result (sym c.is_err.ensures.value ∙ c.if-is_err.false) c.print_reply-printed.ensures.steady) c.print_windows.ensures.reason
