@@ -5,5 +5,6 @@ pub mod Site
 pub mod Quals
 pub mod Rule
 pub mod Standard
+pub mod Text
 pub mod Values
 pub mod Places

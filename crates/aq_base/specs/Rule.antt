@@ -1,5 +1,5 @@
 -- The rules that a line can break: each one's number and name.
-use Rattle.std.specs.Prelude.{ℕ, List, codes}
+use Rattle.std.specs.Prelude.{ℕ, List, [], ◌∷◌, codes}
 use Rattle.aq_base.specs.declared.rule.Rule.{Rule}
 use Rattle.aq_base.specs.declared.rule.Rule.TheVariants.{BadBytes, BadTag, FieldCount, BadAction, BadSite, ParameterOutOfProfile, BadPoc, BadDuration, BadUnit, BadMethod, BadDate, BadTime, ValueAndNull, NeitherValueNorNull, BadValue, ValueOutOfRange, BadNull, BadQualifier, UnknownMonitor, WrongDuration, AlreadyThere, NotThere, ObservationsFull, SitesFull, MonitorsFull, BadSpan, BadInterval, BadSeason, BadMakeup, MakeupsFull, UnknownEvent, EventsFull, BadCode, ListFull, NotBuilt}
 
@@ -78,3 +78,11 @@ rule_name EventsFull = codes "EventsFull"
 rule_name BadCode = codes "BadCode"
 rule_name ListFull = codes "ListFull"
 rule_name NotBuilt = codes "NotBuilt"
+
+-- all rules of the formats, in rising number
+abbrev pub all_rules : List Rule
+all_rules =
+    BadBytes ∷ BadTag ∷ FieldCount ∷ BadAction ∷ BadSite ∷ ParameterOutOfProfile ∷ BadPoc ∷ BadDuration ∷ BadUnit ∷ BadMethod
+    ∷ BadDate ∷ BadTime ∷ ValueAndNull ∷ NeitherValueNorNull ∷ BadValue ∷ ValueOutOfRange ∷ BadNull ∷ BadQualifier
+    ∷ UnknownMonitor ∷ WrongDuration ∷ AlreadyThere ∷ NotThere ∷ ObservationsFull ∷ SitesFull ∷ MonitorsFull
+    ∷ BadSpan ∷ BadInterval ∷ BadSeason ∷ BadMakeup ∷ MakeupsFull ∷ UnknownEvent ∷ EventsFull ∷ BadCode ∷ ListFull ∷ []

@@ -1,5 +1,6 @@
 //! Days, hours and quarters of the profile, by their numbers. All hours are local standard time.
-ghost use Rattle.std.specs.Prelude.{◌≡◌, ℕ, ◌<◌, ◌≤◌};
+ghost use Rattle.std.specs.Prelude.{◌≡◌, ℕ, ◌+◌, ◌*◌, ◌<◌, ◌≤◌};
+ghost use Rattle.aq_base.specs.Calendar.{days_of_years, years};
 ghost use Rattle.aq_base.specs.declared.day.TheConstants.{LAST_DAY, LAST_HOUR, QUARTERS};
 
 use std::marker::Model;
@@ -10,14 +11,22 @@ pub const FIRST_YEAR: u16 = 2000;
 /// The profile ends on 31 December of this year (own).
 pub const LAST_YEAR: u16 = 2049;
 
-/// The number of the profile's last day.
-pub const LAST_DAY: u16 = 18_262;
+/// The number of the profile's last day: every fourth year, from the first on, has a leap day.
+pub const LAST_DAY: u16 = 365 * (LAST_YEAR + 1 - FIRST_YEAR) + (LAST_YEAR - FIRST_YEAR) / 4;
 
 /// The number of the profile's last hour.
-pub const LAST_HOUR: u32 = 438_311;
+pub const LAST_HOUR: u32 = 24 * LAST_DAY as u32 + 23;
 
 /// How many calendar quarters the profile has.
-pub const QUARTERS: u8 = 200;
+pub const QUARTERS: u8 = 4 * (LAST_YEAR + 1 - FIRST_YEAR) as u8;
+
+/// The last day and hour and the number of quarters are those of the profile's years.
+#[tactic(auto, unfolding(crate::specs::Calendar::days_of_years))]
+pub fn last_numbers_are_those_of_the_years()
+    ensures day { LAST_DAY + 1 ≡ days_of_years years }
+    ensures hour { LAST_HOUR + 1 ≡ 24 * (LAST_DAY + 1) }
+    ensures quarters { QUARTERS ≡ 4 * years }
+{}
 
 /// A day of the profile, by the number of days since its first. Contracts see the number.
 #[derive(Clone, Copy, Debug, PartialEq, Eq, PartialOrd, Ord, Hash)]

@@ -29,6 +29,13 @@ impl<T> Items<T> {
         }
     }
 
+    /// The list of these items.
+    pub fn from_vec(items: Vec<T>) -> Items<T>
+        ensures { result ≡ items.items }
+    {
+        Items { items }
+    }
+
     /// Adds an item at the end. After `Memory` the list is as before.
     pub fn push(&mut self, item: T) -> Result<(), Memory>
     where

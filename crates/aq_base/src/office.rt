@@ -64,8 +64,9 @@ pub enum OfficeRecord {
     },
 }
 
-/// What tells an office record apart from the others of its kind.
-#[derive(Clone, Copy, Debug, PartialEq, Eq, PartialOrd, Ord)]
+/// What tells an office record apart from the others of its kind. It has no order: rows go by kind and
+/// printed key, where PM10 (81102) comes before PM2.5 (88101).
+#[derive(Clone, Copy, Debug, PartialEq, Eq)]
 pub enum OfficeKey {
     Monitor {
         id: MonitorId,

@@ -1,6 +1,6 @@
 //! The rules of which a line is refused under the first that it breaks.
 ghost use Rattle.std.specs.Prelude.{◌≡◌};
-ghost use Rattle.aq_base.specs.Rule.{rule_number, rule_name};
+ghost use Rattle.aq_base.specs.Rule.{rule_number, rule_name, all_rules};
 
 /// A rule of the line formats (own). Numbers 1 to 18, 26 to 29 and 33 are rules of reading, and the
 /// others look at what stands. `NotBuilt` goes once every form is read.
@@ -79,6 +79,48 @@ pub enum Rule {
 }
 
 impl Rule {
+    /// All rules that the formats have, in rising number.
+    pub fn all() -> [Rule; 34]
+        ensures { result ≡ all_rules }
+    {
+        [
+            Rule::BadBytes,
+            Rule::BadTag,
+            Rule::FieldCount,
+            Rule::BadAction,
+            Rule::BadSite,
+            Rule::ParameterOutOfProfile,
+            Rule::BadPoc,
+            Rule::BadDuration,
+            Rule::BadUnit,
+            Rule::BadMethod,
+            Rule::BadDate,
+            Rule::BadTime,
+            Rule::ValueAndNull,
+            Rule::NeitherValueNorNull,
+            Rule::BadValue,
+            Rule::ValueOutOfRange,
+            Rule::BadNull,
+            Rule::BadQualifier,
+            Rule::UnknownMonitor,
+            Rule::WrongDuration,
+            Rule::AlreadyThere,
+            Rule::NotThere,
+            Rule::ObservationsFull,
+            Rule::SitesFull,
+            Rule::MonitorsFull,
+            Rule::BadSpan,
+            Rule::BadInterval,
+            Rule::BadSeason,
+            Rule::BadMakeup,
+            Rule::MakeupsFull,
+            Rule::UnknownEvent,
+            Rule::EventsFull,
+            Rule::BadCode,
+            Rule::ListFull,
+        ]
+    }
+
     /// The number that replies and stored loads give.
     pub fn number(self) -> u8
         ensures { result ≡ rule_number self }

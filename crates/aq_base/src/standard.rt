@@ -1,5 +1,5 @@
 ghost use Rattle.std.specs.Prelude.{◌≡◌};
-ghost use Rattle.aq_base.specs.Standard.{standard_name};
+ghost use Rattle.aq_base.specs.Standard.{standard_name, standards};
 
 /// A national ambient air quality standard, in the order in which reports give them.
 #[derive(Clone, Copy, Debug, PartialEq, Eq)]
@@ -17,6 +17,19 @@ pub enum Standard {
 }
 
 impl Standard {
+    /// All standards, in the order in which reports give them.
+    pub fn all() -> [Standard; 5]
+        ensures { result ≡ standards }
+    {
+        [
+            Standard::Ozone2015,
+            Standard::Annual2012,
+            Standard::AnnualSecondary,
+            Standard::Daily2006,
+            Standard::Pm10Of1987,
+        ]
+    }
+
     /// The short name (own).
     pub fn name(self) -> &'static str
         ensures { result.now ≡ standard_name self }

@@ -1,6 +1,7 @@
 -- A line spells a value exactly where it breaks no reading rule.
 use Rattle.std.proofs.Common.{◌≡◌, ℕ, Bool, true, false, cond, not, ◌&&◌, ◌||◌, List, [], ◌∷◌, Some, None, Option, refl, sym, ap, ◌∙◌, inl, inr, subst}
-use Rattle.std.specs.Prelude.{bytes_eq, codes, find, is_some, is_none, ℤ, if◌then◌else◌}
+use Rattle.std.specs.List.{AllByRecursion, list_any}
+use Rattle.std.specs.Prelude.{bytes_eq, codes, filter, find, is_some, is_none, ℤ, if◌then◌else◌}
 use Rattle.std.proofs.lemmas.Bool.{false≢true}
 use Rattle.std.proofs.lemmas.Slice.Eq.{bytes_eq-Decides}
 use Rattle.aq_base.specs.Decimal.{is_decimal, cut}
@@ -13,11 +14,13 @@ use Rattle.aq_base.specs.declared.office.OfficeRecord.TheVariants.{Season, Makeu
 use Rattle.aq_base.specs.declared.rule.Rule.{Rule}
 use Rattle.aq_base.specs.declared.rule.Rule.TheVariants.{BadBytes, BadTag, FieldCount, BadAction, BadSite, ParameterOutOfProfile, BadPoc, BadDuration, BadUnit, BadMethod, BadDate, BadTime, ValueAndNull, NeitherValueNorNull, BadValue, ValueOutOfRange, BadNull, BadQualifier, BadSpan, BadInterval, BadSeason, BadMakeup, BadCode}
 use Rattle.aq_profile.proofs.Least.{true_or_false}
+use Rattle.aq_profile.proofs.FormRules.{rd_put_rule, rd_put-rule, rd_delete_rule, rd_delete-rule, xm_rule, xm-rule, xp_rule, xp-rule, xp_key_rule, xp_key-rule, xs_rule, xs-rule, xs_key_rule, xs_key-rule, xo_rule, xo-rule, xo_key_rule, xo_key-rule, xu_rule, xu-rule, xu_key_rule, xu_key-rule, xe_rule, xe-rule, xe_key_rule, xe_key-rule, xc_rule, xc-rule, xa_rule, xa-rule, xa_key_rule, xa_key-rule}
 use Rattle.aq_profile.specs.Lines.Fields.{is_empty, field, fields}
-use Rattle.aq_profile.specs.Lines.Spellings.{◌>>=◌, Action, Insert, Update, Delete, action_in, Tag, Rd, Xm, Xp, Xs, Xo, Xu, Xe, Xc, Xa, parameter_in, parameter_of, poc_in, site_in, duration_in, unit_in, method_in, date_in, time_in, value_in, is_in_range, null_in, qualifiers_in, truth_in, primary_in, interval_in, year_in, event_number_in, event_code_in}
+use Rattle.aq_profile.specs.Lines.Forms.{acts}
+use Rattle.aq_profile.specs.Lines.Spellings.{◌>>=◌, Action, Insert, Update, Delete, action_in, Tag, Rd, Xm, Xp, Xs, Xo, Xu, Xe, Xc, Xa, digits_in, parameter_in, parameter_of, poc_in, site_in, duration_in, unit_in, method_in, date_in, time_in, value_in, is_in_range, null_in, qualifiers_in, truth_in, primary_in, interval_in, year_in, event_number_in, event_code_in}
 use Rattle.aq_profile.specs.Lines.RdForm.{monitor_in, start_in, content_in, put_in, delete_in, qualifier_fields}
-use Rattle.aq_profile.specs.Lines.OfficeForms.{site_at, hour_in, is_season, is_makeup, is_span, xm_record, xp_record, xp_key, xs_record, xs_key, xo_record, xo_key, xu_record, xu_key, xe_record, xe_key, xc_record, xa_record, xa_key}
-use Rattle.aq_profile.specs.Lines.Reading.{breaks_in, rules_of, reported_value, fails, acts, value_for, action_for, form_value, has_wrong_count, is_deletion, breaks_parts, rules_for, line_value, reading_rule, is_plain, tag_of}
+use Rattle.aq_profile.specs.Lines.OfficeForms.{hour_in, is_season, is_makeup, is_span, xm_record, xp_record, xp_key, xs_record, xs_key, xo_record, xo_key, xu_record, xu_key, xe_record, xe_key, xc_record, xa_record, xa_key}
+use Rattle.aq_profile.specs.Lines.Reading.{FIELD_RULES, demands_on, is_of_rule, breaks_in, rules_of, reported_value, fails, value_for, action_for, form_value, has_wrong_count, is_deletion, breaks_parts, rules_for, line_value, reading_rule, is_plain, tag_of}
 
 -- a part that spells something, exactly where its rule is not broken
 agree : {A B : Type 0} (part : Option A) (next : A → Option B) (is_broken : Bool) (rule : Rule) (rest : Option Rule)
@@ -52,6 +55,19 @@ or_false : (b : Bool) → (b || false) ≡ b
 or_false true = refl
 or_false false = refl
 
+-- a site is spelled where its three numbers are
+three-parts : {A B C D : Type 0} (one : Option A) (two : Option B) (three : Option C) (f : A → B → C → D)
+    → (is_none one || (is_none two || (is_none three || false))) ≡ is_none (one >>= λ x. two >>= λ y. three >>= λ z. Some (f x y z))
+three-parts None two three f = refl
+three-parts (Some x) None three f = refl
+three-parts (Some x) (Some y) None f = refl
+three-parts (Some x) (Some y) (Some z) f = refl
+
+pub site-spelled : (state county number : List ℕ)
+    → (is_none (digits_in 2 state) || (is_none (digits_in 3 county) || (is_none (digits_in 4 number) || false))) ≡ is_none (site_in state county number)
+unfolding site_in
+site-spelled state county number = three-parts (digits_in 2 state) (digits_in 3 county) (digits_in 4 number) _
+
 parameter-Rd : (part : Option Pollutant) → is_none (part >>= λ x. Some x) ≡ is_none part
 parameter-Rd None = refl
 parameter-Rd (Some x) = refl
@@ -66,36 +82,36 @@ content : (no_value no_null : Bool) (null : Option Code) (codes : Option (List C
     → (g : ℤ → List Code → Option Observation) → ((v : ℤ) (cs : List Code) → is_some (g v cs) ≡ true)
     → is_some (if no_value then (null >>= λ c. codes >>= λ cs. f c cs)
     else (if no_null then ((if decimal && in_range then Some value else None) >>= λ v. codes >>= λ cs. g v cs) else None))
-    ≡ is_none (cond (not no_value && not no_null) (Some ValueAndNull)
-    (cond (not (not no_value) && not (not no_null)) (Some NeitherValueNorNull)
-    (cond (not no_value && not decimal) (Some BadValue)
-    (cond (not no_value && decimal && is_none reported) (Some ValueOutOfRange)
-    (cond (not no_null && is_none null) (Some BadNull)
-    (cond (is_none codes) (Some BadQualifier) None))))))
+    ≡ is_none (cond (not no_value && not no_null || false) (Some ValueAndNull)
+    (cond (not (not no_value) && not (not no_null) || false) (Some NeitherValueNorNull)
+    (cond (not no_value && not decimal || false) (Some BadValue)
+    (cond (not no_value && decimal && is_none reported || false) (Some ValueOutOfRange)
+    (cond (not no_null && is_none null || false) (Some BadNull)
+    (cond (is_none codes || false) (Some BadQualifier) None))))))
 content true true None codes d r v w h e f hf g hg = refl
 content true true (Some c) codes d r v w h e f hf g hg = absurd (false≢true (h refl))
 content true false None codes d r v w h e f hf g hg = refl
 content true false (Some c) None d r v w h e f hf g hg = refl
 content true false (Some c) (Some cs) d r v w h e f hf g hg = hf c cs
 content false true null codes false r v w h e f hf g hg = refl
-content false true null codes true false v w h e f hf g hg = sym (ap (λ o. is_none (cond (is_none o) (Some ValueOutOfRange) (cond (is_none codes) (Some BadQualifier) None))) e)
-content false true null None true true v w h e f hf g hg = sym (ap (λ o. is_none (cond (is_none o) (Some ValueOutOfRange) (Some BadQualifier))) e)
+content false true null codes true false v w h e f hf g hg = sym (ap (λ o. is_none (cond (is_none o || false) (Some ValueOutOfRange) (cond (is_none codes || false) (Some BadQualifier) None))) e)
+content false true null None true true v w h e f hf g hg = sym (ap (λ o. is_none (cond (is_none o || false) (Some ValueOutOfRange) (Some BadQualifier))) e)
 content false true null (Some cs) true true v w h e f hf g hg =
-    hg v cs ∙ sym (ap (λ o. is_none (cond (is_none o) (Some ValueOutOfRange) None)) e)
+    hg v cs ∙ sym (ap (λ o. is_none (cond (is_none o || false) (Some ValueOutOfRange) None)) e)
 content false false null codes d r v w h e f hf g hg = refl
 
 pub agree-rd_put : (update : Bool) (texts : List (List ℕ))
-    → is_some (put_in update texts) ≡ is_none (find (λ rule. breaks_in rule Rd false texts) (rules_of Rd false))
+    → is_some (put_in update texts) ≡ is_none (rd_put_rule texts)
 unfolding put_in monitor_in start_in content_in parameter_of value_in
 agree-rd_put update texts =
-    agree_inside (site_in (field 3 texts) (field 4 texts) (field 5 texts)) _ _ _ BadSite _ refl λ site is_site.
-    agree_inside (parameter_in (field 6 texts)) _ _ _ ParameterOutOfProfile _ (parameter-Rd (parameter_in (field 6 texts))) λ pollutant is_pollutant.
-    agree_inside (poc_in (field 7 texts)) _ _ _ BadPoc _ refl λ poc is_poc.
+    agree_inside (site_in (field 3 texts) (field 4 texts) (field 5 texts)) _ _ _ BadSite _ (site-spelled (field 3 texts) (field 4 texts) (field 5 texts)) λ site is_site.
+    agree_inside (parameter_in (field 6 texts)) _ _ _ ParameterOutOfProfile _ (or_false (is_none (parameter_of Rd (field 6 texts))) ∙ parameter-Rd (parameter_in (field 6 texts))) λ pollutant is_pollutant.
+    agree_inside (poc_in (field 7 texts)) _ _ _ BadPoc _ (or_false (is_none (poc_in (field 7 texts)))) λ poc is_poc.
     agree (duration_in pollutant (field 8 texts)) _ _ BadDuration _
-    (ap (λ q. is_none ((q >>= λ x. Some x) >>= λ p. duration_in p (field 8 texts))) is_pollutant) λ duration is_duration.
+    (or_false (is_none (parameter_of Rd (field 6 texts) >>= λ p. duration_in p (field 8 texts))) ∙ ap (λ q. is_none ((q >>= λ x. Some x) >>= λ p. duration_in p (field 8 texts))) is_pollutant) λ duration is_duration.
     agree (unit_in pollutant (field 9 texts)) _ _ BadUnit _
-    (ap (λ q. is_none ((q >>= λ x. Some x) >>= λ p. unit_in p (field 9 texts))) is_pollutant) λ places is_places.
-    agree (method_in (field 10 texts)) _ _ BadMethod _ refl λ method is_method.
+    (or_false (is_none (parameter_of Rd (field 6 texts) >>= λ p. unit_in p (field 9 texts))) ∙ ap (λ q. is_none ((q >>= λ x. Some x) >>= λ p. unit_in p (field 9 texts))) is_pollutant) λ places is_places.
+    agree (method_in (field 10 texts)) _ _ BadMethod _ (or_false (is_none (method_in (field 10 texts)))) λ method is_method.
     agree_inside (date_in (field 11 texts)) _ _ _ BadDate _ (or_false (is_none (date_in (field 11 texts)))) λ day is_day.
     agree_inside (time_in (field 12 texts)) _ _ _ BadTime _ (or_false (is_none (time_in (field 12 texts)))) λ hour is_hour.
     kept (content_in pollutant places texts) _
@@ -108,44 +124,44 @@ agree-rd_put update texts =
     (λ value codes. Some (record { value = Some value; null = None; quals = codes })) (λ value codes. refl)
 
 pub agree-rd_delete : (texts : List (List ℕ))
-    → is_some (delete_in texts) ≡ is_none (find (λ rule. breaks_in rule Rd true texts) (rules_of Rd true))
+    → is_some (delete_in texts) ≡ is_none (rd_delete_rule texts)
 unfolding delete_in monitor_in start_in parameter_of
 agree-rd_delete texts =
-    agree_inside (site_in (field 3 texts) (field 4 texts) (field 5 texts)) _ _ _ BadSite _ refl λ site is_site.
-    agree_inside (parameter_in (field 6 texts)) _ _ _ ParameterOutOfProfile _ (parameter-Rd (parameter_in (field 6 texts))) λ pollutant is_pollutant.
-    agree_inside (poc_in (field 7 texts)) _ _ _ BadPoc _ refl λ poc is_poc.
+    agree_inside (site_in (field 3 texts) (field 4 texts) (field 5 texts)) _ _ _ BadSite _ (site-spelled (field 3 texts) (field 4 texts) (field 5 texts)) λ site is_site.
+    agree_inside (parameter_in (field 6 texts)) _ _ _ ParameterOutOfProfile _ (or_false (is_none (parameter_of Rd (field 6 texts))) ∙ parameter-Rd (parameter_in (field 6 texts))) λ pollutant is_pollutant.
+    agree_inside (poc_in (field 7 texts)) _ _ _ BadPoc _ (or_false (is_none (poc_in (field 7 texts)))) λ poc is_poc.
     agree_inside (date_in (field 11 texts)) _ _ _ BadDate _ (or_false (is_none (date_in (field 11 texts)))) λ day is_day.
     agree_inside (time_in (field 12 texts)) _ _ _ BadTime _ (or_false (is_none (time_in (field 12 texts)))) λ hour is_hour.
     refl
 
 -- XM
-agree-xm : (deletes : Bool) (texts : List (List ℕ))
-    → is_some (xm_record texts) ≡ is_none (find (λ rule. breaks_in rule Xm deletes texts) (rules_of Xm deletes))
+agree-xm : (texts : List (List ℕ))
+    → is_some (xm_record texts) ≡ is_none (xm_rule texts)
 unfolding xm_record monitor_in parameter_of
-agree-xm deletes texts =
-    agree_inside (site_in (field 3 texts) (field 4 texts) (field 5 texts)) _ _ _ BadSite _ refl λ site is_site.
-    agree_inside (parameter_in (field 6 texts)) _ _ _ ParameterOutOfProfile _ (parameter-Rd (parameter_in (field 6 texts))) λ pollutant is_pollutant.
-    agree_inside (poc_in (field 7 texts)) _ _ _ BadPoc _ refl λ poc is_poc.
+agree-xm texts =
+    agree_inside (site_in (field 3 texts) (field 4 texts) (field 5 texts)) _ _ _ BadSite _ (site-spelled (field 3 texts) (field 4 texts) (field 5 texts)) λ site is_site.
+    agree_inside (parameter_in (field 6 texts)) _ _ _ ParameterOutOfProfile _ (or_false (is_none (parameter_of Rd (field 6 texts))) ∙ parameter-Rd (parameter_in (field 6 texts))) λ pollutant is_pollutant.
+    agree_inside (poc_in (field 7 texts)) _ _ _ BadPoc _ (or_false (is_none (poc_in (field 7 texts)))) λ poc is_poc.
     agree (duration_in pollutant (field 8 texts)) _ _ BadDuration _
-    (ap (λ q. is_none ((q >>= λ x. Some x) >>= λ p. duration_in p (field 8 texts))) is_pollutant) λ duration is_duration.
-    agree (truth_in (field 9 texts)) _ _ BadCode _ refl λ eligible is_eligible.
+    (or_false (is_none (parameter_of Rd (field 6 texts) >>= λ p. duration_in p (field 8 texts))) ∙ ap (λ q. is_none ((q >>= λ x. Some x) >>= λ p. duration_in p (field 8 texts))) is_pollutant) λ duration is_duration.
+    agree (truth_in (field 9 texts)) _ _ BadCode _ (or_false (is_none (truth_in (field 9 texts)))) λ eligible is_eligible.
     refl
 
 -- XP
-agree-xp : (texts : List (List ℕ)) → is_some (xp_record texts) ≡ is_none (find (λ rule. breaks_in rule Xp false texts) (rules_of Xp false))
+agree-xp : (texts : List (List ℕ)) → is_some (xp_record texts) ≡ is_none (xp_rule texts)
 unfolding xp_record
 agree-xp texts =
-    agree (site_at 3 texts) _ _ BadSite _ refl λ site is_site.
-    agree (parameter_of Xp (field 6 texts)) _ _ ParameterOutOfProfile _ refl λ pollutant is_pollutant.
-    agree (primary_in (field 8 texts)) _ _ BadPoc _ refl λ poc is_poc.
+    agree (site_in (field 3 texts) (field 4 texts) (field 5 texts)) _ _ BadSite _ (site-spelled (field 3 texts) (field 4 texts) (field 5 texts)) λ site is_site.
+    agree (parameter_of Xp (field 6 texts)) _ _ ParameterOutOfProfile _ (or_false (is_none (parameter_of Xp (field 6 texts)))) λ pollutant is_pollutant.
+    agree (primary_in (field 8 texts)) _ _ BadPoc _ (or_false (is_none (primary_in (field 8 texts)))) λ poc is_poc.
     agree (date_in (field 7 texts)) _ _ BadDate _ (or_false (is_none (date_in (field 7 texts)))) λ from is_from.
     refl
 
-agree-xp_key : (texts : List (List ℕ)) → is_some (xp_key texts) ≡ is_none (find (λ rule. breaks_in rule Xp true texts) (rules_of Xp true))
+agree-xp_key : (texts : List (List ℕ)) → is_some (xp_key texts) ≡ is_none (xp_key_rule texts)
 unfolding xp_key
 agree-xp_key texts =
-    agree (site_at 3 texts) _ _ BadSite _ refl λ site is_site.
-    agree (parameter_of Xp (field 6 texts)) _ _ ParameterOutOfProfile _ refl λ pollutant is_pollutant.
+    agree (site_in (field 3 texts) (field 4 texts) (field 5 texts)) _ _ BadSite _ (site-spelled (field 3 texts) (field 4 texts) (field 5 texts)) λ site is_site.
+    agree (parameter_of Xp (field 6 texts)) _ _ ParameterOutOfProfile _ (or_false (is_none (parameter_of Xp (field 6 texts)))) λ pollutant is_pollutant.
     agree (date_in (field 7 texts)) _ _ BadDate _ (or_false (is_none (date_in (field 7 texts)))) λ from is_from.
     refl
 
@@ -158,26 +174,26 @@ agree_two (Some x) None next rule rest go = refl
 agree_two (Some x) (Some y) next rule rest go = go x y refl refl
 
 -- XS
-agree-xs : (texts : List (List ℕ)) → is_some (xs_record texts) ≡ is_none (find (λ rule. breaks_in rule Xs false texts) (rules_of Xs false))
+agree-xs : (texts : List (List ℕ)) → is_some (xs_record texts) ≡ is_none (xs_rule texts)
 unfolding xs_record
 agree-xs texts =
-    agree (site_at 3 texts) _ _ BadSite _ refl λ site is_site.
-    agree (parameter_of Xs (field 6 texts)) _ _ ParameterOutOfProfile _ refl λ pollutant is_pollutant.
+    agree (site_in (field 3 texts) (field 4 texts) (field 5 texts)) _ _ BadSite _ (site-spelled (field 3 texts) (field 4 texts) (field 5 texts)) λ site is_site.
+    agree (parameter_of Xs (field 6 texts)) _ _ ParameterOutOfProfile _ (or_false (is_none (parameter_of Xs (field 6 texts)))) λ pollutant is_pollutant.
     agree_two (date_in (field 7 texts)) (date_in (field 9 texts)) _ BadDate _ λ from anchor is_from is_anchor.
-    agree (interval_in (field 8 texts)) _ _ BadInterval _ refl λ interval is_interval.
+    agree (interval_in (field 8 texts)) _ _ BadInterval _ (or_false (is_none (interval_in (field 8 texts)))) λ interval is_interval.
     refl
 
-agree-xs_key : (texts : List (List ℕ)) → is_some (xs_key texts) ≡ is_none (find (λ rule. breaks_in rule Xs true texts) (rules_of Xs true))
+agree-xs_key : (texts : List (List ℕ)) → is_some (xs_key texts) ≡ is_none (xs_key_rule texts)
 unfolding xs_key
 agree-xs_key texts =
-    agree (site_at 3 texts) _ _ BadSite _ refl λ site is_site.
-    agree (parameter_of Xs (field 6 texts)) _ _ ParameterOutOfProfile _ refl λ pollutant is_pollutant.
+    agree (site_in (field 3 texts) (field 4 texts) (field 5 texts)) _ _ BadSite _ (site-spelled (field 3 texts) (field 4 texts) (field 5 texts)) λ site is_site.
+    agree (parameter_of Xs (field 6 texts)) _ _ ParameterOutOfProfile _ (or_false (is_none (parameter_of Xs (field 6 texts)))) λ pollutant is_pollutant.
     agree (date_in (field 7 texts)) _ _ BadDate _ (or_false (is_none (date_in (field 7 texts)))) λ from is_from.
     refl
 
 -- a test at the end
 tested : {A : Type 0} (passed : Bool) (value : A) (rule : Rule)
-    → is_some (if passed then Some value else None) ≡ is_none (cond (not passed) (Some rule) None)
+    → is_some (if passed then Some value else None) ≡ is_none (cond (not passed || false) (Some rule) None)
 tested true value rule = refl
 tested false value rule = refl
 
@@ -185,22 +201,22 @@ tested false value rule = refl
 xo_end : (year first last : Option ℕ) (f : ℕ → ℕ → ℕ → Bool) (h : ℕ → ℕ → ℕ → OfficeRecord)
     → is_some (year >>= λ y. first >>= λ a. last >>= λ b. if f y a b then Some (h y a b) else None)
     ≡ is_none (cond (is_none year || (is_none first || (is_none last || false))) (Some BadDate)
-    (cond (fails (year >>= λ y. first >>= λ a. last >>= λ b. Some (f y a b))) (Some BadSeason) None))
+    (cond (fails (year >>= λ y. first >>= λ a. last >>= λ b. Some (f y a b)) || false) (Some BadSeason) None))
 xo_end None first last f h = refl
 xo_end (Some y) None last f h = refl
 xo_end (Some y) (Some a) None f h = refl
 xo_end (Some y) (Some a) (Some b) f h = tested (f y a b) (h y a b) BadSeason
 
-agree-xo : (texts : List (List ℕ)) → is_some (xo_record texts) ≡ is_none (find (λ rule. breaks_in rule Xo false texts) (rules_of Xo false))
+agree-xo : (texts : List (List ℕ)) → is_some (xo_record texts) ≡ is_none (xo_rule texts)
 unfolding xo_record
 agree-xo texts =
-    agree (site_at 3 texts) _ _ BadSite _ refl λ site is_site.
+    agree (site_in (field 3 texts) (field 4 texts) (field 5 texts)) _ _ BadSite _ (site-spelled (field 3 texts) (field 4 texts) (field 5 texts)) λ site is_site.
     xo_end (year_in (field 6 texts)) (date_in (field 7 texts)) (date_in (field 8 texts)) is_season (λ y a b. Season site y a b)
 
-agree-xo_key : (texts : List (List ℕ)) → is_some (xo_key texts) ≡ is_none (find (λ rule. breaks_in rule Xo true texts) (rules_of Xo true))
+agree-xo_key : (texts : List (List ℕ)) → is_some (xo_key texts) ≡ is_none (xo_key_rule texts)
 unfolding xo_key
 agree-xo_key texts =
-    agree (site_at 3 texts) _ _ BadSite _ refl λ site is_site.
+    agree (site_in (field 3 texts) (field 4 texts) (field 5 texts)) _ _ BadSite _ (site-spelled (field 3 texts) (field 4 texts) (field 5 texts)) λ site is_site.
     agree (year_in (field 6 texts)) _ _ BadDate _ (or_false (is_none (year_in (field 6 texts)))) λ year is_year.
     refl
 
@@ -208,30 +224,30 @@ agree-xo_key texts =
 xu_end : (missed makeup : Option ℕ) (f : ℕ → ℕ → Bool) (h : ℕ → ℕ → OfficeRecord)
     → is_some (missed >>= λ a. makeup >>= λ b. if f a b then Some (h a b) else None)
     ≡ is_none (cond (is_none missed || (is_none makeup || false)) (Some BadDate)
-    (cond (fails (missed >>= λ a. makeup >>= λ b. Some (f a b))) (Some BadMakeup) None))
+    (cond (fails (missed >>= λ a. makeup >>= λ b. Some (f a b)) || false) (Some BadMakeup) None))
 xu_end None makeup f h = refl
 xu_end (Some a) None f h = refl
 xu_end (Some a) (Some b) f h = tested (f a b) (h a b) BadMakeup
 
-agree-xu : (texts : List (List ℕ)) → is_some (xu_record texts) ≡ is_none (find (λ rule. breaks_in rule Xu false texts) (rules_of Xu false))
+agree-xu : (texts : List (List ℕ)) → is_some (xu_record texts) ≡ is_none (xu_rule texts)
 unfolding xu_record
 agree-xu texts =
-    agree (site_at 3 texts) _ _ BadSite _ refl λ site is_site.
-    agree (parameter_of Xu (field 6 texts)) _ _ ParameterOutOfProfile _ refl λ pollutant is_pollutant.
+    agree (site_in (field 3 texts) (field 4 texts) (field 5 texts)) _ _ BadSite _ (site-spelled (field 3 texts) (field 4 texts) (field 5 texts)) λ site is_site.
+    agree (parameter_of Xu (field 6 texts)) _ _ ParameterOutOfProfile _ (or_false (is_none (parameter_of Xu (field 6 texts)))) λ pollutant is_pollutant.
     xu_end (date_in (field 7 texts)) (date_in (field 8 texts)) is_makeup (λ a b. Makeup site a b)
 
-agree-xu_key : (texts : List (List ℕ)) → is_some (xu_key texts) ≡ is_none (find (λ rule. breaks_in rule Xu true texts) (rules_of Xu true))
+agree-xu_key : (texts : List (List ℕ)) → is_some (xu_key texts) ≡ is_none (xu_key_rule texts)
 unfolding xu_key
 agree-xu_key texts =
-    agree (site_at 3 texts) _ _ BadSite _ refl λ site is_site.
-    agree (parameter_of Xu (field 6 texts)) _ _ ParameterOutOfProfile _ refl λ pollutant is_pollutant.
+    agree (site_in (field 3 texts) (field 4 texts) (field 5 texts)) _ _ BadSite _ (site-spelled (field 3 texts) (field 4 texts) (field 5 texts)) λ site is_site.
+    agree (parameter_of Xu (field 6 texts)) _ _ ParameterOutOfProfile _ (or_false (is_none (parameter_of Xu (field 6 texts)))) λ pollutant is_pollutant.
     agree (date_in (field 7 texts)) _ _ BadDate _ (or_false (is_none (date_in (field 7 texts)))) λ missed is_missed.
     refl
 
 -- XE
 xe_end : (number : Option ℕ) (code : Option Code) (passed : Bool) (h : ℕ → Code → OfficeRecord)
     → is_some (number >>= λ n. code >>= λ c. if passed then Some (h n c) else None)
-    ≡ is_none (cond (not passed) (Some BadSpan) (cond (is_none number || is_none code) (Some BadCode) None))
+    ≡ is_none (cond (not passed || false) (Some BadSpan) (cond (is_none number || (is_none code || false)) (Some BadCode) None))
 xe_end None code true h = refl
 xe_end None code false h = refl
 xe_end (Some n) None true h = refl
@@ -254,44 +270,44 @@ xe_hours (Some d) None (Some e) last_hour next rest go = refl
 xe_hours (Some d) (Some h) (Some e) None next rest go = refl
 xe_hours (Some d) (Some h) (Some e) (Some i) next rest go = go (hour_number d h) (hour_number e i) refl refl
 
-agree-xe : (texts : List (List ℕ)) → is_some (xe_record texts) ≡ is_none (find (λ rule. breaks_in rule Xe false texts) (rules_of Xe false))
+agree-xe : (texts : List (List ℕ)) → is_some (xe_record texts) ≡ is_none (xe_rule texts)
 unfolding xe_record hour_of
 agree-xe texts =
-    agree (site_at 4 texts) _ _ BadSite _ refl λ site is_site.
-    agree (parameter_of Xe (field 7 texts)) _ _ ParameterOutOfProfile _ refl λ pollutant is_pollutant.
+    agree (site_in (field 4 texts) (field 5 texts) (field 6 texts)) _ _ BadSite _ (site-spelled (field 4 texts) (field 5 texts) (field 6 texts)) λ site is_site.
+    agree (parameter_of Xe (field 7 texts)) _ _ ParameterOutOfProfile _ (or_false (is_none (parameter_of Xe (field 7 texts)))) λ pollutant is_pollutant.
     xe_hours (date_in (field 8 texts)) (time_in (field 9 texts)) (date_in (field 10 texts)) (time_in (field 11 texts)) _ _ λ first last is_first is_last.
     xe_end (event_number_in (field 3 texts)) (event_code_in (field 12 texts)) (is_span first last) (λ n c. Event n site pollutant first last c)
-    ∙ sym (ap (λ o. is_none (cond (fails o) (Some BadSpan) (cond (is_none (event_number_in (field 3 texts)) || is_none (event_code_in (field 12 texts))) (Some BadCode) None)))
+    ∙ sym (ap (λ o. is_none (cond (fails o || false) (Some BadSpan) (cond (is_none (event_number_in (field 3 texts)) || (is_none (event_code_in (field 12 texts)) || false)) (Some BadCode) None)))
     (ap (λ q. q >>= λ a. hour_in (field 10 texts) (field 11 texts) >>= λ b. Some (is_span a b)) is_first ∙ ap (λ q. q >>= λ b. Some (is_span first b)) is_last))
 
-agree-xe_key : (texts : List (List ℕ)) → is_some (xe_key texts) ≡ is_none (find (λ rule. breaks_in rule Xe true texts) (rules_of Xe true))
+agree-xe_key : (texts : List (List ℕ)) → is_some (xe_key texts) ≡ is_none (xe_key_rule texts)
 unfolding xe_key
 agree-xe_key texts =
     agree (event_number_in (field 3 texts)) _ _ BadCode _ (or_false (is_none (event_number_in (field 3 texts)))) λ number is_number.
     refl
 
 -- XC
-agree-xc : (deletes : Bool) (texts : List (List ℕ)) → is_some (xc_record texts) ≡ is_none (find (λ rule. breaks_in rule Xc deletes texts) (rules_of Xc deletes))
+agree-xc : (texts : List (List ℕ)) → is_some (xc_record texts) ≡ is_none (xc_rule texts)
 unfolding xc_record
-agree-xc deletes texts = xc_end (event_number_in (field 3 texts)) (truth_in (field 4 texts))
+agree-xc texts = xc_end (event_number_in (field 3 texts)) (truth_in (field 4 texts))
   where
-    xc_end : (number : Option ℕ) (flag : Option Bool) → is_some (number >>= λ n. flag >>= λ f. Some (Concurrence n f)) ≡ is_none (cond (is_none number || is_none flag) (Some BadCode) None)
+    xc_end : (number : Option ℕ) (flag : Option Bool) → is_some (number >>= λ n. flag >>= λ f. Some (Concurrence n f)) ≡ is_none (cond (is_none number || (is_none flag || false)) (Some BadCode) None)
     xc_end None flag = refl
     xc_end (Some n) None = refl
     xc_end (Some n) (Some f) = refl
 
 -- XA
-agree-xa : (texts : List (List ℕ)) → is_some (xa_record texts) ≡ is_none (find (λ rule. breaks_in rule Xa false texts) (rules_of Xa false))
+agree-xa : (texts : List (List ℕ)) → is_some (xa_record texts) ≡ is_none (xa_rule texts)
 unfolding xa_record
 agree-xa texts =
-    agree (site_at 3 texts) _ _ BadSite _ refl λ site is_site.
+    agree (site_in (field 3 texts) (field 4 texts) (field 5 texts)) _ _ BadSite _ (site-spelled (field 3 texts) (field 4 texts) (field 5 texts)) λ site is_site.
     agree (date_in (field 6 texts)) _ _ BadDate _ (or_false (is_none (date_in (field 6 texts)))) λ day is_day.
     refl
 
-agree-xa_key : (texts : List (List ℕ)) → is_some (xa_key texts) ≡ is_none (find (λ rule. breaks_in rule Xa true texts) (rules_of Xa true))
+agree-xa_key : (texts : List (List ℕ)) → is_some (xa_key texts) ≡ is_none (xa_key_rule texts)
 unfolding xa_key
 agree-xa_key texts =
-    agree (site_at 3 texts) _ _ BadSite _ refl λ site is_site.
+    agree (site_in (field 3 texts) (field 4 texts) (field 5 texts)) _ _ BadSite _ (site-spelled (field 3 texts) (field 4 texts) (field 5 texts)) λ site is_site.
     agree (date_in (field 6 texts)) _ _ BadDate _ (or_false (is_none (date_in (field 6 texts)))) λ day is_day.
     refl
 
@@ -326,33 +342,33 @@ agree-value : (tag : Tag) (action : Action) (texts : List (List ℕ)) → acts t
     → is_some (value_for tag action texts)
     ≡ is_none (find (λ rule. breaks_in rule tag (is_delete action) texts) (rules_of tag (is_delete action)))
 unfolding is_delete
-agree-value Rd Insert texts may = kept (put_in false texts) _ ∙ agree-rd_put false texts
-agree-value Rd Update texts may = kept (put_in true texts) _ ∙ agree-rd_put true texts
-agree-value Rd Delete texts may = kept (delete_in texts) _ ∙ agree-rd_delete texts
-agree-value Xm Insert texts may = kept_twice (xm_record texts) _ _ ∙ agree-xm false texts
-agree-value Xm Update texts may = kept_twice (xm_record texts) _ _ ∙ agree-xm false texts
+agree-value Rd Insert texts may = kept (put_in false texts) _ ∙ agree-rd_put false texts ∙ ap is_none (sym (rd_put-rule texts))
+agree-value Rd Update texts may = kept (put_in true texts) _ ∙ agree-rd_put true texts ∙ ap is_none (sym (rd_put-rule texts))
+agree-value Rd Delete texts may = kept (delete_in texts) _ ∙ agree-rd_delete texts ∙ ap is_none (sym (rd_delete-rule texts))
+agree-value Xm Insert texts may = kept_twice (xm_record texts) _ _ ∙ agree-xm texts ∙ ap is_none (sym (xm-rule texts))
+agree-value Xm Update texts may = kept_twice (xm_record texts) _ _ ∙ agree-xm texts ∙ ap is_none (sym (xm-rule texts))
 agree-value Xm Delete texts may = absurd (false≢true may)
-agree-value Xp Insert texts may = kept_twice (xp_record texts) _ _ ∙ agree-xp texts
+agree-value Xp Insert texts may = kept_twice (xp_record texts) _ _ ∙ agree-xp texts ∙ ap is_none (sym (xp-rule texts))
 agree-value Xp Update texts may = absurd (false≢true may)
-agree-value Xp Delete texts may = kept_twice (xp_key texts) _ _ ∙ agree-xp_key texts
-agree-value Xs Insert texts may = kept_twice (xs_record texts) _ _ ∙ agree-xs texts
+agree-value Xp Delete texts may = kept_twice (xp_key texts) _ _ ∙ agree-xp_key texts ∙ ap is_none (sym (xp_key-rule texts))
+agree-value Xs Insert texts may = kept_twice (xs_record texts) _ _ ∙ agree-xs texts ∙ ap is_none (sym (xs-rule texts))
 agree-value Xs Update texts may = absurd (false≢true may)
-agree-value Xs Delete texts may = kept_twice (xs_key texts) _ _ ∙ agree-xs_key texts
-agree-value Xo Insert texts may = kept_twice (xo_record texts) _ _ ∙ agree-xo texts
+agree-value Xs Delete texts may = kept_twice (xs_key texts) _ _ ∙ agree-xs_key texts ∙ ap is_none (sym (xs_key-rule texts))
+agree-value Xo Insert texts may = kept_twice (xo_record texts) _ _ ∙ agree-xo texts ∙ ap is_none (sym (xo-rule texts))
 agree-value Xo Update texts may = absurd (false≢true may)
-agree-value Xo Delete texts may = kept_twice (xo_key texts) _ _ ∙ agree-xo_key texts
-agree-value Xu Insert texts may = kept_twice (xu_record texts) _ _ ∙ agree-xu texts
+agree-value Xo Delete texts may = kept_twice (xo_key texts) _ _ ∙ agree-xo_key texts ∙ ap is_none (sym (xo_key-rule texts))
+agree-value Xu Insert texts may = kept_twice (xu_record texts) _ _ ∙ agree-xu texts ∙ ap is_none (sym (xu-rule texts))
 agree-value Xu Update texts may = absurd (false≢true may)
-agree-value Xu Delete texts may = kept_twice (xu_key texts) _ _ ∙ agree-xu_key texts
-agree-value Xe Insert texts may = kept_twice (xe_record texts) _ _ ∙ agree-xe texts
+agree-value Xu Delete texts may = kept_twice (xu_key texts) _ _ ∙ agree-xu_key texts ∙ ap is_none (sym (xu_key-rule texts))
+agree-value Xe Insert texts may = kept_twice (xe_record texts) _ _ ∙ agree-xe texts ∙ ap is_none (sym (xe-rule texts))
 agree-value Xe Update texts may = absurd (false≢true may)
-agree-value Xe Delete texts may = kept_twice (xe_key texts) _ _ ∙ agree-xe_key texts
+agree-value Xe Delete texts may = kept_twice (xe_key texts) _ _ ∙ agree-xe_key texts ∙ ap is_none (sym (xe_key-rule texts))
 agree-value Xc Insert texts may = absurd (false≢true may)
-agree-value Xc Update texts may = kept_twice (xc_record texts) _ _ ∙ agree-xc false texts
+agree-value Xc Update texts may = kept_twice (xc_record texts) _ _ ∙ agree-xc texts ∙ ap is_none (sym (xc-rule texts))
 agree-value Xc Delete texts may = absurd (false≢true may)
-agree-value Xa Insert texts may = kept_twice (xa_record texts) _ _ ∙ agree-xa texts
+agree-value Xa Insert texts may = kept_twice (xa_record texts) _ _ ∙ agree-xa texts ∙ ap is_none (sym (xa-rule texts))
 agree-value Xa Update texts may = absurd (false≢true may)
-agree-value Xa Delete texts may = kept_twice (xa_key texts) _ _ ∙ agree-xa_key texts
+agree-value Xa Delete texts may = kept_twice (xa_key texts) _ _ ∙ agree-xa_key texts ∙ ap is_none (sym (xa_key-rule texts))
 
 -- an action of the form is one that the text spells
 spelled : (tag : Tag) (part : Option Action) (action : Action)
@@ -369,15 +385,28 @@ spelled tag (Some a) action is =
           cc
     ]
 
-same_find : (p q : Rule → Bool) → ((rule : Rule) → p rule ≡ q rule) → (rules : List Rule) → find p rules ≡ find q rules
-same_find p q same [] = refl
-same_find p q same (rule ∷ rules) =
-    ap (λ b. cond b (Some rule) (find p rules)) (same rule) ∙ ap (λ o. cond (q rule) (Some rule) o) (same_find p q same rules)
+same_find : (p q kept : Rule → Bool) (rules : List Rule) → AllByRecursion (λ rule. p rule ≡ q rule) rules
+    → find p (filter kept rules) ≡ find q (filter kept rules)
+same_find p q kept [] same = refl
+same_find p q kept (rule ∷ rules) same =
+    elim (true_or_false (kept rule)) [
+      | inl is ↦
+          subst (λ b. find p (cond b (rule ∷ filter kept rules) (filter kept rules)) ≡ find q (cond b (rule ∷ filter kept rules) (filter kept rules))) (sym is)
+          (ap (λ b. cond b (Some rule) (find p (filter kept rules))) same.0
+          ∙ ap (λ o. cond (q rule) (Some rule) o) (same_find p q kept rules same.1))
+      | inr not ↦
+          subst (λ b. find p (cond b (rule ∷ filter kept rules) (filter kept rules)) ≡ find q (cond b (rule ∷ filter kept rules) (filter kept rules))) (sym not)
+          (same_find p q kept rules same.1)
+    ]
 
-same_breaks : (tag : Tag) (texts : List (List ℕ)) (rule : Rule) → breaks_in rule tag (is_deletion texts) texts ≡ breaks_parts rule true (Some tag) texts
-same_breaks tag texts BadBytes = refl
-same_breaks tag texts BadTag = refl
-same_breaks tag texts rule = refl
+-- beside the rules of all forms, a line breaks what its fields break
+pub same_rule : (tag : Tag) (texts : List (List ℕ))
+    → find (λ rule. breaks_parts rule true (Some tag) texts) (rules_of tag (is_deletion texts))
+    ≡ find (λ rule. breaks_in rule tag (is_deletion texts) texts) (rules_of tag (is_deletion texts))
+same_rule tag texts =
+    same_find (λ rule. breaks_parts rule true (Some tag) texts) (λ rule. breaks_in rule tag (is_deletion texts) texts)
+    (λ rule. list_any (is_of_rule rule) (demands_on tag (is_deletion texts))) FIELD_RULES
+    (refl, (refl, (refl, (refl, (refl, (refl, (refl, (refl, (refl, (refl, (refl, (refl, (refl, (refl, (refl, (refl, (refl, (refl, (refl, tt)))))))))))))))))))
 
 agree-form : (tag : Tag) (texts : List (List ℕ)) (wrong : Bool) (rest : Option Rule)
     → rest ≡ find (λ rule. breaks_in rule tag (is_deletion texts) texts) (rules_of tag (is_deletion texts))
@@ -398,7 +427,7 @@ agree-parts false tag texts = refl
 agree-parts true None texts = refl
 agree-parts true (Some tag) texts =
     agree-form tag texts (has_wrong_count tag (is_deletion texts) texts) _
-    (sym (same_find _ _ (same_breaks tag texts) (rules_of tag (is_deletion texts))))
+    (same_rule tag texts)
 
 pub agree-line : (line : List ℕ) → is_some (line_value line) ≡ is_none (reading_rule line)
 agree-line line = agree-parts (is_plain line) (tag_of line) (fields line)

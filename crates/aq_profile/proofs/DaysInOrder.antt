@@ -18,15 +18,15 @@ use Rattle.aq_base.specs.declared.monitor.Pollutant.TheVariants.{Ozone, Pm25, Pm
 use Rattle.aq_base.specs.declared.observation.ObsKey.{ObsKey}
 use Rattle.aq_base.specs.declared.observation.Observation.{Observation}
 use Rattle.aq_base.specs.declared.office.OfficeRecord.{OfficeRecord}
-use Rattle.aq_profile.specs.Office.Office.{Office}
+use Rattle.aq_profile.specs.Office.Office.{Office, duration_at}
 use Rattle.aq_profile.specs.Lists.{total}
-use Rattle.aq_profile.specs.Office.Monitors.{is_same_monitor, is_same_key}
+use Rattle.aq_profile.specs.Office.Monitors.{is_same_monitor, is_same_key, is_eligible}
 use Rattle.aq_profile.specs.Ozone.SiteHour.{Cell, Sample, mean_of, chosen, is_of_poc}
 use Rattle.aq_profile.specs.Office.Designation.{primary_on}
 use Rattle.aq_profile.specs.Office.Schedule.{is_scheduled}
-use Rattle.aq_profile.specs.Particles.ParticleDay.{Sampler, cell_of, mean_of_hours, mean_or_high_sum, day_cell, monitor_day, samplers_of, lowest_poc, site_day, unless_excluded}
+use Rattle.aq_profile.specs.Particles.ParticleDay.{cell_of, mean_of_hours, mean_or_high_sum, day_cell, day_of_samples, monitor_day, eligible_pocs, lowest_poc, site_day, unless_excluded}
 use Rattle.aq_profile.specs.Particles.QuarterCounts.{Makeup, makeup_by, QuarterDays, days_of_quarter, credits, quarter_counts, quarter_values, quarters_of, pm25_year}
-use Rattle.aq_profile.specs.Particles.Strata.{cut_into_strata, strata_of}
+use Rattle.aq_profile.specs.Particles.Strata.{first_days_among, first_days, strata_from, quarter_end, strata_of}
 use Rattle.aq_profile.specs.Particles.Pm10Estimate.{Pm10Quarter, exceeds, quarter_of_strata, pm10_quarter, pm10_year}
 use Rattle.aq_profile.proofs.Order.{fold_in_any_order, filter_map-moved, one_order}
 use Rattle.aq_profile.proofs.Sums.{total-cons}
@@ -129,38 +129,46 @@ one_cell office monitor Day day distinct is =
 abbrev with_observations : List OfficeRecord → List Entry → Office
 with_observations records entries = record { records = records; observations = entries; loads = [] }
 
-pub monitor_day-any_order : (a b : Office) (monitor : MonitorId) (duration : Duration) (day : ℕ) → a.records ≡ b.records → IsPermutation a.observations b.observations
+day_of_samples-any_order : (a b : Office) (monitor : MonitorId) (duration : Duration) (day : ℕ) → a.records ≡ b.records → IsPermutation a.observations b.observations
     → ((key : ObsKey) → length (filter (λ (e : Entry). is_same_key e.0 key) a.observations) ≤ 1)
-    → monitor_day a monitor duration day ≡ monitor_day b monitor duration day
-unfolding monitor_day
-monitor_day-any_order a b monitor duration day records moved distinct =
-    let first : monitor_day a monitor duration day ≡ monitor_day (with_observations a.records b.observations) monitor duration day =
+    → day_of_samples a monitor duration day ≡ day_of_samples b monitor duration day
+day_of_samples-any_order a b monitor duration day records moved distinct =
+    let first : day_of_samples a monitor duration day ≡ day_of_samples (with_observations a.records b.observations) monitor duration day =
     day_cell-any_order monitor.pollutant duration (filter_map (cell_of a monitor duration day) a.observations) (filter_map (cell_of a monitor duration day) b.observations)
     (one_cell a monitor duration day distinct) (filter_map-moved (cell_of a monitor duration day) a.observations b.observations moved)
     in
-    let second : monitor_day (with_observations a.records b.observations) monitor duration day ≡ monitor_day b monitor duration day =
-    ap (λ (r : List OfficeRecord). monitor_day (with_observations r b.observations) monitor duration day) records
+    let second : day_of_samples (with_observations a.records b.observations) monitor duration day ≡ day_of_samples b monitor duration day =
+    ap (λ (r : List OfficeRecord). day_of_samples (with_observations r b.observations) monitor duration day) records
     in
     first ∙ second
 
+pub monitor_day-any_order : (a b : Office) (monitor : MonitorId) (day : ℕ) → a.records ≡ b.records → IsPermutation a.observations b.observations
+    → ((key : ObsKey) → length (filter (λ (e : Entry). is_same_key e.0 key) a.observations) ≤ 1)
+    → monitor_day a monitor day ≡ monitor_day b monitor day
+unfolding monitor_day
+monitor_day-any_order a b monitor day records moved distinct =
+    λ i. cond (is_eligible (records i) monitor)
+    (option_and_then (λ duration. day_of_samples-any_order a b monitor duration day records moved distinct i) (duration_at (with_observations (records i) []) monitor))
+    None
+
 -- ---- a site's day, by its records and the days of its monitors
 
-abbrev samples_by : List OfficeRecord → (MonitorId → Duration → Option Cell) → Site → Pollutant → List Sample
+abbrev samples_by : List OfficeRecord → (MonitorId → Option Cell) → Site → Pollutant → List Sample
 samples_by records days site pollutant =
     filter_map
-    (λ (sampler : Sampler). option_map (λ (cell : Cell). record { poc = sampler.poc; cell = cell }) (days (record { site = site; pollutant = pollutant; poc = sampler.poc }) sampler.duration))
-    (samplers_of records site pollutant)
+    (λ poc. option_map (λ (cell : Cell). record { poc = poc; cell = cell }) (days (record { site = site; pollutant = pollutant; poc = poc })))
+    (eligible_pocs records site pollutant)
 
-abbrev site_by : Pollutant → List OfficeRecord → (MonitorId → Duration → Option Cell) → Site → ℕ → Option Cell
+abbrev site_by : Pollutant → List OfficeRecord → (MonitorId → Option Cell) → Site → ℕ → Option Cell
 site_by Ozone records days site day = None
 site_by Pm25 records days site day =
     chosen (find (is_of_poc (primary_on records site Pm25 day)) (samples_by records days site Pm25)) (samples_by records days site Pm25)
 site_by Pm10 records days site day =
     option_map (λ (s : Sample). s.cell)
-    (find (is_of_poc (option_or (primary_on records site Pm10 day) (lowest_poc (samplers_of records site Pm10)))) (samples_by records days site Pm10))
+    (find (is_of_poc (option_or (primary_on records site Pm10 day) (lowest_poc (eligible_pocs records site Pm10)))) (samples_by records days site Pm10))
 
 site_by-is : (office : Office) (site : Site) (pollutant : Pollutant) (day : ℕ)
-    → site_day office site pollutant day ≡ site_by pollutant office.records (λ m d. monitor_day office m d day) site day
+    → site_day office site pollutant day ≡ site_by pollutant office.records (λ m. monitor_day office m day) site day
 unfolding site_day
 site_by-is office site Ozone day = refl
 site_by-is office site Pm25 day = refl
@@ -171,7 +179,7 @@ pub site_day-any_order : (a b : Office) (site : Site) (pollutant : Pollutant) (d
     → site_day a site pollutant day ≡ site_day b site pollutant day
 site_day-any_order a b site pollutant day records moved distinct =
     site_by-is a site pollutant day
-    ∙ (λ i. site_by pollutant (records i) (λ m d. monitor_day-any_order a b m d day records moved distinct i) site day)
+    ∙ (λ i. site_by pollutant (records i) (λ m. monitor_day-any_order a b m day records moved distinct i) site day)
     ∙ sym (site_by-is b site pollutant day)
 
 -- ---- a year, by its records and the days of the site
@@ -217,11 +225,11 @@ pm10_by records days site quarter =
     quarter_of_strata (days_in_quarter quarter) (length (scheduled_by records site Pm10 quarter))
     (count_by (sampled_by days) (scheduled_by records site Pm10 quarter))
     (count_by (λ day. option_map_or exceeds (option_and_then unless_excluded (days day)) false) (scheduled_by records site Pm10 quarter))
-    (map (filter_map (λ day. option_and_then unless_excluded (days day))) (cut_into_strata (is_scheduled records site Pm10) (days_of_quarter quarter)))
+    (map (filter_map (λ day. option_and_then unless_excluded (days day))) (strata_from (quarter_end quarter) (first_days_among (is_scheduled records site Pm10) (days_of_quarter quarter))))
 
 pub pm10_year-any_order : (a b : Office) (site : Site) (year : ℕ) → a.records ≡ b.records → IsPermutation a.observations b.observations
     → ((key : ObsKey) → length (filter (λ (e : Entry). is_same_key e.0 key) a.observations) ≤ 1)
     → pm10_year a site year ≡ pm10_year b site year
-unfolding pm10_year pm10_quarter strata_of
+unfolding pm10_year pm10_quarter strata_of first_days
 pm10_year-any_order a b site year records moved distinct =
     λ i. map (pm10_by (records i) (λ day. site_day-any_order a b site Pm10 day records moved distinct i) site) (quarters_of year)

@@ -1,18 +1,20 @@
 -- What lines and loads leave as it was.
-use Rattle.std.proofs.Common.{◌≡◌, ℕ, Bool, true, false, cond, List, [], ◌∷◌, Some, None, Option, refl, sym, ap, ◌∙◌, inl, inr}
-use Rattle.std.specs.Prelude.{is_some, if◌then◌else◌, bytes_eq, nat_le, ◌==◌, length}
+use Rattle.std.proofs.Common.{◌≡◌, ℕ, ◌<◌, ◌≤◌, arith, Bool, true, false, cond, List, [], ◌∷◌, Some, None, Option, refl, ap, ◌∙◌, inl, inr}
+use Rattle.std.specs.Prelude.{is_some, if◌then◌else◌, bytes_eq, nat_le, nat_lt, ◌==◌, length}
+use Rattle.std.proofs.lemmas.Bool.Decides.{nat_tests}
+use Rattle.std.proofs.lemmas.Slice.Eq.{bytes_eq-Decides}
 use Rattle.aq_base.specs.declared.office.OfficeRecord.{OfficeRecord}
 use Rattle.aq_base.specs.declared.office.OfficeKey.{OfficeKey}
 use Rattle.aq_base.specs.declared.office.OfficeKey.TheVariants.{Event as EventKey, Concurrence as ConcurrenceKey}
 use Rattle.aq_base.specs.declared.office.OfficeLine.TheVariants.{Put, Change, Drop}
 use Rattle.aq_base.specs.declared.rule.Rule.{Rule}
-use Rattle.aq_profile.specs.Limits.{MOST_LOADS}
-use Rattle.aq_profile.specs.Lines.Lines.{NumberedLine, body_lines}
+use Rattle.aq_profile.specs.Limits.{MOST_LINES, MOST_LOADS}
+use Rattle.aq_profile.specs.Lines.Lines.{NumberedLine, body_lines, line_count}
 use Rattle.aq_profile.specs.Lines.RdForm.{Put as PutSample, Delete as DeleteSample}
 use Rattle.aq_profile.specs.Lines.Reading.{LineValue, OfRd, OfOffice, line_value}
 use Rattle.aq_profile.specs.Office.Office.{Office, StoredLoad, KeysRise, record_rank, observation_rank, load_rank, key_numbers, observation_numbers, load_at}
 use Rattle.aq_profile.specs.Office.Refusal.{kept_key}
-use Rattle.aq_profile.specs.Office.Load.{Decision, Repeat, Conflict, Full, New, with_record, without_record, without_key, changed, changed_by, refusal, after, after_all, with_load, reply, load, decide, decide_known, after_decision, post}
+use Rattle.aq_profile.specs.Office.Load.{Repeat, Conflict, Full, New, with_record, without_record, without_key, changed, changed_by, refusal, after, after_all, with_load, reply, load, decide, decide_known, Posted, TooManyLines, Repeated, Differing, NoRoom, Taken, posted_again, posted_anew, posted_beside, posted, decision_of, office_after, post}
 use Rattle.aq_profile.proofs.Least.{true_or_false}
 use Rattle.aq_profile.proofs.Rising.{with_row-rises, without_row-rises}
 
@@ -20,30 +22,98 @@ pub after-refused : (office : Office) (line : List ℕ) (rule : Rule) → refusa
 after-refused office line rule is =
     ap (λ o. if is_some o then office else changed_by office (line_value line)) is
 
-pub after_decision-old : (decision : Decision) (office : Office) (number : ℕ) (digest body : List ℕ) → (decision ≡ New → ⊥)
-    → after_decision decision office number digest body ≡ office
-after_decision-old New office number digest body old = absurd (old refl)
-after_decision-old Repeat office number digest body old = refl
-after_decision-old Conflict office number digest body old = refl
-after_decision-old Full office number digest body old = refl
+-- ---- what a posted load answers
 
-known : (kept : StoredLoad) (digest : List ℕ) (is_full : Bool) → decide_known (Some kept) digest is_full ≡ New → ⊥
-known kept digest is_full new =
-    elim (true_or_false (bytes_eq kept.digest digest)) [
-      | inl same ↦
-          let repeat : Repeat ≡ New = sym (ap (λ b. cond b Repeat Conflict) same) ∙ new in
-          cc
-      | inr other ↦
-          let conflict : Conflict ≡ New = sym (ap (λ b. cond b Repeat Conflict) other) ∙ new in
-          cc
-    ]
+same-digest : (a b : List ℕ) → a ≡ b → bytes_eq a b ≡ true
+same-digest a b same = (bytes_eq-Decides a b).1 same
 
-pub post-known : (office : Office) (number : ℕ) (digest body : List ℕ) (kept : StoredLoad) → load_at office number ≡ Some kept
-    → post office number digest body ≡ office
-post-known office number digest body kept is =
-    after_decision-old (decide office number digest) office number digest body
-    (λ new. known kept digest (nat_le MOST_LOADS (length office.loads))
-    (sym (ap (λ o. decide_known o digest (nat_le MOST_LOADS (length office.loads))) is) ∙ new))
+other-digest : (a b : List ℕ) → (a ≡ b → ⊥) → bytes_eq a b ≡ false
+other-digest a b other = elim (true_or_false (bytes_eq a b)) [ inl same ↦ absurd (other ((bytes_eq-Decides a b).0 same)) | inr differs ↦ differs ]
+
+less : (a b : ℕ) → a < b → nat_lt a b ≡ true
+less a b h = grind (arith, nat_tests)
+
+not-less : (a b : ℕ) → b ≤ a → nat_lt a b ≡ false
+not-less a b h = grind (arith, nat_tests)
+
+within : (a b : ℕ) → a ≤ b → nat_le a b ≡ true
+within a b h = grind (arith, nat_tests)
+
+not-within : (a b : ℕ) → b < a → nat_le a b ≡ false
+not-within a b h = grind (arith, nat_tests)
+
+module _ (office : Office) (number : ℕ) (digest body : List ℕ) where
+  pub posted-too_many : 120000 < line_count body → posted office number digest body ≡ TooManyLines
+  posted-too_many many = ap (λ b. cond b TooManyLines (posted_beside (load_at office number) office number digest body)) (less 120000 (line_count body) many)
+
+  pub posted-few : line_count body ≤ 120000 → posted office number digest body ≡ posted_beside (load_at office number) office number digest body
+  posted-few few = ap (λ b. cond b TooManyLines (posted_beside (load_at office number) office number digest body)) (not-less 120000 (line_count body) few)
+
+  known : (kept : StoredLoad) → line_count body ≤ 120000 → load_at office number ≡ Some kept → posted office number digest body ≡ posted_again kept digest
+  known kept few is = posted-few few ∙ ap (λ o. posted_beside o office number digest body) is
+
+  new : line_count body ≤ 120000 → load_at office number ≡ None → posted office number digest body ≡ posted_anew office number digest body
+  new few is = posted-few few ∙ ap (λ o. posted_beside o office number digest body) is
+
+  pub posted-same : (kept : StoredLoad) → line_count body ≤ 120000 → load_at office number ≡ Some kept → kept.digest ≡ digest → posted office number digest body ≡ Repeated kept.reply
+  posted-same kept few is same =
+      known kept few is ∙ ap (λ b. cond b (Repeated kept.reply) (Differing kept.digest digest)) (same-digest kept.digest digest same)
+
+  pub posted-differing : (kept : StoredLoad) → line_count body ≤ 120000 → load_at office number ≡ Some kept → (kept.digest ≡ digest → ⊥) → posted office number digest body ≡ Differing kept.digest digest
+  posted-differing kept few is other =
+      known kept few is ∙ ap (λ b. cond b (Repeated kept.reply) (Differing kept.digest digest)) (other-digest kept.digest digest other)
+
+  abbrev taken : Posted
+  taken = Taken (reply office number body) (load office number digest body)
+
+  pub posted-full : line_count body ≤ 120000 → load_at office number ≡ None → 100000 ≤ length office.loads → posted office number digest body ≡ NoRoom
+  posted-full few is many = new few is ∙ ap (λ b. cond b NoRoom taken) (within 100000 (length office.loads) many)
+
+  pub posted-taken : line_count body ≤ 120000 → load_at office number ≡ None → length office.loads < 100000 → posted office number digest body ≡ taken
+  posted-taken few is room = new few is ∙ ap (λ b. cond b NoRoom taken) (not-within 100000 (length office.loads) room)
+
+  again-decided : (same is_full : Bool) (kept : StoredLoad) → decision_of (cond same (Repeated kept.reply) (Differing kept.digest digest)) ≡ Some (cond same Repeat Conflict)
+  again-decided true is_full kept = refl
+  again-decided false is_full kept = refl
+
+  anew-decided : (is_full : Bool) → decision_of (cond is_full NoRoom taken) ≡ Some (cond is_full Full New)
+  anew-decided true = refl
+  anew-decided false = refl
+
+  abbrev is_full : Bool
+  is_full = nat_le MOST_LOADS (length office.loads)
+
+  beside-decided : (kept : Option StoredLoad) → decision_of (posted_beside kept office number digest body) ≡ Some (decide_known kept digest is_full)
+  beside-decided (Some kept) = again-decided (bytes_eq kept.digest digest) is_full kept
+  beside-decided None = anew-decided is_full
+
+  pub posted-decided : line_count body ≤ 120000 → decision_of (posted office number digest body) ≡ Some (decide office number digest)
+  posted-decided few = ap decision_of (posted-few few) ∙ beside-decided (load_at office number)
+
+  again-old : (same : Bool) (kept : StoredLoad) → office_after (cond same (Repeated kept.reply) (Differing kept.digest digest)) office ≡ office
+  again-old true kept = refl
+  again-old false kept = refl
+
+  many-old : (many : Bool) (answer : Posted) → office_after answer office ≡ office → office_after (cond many TooManyLines answer) office ≡ office
+  many-old true answer old = refl
+  many-old false answer old = old
+
+  pub post-known : (kept : StoredLoad) → load_at office number ≡ Some kept → post office number digest body ≡ office
+  post-known kept is =
+      many-old (nat_lt MOST_LINES (line_count body)) (posted_beside (load_at office number) office number digest body)
+      (ap (λ o. office_after (posted_beside o office number digest body) office) is ∙ again-old (bytes_eq kept.digest digest) kept)
+
+  anew-old : (full : Bool) → (cond full Full New ≡ New → ⊥) → office_after (cond full NoRoom taken) office ≡ office
+  anew-old true old = refl
+  anew-old false old = absurd (old refl)
+
+  beside-old : (kept : Option StoredLoad) → (decide_known kept digest is_full ≡ New → ⊥) → office_after (posted_beside kept office number digest body) office ≡ office
+  beside-old (Some kept) old = again-old (bytes_eq kept.digest digest) kept
+  beside-old None old = anew-old is_full old
+
+  pub post-old : (decide office number digest ≡ New → ⊥) → post office number digest body ≡ office
+  post-old old =
+      many-old (nat_lt MOST_LINES (line_count body)) (posted_beside (load_at office number) office number digest body) (beside-old (load_at office number) old)
 
 -- ---- keys rise
 
@@ -95,7 +165,7 @@ KeysRise-after office line rise =
     KeysRise-if (is_some (refusal office line)) office (changed_by office (line_value line)) rise
     (KeysRise-changed_by office (line_value line) rise)
 
-KeysRise-after_all : (office : Office) (lines : List NumberedLine) → KeysRise office → KeysRise (after_all office lines)
+pub KeysRise-after_all : (office : Office) (lines : List NumberedLine) → KeysRise office → KeysRise (after_all office lines)
 KeysRise-after_all office [] rise = rise
 KeysRise-after_all office (line ∷ lines) rise = KeysRise-after_all (after office line.text) lines (KeysRise-after office line.text rise)
 

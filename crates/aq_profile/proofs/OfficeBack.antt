@@ -39,7 +39,7 @@ within a b h = grind (arith, nat_tests)
 
 -- ---- the site of an observation, which has a monitor
 
-is_record-of : (office : Office) (r : OfficeRecord) → fits_records office r ≡ true → is_record r ≡ true
+pub is_record-of : (office : Office) (r : OfficeRecord) → fits_records office r ≡ true → is_record r ≡ true
 is_record-of office r fits =
     let c = both _ (nat_le (group_size office r) (most_in_group r)) fits in
     let b = both _ (has_its_event office r) c.0 in
@@ -126,23 +126,38 @@ obs_row-itself row =
     ((bytes_eq-Decides row.null row.null).1 refl))
     ((bytes_eq-Decides row.quals row.quals).1 refl)
 
-pub observation-back : (office : Office) (o : ObsKey × Observation) → IsOffice office → fits_monitors office o ≡ true → observation_of_row (obs_row o) ≡ Some o
-unfolding observation_of_row
-observation-back office o valid fits =
+-- a row that a line can spell: its site, and its content
+pub record IsSpelled (o : ObsKey × Observation) : Type 0 where
+  pub site : is_site o.0.monitor.site ≡ true
+  pub content : is_content o.0.monitor.pollutant o.1 ≡ true
+
+pub fitting-is_spelled : (office : Office) (o : ObsKey × Observation) → IsOffice office → fits_monitors office o ≡ true → IsSpelled o
+fitting-is_spelled office o valid fits =
     let id = o.0.monitor in
     let b = both _ (is_content id.pollutant o.1) fits in
     let a = both (nat_le o.0.hour 438311) (is_kept_hour (duration_at office id) o.0.hour) b.0 in
-    let is = monitor-site id (record_at office (MonitorKey id)) o.0.hour (found-fits office (key_numbers (MonitorKey id)) office.records valid.records_fit) a.1 in
-    let z = both _ (nat_le (length o.1.quals) 10) b.1 in
+    record {
+      site = monitor-site id (record_at office (MonitorKey id)) o.0.hour (found-fits office (key_numbers (MonitorKey id)) office.records valid.records_fit) a.1;
+      content = b.1;
+    }
+
+pub spelled-back : (o : ObsKey × Observation) → IsSpelled o → observation_of_row (obs_row o) ≡ Some o
+unfolding observation_of_row
+spelled-back o spelled =
+    let id = o.0.monitor in
+    let z = both _ (nat_le (length o.1.quals) 10) spelled.content in
     let y = both _ _ z.0 in
     let x = both (is_measured id.pollutant o.1.value o.1.null) (list_all is_qualifier o.1.quals) y.0 in
     let pollutant = pollutant-back id.pollutant in
     let null = null-back id.pollutant o.1.value o.1.null x.0 in
     let quals = qualifiers-read o.1.quals x.1 in
-    let site = site-back id.site is in
+    let site = site-back id.site spelled.site in
     let with_site : Site → ObsKey × Observation = λ s. (record { monitor = record { site = s; pollutant = id.pollutant; poc = id.poc }; hour = o.0.hour }, record { value = o.1.value; null = o.1.null; quals = o.1.quals }) in
     let whole : with_site (site_with (site_key id.site)) ≡ o = λ i. with_site (site i) in
     rw pollutant (rw null (rw quals (ap (only_if (λ p. is_obs_row (obs_row p) (obs_row o))) whole ∙ ap (λ t. cond t (Some o) None) (obs_row-itself (obs_row o)))))
+
+pub observation-back : (office : Office) (o : ObsKey × Observation) → IsOffice office → fits_monitors office o ≡ true → observation_of_row (obs_row o) ≡ Some o
+observation-back office o valid fits = spelled-back o (fitting-is_spelled office o valid fits)
 
 -- ---- all rows
 
@@ -163,11 +178,11 @@ all-said : {X Y : Type 0} (p : Y → Bool) (write : X → Y) (xs : List X) → E
 all-said p write [] every = refl
 all-said p write (x ∷ xs) every = joined (p (write x)) (list_all p (map write xs)) every.0 (all-said p write xs every.1)
 
-every-from : {X : Type 0} (p : X → Bool) (P : X → Type 0) → ((x : X) → p x ≡ true → P x) → (xs : List X) → list_all p xs ≡ true → Every P xs
+pub every-from : {X : Type 0} (p : X → Bool) (P : X → Type 0) → ((x : X) → p x ≡ true → P x) → (xs : List X) → list_all p xs ≡ true → Every P xs
 every-from p P h [] all = tt
 every-from p P h (x ∷ xs) all = let parts = both (p x) (list_all p xs) all in (h x parts.0, every-from p P h xs parts.1)
 
-every-to : {X : Type 0} (P Q : X → Type 0) → ((x : X) → P x → Q x) → (xs : List X) → Every P xs → Every Q xs
+pub every-to : {X : Type 0} (P Q : X → Type 0) → ((x : X) → P x → Q x) → (xs : List X) → Every P xs → Every Q xs
 every-to P Q h [] every = tt
 every-to P Q h (x ∷ xs) every = (h x every.0, every-to P Q h xs every.1)
 

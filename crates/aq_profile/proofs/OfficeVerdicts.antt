@@ -5,7 +5,8 @@ use Rattle.std.proofs.lemmas.List.Elements.{All-cons, All-nil}
 use Rattle.aq_base.specs.Calendar.{quarter_number}
 use Rattle.aq_base.specs.Site.{Site}
 use Rattle.aq_profile.specs.Office.Office.{Office, IsOffice}
-use Rattle.aq_profile.specs.Particles.QuarterCounts.{QuarterDays, pm25_year, years_to}
+use Rattle.aq_profile.specs.Standards.{years_to}
+use Rattle.aq_profile.specs.Particles.QuarterCounts.{QuarterDays, pm25_year}
 use Rattle.aq_profile.specs.Particles.AnnualVerdict.{annual_design}
 use Rattle.aq_profile.specs.Particles.DailyVerdict.{daily_design}
 use Rattle.aq_profile.specs.Kept.Summaries.{KeepsPmYear, pm25_summary, summary_of_year}

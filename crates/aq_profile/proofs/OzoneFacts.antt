@@ -46,10 +46,10 @@ both false b h = cc
 
 -- ---- values of ozone
 
-abbrev InRange : ℤ → Type 0
+abbrev pub InRange : ℤ → Type 0
 InRange v = (negsuc 998 ≤ℤ v) × (v ≤ℤ pos 9999)
 
-from_test : (v : ℤ) → is_in_range Ozone v ≡ true → InRange v
+pub from_test : (v : ℤ) → is_in_range Ozone v ≡ true → InRange v
 from_test v h =
     let parts = both (int_le (negsuc 998) v) (int_le v (pos 9999)) h in
     let low : int_le (negsuc 998) v ≡ true = parts.0 in
@@ -65,13 +65,13 @@ to_test v h =
 abbrev Between : ℕ → ℤ → Type 0
 Between n t = (neg_ℤ (pos (999 * n)) ≤ℤ t) × (t ≤ℤ pos (9999 * n))
 
-total-between : (values : List ℤ) → Every InRange values → Between (length values) (total values)
+pub total-between : (values : List ℤ) → Every InRange values → Between (length values) (total values)
 total-between [] every = (omega (arith, ints), omega (arith, ints))
 total-between (v ∷ vs) every =
     let rest = total-between vs every.1 in
     (omega (arith, ints, rest.0, every.0.0, total-cons v vs), omega (arith, ints, rest.1, every.0.1, total-cons v vs))
 
-trunc-in_range : (t : ℤ) (n : ℕ) → 0 < n → Between n t → InRange (truncated t (pos n))
+pub trunc-in_range : (t : ℤ) (n : ℕ) → 0 < n → Between n t → InRange (truncated t (pos n))
 trunc-in_range (pos a) n some h =
     let few : a ≤ n * 9999 = omega (arith, ints, h.1) in
     let q : a / n ≤ 9999 = div-le_of_le-mul n few in
@@ -91,7 +91,7 @@ abbrev IfValue : Option ℤ → Type 0
 IfValue None = ⊤
 IfValue (Some v) = InRange v
 
-average-in_range : (n : ℕ) (t : ℤ) → Between n t → IfValue (average n t)
+pub average-in_range : (n : ℕ) (t : ℤ) → Between n t → IfValue (average n t)
 average-in_range n t h = by_tests (nat_le 6 n) (int_le (pos 568) t) refl refl
   where
     by_tests : (a b : Bool) → nat_le 6 n ≡ a → int_le (pos 568) t ≡ b
@@ -177,14 +177,14 @@ site_hour-in_range office site hour valid =
 
 -- ---- averages and days
 
-abbrev CellIn : Cell → Type 0
+abbrev pub CellIn : Cell → Type 0
 CellIn cell = InRange cell.value
 
 cell-onto : (o : Option Cell) (cells : List Cell) → IfCell o → Every CellIn cells → Every CellIn (cons_option o cells)
 cell-onto None cells h every = every
 cell-onto (Some cell) cells h every = (h, every)
 
-hours-in_range : (office : Office) (site : Site) (hours : List ℕ) → IsOffice office → Every CellIn (filter_map (site_hour office site) hours)
+pub hours-in_range : (office : Office) (site : Site) (hours : List ℕ) → IsOffice office → Every CellIn (filter_map (site_hour office site) hours)
 hours-in_range office site [] valid = tt
 hours-in_range office site (hour ∷ hours) valid =
     cell-onto (site_hour office site hour) (filter_map (site_hour office site) hours) (site_hour-in_range office site hour valid) (hours-in_range office site hours valid)
@@ -197,7 +197,7 @@ net-in_range (cell ∷ cells) every =
       | false ↦ net-in_range cells every.1
     ]
 
-window-in_range : (office : Office) (site : Site) (start : ℕ) → IsOffice office → IfValue (window office site start).net
+pub window-in_range : (office : Office) (site : Site) (start : ℕ) → IsOffice office → IfValue (window office site start).net
 unfolding window
 window-in_range office site start valid =
     let values = net_values (cells_from office site start) in
@@ -220,7 +220,7 @@ greatest-in_range : (values : List ℤ) → Every InRange values → IfValue (gr
 greatest-in_range [] every = tt
 greatest-in_range (v ∷ vs) every = rw (greatest-some v vs) (max-in_range v (greatest vs) every.0 (greatest-in_range vs every.1))
 
-day-in_range : (office : Office) (site : Site) (day : ℕ) → IsOffice office → IfValue (ozone_day office site day).maximum
+pub day-in_range : (office : Office) (site : Site) (day : ℕ) → IsOffice office → IfValue (ozone_day office site day).maximum
 unfolding ozone_day windows
 day-in_range office site day valid = greatest-in_range (net_averages (map (window office site) (starts_of day))) (averages-in_range office site (starts_of day) valid)
 

@@ -9,10 +9,9 @@ use Rattle.std.proofs.lemmas.List.{length-take}
 use Rattle.std.proofs.lemmas.List.Concat.{length-flat_map}
 use Rattle.std.proofs.lemmas.Bool.Decides.{nat_tests}
 use Rattle.std.proofs.Math.IntN.{suc_ℤ-*ℤ, *ℤ_comm, *ℤ-zero}
-use Rattle.aq_profile.specs.Lists.{total, greatest, ranked, ranked_in}
+use Rattle.aq_profile.specs.Lists.{least, total, greatest, ranked, ranked_in}
 use Rattle.aq_profile.specs.Particles.QuarterCounts.{QuarterDays, values_in}
-use Rattle.aq_profile.specs.Particles.Substitution.{least}
-use Rattle.aq_profile.specs.Kept.Summaries.{PmQuarter, days_in, eight_greatest, falls, is_sum_within, summary_of_quarter}
+use Rattle.aq_profile.specs.Kept.Summaries.{PmQuarter, net_days_in, eight_greatest, falls, is_sum_within, summary_of_quarter}
 use Rattle.aq_profile.proofs.Sums.{total-cons, lesser_of, greater_of, least-some, greatest-some, greatest-of_lists}
 use Rattle.aq_profile.proofs.Descent.{Descends, ranked-descends, length-ranked}
 use Rattle.aq_profile.proofs.Eight.{descends-take, slice_get-front}
@@ -133,7 +132,7 @@ falls-descends (x ∷ y ∷ ys) d = rw (falls_next x y d.0) (falls-descends (y �
 pub top-falls : (values : List ℤ) → IsTrue (falls (eight_greatest values))
 top-falls values = falls-descends (eight_greatest values) (descends-take 8 (ranked values) (ranked-descends values))
 
-pub top-count : (year : List QuarterDays) → length (eight_greatest (values_in year)) ≡ min 8 (days_in (map summary_of_quarter year))
+pub top-count : (year : List QuarterDays) → length (eight_greatest (values_in year)) ≡ min 8 (net_days_in (map summary_of_quarter year))
 top-count year =
     length-take 8 (ranked (values_in year))
     ∙ ap (min 8) (length-ranked (values_in year) ∙ length-flat_map (λ (q : QuarterDays). q.values) year ∙ sym (days-summary year))

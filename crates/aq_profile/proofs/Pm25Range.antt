@@ -19,15 +19,14 @@ use Rattle.aq_base.specs.declared.monitor.Pollutant.TheVariants.{Pm25}
 use Rattle.aq_base.specs.declared.observation.ObsKey.{ObsKey}
 use Rattle.aq_base.specs.declared.observation.Observation.{Observation}
 use Rattle.aq_profile.specs.Lines.Spellings.{is_in_range}
-use Rattle.aq_profile.specs.Office.Office.{Office, IsOffice, is_measured, is_content, fits_monitors}
-use Rattle.aq_profile.specs.Lists.{total, greatest, ranked, ranked_in}
-use Rattle.aq_profile.specs.Office.Monitors.{is_same_site, is_same_pollutant, is_same_monitor}
+use Rattle.aq_profile.specs.Office.Office.{Office, IsOffice, duration_at, is_measured, is_content, fits_monitors}
+use Rattle.aq_profile.specs.Lists.{least, total, greatest, ranked, ranked_in}
+use Rattle.aq_profile.specs.Office.Monitors.{is_same_site, is_same_pollutant, is_same_monitor, is_eligible}
 use Rattle.aq_profile.specs.Office.Exclusion.{excluded}
 use Rattle.aq_profile.specs.Office.Designation.{primary_on}
 use Rattle.aq_profile.specs.Ozone.SiteHour.{Cell, Sample, mean_of, chosen, is_of_poc}
-use Rattle.aq_profile.specs.Particles.ParticleDay.{Sampler, starts_on, cell_of, mean_or_high_sum, day_value, day_cell, monitor_day, sample_on, samples_on, samplers_of, site_day, net_day, unless_excluded}
+use Rattle.aq_profile.specs.Particles.ParticleDay.{starts_on, cell_of, mean_or_high_sum, day_value, day_cell, day_of_samples, monitor_day, sample_on, samples_on, eligible_pocs, site_day, net_day, unless_excluded}
 use Rattle.aq_profile.specs.Particles.QuarterCounts.{days_of_quarter, quarter_counts, pm25_quarter, quarter_values, quarters_of, pm25_year, values_in}
-use Rattle.aq_profile.specs.Particles.Substitution.{least}
 use Rattle.aq_profile.specs.Kept.Summaries.{is_value, PmQuarter, KeepsPmQuarter, KeepsPmYear, eight_greatest, summary_of_quarter, pm25_summary}
 use Rattle.aq_profile.proofs.Sameness.{same_pollutant}
 use Rattle.aq_profile.proofs.Sums.{total-cons, lesser_of, greater_of, least-some, greatest-some}
@@ -177,11 +176,19 @@ day_cell-in_range pollutant duration cells is every =
     subst P (sym is)
     (with_value (list_any (λ (c : Cell). c.excluded) cells) (day_value Pm25 duration (map (λ (c : Cell). c.value) cells)) (day_value-in_range duration (map (λ (c : Cell). c.value) cells) (values-in_range cells every)))
 
-monitor_day-in_range : (office : Office) (monitor : MonitorId) (duration : Duration) (day : ℕ) → IsOffice office → monitor.pollutant ≡ Pm25 → IfCell (monitor_day office monitor duration day)
-unfolding monitor_day
-monitor_day-in_range office monitor duration day valid is =
+day_of_samples-in_range : (office : Office) (monitor : MonitorId) (duration : Duration) (day : ℕ) → IsOffice office → monitor.pollutant ≡ Pm25 → IfCell (day_of_samples office monitor duration day)
+day_of_samples-in_range office monitor duration day valid is =
     day_cell-in_range monitor.pollutant duration (filter_map (cell_of office monitor duration day) office.observations) is
     (cells-in_range office monitor duration day office.observations is valid.observations_fit)
+
+monitor_day-in_range : (office : Office) (monitor : MonitorId) (day : ℕ) → IsOffice office → monitor.pollutant ≡ Pm25 → IfCell (monitor_day office monitor day)
+unfolding monitor_day
+monitor_day-in_range office monitor day valid is = by_case (is_eligible office.records monitor) (duration_at office monitor)
+  where
+    by_case : (b : Bool) (o : Option Duration) → IfCell (cond b (option_and_then (λ duration. day_of_samples office monitor duration day) o) None)
+    by_case false o = tt
+    by_case true None = tt
+    by_case true (Some duration) = day_of_samples-in_range office monitor duration day valid is
 
 abbrev SampleIn : Sample → Type 0
 SampleIn sample = CellIn sample.cell
@@ -191,12 +198,12 @@ sample-onto : (poc : ℕ) (o : Option Cell) (samples : List Sample) → IfCell o
 sample-onto poc None samples h every = every
 sample-onto poc (Some cell) samples h every = (h, every)
 
-samples-in_range : (office : Office) (site : Site) (day : ℕ) (samplers : List Sampler) → IsOffice office → Every SampleIn (filter_map (sample_on office site Pm25 day) samplers)
+samples-in_range : (office : Office) (site : Site) (day : ℕ) (pocs : List ℕ) → IsOffice office → Every SampleIn (filter_map (sample_on office site Pm25 day) pocs)
 samples-in_range office site day [] valid = tt
-samples-in_range office site day (sampler ∷ samplers) valid =
-    let monitor : MonitorId = record { site = site; pollutant = Pm25; poc = sampler.poc } in
-    sample-onto sampler.poc (monitor_day office monitor sampler.duration day) (filter_map (sample_on office site Pm25 day) samplers)
-    (monitor_day-in_range office monitor sampler.duration day valid refl) (samples-in_range office site day samplers valid)
+samples-in_range office site day (poc ∷ pocs) valid =
+    let monitor : MonitorId = record { site = site; pollutant = Pm25; poc = poc } in
+    sample-onto poc (monitor_day office monitor day) (filter_map (sample_on office site Pm25 day) pocs)
+    (monitor_day-in_range office monitor day valid refl) (samples-in_range office site day pocs valid)
 
 sample_values : (samples : List Sample) → Every SampleIn samples → Every InRange (map (λ (s : Sample). s.cell.value) samples)
 sample_values [] every = tt
@@ -230,7 +237,7 @@ chosen-in_range (Some sample) samples h every = h
 pub site_day-in_range : (office : Office) (site : Site) (day : ℕ) → IsOffice office → IfCell (site_day office site Pm25 day)
 unfolding site_day
 site_day-in_range office site day valid =
-    let every = samples-in_range office site day (samplers_of office.records site Pm25) valid in
+    let every = samples-in_range office site day (eligible_pocs office.records site Pm25) valid in
     chosen-in_range (find (is_of_poc (primary_on office.records site Pm25 day)) (samples_on office site Pm25 day)) (samples_on office site Pm25 day)
     (found-in_range (is_of_poc (primary_on office.records site Pm25 day)) (samples_on office site Pm25 day) every) every
 
@@ -261,11 +268,11 @@ max-in_range : (x : ℤ) (o : Option ℤ) → InRange x → IfValue o → IfValu
 max-in_range x None h k = h
 max-in_range x (Some y) h k = (grind (arith, ints, h.0, k.0), grind (arith, ints, h.1, k.1))
 
-least-in_range : (values : List ℤ) → Every InRange values → IfValue (least values)
+pub least-in_range : (values : List ℤ) → Every InRange values → IfValue (least values)
 least-in_range [] every = tt
 least-in_range (v ∷ vs) every = rw (least-some v vs) (min-in_range v (least vs) every.0 (least-in_range vs every.1))
 
-greatest-in_range : (values : List ℤ) → Every InRange values → IfValue (greatest values)
+pub greatest-in_range : (values : List ℤ) → Every InRange values → IfValue (greatest values)
 greatest-in_range [] every = tt
 greatest-in_range (v ∷ vs) every = rw (greatest-some v vs) (max-in_range v (greatest vs) every.0 (greatest-in_range vs every.1))
 
@@ -282,8 +289,8 @@ pm25_quarter-keeps office site quarter valid holds =
       counted = counts.counted;
       creditable = counts.creditable;
       scheduled = counts.scheduled;
-      counted_days = counts.counted_days;
-      days = counts.room;
+      counted_net = counts.counted_days;
+      net_days = counts.room;
       some_least = least-there values;
       some_greatest = greatest-there values;
       least_in_range = value_test (least values) (least-in_range values every);
@@ -299,12 +306,12 @@ every-ranked_in v [] h every = (h, tt)
 every-ranked_in v (z ∷ zs) h every =
     elim (int_lt v z) as (λ b. Every InRange (cond b (z ∷ ranked_in v zs) (v ∷ z ∷ zs))) [ true ↦ (every.0, every-ranked_in v zs h every.1) | false ↦ (h, every) ]
 
-every-ranked : (values : List ℤ) → Every InRange values → Every InRange (ranked values)
+pub every-ranked : (values : List ℤ) → Every InRange values → Every InRange (ranked values)
 unfolding ranked
 every-ranked [] every = tt
 every-ranked (v ∷ vs) every = every-ranked_in v (ranked vs) every.0 (every-ranked vs every.1)
 
-every-take : (n : ℕ) (values : List ℤ) → Every InRange values → Every InRange (take n values)
+pub every-take : (n : ℕ) (values : List ℤ) → Every InRange values → Every InRange (take n values)
 every-take zero values every = tt
 every-take (suc n) [] every = tt
 every-take (suc n) (v ∷ vs) every = (every.0, every-take n vs every.1)

@@ -1,7 +1,10 @@
 -- Estimates of PM10 quarters: sixtieths are exact, and samples of strata of their own give v * N / n.
-use Rattle.std.proofs.Common.{◌≡◌, ℕ, zero, suc, ◌+◌, ◌*◌, ◌/◌, ◌≤◌, Bool, cond, List, [], ◌∷◌, length, refl, ap, ◌∙◌, arith}
-use Rattle.std.specs.Prelude.{ℤ, pos, Option, Some, None, ◌==◌, All, if◌then◌else◌}
+use Rattle.std.proofs.Common.{◌≡◌, ℕ, zero, suc, ◌+◌, ◌*◌, ◌/◌, ◌<◌, ◌≤◌, Bool, true, false, cond, List, [], ◌∷◌, length, refl, sym, ap, ◌∙◌, arith}
+use Rattle.std.specs.Prelude.{ℤ, pos, negsuc, ◌+ℤ◌, ◌*ℤ◌, ◌≤ℤ◌, ◌<ℤ◌, int_lt, int_le, Option, Some, None, ◌==◌, All, if◌then◌else◌}
+use Rattle.std.specs.Int.{int_div_euclid}
 use Rattle.std.specs.List.{sum_by, count_by}
+use Rattle.std.proofs.lemmas.Bool.Decides.{nat_tests}
+use Rattle.std.proofs.lemmas.Int.{ints}
 use Rattle.std.proofs.lemmas.List.Elements.{All-head, All-tail}
 use Rattle.std.proofs.lemmas.List.Sums.{sum_by-cons}
 use Rattle.std.proofs.Math.Nat.{mul-div-mul_left, zero-lt-suc}
@@ -22,6 +25,32 @@ whole_part_of (suc (suc (suc (suc (suc (suc (suc k))))))) c low high = absurd (o
 
 pub sixtieths-exact : (values : List ℤ) → 1 ≤ length values → length values ≤ 6 → sixtieths_of values * length values ≡ 60 * count_by exceeds values
 sixtieths-exact values low high = whole_part_of (length values) (count_by exceeds values) low high
+
+-- ---- exceedances
+
+-- twice the value and a hundred, over two hundred, is above 15 from 3200 on
+above_fifteen : (z v : ℤ) → z ≡ (pos 2 *ℤ v) +ℤ pos 100 → int_lt (pos 15) (int_div_euclid z (pos 200)) ≡ int_le (pos 1550) v
+above_fifteen (pos m) v is = by_test (int_le (pos 1550) v) refl
+  where
+    by_test : (b : Bool) → int_le (pos 1550) v ≡ b → int_lt (pos 15) (pos (m / 200)) ≡ b
+    by_test true h =
+        let high : pos 1550 ≤ℤ v = grind (arith, ints) in
+        let many : 3200 ≤ m = omega (arith, ints, high, is) in
+        let quotient : 15 < m / 200 = omega (arith, many) in
+        grind (arith, ints, nat_tests)
+    by_test false h =
+        let low : v <ℤ pos 1550 = grind (arith, ints) in
+        let few : m < 3200 = omega (arith, ints, low, is) in
+        let quotient : m / 200 ≤ 15 = omega (arith, few) in
+        grind (arith, ints, nat_tests)
+above_fifteen (negsuc m) v is =
+    let low : v <ℤ pos 1550 = omega (arith, ints, is) in
+    let test : int_le (pos 1550) v ≡ false = grind (arith, ints) in
+    sym test
+
+-- rounded to the nearest 10 µg/m3, a value is above 150 from 155.0 on
+pub exceeds-from : (value : ℤ) → exceeds value ≡ int_le (pos 1550) value
+exceeds-from value = above_fifteen ((pos 2 *ℤ value) +ℤ pos 100) value refl
 
 -- ---- half_up of a quotient, both sides times 60
 

@@ -23,7 +23,7 @@ use Rattle.aq_base.specs.declared.office.OfficeKey.TheVariants.{Monitor as Monit
 use Rattle.aq_base.specs.declared.office.OfficeLine.{OfficeLine}
 use Rattle.aq_base.specs.declared.office.OfficeLine.TheVariants.{Put, Change, Drop}
 use Rattle.aq_profile.specs.Lines.Fields.{field, fields}
-use Rattle.aq_profile.specs.Lines.Spellings.{◌>>=◌, tag_in, Xs, Xp, Xu, Xe, is_interval, is_event_number, is_event_code, event_number_in, event_code_in, is_code_byte, has_parameter, has_duration}
+use Rattle.aq_profile.specs.Lines.Spellings.{◌>>=◌, tag_in, Rd, Xm, Xs, Xp, Xu, Xe, is_interval, is_event_number, is_event_code, event_number_in, event_code_in, is_code_byte, has_parameter, has_duration}
 use Rattle.aq_profile.specs.Lines.RdForm.{monitor_in}
 use Rattle.aq_profile.specs.Lines.OfficeForms.{is_season, is_makeup, is_span, xm_record, xp_record, xp_key, xs_record, xs_key, xo_record, xo_key, xu_record, xu_key, xe_record, xe_key, xc_record, xa_record, xa_key}
 use Rattle.aq_profile.specs.Lines.Reading.{OfOffice, line_value, form_value}
@@ -292,9 +292,14 @@ pub poc_short : (p : ℕ) → is_poc p ≡ true → p < 2 ^ 64
 poc_short p h = small_poc p (both (nat_le 1 p) (nat_le p 99) h).1
 
 pub monitor_read : (tag action : List ℕ) (s : Site) (p : Pollutant) (poc : ℕ) (rest : List (List ℕ)) → is_site s ≡ true → is_poc poc ≡ true
-    → monitor_in (tag ∷ action ∷ site_with s (parameter_text p ∷ decimal poc ∷ rest)) ≡ Some (record { site = s; pollutant = p; poc = poc })
+    → monitor_in Rd (tag ∷ action ∷ site_with s (parameter_text p ∷ decimal poc ∷ rest)) ≡ Some (record { site = s; pollutant = p; poc = poc })
 unfolding monitor_in
 monitor_read tag action s p poc rest h i = bind-is _ (site_is s h) ∙ bind-is _ (parameter_is p) ∙ bind-is _ (poc_is poc i)
+
+xm_monitor_read : (tag action : List ℕ) (s : Site) (p : Pollutant) (poc : ℕ) (rest : List (List ℕ)) → is_site s ≡ true → is_poc poc ≡ true
+    → monitor_in Xm (tag ∷ action ∷ site_with s (parameter_text p ∷ decimal poc ∷ rest)) ≡ Some (record { site = s; pollutant = p; poc = poc })
+unfolding monitor_in
+xm_monitor_read tag action s p poc rest h i = monitor_read tag action s p poc rest h i
 
 xm_read : (tag action : List ℕ) (id : MonitorId) (d : Duration) (eligible : Bool) → is_site id.site ≡ true → is_poc id.poc ≡ true
     → has_duration id.pollutant d ≡ true
@@ -302,7 +307,7 @@ xm_read : (tag action : List ℕ) (id : MonitorId) (d : Duration) (eligible : Bo
     ≡ Some (Monitor id d eligible)
 unfolding xm_record
 xm_read tag action id d eligible h i j =
-    bind-is _ (monitor_read tag action id.site id.pollutant id.poc (duration_text d ∷ truth_text eligible ∷ []) h i)
+    bind-is _ (xm_monitor_read tag action id.site id.pollutant id.poc (duration_text d ∷ truth_text eligible ∷ []) h i)
     ∙ bind-is _ (duration_is id.pollutant d j) ∙ bind-is _ (truth_is eligible)
 
 clean-xm : (id : MonitorId) (d : Duration) (eligible : Bool) → is_poc id.poc ≡ true

@@ -39,7 +39,7 @@ same_pollutant Pm10 Ozone h = cc
 same_pollutant Pm10 Pm25 h = cc
 same_pollutant Pm10 Pm10 h = refl
 
-same_monitor : (a b : MonitorId) → is_same_monitor a b ≡ true → a ≡ b
+pub same_monitor : (a b : MonitorId) → is_same_monitor a b ≡ true → a ≡ b
 same_monitor a b h =
     let first = left (is_same_site a.site b.site && is_same_pollutant a.pollutant b.pollutant) (a.poc == b.poc) h in
     let site = same_site a.site b.site (left (is_same_site a.site b.site) (is_same_pollutant a.pollutant b.pollutant) first) in
@@ -59,7 +59,7 @@ number_itself n = grind (arith, nat_tests)
 pub site_itself : (site : Site) → is_same_site site site ≡ true
 site_itself site = rw (number_itself site.state, number_itself site.county, number_itself site.number) refl
 
-pollutant_itself : (pollutant : Pollutant) → is_same_pollutant pollutant pollutant ≡ true
+pub pollutant_itself : (pollutant : Pollutant) → is_same_pollutant pollutant pollutant ≡ true
 pollutant_itself Ozone = refl
 pollutant_itself Pm25 = refl
 pollutant_itself Pm10 = refl

@@ -14,7 +14,7 @@ both : (a b : Bool) → (a && b) ≡ true → (a ≡ true) × (b ≡ true)
 both true b h = (refl, h)
 both false b h = cc
 
-before-itself : (xs : List ℕ) → comes_before xs xs ≡ true → ⊥
+pub before-itself : (xs : List ℕ) → comes_before xs xs ≡ true → ⊥
 before-itself [] h = cc
 before-itself (x ∷ xs) h = by_tests (nat_lt x x) (x == x) (comes_before xs xs) h (λ l. absurd (grind (arith, nat_tests))) (before-itself xs)
   where

@@ -6,8 +6,7 @@ use Rattle.std.specs.Int.{int_min, int_max}
 use Rattle.std.proofs.lemmas.Int.{ints}
 use Rattle.std.proofs.lemmas.List.Sums.{fold-append}
 use Rattle.std.proofs.Math.IntN.{+ℤ_idl}
-use Rattle.aq_profile.specs.Lists.{total, greater, greatest}
-use Rattle.aq_profile.specs.Particles.Substitution.{lesser, least}
+use Rattle.aq_profile.specs.Lists.{total, lesser, least, greater, greatest}
 
 -- ---- sums
 

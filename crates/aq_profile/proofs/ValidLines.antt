@@ -15,10 +15,11 @@ use Rattle.aq_base.specs.declared.office.OfficeRecord.TheVariants.{Season, Makeu
 use Rattle.aq_base.specs.declared.office.OfficeKey.{OfficeKey}
 use Rattle.aq_base.specs.declared.office.OfficeLine.TheVariants.{Put, Change, Drop}
 use Rattle.aq_profile.specs.Lines.Fields.{field, fields, is_empty}
-use Rattle.aq_profile.specs.Lines.Spellings.{◌>>=◌, Tag, Rd, Xm, Xp, Xs, Xo, Xu, Xe, Xc, Xa, Action, Insert, Update, Delete, action_in, parameter_in, parameter_of, poc_in, primary_in, duration_in, unit_in, method_in, date_in, year_in, interval_in, truth_in, value_in, is_in_range, null_in, qualifier_in, qualifiers_onto, qualifiers_in, event_number_in, event_code_in, has_parameter, has_duration, is_interval, is_event_number, is_event_code, is_code_byte}
+use Rattle.aq_profile.specs.Lines.Forms.{State, County, SiteNumber, Parameter, Poc, acts, text_of}
+use Rattle.aq_profile.specs.Lines.Spellings.{◌>>=◌, Tag, Rd, Xm, Xp, Xs, Xo, Xu, Xe, Xc, Xa, Action, Insert, Update, Delete, action_in, site_in, parameter_in, parameter_of, poc_in, primary_in, duration_in, unit_in, method_in, date_in, year_in, interval_in, truth_in, value_in, is_in_range, null_in, qualifier_in, qualifiers_onto, qualifiers_in, event_number_in, event_code_in, has_parameter, has_duration, is_interval, is_event_number, is_event_code, is_code_byte}
 use Rattle.aq_profile.specs.Lines.RdForm.{RdValue, monitor_in, start_in, content_in, put_in, delete_in, qualifier_fields}
-use Rattle.aq_profile.specs.Lines.OfficeForms.{site_at, hour_in, is_season, is_makeup, is_span, xm_record, xp_record, xp_key, xs_record, xs_key, xo_record, xo_key, xu_record, xu_key, xe_record, xe_key, xc_record, xa_record, xa_key}
-use Rattle.aq_profile.specs.Lines.Reading.{LineValue, OfRd, OfOffice, line_value, value_for, form_value, acts, action_for, has_wrong_count, is_deletion, is_plain, tag_of}
+use Rattle.aq_profile.specs.Lines.OfficeForms.{hour_in, is_season, is_makeup, is_span, xm_record, xp_record, xp_key, xs_record, xs_key, xo_record, xo_key, xu_record, xu_key, xe_record, xe_key, xc_record, xa_record, xa_key}
+use Rattle.aq_profile.specs.Lines.Reading.{LineValue, OfRd, OfOffice, line_value, value_for, form_value, action_for, has_wrong_count, is_deletion, is_plain, tag_of}
 use Rattle.aq_profile.specs.Lines.Canonical.{is_rd_value, is_office_line, is_line_value}
 use Rattle.aq_profile.specs.Office.Office.{is_site, is_poc, is_day, is_qualifier, is_null_code, is_measured, is_content}
 use Rattle.aq_profile.proofs.Least.{both, true_or_false}
@@ -28,13 +29,19 @@ use Rattle.aq_profile.proofs.Valid.{valid, valid_if, anything, site_valid, param
 
 -- ---- samples
 
-monitor_valid : (texts : List (List ℕ)) → IfSome (monitor_in texts) (λ id. (is_site id.site && is_poc id.poc) ≡ true)
-unfolding monitor_in
-monitor_valid texts =
-    valid (λ s. is_site s ≡ true) (λ (id : MonitorId). (is_site id.site && is_poc id.poc) ≡ true) (site_at 3 texts) _ (site_valid (field 3 texts) (field 4 texts) (field 5 texts)) λ s h.
-    valid (λ p. p ≡ p) (λ (id : MonitorId). (is_site id.site && is_poc id.poc) ≡ true) (parameter_in (field 6 texts)) _ (anything (parameter_in (field 6 texts))) λ p e.
-    valid (λ p. is_poc p ≡ true) (λ (id : MonitorId). (is_site id.site && is_poc id.poc) ≡ true) (poc_in (field 7 texts)) _ (poc_valid (field 7 texts)) λ c i.
+monitor_parts : (state county number parameter poc : List ℕ)
+    → IfSome (site_in state county number >>= λ s. parameter_in parameter >>= λ p. poc_in poc >>= λ c. Some (record { site = s; pollutant = p; poc = c }))
+    (λ (id : MonitorId). (is_site id.site && is_poc id.poc) ≡ true)
+monitor_parts state county number parameter poc =
+    valid (λ s. is_site s ≡ true) (λ (id : MonitorId). (is_site id.site && is_poc id.poc) ≡ true) (site_in state county number) _ (site_valid state county number) λ s h.
+    valid (λ p. p ≡ p) (λ (id : MonitorId). (is_site id.site && is_poc id.poc) ≡ true) (parameter_in parameter) _ (anything (parameter_in parameter)) λ p e.
+    valid (λ p. is_poc p ≡ true) (λ (id : MonitorId). (is_site id.site && is_poc id.poc) ≡ true) (poc_in poc) _ (poc_valid poc) λ c i.
     and_true (is_site s) (is_poc c) h i
+
+monitor_valid : (tag : Tag) (texts : List (List ℕ)) → IfSome (monitor_in tag texts) (λ id. (is_site id.site && is_poc id.poc) ≡ true)
+unfolding monitor_in
+monitor_valid tag texts =
+    monitor_parts (text_of tag State texts) (text_of tag County texts) (text_of tag SiteNumber texts) (text_of tag Parameter texts) (text_of tag Poc texts)
 
 null_valid : (text : List ℕ) → IfSome (null_in text) (λ c. is_null_code c ≡ true)
 null_valid [] = tt
@@ -135,7 +142,7 @@ content_valid p places texts =
 put_valid : (update : Bool) (texts : List (List ℕ)) → IfSome (put_in update texts) (λ v. is_rd_value v ≡ true)
 unfolding put_in start_in
 put_valid update texts =
-    valid (λ (id : MonitorId). (is_site id.site && is_poc id.poc) ≡ true) (λ v. is_rd_value v ≡ true) (monitor_in texts) _ (monitor_valid texts) λ id h.
+    valid (λ (id : MonitorId). (is_site id.site && is_poc id.poc) ≡ true) (λ v. is_rd_value v ≡ true) (monitor_in Rd texts) _ (monitor_valid Rd texts) λ id h.
     valid (λ d. has_duration id.pollutant d ≡ true) (λ v. is_rd_value v ≡ true) (duration_in id.pollutant (field 8 texts)) _ (duration_valid id.pollutant (field 8 texts)) λ d i.
     valid (λ n. n ≡ n) (λ v. is_rd_value v ≡ true) (unit_in id.pollutant (field 9 texts)) _ (anything (unit_in id.pollutant (field 9 texts))) λ places e.
     valid (λ n. n < 1000) (λ v. is_rd_value v ≡ true) (method_in (field 10 texts)) _ (digits_valid 3 (field 10 texts)) λ m j.
@@ -149,7 +156,7 @@ put_valid update texts =
 delete_valid : (texts : List (List ℕ)) → IfSome (delete_in texts) (λ v. is_rd_value v ≡ true)
 unfolding delete_in start_in
 delete_valid texts =
-    valid (λ (id : MonitorId). (is_site id.site && is_poc id.poc) ≡ true) (λ v. is_rd_value v ≡ true) (monitor_in texts) _ (monitor_valid texts) λ id h.
+    valid (λ (id : MonitorId). (is_site id.site && is_poc id.poc) ≡ true) (λ v. is_rd_value v ≡ true) (monitor_in Rd texts) _ (monitor_valid Rd texts) λ id h.
     valid (λ h. nat_le h 438311 ≡ true) (λ v. is_rd_value v ≡ true) (hour_in (field 11 texts) (field 12 texts)) _ (hour_valid (field 11 texts) (field 12 texts)) λ hour k.
     and_true (is_site id.site && is_poc id.poc) (nat_le hour 438311) h k
 
@@ -158,7 +165,7 @@ delete_valid texts =
 xm_record-valid : (texts : List (List ℕ)) → IfSome (xm_record texts) (λ (r : OfficeRecord). is_office_line (Put r) ≡ true)
 unfolding xm_record
 xm_record-valid texts =
-    valid (λ (id : MonitorId). (is_site id.site && is_poc id.poc) ≡ true) (λ (r : OfficeRecord). is_office_line (Put r) ≡ true) (monitor_in texts) _ (monitor_valid texts) λ id h.
+    valid (λ (id : MonitorId). (is_site id.site && is_poc id.poc) ≡ true) (λ (r : OfficeRecord). is_office_line (Put r) ≡ true) (monitor_in Xm texts) _ (monitor_valid Xm texts) λ id h.
     valid (λ d. has_duration id.pollutant d ≡ true) (λ (r : OfficeRecord). is_office_line (Put r) ≡ true) (duration_in id.pollutant (field 8 texts)) _ (duration_valid id.pollutant (field 8 texts)) λ d i.
     valid (λ b. b ≡ b) (λ (r : OfficeRecord). is_office_line (Put r) ≡ true) (truth_in (field 9 texts)) _ (anything (truth_in (field 9 texts))) λ b j.
     and_true (is_site id.site && is_poc id.poc) (has_duration id.pollutant d) h i
@@ -166,7 +173,7 @@ xm_record-valid texts =
 xm_record-change : (texts : List (List ℕ)) → IfSome (xm_record texts) (λ (r : OfficeRecord). is_office_line (Change r) ≡ true)
 unfolding xm_record
 xm_record-change texts =
-    valid (λ (id : MonitorId). (is_site id.site && is_poc id.poc) ≡ true) (λ (r : OfficeRecord). is_office_line (Change r) ≡ true) (monitor_in texts) _ (monitor_valid texts) λ id h.
+    valid (λ (id : MonitorId). (is_site id.site && is_poc id.poc) ≡ true) (λ (r : OfficeRecord). is_office_line (Change r) ≡ true) (monitor_in Xm texts) _ (monitor_valid Xm texts) λ id h.
     valid (λ d. has_duration id.pollutant d ≡ true) (λ (r : OfficeRecord). is_office_line (Change r) ≡ true) (duration_in id.pollutant (field 8 texts)) _ (duration_valid id.pollutant (field 8 texts)) λ d i.
     valid (λ b. b ≡ b) (λ (r : OfficeRecord). is_office_line (Change r) ≡ true) (truth_in (field 9 texts)) _ (anything (truth_in (field 9 texts))) λ b j.
     and_true (is_site id.site && is_poc id.poc) (has_duration id.pollutant d) h i
@@ -174,7 +181,7 @@ xm_record-change texts =
 xp_record-valid : (texts : List (List ℕ)) → IfSome (xp_record texts) (λ (r : OfficeRecord). is_office_line (Put r) ≡ true)
 unfolding xp_record
 xp_record-valid texts =
-    valid (λ s. is_site s ≡ true) (λ (r : OfficeRecord). is_office_line (Put r) ≡ true) (site_at 3 texts) _ (site_valid (field 3 texts) (field 4 texts) (field 5 texts)) λ s h.
+    valid (λ s. is_site s ≡ true) (λ (r : OfficeRecord). is_office_line (Put r) ≡ true) (site_in (field 3 texts) (field 4 texts) (field 5 texts)) _ (site_valid (field 3 texts) (field 4 texts) (field 5 texts)) λ s h.
     valid (λ p. has_parameter Xp p ≡ true) (λ (r : OfficeRecord). is_office_line (Put r) ≡ true) (parameter_of Xp (field 6 texts)) _ (parameter_valid Xp (field 6 texts)) λ p e.
     valid (λ c. nat_le c 99 ≡ true) (λ (r : OfficeRecord). is_office_line (Put r) ≡ true) (primary_in (field 8 texts)) _ (primary_valid (field 8 texts)) λ c i.
     valid (λ d. is_day d ≡ true) (λ (r : OfficeRecord). is_office_line (Put r) ≡ true) (date_in (field 7 texts)) _ (date_valid (field 7 texts)) λ d j.
@@ -183,7 +190,7 @@ xp_record-valid texts =
 xp_key-valid : (texts : List (List ℕ)) → IfSome (xp_key texts) (λ (k : OfficeKey). is_office_line (Drop k) ≡ true)
 unfolding xp_key
 xp_key-valid texts =
-    valid (λ s. is_site s ≡ true) (λ (k : OfficeKey). is_office_line (Drop k) ≡ true) (site_at 3 texts) _ (site_valid (field 3 texts) (field 4 texts) (field 5 texts)) λ s h.
+    valid (λ s. is_site s ≡ true) (λ (k : OfficeKey). is_office_line (Drop k) ≡ true) (site_in (field 3 texts) (field 4 texts) (field 5 texts)) _ (site_valid (field 3 texts) (field 4 texts) (field 5 texts)) λ s h.
     valid (λ p. has_parameter Xp p ≡ true) (λ (k : OfficeKey). is_office_line (Drop k) ≡ true) (parameter_of Xp (field 6 texts)) _ (parameter_valid Xp (field 6 texts)) λ p e.
     valid (λ d. is_day d ≡ true) (λ (k : OfficeKey). is_office_line (Drop k) ≡ true) (date_in (field 7 texts)) _ (date_valid (field 7 texts)) λ d j.
     and_true (is_site s) (is_day d) h j
@@ -191,7 +198,7 @@ xp_key-valid texts =
 xs_record-valid : (texts : List (List ℕ)) → IfSome (xs_record texts) (λ (r : OfficeRecord). is_office_line (Put r) ≡ true)
 unfolding xs_record
 xs_record-valid texts =
-    valid (λ s. is_site s ≡ true) (λ (r : OfficeRecord). is_office_line (Put r) ≡ true) (site_at 3 texts) _ (site_valid (field 3 texts) (field 4 texts) (field 5 texts)) λ s h.
+    valid (λ s. is_site s ≡ true) (λ (r : OfficeRecord). is_office_line (Put r) ≡ true) (site_in (field 3 texts) (field 4 texts) (field 5 texts)) _ (site_valid (field 3 texts) (field 4 texts) (field 5 texts)) λ s h.
     valid (λ p. has_parameter Xs p ≡ true) (λ (r : OfficeRecord). is_office_line (Put r) ≡ true) (parameter_of Xs (field 6 texts)) _ (parameter_valid Xs (field 6 texts)) λ p e.
     valid (λ d. is_day d ≡ true) (λ (r : OfficeRecord). is_office_line (Put r) ≡ true) (date_in (field 7 texts)) _ (date_valid (field 7 texts)) λ d j.
     valid (λ d. is_day d ≡ true) (λ (r : OfficeRecord). is_office_line (Put r) ≡ true) (date_in (field 9 texts)) _ (date_valid (field 9 texts)) λ a k.
@@ -201,7 +208,7 @@ xs_record-valid texts =
 xs_key-valid : (texts : List (List ℕ)) → IfSome (xs_key texts) (λ (k : OfficeKey). is_office_line (Drop k) ≡ true)
 unfolding xs_key
 xs_key-valid texts =
-    valid (λ s. is_site s ≡ true) (λ (k : OfficeKey). is_office_line (Drop k) ≡ true) (site_at 3 texts) _ (site_valid (field 3 texts) (field 4 texts) (field 5 texts)) λ s h.
+    valid (λ s. is_site s ≡ true) (λ (k : OfficeKey). is_office_line (Drop k) ≡ true) (site_in (field 3 texts) (field 4 texts) (field 5 texts)) _ (site_valid (field 3 texts) (field 4 texts) (field 5 texts)) λ s h.
     valid (λ p. has_parameter Xs p ≡ true) (λ (k : OfficeKey). is_office_line (Drop k) ≡ true) (parameter_of Xs (field 6 texts)) _ (parameter_valid Xs (field 6 texts)) λ p e.
     valid (λ d. is_day d ≡ true) (λ (k : OfficeKey). is_office_line (Drop k) ≡ true) (date_in (field 7 texts)) _ (date_valid (field 7 texts)) λ d j.
     and_true (is_site s && has_parameter Xs p) (is_day d) (and_true (is_site s) (has_parameter Xs p) h e) j
@@ -209,7 +216,7 @@ xs_key-valid texts =
 xo_record-valid : (texts : List (List ℕ)) → IfSome (xo_record texts) (λ (r : OfficeRecord). is_office_line (Put r) ≡ true)
 unfolding xo_record
 xo_record-valid texts =
-    valid (λ s. is_site s ≡ true) (λ (r : OfficeRecord). is_office_line (Put r) ≡ true) (site_at 3 texts) _ (site_valid (field 3 texts) (field 4 texts) (field 5 texts)) λ s h.
+    valid (λ s. is_site s ≡ true) (λ (r : OfficeRecord). is_office_line (Put r) ≡ true) (site_in (field 3 texts) (field 4 texts) (field 5 texts)) _ (site_valid (field 3 texts) (field 4 texts) (field 5 texts)) λ s h.
     valid (λ y. is_year y ≡ true) (λ (r : OfficeRecord). is_office_line (Put r) ≡ true) (year_in (field 6 texts)) _ (year_valid (field 6 texts)) λ y i.
     valid (λ d. is_day d ≡ true) (λ (r : OfficeRecord). is_office_line (Put r) ≡ true) (date_in (field 7 texts)) _ (date_valid (field 7 texts)) λ a j.
     valid (λ d. is_day d ≡ true) (λ (r : OfficeRecord). is_office_line (Put r) ≡ true) (date_in (field 8 texts)) _ (date_valid (field 8 texts)) λ b k.
@@ -219,14 +226,14 @@ xo_record-valid texts =
 xo_key-valid : (texts : List (List ℕ)) → IfSome (xo_key texts) (λ (k : OfficeKey). is_office_line (Drop k) ≡ true)
 unfolding xo_key
 xo_key-valid texts =
-    valid (λ s. is_site s ≡ true) (λ (k : OfficeKey). is_office_line (Drop k) ≡ true) (site_at 3 texts) _ (site_valid (field 3 texts) (field 4 texts) (field 5 texts)) λ s h.
+    valid (λ s. is_site s ≡ true) (λ (k : OfficeKey). is_office_line (Drop k) ≡ true) (site_in (field 3 texts) (field 4 texts) (field 5 texts)) _ (site_valid (field 3 texts) (field 4 texts) (field 5 texts)) λ s h.
     valid (λ y. is_year y ≡ true) (λ (k : OfficeKey). is_office_line (Drop k) ≡ true) (year_in (field 6 texts)) _ (year_valid (field 6 texts)) λ y i.
     and_true (is_site s) (is_year y) h i
 
 xu_record-valid : (texts : List (List ℕ)) → IfSome (xu_record texts) (λ (r : OfficeRecord). is_office_line (Put r) ≡ true)
 unfolding xu_record
 xu_record-valid texts =
-    valid (λ s. is_site s ≡ true) (λ (r : OfficeRecord). is_office_line (Put r) ≡ true) (site_at 3 texts) _ (site_valid (field 3 texts) (field 4 texts) (field 5 texts)) λ s h.
+    valid (λ s. is_site s ≡ true) (λ (r : OfficeRecord). is_office_line (Put r) ≡ true) (site_in (field 3 texts) (field 4 texts) (field 5 texts)) _ (site_valid (field 3 texts) (field 4 texts) (field 5 texts)) λ s h.
     valid (λ p. has_parameter Xu p ≡ true) (λ (r : OfficeRecord). is_office_line (Put r) ≡ true) (parameter_of Xu (field 6 texts)) _ (parameter_valid Xu (field 6 texts)) λ p e.
     valid (λ d. is_day d ≡ true) (λ (r : OfficeRecord). is_office_line (Put r) ≡ true) (date_in (field 7 texts)) _ (date_valid (field 7 texts)) λ a j.
     valid (λ d. is_day d ≡ true) (λ (r : OfficeRecord). is_office_line (Put r) ≡ true) (date_in (field 8 texts)) _ (date_valid (field 8 texts)) λ b k.
@@ -236,7 +243,7 @@ xu_record-valid texts =
 xu_key-valid : (texts : List (List ℕ)) → IfSome (xu_key texts) (λ (k : OfficeKey). is_office_line (Drop k) ≡ true)
 unfolding xu_key
 xu_key-valid texts =
-    valid (λ s. is_site s ≡ true) (λ (k : OfficeKey). is_office_line (Drop k) ≡ true) (site_at 3 texts) _ (site_valid (field 3 texts) (field 4 texts) (field 5 texts)) λ s h.
+    valid (λ s. is_site s ≡ true) (λ (k : OfficeKey). is_office_line (Drop k) ≡ true) (site_in (field 3 texts) (field 4 texts) (field 5 texts)) _ (site_valid (field 3 texts) (field 4 texts) (field 5 texts)) λ s h.
     valid (λ p. has_parameter Xu p ≡ true) (λ (k : OfficeKey). is_office_line (Drop k) ≡ true) (parameter_of Xu (field 6 texts)) _ (parameter_valid Xu (field 6 texts)) λ p e.
     valid (λ d. is_day d ≡ true) (λ (k : OfficeKey). is_office_line (Drop k) ≡ true) (date_in (field 7 texts)) _ (date_valid (field 7 texts)) λ a j.
     and_true (is_site s) (is_day a) h j
@@ -244,7 +251,7 @@ xu_key-valid texts =
 xe_record-valid : (texts : List (List ℕ)) → IfSome (xe_record texts) (λ (r : OfficeRecord). is_office_line (Put r) ≡ true)
 unfolding xe_record
 xe_record-valid texts =
-    valid (λ s. is_site s ≡ true) (λ (r : OfficeRecord). is_office_line (Put r) ≡ true) (site_at 4 texts) _ (site_valid (field 4 texts) (field 5 texts) (field 6 texts)) λ s h.
+    valid (λ s. is_site s ≡ true) (λ (r : OfficeRecord). is_office_line (Put r) ≡ true) (site_in (field 4 texts) (field 5 texts) (field 6 texts)) _ (site_valid (field 4 texts) (field 5 texts) (field 6 texts)) λ s h.
     valid (λ p. has_parameter Xe p ≡ true) (λ (r : OfficeRecord). is_office_line (Put r) ≡ true) (parameter_of Xe (field 7 texts)) _ (parameter_valid Xe (field 7 texts)) λ p e.
     valid (λ h. nat_le h 438311 ≡ true) (λ (r : OfficeRecord). is_office_line (Put r) ≡ true) (hour_in (field 8 texts) (field 9 texts)) _ (hour_valid (field 8 texts) (field 9 texts)) λ a j.
     valid (λ h. nat_le h 438311 ≡ true) (λ (r : OfficeRecord). is_office_line (Put r) ≡ true) (hour_in (field 10 texts) (field 11 texts)) _ (hour_valid (field 10 texts) (field 11 texts)) λ b k.
@@ -269,14 +276,14 @@ xc_record-valid texts =
 xa_record-valid : (texts : List (List ℕ)) → IfSome (xa_record texts) (λ (r : OfficeRecord). is_office_line (Put r) ≡ true)
 unfolding xa_record
 xa_record-valid texts =
-    valid (λ s. is_site s ≡ true) (λ (r : OfficeRecord). is_office_line (Put r) ≡ true) (site_at 3 texts) _ (site_valid (field 3 texts) (field 4 texts) (field 5 texts)) λ s h.
+    valid (λ s. is_site s ≡ true) (λ (r : OfficeRecord). is_office_line (Put r) ≡ true) (site_in (field 3 texts) (field 4 texts) (field 5 texts)) _ (site_valid (field 3 texts) (field 4 texts) (field 5 texts)) λ s h.
     valid (λ d. is_day d ≡ true) (λ (r : OfficeRecord). is_office_line (Put r) ≡ true) (date_in (field 6 texts)) _ (date_valid (field 6 texts)) λ d j.
     and_true (is_site s && is_day d) true (and_true (is_site s) (is_day d) h j) refl
 
 xa_key-valid : (texts : List (List ℕ)) → IfSome (xa_key texts) (λ (k : OfficeKey). is_office_line (Drop k) ≡ true)
 unfolding xa_key
 xa_key-valid texts =
-    valid (λ s. is_site s ≡ true) (λ (k : OfficeKey). is_office_line (Drop k) ≡ true) (site_at 3 texts) _ (site_valid (field 3 texts) (field 4 texts) (field 5 texts)) λ s h.
+    valid (λ s. is_site s ≡ true) (λ (k : OfficeKey). is_office_line (Drop k) ≡ true) (site_in (field 3 texts) (field 4 texts) (field 5 texts)) _ (site_valid (field 3 texts) (field 4 texts) (field 5 texts)) λ s h.
     valid (λ d. is_day d ≡ true) (λ (k : OfficeKey). is_office_line (Drop k) ≡ true) (date_in (field 6 texts)) _ (date_valid (field 6 texts)) λ d j.
     and_true (is_site s) (is_day d) h j
 

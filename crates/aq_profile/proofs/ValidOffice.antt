@@ -25,20 +25,20 @@ pub valid-is_office : (office : Office) → is_valid office ≡ true → IsOffic
 valid-is_office office valid =
     let j = both _ (nat_le (length office.loads) MOST_LOADS) valid in
     let i = both _ (list_all is_load office.loads) j.0 in
-    let h = both _ (rises load_rank office.loads) i.0 in
-    let g = both _ (nat_le (length office.observations) MOST_OBSERVATIONS) h.0 in
-    let f = both _ (list_all (fits_monitors office) office.observations) g.0 in
-    let e = both _ (rises observation_rank office.observations) f.0 in
-    let d = both _ (nat_le (length (sites_of office.records)) MOST_SITES) e.0 in
-    let c = both _ (list_all (has_own_makeup_day office) office.records) d.0 in
-    let b = both (rises record_rank office.records) (list_all (fits_records office) office.records) c.0 in
+    let h = both _ (nat_le (length office.observations) MOST_OBSERVATIONS) i.0 in
+    let g = both _ (list_all (fits_monitors office) office.observations) h.0 in
+    let f = both _ (nat_le (length (sites_of office.records)) MOST_SITES) g.0 in
+    let e = both _ (list_all (has_own_makeup_day office) office.records) f.0 in
+    let d = both _ (list_all (fits_records office) office.records) e.0 in
+    let c = both _ (rises load_rank office.loads) d.0 in
+    let b = both (rises record_rank office.records) (rises observation_rank office.observations) c.0 in
     record {
-      keys_rise = record { records = b.0; observations = e.1; loads = h.1 };
-      records_fit = b.1;
-      makeup_days_differ = c.1;
-      few_sites = within (length (sites_of office.records)) MOST_SITES d.1;
-      observations_fit = f.1;
-      few_observations = within (length office.observations) MOST_OBSERVATIONS g.1;
+      keys_rise = record { records = b.0; observations = b.1; loads = c.1 };
+      records_fit = d.1;
+      makeup_days_differ = e.1;
+      few_sites = within (length (sites_of office.records)) MOST_SITES f.1;
+      observations_fit = g.1;
+      few_observations = within (length office.observations) MOST_OBSERVATIONS h.1;
       loads_fit = i.1;
       few_loads = within (length office.loads) MOST_LOADS j.1;
     }
@@ -52,11 +52,11 @@ office-is_valid office is =
     (joined _ _
     (joined _ _
     (joined _ _
-    (joined _ _ (joined (rises record_rank office.records) (list_all (fits_records office) office.records) is.keys_rise.records is.records_fit) is.makeup_days_differ)
+    (joined _ _ (joined (rises record_rank office.records) (rises observation_rank office.observations) is.keys_rise.records is.keys_rise.observations) is.keys_rise.loads)
+    is.records_fit)
+    is.makeup_days_differ)
     (is_within (length (sites_of office.records)) MOST_SITES is.few_sites))
-    is.keys_rise.observations)
     is.observations_fit)
     (is_within (length office.observations) MOST_OBSERVATIONS is.few_observations))
-    is.keys_rise.loads)
     is.loads_fit)
     (is_within (length office.loads) MOST_LOADS is.few_loads)

@@ -2,3 +2,4 @@
 pub mod Summaries
 pub mod SummaryVerdicts
 pub mod Rows
+pub mod RowChanges

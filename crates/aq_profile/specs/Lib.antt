@@ -2,9 +2,11 @@
 pub mod Limits
 pub mod Lists
 pub mod Least
+pub mod Standards
 pub mod Lines
 pub mod Office
 pub mod Ozone
 pub mod Particles
 pub mod Kept
+pub mod DesignValues
 pub mod Shown

@@ -2,6 +2,7 @@
 pub mod Lines
 pub mod Fields
 pub mod Spellings
+pub mod Forms
 pub mod RdForm
 pub mod OfficeForms
 pub mod Reading

@@ -1,6 +1,6 @@
--- Sums, greatest values, ranked values and latest records of plain lists.
-use Rattle.std.specs.Prelude.{ℕ, nat_lt, if◌then◌else◌, List, [], ◌∷◌, fold, Option, Some, None, ℤ, pos, ◌+ℤ◌, int_lt}
-use Rattle.std.specs.Int.{int_max}
+-- Sums, least and greatest values, ranked values and latest records of plain lists.
+use Rattle.std.specs.Prelude.{ℕ, nat_lt, if◌then◌else◌, List, [], ◌∷◌, fold, Option, Some, None, option_map, ℤ, pos, ◌+ℤ◌, int_lt}
+use Rattle.std.specs.Int.{int_min, int_max}
 
 -- the sum
 abbrev pub total : List ℤ → ℤ
@@ -13,6 +13,20 @@ greater (Some other) value = Some (int_max other value)
 
 abbrev pub greatest : List ℤ → Option ℤ
 greatest values = fold greater None values
+
+-- the least value, if there is one
+abbrev pub lesser : Option ℤ → ℤ → Option ℤ
+lesser None value = Some value
+lesser (Some other) value = Some (int_min other value)
+
+abbrev pub least : List ℤ → Option ℤ
+least values = fold lesser None values
+
+-- all, or nothing where one is missing
+abbrev pub all_of : {X : Type 0} → List (Option X) → Option (List X)
+all_of [] = Some []
+all_of (None ∷ xs) = None
+all_of (Some x ∷ xs) = option_map (λ others. x ∷ others) (all_of xs)
 
 -- the value put into a list that falls, before the first one that is not above it
 abbrev pub ranked_in : ℤ → List ℤ → List ℤ

@@ -5,6 +5,9 @@ pub mod Designation
 pub mod Schedule
 pub mod Season
 pub mod Approval
+pub mod Questions
+pub mod QuestionExamples
 pub mod Exclusion
 pub mod Refusal
 pub mod Load
+pub mod OfficeExamples

@@ -3,6 +3,7 @@ pub mod ParticleDay
 pub mod QuarterCounts
 pub mod Means
 pub mod Percentile
+pub mod YearParts
 pub mod Substitution
 pub mod AnnualVerdict
 pub mod DailyVerdict

@@ -3,7 +3,9 @@ pub mod Sheet
 pub mod Sheets
 pub mod ParticleSheets
 pub mod OtherSheets
+pub mod WellFormed
 pub mod Json
 pub mod Export
 pub mod Answer
 pub mod Generator
+pub mod ShownExamples

@@ -1,4 +1,5 @@
 //! Laws of what is kept.
 
+pub mod row_changes;
 pub mod summaries;
 pub mod tables;

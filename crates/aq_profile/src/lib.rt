@@ -9,3 +9,4 @@ pub mod office;
 pub mod ozone;
 pub mod particles;
 pub mod shown;
+pub mod standards;

@@ -4,7 +4,11 @@ pub mod exclusion;
 pub mod load;
 pub mod monitors;
 pub mod office_records;
+pub mod questions;
 pub mod refusal;
+pub mod site_records;
+pub mod valid_load;
+pub mod what_counts;
 
 ghost use Rattle.std.specs.Prelude.{◌≡◌, ◌∷◌, IsTrue};
 ghost use Rattle.aq_base.specs.declared.office.OfficeKey.{OfficeKey};

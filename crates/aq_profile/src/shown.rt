@@ -6,3 +6,4 @@ pub mod generator;
 pub mod json;
 pub mod particle_sheets;
 pub mod sheets;
+pub mod well_formed;

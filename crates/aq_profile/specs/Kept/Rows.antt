@@ -238,14 +238,14 @@ tables_follow [] = true
 tables_follow (row ∷ []) = true
 tables_follow (row ∷ next ∷ rows) = nat_le (table_of row) (table_of next) && tables_follow (next ∷ rows)
 
--- the facts of a valid office, as one test
+-- the facts of a valid office, in their order, as one test
 abbrev pub is_valid : Office → Bool
 is_valid office =
-    rises record_rank office.records && list_all (fits_records office) office.records
-    && list_all (has_own_makeup_day office) office.records && nat_le (length (sites_of office.records)) MOST_SITES
-    && rises observation_rank office.observations && list_all (fits_monitors office) office.observations
-    && nat_le (length office.observations) MOST_OBSERVATIONS
-    && rises load_rank office.loads && list_all is_load office.loads && nat_le (length office.loads) MOST_LOADS
+    rises record_rank office.records && rises observation_rank office.observations && rises load_rank office.loads
+    && list_all (fits_records office) office.records && list_all (has_own_makeup_day office) office.records
+    && nat_le (length (sites_of office.records)) MOST_SITES
+    && list_all (fits_monitors office) office.observations && nat_le (length office.observations) MOST_OBSERVATIONS
+    && list_all is_load office.loads && nat_le (length office.loads) MOST_LOADS
 
 unfoldable pub are_office_rows : List Row → Bool
 are_office_rows rows = list_all says_something rows && tables_follow rows && is_valid (office_in rows)
@@ -263,15 +263,7 @@ pub record Place : Type 0 where
 abbrev pub place_of : List Row → Row → Place
 place_of before row = record { table = table_of row; index = count_by (λ other. table_of other == table_of row) before }
 
-abbrev pub damaged_at : List Row → List Row → Option Place
-damaged_at before [] = None
-damaged_at before (row ∷ rows) = if are_office_rows (before ++ row ∷ []) then damaged_at (before ++ row ∷ []) rows else Some (place_of before row)
-
--- the first row with which the rows up to it are no office's
-unfoldable pub damage : List Row → Option Place
-damage rows = damaged_at [] rows
-
--- a row with which the rows up to it are no office's, while those before it are one's
+-- what the first damaged row is: the rows before it are an office's, and those up to it are no office's
 pub record FirstDamaged (rows : List Row) (place : Place) : Type 0 where
   pub before : List Row
   pub row : Row
@@ -280,3 +272,11 @@ pub record FirstDamaged (rows : List Row) (place : Place) : Type 0 where
   pub good : are_office_rows before ≡ true
   pub bad : are_office_rows (before ++ row ∷ []) ≡ false
   pub place_is : place ≡ place_of before row
+
+abbrev pub damaged_at : List Row → List Row → Option Place
+damaged_at before [] = None
+damaged_at before (row ∷ rows) = if are_office_rows (before ++ row ∷ []) then damaged_at (before ++ row ∷ []) rows else Some (place_of before row)
+
+-- its place, found from the first row on; none where all rows are an office's
+unfoldable pub damage : List Row → Option Place
+damage rows = damaged_at [] rows

@@ -7,10 +7,9 @@ use Rattle.aq_base.specs.declared.monitor.Pollutant.{Pollutant}
 use Rattle.aq_base.specs.declared.monitor.Pollutant.TheVariants.{Ozone, Pm25}
 use Rattle.aq_profile.specs.Office.Office.{Office}
 use Rattle.aq_profile.specs.Lines.Spellings.{is_in_range}
-use Rattle.aq_profile.specs.Lists.{total, greatest, ranked}
+use Rattle.aq_profile.specs.Lists.{total, least, greatest, ranked}
 use Rattle.aq_profile.specs.Ozone.OzoneYear.{OzoneYear}
 use Rattle.aq_profile.specs.Particles.QuarterCounts.{QuarterCounts, QuarterDays, pm25_year, values_in}
-use Rattle.aq_profile.specs.Particles.Substitution.{least}
 use Rattle.aq_profile.specs.Particles.Pm10Estimate.{Pm10Quarter}
 
 -- a value, where there is one, is in its pollutant's range
@@ -34,7 +33,7 @@ pub record PmQuarter : Type 0 where
   pub scheduled : ℕ
   pub creditable : ℕ
   pub counted : ℕ
-  pub days : ℕ
+  pub net_days : ℕ
   pub sum : ℤ
   pub least : Option ℤ
   pub greatest : Option ℤ
@@ -55,7 +54,7 @@ summary_of_quarter q = record {
   scheduled = q.counts.scheduled;
   creditable = q.counts.creditable;
   counted = q.counts.counted;
-  days = length q.values;
+  net_days = length q.values;
   sum = total q.values;
   least = least q.values;
   greatest = greatest q.values;
@@ -70,27 +69,27 @@ pm25_summary office site year = summary_of_year (pm25_year office site year)
 -- the sum lies between so many times the least and the greatest value
 abbrev pub is_sum_within : PmQuarter → Bool
 is_sum_within q =
-    option_map_or (λ low. int_le (low *ℤ pos q.days) q.sum) q.least true
-    && option_map_or (λ high. int_le q.sum (high *ℤ pos q.days)) q.greatest true
+    option_map_or (λ low. int_le (low *ℤ pos q.net_days) q.sum) q.least true
+    && option_map_or (λ high. int_le q.sum (high *ℤ pos q.net_days)) q.greatest true
 
 pub record KeepsPmQuarter (q : PmQuarter) : Type 0 where
   pub counted : q.counted ≤ q.creditable
   pub creditable : q.creditable ≤ q.scheduled
   pub scheduled : q.scheduled ≤ 92
-  pub counted_days : q.counted ≤ q.days
-  pub days : q.days + q.scheduled ≤ 92 + q.creditable
-  pub some_least : is_some q.least ≡ nat_le 1 q.days
-  pub some_greatest : is_some q.greatest ≡ nat_le 1 q.days
+  pub counted_net : q.counted ≤ q.net_days
+  pub net_days : q.net_days + q.scheduled ≤ 92 + q.creditable
+  pub some_least : is_some q.least ≡ nat_le 1 q.net_days
+  pub some_greatest : is_some q.greatest ≡ nat_le 1 q.net_days
   pub least_in_range : IsTrue (is_value Pm25 q.least)
   pub greatest_in_range : IsTrue (is_value Pm25 q.greatest)
   pub sum_within : IsTrue (is_sum_within q)
-  pub no_sum : q.days ≡ 0 → q.sum ≡ pos 0
+  pub no_sum : q.net_days ≡ 0 → q.sum ≡ pos 0
 
 abbrev pub scheduled_in : List PmQuarter → ℕ
 scheduled_in quarters = sum_by (λ (q : PmQuarter). q.scheduled) quarters
 
-abbrev pub days_in : List PmQuarter → ℕ
-days_in quarters = sum_by (λ (q : PmQuarter). q.days) quarters
+abbrev pub net_days_in : List PmQuarter → ℕ
+net_days_in quarters = sum_by (λ (q : PmQuarter). q.net_days) quarters
 
 abbrev pub falls : List ℤ → Bool
 falls [] = true
@@ -103,18 +102,18 @@ pub record KeepsPmYear (year : PmYear) : Type 0 where
   pub scheduled : scheduled_in year.quarters ≤ 366
   pub top_falls : IsTrue (falls year.top)
   pub top_in_range : IsTrue (list_all (is_in_range Pm25) year.top)
-  pub top_count : length year.top ≡ min 8 (days_in year.quarters)
+  pub top_count : length year.top ≡ min 8 (net_days_in year.quarters)
   pub top_greatest : slice_get year.top 0 ≡ greatest (filter_map (λ (q : PmQuarter). q.greatest) year.quarters)
 
 -- ---- PM10
 
 pub record KeepsPm10Quarter (q : Pm10Quarter) : Type 0 where
-  pub at_least : 90 ≤ q.days
-  pub at_most : q.days ≤ 92
+  pub at_least : 90 ≤ q.calendar_days
+  pub at_most : q.calendar_days ≤ 92
   pub captured : q.captured ≤ q.scheduled
-  pub scheduled : q.scheduled ≤ q.days
+  pub scheduled : q.scheduled ≤ q.calendar_days
   pub strata : q.strata ≤ q.samples
-  pub samples : q.samples ≤ q.days
+  pub samples : q.samples ≤ q.calendar_days
   pub sampled : (q.strata == 0) ≡ (q.samples == 0)
   pub scheduled_exceedances : q.scheduled_exceedances ≤ q.exceedances
   pub exceedances : q.exceedances ≤ q.samples

@@ -1,12 +1,12 @@
 -- A small office, on which laws of the lines compute their examples.
-use Rattle.std.specs.Prelude.{ℕ, ◌+◌, true, Some, None, List, [], ◌∷◌, map, codes, pos, ℤ, replicate}
+use Rattle.std.specs.Prelude.{ℕ, ◌+◌, true, false, Some, None, List, [], ◌∷◌, map, codes, pos, ℤ, replicate}
 use Rattle.std.specs.List.{range_with_len}
 use Rattle.aq_base.specs.Site.{Site}
 use Rattle.aq_base.specs.declared.code.Code.{Code}
 use Rattle.aq_base.specs.declared.monitor.MonitorId.{MonitorId}
 use Rattle.aq_base.specs.declared.monitor.Pollutant.TheVariants.{Ozone, Pm25}
 use Rattle.aq_base.specs.declared.monitor.Duration.TheVariants.{Hour, Day}
-use Rattle.aq_base.specs.declared.office.OfficeRecord.TheVariants.{Monitor, Primary, Makeup, Event, Concurrence}
+use Rattle.aq_base.specs.declared.office.OfficeRecord.TheVariants.{Monitor, Primary, Schedule, Season, Makeup, Event, Concurrence, Approved}
 use Rattle.aq_base.specs.declared.reply.ListedLine.{ListedLine}
 use Rattle.aq_base.specs.declared.rule.Rule.TheVariants.{BadTag}
 use Rattle.aq_base.specs.declared.observation.ObsKey.{ObsKey}
@@ -109,3 +109,19 @@ digest_b = replicate 32 2
 -- so many lines refused under one rule, from line 1 on
 abbrev pub refused_lines : ℕ → List ListedLine
 refused_lines count = map (λ line. record { line = line; rule = BadTag }) (range_with_len 1 count)
+
+-- an office with a record of each kind, whose fields differ
+abbrev pub one_of_each : Office
+one_of_each = record nothing {
+  records =
+      Monitor (record { site = home; pollutant = Ozone; poc = 3 }) Hour true
+      ∷ Monitor (record { site = home; pollutant = Pm25; poc = 4 }) Day false
+      ∷ Primary home Ozone 8767 3
+      ∷ Schedule home Pm25 8768 6 8772
+      ∷ Season home 2024 8826 9070
+      ∷ Makeup home 8775 8777
+      ∷ Event 21 home Ozone 214771 214804 code_rt
+      ∷ Concurrence 21 true
+      ∷ Approved home 8951
+      ∷ [];
+}

@@ -1,21 +1,16 @@
 -- The record that an office line spells, and the key that a line of deletion spells, form by form (own).
 use Rattle.std.specs.Prelude.{ℕ, ◌+◌, Bool, ◌&&◌, ◌==◌, nat_le, nat_lt, if◌then◌else◌, Option, Some, None, List}
 use Rattle.aq_base.specs.Calendar.{hour_number, year_of, quarter_of}
-use Rattle.aq_base.specs.Site.{Site}
 use Rattle.aq_base.specs.declared.office.OfficeRecord.{OfficeRecord}
 use Rattle.aq_base.specs.declared.office.OfficeRecord.TheVariants.{Monitor, Primary, Schedule, Season, Makeup, Event, Concurrence, Approved}
 use Rattle.aq_base.specs.declared.office.OfficeKey.{OfficeKey}
 use Rattle.aq_base.specs.declared.office.OfficeKey.TheVariants.{Primary as PrimaryKey, Schedule as ScheduleKey, Season as SeasonKey, Makeup as MakeupKey, Event as EventKey, Approved as ApprovedKey}
 use Rattle.aq_base.specs.declared.office.OfficeLine.{OfficeLine}
 use Rattle.aq_base.specs.declared.office.OfficeLine.TheVariants.{Put, Change, Drop}
-use Rattle.aq_profile.specs.Lines.Fields.{field}
+use Rattle.aq_profile.specs.Lines.Forms.{SampleDuration, Date, Eligible, PrimaryPoc, Interval, Anchor, Year, FirstDay, LastDay, MissedDay, MakeupDay, EventNumber, FirstDate, FirstTime, LastDate, LastTime, EventCode, Agreed, text_of, site_of, pollutant_of}
 use Rattle.aq_profile.specs.Limits.{MOST_EVENT_HOURS}
 use Rattle.aq_profile.specs.Lines.RdForm.{monitor_in}
-use Rattle.aq_profile.specs.Lines.Spellings.{◌>>=◌, Tag, Rd, Xm, Xp, Xs, Xo, Xu, Xe, Xc, Xa, Action, Insert, Update, Delete, site_in, parameter_of, primary_in, duration_in, date_in, year_in, time_in, interval_in, truth_in, event_number_in, event_code_in}
-
--- the site of a line, in the three fields from the given one on
-abbrev pub site_at : ℕ → List (List ℕ) → Option Site
-site_at place texts = site_in (field place texts) (field (place + 1) texts) (field (place + 2) texts)
+use Rattle.aq_profile.specs.Lines.Spellings.{◌>>=◌, Tag, Rd, Xm, Xp, Xs, Xo, Xu, Xe, Xc, Xa, Action, Insert, Update, Delete, primary_in, duration_in, date_in, year_in, time_in, interval_in, truth_in, event_number_in, event_code_in}
 
 -- a date and a time, in two fields
 abbrev pub hour_in : List ℕ → List ℕ → Option ℕ
@@ -36,112 +31,112 @@ is_makeup missed makeup = nat_lt missed makeup && (quarter_of makeup == quarter_
 abbrev pub is_span : ℕ → ℕ → Bool
 is_span first last = nat_le first last && nat_lt last (first + MOST_EVENT_HOURS)
 
--- XM|a|state|county|site|parameter|poc|duration|eligible
+-- XM: a monitor
 unfoldable pub xm_record : List (List ℕ) → Option OfficeRecord
 xm_record texts = do
-  id ← monitor_in texts
-  duration ← duration_in id.pollutant (field 8 texts)
-  eligible ← truth_in (field 9 texts)
+  id ← monitor_in Xm texts
+  duration ← duration_in id.pollutant (text_of Xm SampleDuration texts)
+  eligible ← truth_in (text_of Xm Eligible texts)
   Some (Monitor id duration eligible)
 
--- XP|a|state|county|site|parameter|date|poc
+-- XP: the designation of a primary monitor
 unfoldable pub xp_record : List (List ℕ) → Option OfficeRecord
 xp_record texts = do
-  site ← site_at 3 texts
-  pollutant ← parameter_of Xp (field 6 texts)
-  poc ← primary_in (field 8 texts)
-  from ← date_in (field 7 texts)
+  site ← site_of Xp texts
+  pollutant ← pollutant_of Xp texts
+  poc ← primary_in (text_of Xp PrimaryPoc texts)
+  from ← date_in (text_of Xp Date texts)
   Some (Primary site pollutant from poc)
 
 unfoldable pub xp_key : List (List ℕ) → Option OfficeKey
 xp_key texts = do
-  site ← site_at 3 texts
-  pollutant ← parameter_of Xp (field 6 texts)
-  from ← date_in (field 7 texts)
+  site ← site_of Xp texts
+  pollutant ← pollutant_of Xp texts
+  from ← date_in (text_of Xp Date texts)
   Some (PrimaryKey site pollutant from)
 
--- XS|a|state|county|site|parameter|date|interval|anchor
+-- XS: a sampling schedule
 unfoldable pub xs_record : List (List ℕ) → Option OfficeRecord
 xs_record texts = do
-  site ← site_at 3 texts
-  pollutant ← parameter_of Xs (field 6 texts)
-  from ← date_in (field 7 texts)
-  anchor ← date_in (field 9 texts)
-  interval ← interval_in (field 8 texts)
+  site ← site_of Xs texts
+  pollutant ← pollutant_of Xs texts
+  from ← date_in (text_of Xs Date texts)
+  anchor ← date_in (text_of Xs Anchor texts)
+  interval ← interval_in (text_of Xs Interval texts)
   Some (Schedule site pollutant from interval anchor)
 
 unfoldable pub xs_key : List (List ℕ) → Option OfficeKey
 xs_key texts = do
-  site ← site_at 3 texts
-  pollutant ← parameter_of Xs (field 6 texts)
-  from ← date_in (field 7 texts)
+  site ← site_of Xs texts
+  pollutant ← pollutant_of Xs texts
+  from ← date_in (text_of Xs Date texts)
   Some (ScheduleKey site pollutant from)
 
--- XO|a|state|county|site|year|first|last
+-- XO: an ozone season
 unfoldable pub xo_record : List (List ℕ) → Option OfficeRecord
 xo_record texts = do
-  site ← site_at 3 texts
-  year ← year_in (field 6 texts)
-  first ← date_in (field 7 texts)
-  last ← date_in (field 8 texts)
+  site ← site_of Xo texts
+  year ← year_in (text_of Xo Year texts)
+  first ← date_in (text_of Xo FirstDay texts)
+  last ← date_in (text_of Xo LastDay texts)
   if is_season year first last then Some (Season site year first last) else None
 
 unfoldable pub xo_key : List (List ℕ) → Option OfficeKey
 xo_key texts = do
-  site ← site_at 3 texts
-  year ← year_in (field 6 texts)
+  site ← site_of Xo texts
+  year ← year_in (text_of Xo Year texts)
   Some (SeasonKey site year)
 
--- XU|a|state|county|site|parameter|missed|makeup
+-- XU: a make-up sample, of PM2.5 alone
 unfoldable pub xu_record : List (List ℕ) → Option OfficeRecord
 xu_record texts = do
-  site ← site_at 3 texts
-  _ ← parameter_of Xu (field 6 texts)
-  missed ← date_in (field 7 texts)
-  makeup ← date_in (field 8 texts)
+  site ← site_of Xu texts
+  _ ← pollutant_of Xu texts
+  missed ← date_in (text_of Xu MissedDay texts)
+  makeup ← date_in (text_of Xu MakeupDay texts)
   if is_makeup missed makeup then Some (Makeup site missed makeup) else None
 
 unfoldable pub xu_key : List (List ℕ) → Option OfficeKey
 xu_key texts = do
-  site ← site_at 3 texts
-  _ ← parameter_of Xu (field 6 texts)
-  missed ← date_in (field 7 texts)
+  site ← site_of Xu texts
+  _ ← pollutant_of Xu texts
+  missed ← date_in (text_of Xu MissedDay texts)
   Some (MakeupKey site missed)
 
--- XE|a|number|state|county|site|parameter|date|time|date|time|code
+-- XE: an exceptional event
 unfoldable pub xe_record : List (List ℕ) → Option OfficeRecord
 xe_record texts = do
-  site ← site_at 4 texts
-  pollutant ← parameter_of Xe (field 7 texts)
-  first ← hour_in (field 8 texts) (field 9 texts)
-  last ← hour_in (field 10 texts) (field 11 texts)
-  number ← event_number_in (field 3 texts)
-  code ← event_code_in (field 12 texts)
+  site ← site_of Xe texts
+  pollutant ← pollutant_of Xe texts
+  first ← hour_in (text_of Xe FirstDate texts) (text_of Xe FirstTime texts)
+  last ← hour_in (text_of Xe LastDate texts) (text_of Xe LastTime texts)
+  number ← event_number_in (text_of Xe EventNumber texts)
+  code ← event_code_in (text_of Xe EventCode texts)
   if is_span first last then Some (Event number site pollutant first last code) else None
 
 unfoldable pub xe_key : List (List ℕ) → Option OfficeKey
 xe_key texts = do
-  number ← event_number_in (field 3 texts)
+  number ← event_number_in (text_of Xe EventNumber texts)
   Some (EventKey number)
 
--- XC|a|number|flag
+-- XC: a concurrence
 unfoldable pub xc_record : List (List ℕ) → Option OfficeRecord
 xc_record texts = do
-  number ← event_number_in (field 3 texts)
-  agreed ← truth_in (field 4 texts)
+  number ← event_number_in (text_of Xc EventNumber texts)
+  agreed ← truth_in (text_of Xc Agreed texts)
   Some (Concurrence number agreed)
 
--- XA|a|state|county|site|date
+-- XA: an approved ozone day
 unfoldable pub xa_record : List (List ℕ) → Option OfficeRecord
 xa_record texts = do
-  site ← site_at 3 texts
-  day ← date_in (field 6 texts)
+  site ← site_of Xa texts
+  day ← date_in (text_of Xa Date texts)
   Some (Approved site day)
 
 unfoldable pub xa_key : List (List ℕ) → Option OfficeKey
 xa_key texts = do
-  site ← site_at 3 texts
-  day ← date_in (field 6 texts)
+  site ← site_of Xa texts
+  day ← date_in (text_of Xa Date texts)
   Some (ApprovedKey site day)
 
 -- the record of an insertion or update

@@ -12,7 +12,7 @@ use Rattle.aq_base.specs.declared.monitor.Pollutant.{Pollutant}
 use Rattle.aq_base.specs.declared.monitor.Pollutant.TheVariants.{Ozone, Pm25, Pm10}
 use Rattle.aq_base.specs.declared.monitor.Duration.{Duration}
 use Rattle.aq_base.specs.declared.monitor.Duration.TheVariants.{Hour, Day}
-use Rattle.aq_profile.specs.Limits.{LEAST_VALUE, greatest_value, LAST_EVENT_NUMBER}
+use Rattle.aq_profile.specs.Limits.{least_value, greatest_value, LAST_EVENT_NUMBER}
 
 -- what the first spells is handed on; where it spells nothing, the whole spells nothing
 infixl 10 ◌>>=◌
@@ -132,7 +132,7 @@ time_in text = do
 
 -- ozone in thousandths of a ppm and PM in tenths of a µg/m3, within the pollutant's range
 abbrev pub is_in_range : Pollutant → ℤ → Bool
-is_in_range pollutant value = int_le LEAST_VALUE value && int_le value (greatest_value pollutant)
+is_in_range pollutant value = int_le least_value value && int_le value (greatest_value pollutant)
 
 -- a sample value, cut at its unit's places
 unfoldable pub value_in : Pollutant → ℕ → List ℕ → Option ℤ

@@ -1,5 +1,6 @@
 -- What a load's lines make of an office, its reply, and the rows that it changes (own).
-use Rattle.std.specs.Prelude.{ℕ, ◌-◌, Bool, ◌&&◌, ◌==◌, nat_le, if◌then◌else◌, Option, Some, None, is_some, List, [], ◌∷◌, ◌++◌, length, take, drop, count_by, filter_map, bytes_eq, fold, flat_map}
+use Rattle.std.specs.Prelude.{ℕ, ◌-◌, Bool, true, false, ◌&&◌, ◌==◌, nat_le, nat_lt, if◌then◌else◌, Option, Some, None, is_some, List, [], ◌∷◌, ◌++◌, length, take, drop, map, count_by, filter_map, bytes_eq, fold}
+use Rattle.std.specs.Bool.{beq as is_same_truth}
 use Rattle.std.specs.Option.{option_or, option_eq}
 use Rattle.std.specs.Ordering.{int_eq}
 use lib.Pointwise.{pointwise}
@@ -19,11 +20,12 @@ use Rattle.aq_base.specs.declared.reply.ListedLine.{ListedLine}
 use Rattle.aq_base.specs.declared.reply.RestRule.{RestRule}
 use Rattle.aq_base.specs.declared.rule.Rule.{Rule}
 use Rattle.aq_base.specs.declared.rule.Rule.TheVariants.{BadBytes, BadTag, FieldCount, BadAction, BadSite, ParameterOutOfProfile, BadPoc, BadDuration, BadUnit, BadMethod, BadDate, BadTime, ValueAndNull, NeitherValueNorNull, BadValue, ValueOutOfRange, BadNull, BadQualifier, UnknownMonitor, WrongDuration, AlreadyThere, NotThere, ObservationsFull, SitesFull, MonitorsFull, BadSpan, BadInterval, BadSeason, BadMakeup, MakeupsFull, UnknownEvent, EventsFull, BadCode, ListFull}
-use Rattle.aq_profile.specs.Limits.{MOST_LISTED, MOST_LOADS}
+use Rattle.aq_profile.specs.Limits.{MOST_LINES, MOST_LISTED, MOST_LOADS}
 use Rattle.aq_profile.specs.Lines.Lines.{NumberedLine, line_count, body_lines}
 use Rattle.aq_profile.specs.Lines.RdForm.{Put as PutSample, Delete as DeleteSample}
 use Rattle.aq_profile.specs.Lines.Reading.{LineValue, OfRd, OfOffice, reading_rule, line_value}
-use Rattle.aq_profile.specs.Office.Office.{Office, StoredLoad, key_of, key_numbers, observation_numbers, record_rank, observation_rank, load_rank, row_at, with_row, without_row, load_at, is_same, series_numbers}
+use Rattle.aq_profile.specs.Office.Office.{Office, StoredLoad, key_of, key_numbers, observation_numbers, record_rank, observation_rank, load_rank, with_row, without_row, record_at, observation_at, load_at, observation_key}
+use Rattle.aq_profile.specs.Office.Monitors.{is_same_site, is_same_pollutant, is_same_monitor}
 use Rattle.aq_profile.specs.Office.Refusal.{kept_key, broken}
 
 -- ---- one line
@@ -122,11 +124,13 @@ abbrev pub with_load : StoredLoad → Office → Office
 with_load load office =
     if load.number == 0 then office else record office { loads = with_row load_rank load office.loads }
 
+-- a load as it is kept
+abbrev pub stored : Office → ℕ → List ℕ → List ℕ → StoredLoad
+stored office number digest body = record { number = number; digest = digest; reply = reply office number body }
+
 -- the office after a load; one with the number 0 is not kept
 abbrev pub load : Office → ℕ → List ℕ → List ℕ → Office
-load office number digest body =
-    with_load (record { number = number; digest = digest; reply = reply office number body })
-    (after_all office (body_lines body))
+load office number digest body = with_load (stored office number digest body) (after_all office (body_lines body))
 
 pub data Decision : Type 0 where
   Repeat Conflict Full New : Decision
@@ -139,77 +143,139 @@ decide_known None digest is_full = if is_full then Full else New
 abbrev pub decide : Office → ℕ → List ℕ → Decision
 decide office number digest = decide_known (load_at office number) digest (nat_le MOST_LOADS (length office.loads))
 
--- the office after a load is posted: it changes where the load is new
-abbrev pub after_decision : Decision → Office → ℕ → List ℕ → List ℕ → Office
-after_decision New office number digest body = load office number digest body
-after_decision _ office number digest body = office
+-- ---- what a posted load answers
 
+pub data Posted : Type 0 where
+  -- its body has too many lines
+  TooManyLines : Posted
+  -- its number is known with this body: the reply that is kept
+  Repeated : (kept : LoadReply) → Posted
+  -- its number is known with another body: the digest that is kept, and the one that was sent
+  Differing : (kept sent : List ℕ) → Posted
+  -- no further load can be kept
+  NoRoom : Posted
+  -- it is taken: its reply, and the office with it
+  Taken : (reply : LoadReply) (office : Office) → Posted
+
+abbrev pub posted_again : StoredLoad → List ℕ → Posted
+posted_again kept digest = if bytes_eq kept.digest digest then Repeated kept.reply else Differing kept.digest digest
+
+abbrev pub posted_anew : Office → ℕ → List ℕ → List ℕ → Posted
+posted_anew office number digest body =
+    if nat_le MOST_LOADS (length office.loads) then NoRoom
+    else Taken (reply office number body) (load office number digest body)
+
+abbrev pub posted_beside : Option StoredLoad → Office → ℕ → List ℕ → List ℕ → Posted
+posted_beside (Some kept) office number digest body = posted_again kept digest
+posted_beside None office number digest body = posted_anew office number digest body
+
+-- the lines are counted before the number is looked up
+abbrev pub posted : Office → ℕ → List ℕ → List ℕ → Posted
+posted office number digest body =
+    if nat_lt MOST_LINES (line_count body) then TooManyLines
+    else posted_beside (load_at office number) office number digest body
+
+-- the decision behind an answer: none was made on a body of too many lines
+abbrev pub decision_of : Posted → Option Decision
+decision_of TooManyLines = None
+decision_of (Repeated kept) = Some Repeat
+decision_of (Differing kept sent) = Some Conflict
+decision_of NoRoom = Some Full
+decision_of (Taken answer office) = Some New
+
+abbrev pub office_after : Posted → Office → Office
+office_after (Taken answer now) office = now
+office_after _ office = office
+
+-- the office after a load is posted: it changes where the load is taken
 abbrev pub post : Office → ℕ → List ℕ → List ℕ → Office
-post office number digest body = after_decision (decide office number digest) office number digest body
+post office number digest body = office_after (posted office number digest body) office
 
 -- ---- the batch
 
-pub data RowChange : Type 0 where
-  PutRecord : (row : OfficeRecord) → RowChange
-  DropRecord : (key : OfficeKey) → RowChange
-  PutObservation : (key : ObsKey) (content : Observation) → RowChange
-  DropObservation : (key : ObsKey) → RowChange
-  PutLoad : (load : StoredLoad) → RowChange
+-- what may be done to an office's lists
+pub data OfficeChange : Type 0 where
+  PutRecord : (row : OfficeRecord) → OfficeChange
+  DropRecord : (key : OfficeKey) → OfficeChange
+  PutObservation : (key : ObsKey) (content : Observation) → OfficeChange
+  DropObservation : (key : ObsKey) → OfficeChange
+  PutLoad : (load : StoredLoad) → OfficeChange
 
--- what a key's row before and after a load calls for
-abbrev pub change_of : {X : Type 0} → (X → X → Bool) → (X → RowChange) → (X → RowChange) → X → Option X → Option X → List RowChange
-change_of same put_row drop_row row old None = drop_row row ∷ []
-change_of same put_row drop_row row None (Some new) = put_row new ∷ []
-change_of same put_row drop_row row (Some old) (Some new) = if same old new then [] else put_row new ∷ []
+abbrev pub with_change : Office → OfficeChange → Office
+with_change office (PutRecord row) = with_record row office
+with_change office (DropRecord key) = without_record key office
+with_change office (PutObservation key content) =
+    record office { observations = with_row observation_rank (key, content) office.observations }
+with_change office (DropObservation key) =
+    record office { observations = without_row observation_rank (observation_numbers key) office.observations }
+with_change office (PutLoad load) = record office { loads = with_row load_rank load office.loads }
 
--- the keys of both lists in order, and one change for each whose row differs
-abbrev pub changes : {X : Type 0} → (X → List ℕ) → (X → X → Bool) → (X → RowChange) → (X → RowChange) → List X → List X → List RowChange
-changes rank same put_row drop_row before now =
-    flat_map (λ row. change_of same put_row drop_row row (row_at rank (rank row) before) (row_at rank (rank row) now))
-    (fold (λ rows row. with_row rank row rows) before now)
+abbrev pub is_same_duration : Duration → Duration → Bool
+is_same_duration Hour Hour = true
+is_same_duration Day Day = true
+is_same_duration _ _ = false
 
-abbrev pub truth_number : Bool → ℕ
-truth_number truth = if truth then 1 else 0
-
-abbrev pub duration_number : Duration → ℕ
-duration_number Hour = 1
-duration_number Day = 24
-
--- what a record says beside its key
-abbrev pub record_content : OfficeRecord → List ℕ
-record_content (Monitor id duration eligible) = duration_number duration ∷ truth_number eligible ∷ []
-record_content (Primary site pollutant from poc) = poc ∷ []
-record_content (Schedule site pollutant from interval anchor) = interval ∷ anchor ∷ []
-record_content (Season site year first last) = first ∷ last ∷ []
-record_content (Makeup site missed makeup) = makeup ∷ []
-record_content (Event number site pollutant first last code) =
-    series_numbers site pollutant ++ first ∷ last ∷ code.first ∷ code.second ∷ []
-record_content (Concurrence number agreed) = truth_number agreed ∷ []
-record_content (Approved site day) = []
-
+-- whether two records are equal
 abbrev pub is_same_record : OfficeRecord → OfficeRecord → Bool
-is_same_record a b = is_same (record_rank a) (record_rank b) && is_same (record_content a) (record_content b)
+is_same_record (Monitor id duration eligible) (Monitor id2 duration2 eligible2) =
+    is_same_monitor id id2 && is_same_duration duration duration2 && is_same_truth eligible eligible2
+is_same_record (Primary site pollutant from poc) (Primary site2 pollutant2 from2 poc2) =
+    is_same_site site site2 && is_same_pollutant pollutant pollutant2 && (from == from2) && (poc == poc2)
+is_same_record (Schedule site pollutant from interval anchor) (Schedule site2 pollutant2 from2 interval2 anchor2) =
+    is_same_site site site2 && is_same_pollutant pollutant pollutant2 && (from == from2) && (interval == interval2)
+    && (anchor == anchor2)
+is_same_record (Season site year first last) (Season site2 year2 first2 last2) =
+    is_same_site site site2 && (year == year2) && (first == first2) && (last == last2)
+is_same_record (Makeup site missed makeup) (Makeup site2 missed2 makeup2) =
+    is_same_site site site2 && (missed == missed2) && (makeup == makeup2)
+is_same_record (Event number site pollutant first last code) (Event number2 site2 pollutant2 first2 last2 code2) =
+    (number == number2) && is_same_site site site2 && is_same_pollutant pollutant pollutant2 && (first == first2)
+    && (last == last2) && is_same_code code code2
+is_same_record (Concurrence number agreed) (Concurrence number2 agreed2) =
+    (number == number2) && is_same_truth agreed agreed2
+is_same_record (Approved site day) (Approved site2 day2) = is_same_site site site2 && (day == day2)
+is_same_record _ _ = false
 
+-- whether two observations have equal values, null codes and qualifiers
 abbrev pub is_same_content : Observation → Observation → Bool
 is_same_content a b =
     option_eq int_eq a.value b.value && option_eq is_same_code a.null b.null && pointwise is_same_code a.quals b.quals
 
-abbrev pub record_changes : Office → Office → List RowChange
-record_changes before now =
-    changes record_rank is_same_record PutRecord (λ r. DropRecord (key_of r)) before.records now.records
+-- what becomes of a key's record: nothing, a put or a drop
+abbrev pub record_change : OfficeKey → Option OfficeRecord → Option OfficeRecord → Option OfficeChange
+record_change key None None = None
+record_change key None (Some now) = Some (PutRecord now)
+record_change key (Some before) None = Some (DropRecord key)
+record_change key (Some before) (Some now) = if is_same_record before now then None else Some (PutRecord now)
 
-abbrev pub observation_changes : Office → Office → List RowChange
+abbrev pub observation_change : ObsKey → Option Observation → Option Observation → Option OfficeChange
+observation_change key None None = None
+observation_change key None (Some now) = Some (PutObservation key now)
+observation_change key (Some before) None = Some (DropObservation key)
+observation_change key (Some before) (Some now) =
+    if is_same_content before now then None else Some (PutObservation key now)
+
+-- the keys of either list, in their order and each once
+abbrev pub keys_of_either : {K : Type 0} → (K → List ℕ) → List K → List K → List K
+keys_of_either rank before now = fold (λ keys key. with_row rank key keys) before now
+
+abbrev pub record_changes : Office → Office → List OfficeChange
+record_changes before now =
+    filter_map (λ key. record_change key (record_at before key) (record_at now key))
+    (keys_of_either key_numbers (map key_of before.records) (map key_of now.records))
+
+abbrev pub observation_changes : Office → Office → List OfficeChange
 observation_changes before now =
-    changes observation_rank (λ a b. is_same_content a.1 b.1) (λ row. PutObservation row.0 row.1) (λ row. DropObservation row.0)
-    before.observations now.observations
+    filter_map (λ key. observation_change key (observation_at before key) (observation_at now key))
+    (keys_of_either observation_numbers (map observation_key before.observations) (map observation_key now.observations))
 
 -- the row of the load itself, which a load with the number 0 does not have
-abbrev pub load_change : StoredLoad → List RowChange
+abbrev pub load_change : StoredLoad → List OfficeChange
 load_change load = if load.number == 0 then [] else PutLoad load ∷ []
 
 -- the changes of a load, in the order of the tables and their keys, and its own row last
-abbrev pub batch : Office → ℕ → List ℕ → List ℕ → List RowChange
+abbrev pub batch : Office → ℕ → List ℕ → List ℕ → List OfficeChange
 batch office number digest body =
     record_changes office (after_all office (body_lines body))
     ++ observation_changes office (after_all office (body_lines body))
-    ++ load_change (record { number = number; digest = digest; reply = reply office number body })
+    ++ load_change (stored office number digest body)

@@ -102,8 +102,11 @@ observation_numbers key =
 abbrev pub record_rank : OfficeRecord → List ℕ
 record_rank r = key_numbers (key_of r)
 
+abbrev pub observation_key : ObsKey × Observation → ObsKey
+observation_key row = row.0
+
 abbrev pub observation_rank : ObsKey × Observation → List ℕ
-observation_rank row = observation_numbers row.0
+observation_rank row = observation_numbers (observation_key row)
 
 abbrev pub load_rank : StoredLoad → List ℕ
 load_rank load = load.number ∷ []

@@ -1,18 +1,27 @@
 -- The 8-hour averages of a site (40 CFR Part 50, Appendix U, 3(b)), each named by the hour at which it starts.
-use Rattle.std.specs.Prelude.{ℕ, not, nat_le, if◌then◌else◌, List, length, map, filter, filter_map, Option, Some, None, ℤ, pos, int_le}
+use Rattle.std.specs.Prelude.{ℕ, not, nat_le, if◌then◌else◌, List, length, map, filter, filter_map, Option, Some, None, ℤ, pos, ◌+ℤ◌, ◌*ℤ◌, int_le}
 use Rattle.std.specs.List.{range_with_len}
 use Rattle.aq_base.specs.Decimal.{truncated}
 use Rattle.aq_base.specs.Site.{Site}
 use Rattle.aq_base.specs.declared.day.TheConstants.{LAST_HOUR}
+use Rattle.aq_base.specs.declared.standard.Standard.TheVariants.{Ozone2015}
 use Rattle.aq_profile.specs.Office.Office.{Office}
 use Rattle.aq_profile.specs.Lists.{total}
+use Rattle.aq_profile.specs.Standards.{level_of}
 use Rattle.aq_profile.specs.Ozone.SiteHour.{Cell, site_hour}
 
--- the average of so many hours with this sum, truncated to 0.001 ppm: over their number where there are six or more; else over eight, zero for the missing ones, where that is above 0.070 ppm, and none where it is not
+-- the least value above the level of 0.070 ppm, and the least sum of eight hours whose average is above it
+abbrev pub LEAST_ABOVE : ℤ
+LEAST_ABOVE = level_of Ozone2015 +ℤ pos 1
+
+abbrev pub LEAST_SUM_ABOVE : ℤ
+LEAST_SUM_ABOVE = pos 8 *ℤ LEAST_ABOVE
+
+-- the average of so many hours with this sum, truncated to 0.001 ppm: over their number where there are six or more; else over eight, zero for the missing ones, where the sum is above 0.567 ppm, so that what is left is above 0.070 ppm, and none where it is not (0.567 over eight is above 0.070 too, before it is truncated)
 abbrev pub average : ℕ → ℤ → Option ℤ
 average count sum =
     if nat_le 6 count then Some (truncated sum (pos count))
-    else (if int_le (pos 568) sum then Some (truncated sum (pos 8)) else None)
+    else (if int_le LEAST_SUM_ABOVE sum then Some (truncated sum (pos 8)) else None)
 
 abbrev pub average_of : List ℤ → Option ℤ
 average_of values = average (length values) (total values)
@@ -32,7 +41,7 @@ full_values cells = map (λ (c : Cell). c.value) cells
 abbrev pub net_values : List Cell → List ℤ
 net_values cells = full_values (filter (λ (c : Cell). not c.excluded) cells)
 
--- the net average, which leaves out what is excluded, and the full one, which reads all hours; and the number of hours of each
+-- the net average, for which an hour with a concurrence counts as missing, and the full one, which reads all hours; and the number of hours of each
 pub record WindowRow : Type 0 where
   pub net : Option ℤ
   pub net_hours : ℕ

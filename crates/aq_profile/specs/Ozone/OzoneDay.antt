@@ -1,11 +1,12 @@
 -- The daily maximum 8-hour average of a site (40 CFR Part 50, Appendix U, 3(c) and (d)).
-use Rattle.std.specs.Prelude.{ℕ, Bool, false, ◌||◌, nat_le, List, length, map, filter_map, Option, ℤ, pos, int_le}
+use Rattle.std.specs.Prelude.{ℕ, Bool, ◌||◌, nat_le, List, length, map, filter_map, Option, ℤ}
 use Rattle.std.specs.List.{range_with_len}
-use Rattle.std.specs.Option.{option_map_or}
 use Rattle.aq_base.specs.Calendar.{hour_number}
 use Rattle.aq_base.specs.Site.{Site}
+use Rattle.aq_base.specs.declared.standard.Standard.TheVariants.{Ozone2015}
 use Rattle.aq_profile.specs.Office.Office.{Office}
 use Rattle.aq_profile.specs.Lists.{greatest}
+use Rattle.aq_profile.specs.Standards.{is_above, level_of}
 use Rattle.aq_profile.specs.Ozone.EightHour.{WindowRow, window}
 
 -- a day's averages are the seventeen that start at 07:00 to 23:00
@@ -28,15 +29,11 @@ pub record OzoneDay : Type 0 where
   pub valid : Bool
   pub maximum : Option ℤ
 
--- whether the value is there and above the standard of 0.070 ppm
-abbrev pub is_above_level : Option ℤ → Bool
-is_above_level value = option_map_or (int_le (pos 71)) value false
-
--- a day is valid with 13 full averages or more, and also where the greatest one is above the standard. What is excluded counts for that, and not for the maximum
+-- a day is valid with 13 full averages or more, and also where the greatest one is above the level of 0.070 ppm: what is excluded counts for that (3(d)), and not for the maximum
 abbrev pub day_of_windows : List WindowRow → OzoneDay
 day_of_windows rows = record {
   averages = length (full_averages rows);
-  valid = nat_le 13 (length (full_averages rows)) || is_above_level (greatest (full_averages rows));
+  valid = nat_le 13 (length (full_averages rows)) || is_above (level_of Ozone2015) (greatest (full_averages rows));
   maximum = greatest (net_averages rows);
 }
 

@@ -105,6 +105,13 @@ single_row = record { net = Some (pos 71); net_hours = 1; full = Some (pos 71); 
 abbrev pub whole_row : ℕ → WindowRow
 whole_row value = record { net = Some (pos value); net_hours = 8; full = Some (pos value); full_hours = 8 }
 
+-- eight hours with this average: one whose net hours are three and give none, and one whose net hours are six and give another
+abbrev pub excluded_row : ℕ → WindowRow
+excluded_row value = record { net = None; net_hours = 3; full = Some (pos value); full_hours = 8 }
+
+abbrev pub lowered_row : ℕ → ℕ → WindowRow
+lowered_row value rest = record { net = Some (pos rest); net_hours = 6; full = Some (pos value); full_hours = 8 }
+
 -- a day with so many averages, of which the first is `first` and the others 0.070 ppm
 abbrev pub day_with : ℕ → ℕ → OzoneDay
 day_with count first =

@@ -1,9 +1,11 @@
 -- The ozone design value of three years, and whether the standard of 0.070 ppm is met (40 CFR Part 50, Appendix U, 3(e) and 4).
-use Rattle.std.specs.Prelude.{ℕ, ◌+◌, ◌-◌, ◌*◌, Bool, ◌&&◌, nat_le, if◌then◌else◌, List, [], ◌∷◌, map, Option, Some, None, ℤ, pos, ◌+ℤ◌, int_le}
+use Rattle.std.specs.Prelude.{ℕ, ◌+◌, ◌*◌, Bool, ◌&&◌, nat_le, if◌then◌else◌, List, [], ◌∷◌, map, Option, Some, None, ℤ, pos, ◌+ℤ◌, int_lt}
 use Rattle.aq_base.specs.Decimal.{truncated}
 use Rattle.aq_base.specs.Site.{Site}
+use Rattle.aq_base.specs.declared.standard.Standard.TheVariants.{Ozone2015}
 use Rattle.aq_base.specs.declared.standard.Verdict.{Verdict}
 use Rattle.aq_base.specs.declared.standard.Verdict.TheVariants.{Met, NotMet, Incomplete, NoValue}
+use Rattle.aq_profile.specs.Standards.{level_of, years_to}
 use Rattle.aq_profile.specs.Office.Office.{Office}
 use Rattle.aq_profile.specs.Ozone.OzoneYear.{OzoneYear, ozone_year}
 
@@ -30,7 +32,8 @@ is_complete a b c = is_season_kept a && is_season_kept b && is_season_kept c && 
 -- a value above the level does not meet the standard, complete or not
 abbrev pub ozone_verdict : Option ℤ → Bool → Verdict
 ozone_verdict None complete = NoValue
-ozone_verdict (Some value) complete = if int_le (pos 71) value then NotMet else (if complete then Met else Incomplete)
+ozone_verdict (Some value) complete =
+    if int_lt (level_of Ozone2015) value then NotMet else (if complete then Met else Incomplete)
 
 -- the design value and the verdict
 pub record OzoneDv : Type 0 where
@@ -50,7 +53,7 @@ ozone_dv _ = no_design
 
 -- the three years that end with `year`
 unfoldable pub three_years : Office → Site → ℕ → List OzoneYear
-three_years office site year = map (ozone_year office site) ((year - 2) ∷ (year - 1) ∷ year ∷ [])
+three_years office site year = map (ozone_year office site) (years_to year)
 
 abbrev pub ozone_design : Office → Site → ℕ → OzoneDv
 ozone_design office site year = ozone_dv (three_years office site year)

@@ -1,5 +1,5 @@
 -- Small offices, quarters and years of particles, on which the laws work the rules out.
-use Rattle.std.specs.Prelude.{ℕ, ◌+◌, ◌*◌, true, List, [], ◌∷◌, ◌++◌, map, replicate, codes, Some, None, pos, neg_ℤ}
+use Rattle.std.specs.Prelude.{ℕ, ◌+◌, ◌*◌, true, false, List, [], ◌∷◌, ◌++◌, map, replicate, codes, Some, None, pos, neg_ℤ}
 use Rattle.std.specs.List.{range_with_len}
 use Rattle.aq_base.specs.Calendar.{day_number, hour_number, quarter_number}
 use Rattle.aq_base.specs.declared.monitor.Duration.{Duration}
@@ -16,7 +16,7 @@ use Rattle.aq_base.specs.declared.rule.Rule.TheVariants.{AlreadyThere, Parameter
 use Rattle.aq_profile.specs.Office.Office.{Office, StoredLoad}
 use Rattle.aq_profile.specs.Shown.Sheet.{Sheet, head_of, site_text}
 use Rattle.aq_profile.specs.Shown.Sheet.SheetCell.{Int, Fixed, Text, Missing}
-use Rattle.aq_profile.specs.Particles.QuarterCounts.{Makeup, QuarterDays}
+use Rattle.aq_profile.specs.Particles.QuarterCounts.{Makeup, QuarterCounts, QuarterDays}
 use Rattle.aq_profile.specs.Particles.Pm10Estimate.{Pm10Quarter}
 use Rattle.aq_profile.specs.Kept.Rows.{Row, OfOfficeRow, OfObsRow, OfLoadRow, office_row, obs_row}
 use Rattle.aq_profile.specs.Ozone.OzoneExamples.{site, office_of, smoke}
@@ -46,6 +46,26 @@ abbrev pub hourly : Pollutant → ℕ → ℕ → Office
 hourly pollutant first others =
     office_of (sampler pollutant Hour 1 ∷ [])
     (particle_hour pollutant 1 first (hour_number winter_day 0) ∷ map (particle_hour pollutant 1 501) (range_with_len (hour_number winter_day 1) others))
+
+-- an hour with the code of an event that was concurred in
+abbrev pub smoky_hour : Pollutant → ℕ → ℕ → (ObsKey × Observation)
+smoky_hour pollutant value hour =
+    (record { monitor = particle_id pollutant 1; hour = hour }, record { value = Some (pos value); null = None; quals = smoke ∷ [] })
+
+abbrev pub smoke_record : Pollutant → ℕ → ℕ → List OfficeRecord
+smoke_record pollutant first last = Event 1 site pollutant (hour_number first 0) (hour_number last 23) smoke ∷ Concurrence 1 true ∷ []
+
+-- eighteen hours from 00:00 on, of which the last is excluded
+abbrev pub smoky_evening : Pollutant → Office
+smoky_evening pollutant =
+    office_of (sampler pollutant Hour 1 ∷ smoke_record pollutant winter_day winter_day)
+    (map (particle_hour pollutant 1 100) (range_with_len (hour_number winter_day 0) 17) ++ smoky_hour pollutant 190 (hour_number winter_day 17) ∷ [])
+
+-- a monitor of 24 hours that is not eligible, POC 2, with a sample beside one of POC 3
+abbrev pub with_ineligible : Pollutant → Office
+with_ineligible pollutant =
+    office_of (Monitor (particle_id pollutant 2) Day false ∷ sampler pollutant Day 3 ∷ [])
+    (particle_sample pollutant 2 120 winter_day ∷ particle_sample pollutant 3 123 winter_day ∷ [])
 
 -- three monitors of 24 hours, of which POC 1 has no sample, POC 2 has 12.0 and POC 3 has 12.3
 abbrev pub three_samplers : Pollutant → List OfficeRecord → Office
@@ -86,9 +106,21 @@ abbrev pub quarter_with : ℕ → ℕ → List ℕ → QuarterDays
 quarter_with scheduled samples values =
     record { counts = record { scheduled = scheduled; creditable = samples; counted = samples }; values = map pos values }
 
+-- so many days of one value, where not all samples are counted, and some days are not scheduled
+abbrev pub mixed_quarter : ℕ → ℕ → ℕ → ℕ → ℕ → QuarterDays
+mixed_quarter scheduled creditable counted days value =
+    record { counts = record { scheduled = scheduled; creditable = creditable; counted = counted }; values = replicate days (pos value) }
+
 -- so many samples of one value
 abbrev pub even_quarter : ℕ → ℕ → ℕ → QuarterDays
 even_quarter scheduled samples value = quarter_with scheduled samples (replicate samples value)
+
+abbrev pub even_year : QuarterDays → List QuarterDays
+even_year quarter = replicate 4 quarter
+
+-- quarters told apart by their scheduled days
+abbrev pub year_from : ℕ → List QuarterDays
+year_from scheduled = map (λ part. mixed_quarter (scheduled + part) 3 2 4 100) (0 ∷ 1 ∷ 2 ∷ 3 ∷ [])
 
 -- thirty samples whose sum is so much above 360.0
 abbrev pub quarter_above_360 : ℕ → QuarterDays
@@ -119,6 +151,18 @@ abbrev pub year_with_first : ℕ → ℕ → List QuarterDays
 year_with_first scheduled samples =
     even_quarter scheduled samples 100 ∷ quarter_with 30 30 (340 ∷ 340 ∷ 340 ∷ replicate 27 100) ∷ even_quarter 30 30 100 ∷ even_quarter 30 30 100 ∷ []
 
+-- the counts of a year: one sample, which is excluded; and none
+abbrev pub no_sample : List QuarterCounts
+no_sample = replicate 4 (record { scheduled = 30; creditable = 0; counted = 0 })
+
+abbrev pub one_sample : List QuarterCounts
+one_sample = record { scheduled = 30; creditable = 1; counted = 0 } ∷ replicate 3 (record { scheduled = 30; creditable = 0; counted = 0 })
+
+-- 100 counted samples, 11 of 30 missing in the first quarter; the greatest values are 40.0, 35.4 and 33.0
+abbrev pub year_of_two_ranks : List QuarterDays
+year_of_two_ranks =
+    mixed_quarter 30 19 18 20 100 ∷ quarter_with 30 30 (400 ∷ 354 ∷ 330 ∷ replicate 27 100) ∷ even_quarter 30 30 100 ∷ mixed_quarter 30 23 22 24 100 ∷ []
+
 -- ---- PM10: every sixth day with 1 July 2023, and samples on 15 of the 16 scheduled days of that quarter, the first of which exceeds
 
 abbrev pub third_of_2023 : ℕ
@@ -133,15 +177,33 @@ abbrev pub with_exceedance : List (ObsKey × Observation) → Office
 with_exceedance others =
     office_of (sampler Pm10 Day 1 ∷ Schedule site Pm10 (day_number 2021 1 1) 6 (day_number 2023 7 1) ∷ []) (scheduled_samples ++ others)
 
+-- samples on six scheduled days, of which two are excluded, and on three others; 155.0 and more on 1, 3 and 14 July
+abbrev pub mixed_days : Office
+mixed_days =
+    office_of
+    (sampler Pm10 Day 1 ∷ Schedule site Pm10 (day_number 2021 1 1) 6 (day_number 2023 7 1) ∷ smoke_record Pm10 (day_number 2023 7 19) (day_number 2023 7 25))
+    (map (λ (day, value). particle_sample Pm10 1 value (day_number 2023 7 day))
+    ((1, 1550) ∷ (3, 1600) ∷ (7, 400) ∷ (13, 1549) ∷ (14, 1700) ∷ (31, 410) ∷ (32, 420) ∷ [])
+    ++ smoky_hour Pm10 1800 (hour_number (day_number 2023 7 19) 0) ∷ smoky_hour Pm10 1900 (hour_number (day_number 2023 7 25) 0) ∷ [])
+
+-- an estimate of 3.21, and a lower one of 3.00
+abbrev pub busy_quarter : Pm10Quarter
+busy_quarter = record { calendar_days = 90; scheduled = 30; captured = 29; strata = 28; samples = 33; exceedances = 2; scheduled_exceedances = 1; sixtieths = 60 }
+
+-- so many scheduled days, and so many of them captured
+abbrev pub captured_quarter : ℕ → ℕ → Pm10Quarter
+captured_quarter scheduled captured =
+    record { calendar_days = 92; scheduled = scheduled; captured = captured; strata = 10; samples = 20; exceedances = 3; scheduled_exceedances = 2; sixtieths = 75 }
+
 -- a quarter of 15 scheduled days, all sampled and none exceeding; one without a sample; and one of so many exceedances on other days
 abbrev pub calm_quarter : Pm10Quarter
-calm_quarter = record { days = 91; scheduled = 15; captured = 15; strata = 15; samples = 15; exceedances = 0; scheduled_exceedances = 0; sixtieths = 0 }
+calm_quarter = record { calendar_days = 91; scheduled = 15; captured = 15; strata = 15; samples = 15; exceedances = 0; scheduled_exceedances = 0; sixtieths = 0 }
 
 abbrev pub empty_quarter : Pm10Quarter
-empty_quarter = record { days = 91; scheduled = 15; captured = 0; strata = 0; samples = 0; exceedances = 0; scheduled_exceedances = 0; sixtieths = 0 }
+empty_quarter = record { calendar_days = 91; scheduled = 15; captured = 0; strata = 0; samples = 0; exceedances = 0; scheduled_exceedances = 0; sixtieths = 0 }
 
 abbrev pub quarter_of_exceedances : ℕ → Pm10Quarter
-quarter_of_exceedances n = record { days = 91; scheduled = 15; captured = 15; strata = 15; samples = 15 + n; exceedances = n; scheduled_exceedances = 0; sixtieths = 30 * n }
+quarter_of_exceedances n = record { calendar_days = 91; scheduled = 15; captured = 15; strata = 15; samples = 15 + n; exceedances = n; scheduled_exceedances = 0; sixtieths = 30 * n }
 
 abbrev pub calm_year : List Pm10Quarter
 calm_year = replicate 4 calm_quarter
@@ -166,7 +228,7 @@ empty_load number =
 -- ---- sheets, rows and exports
 
 abbrev pub exceeding_quarter : Pm10Quarter
-exceeding_quarter = record { days = 92; scheduled = 16; captured = 15; strata = 15; samples = 15; exceedances = 1; scheduled_exceedances = 1; sixtieths = 60 }
+exceeding_quarter = record { calendar_days = 92; scheduled = 16; captured = 15; strata = 15; samples = 15; exceedances = 1; scheduled_exceedances = 1; sixtieths = 60 }
 
 abbrev pub reply_without_lines : ℕ → LoadReply
 reply_without_lines number = record { number = number; lines = 0; accepted = 0; refused = 0; listed = []; rest = [] }

@@ -1,26 +1,30 @@
 -- The estimated number of PM10 exceedances of quarters, years and three years (40 CFR Part 50, Appendix K, 2.1 and 3.0). Each exceedance is adjusted for days without a sample, the first one too (own).
-use Rattle.std.specs.Prelude.{ℕ, ◌*◌, ◌/◌, Bool, true, false, ◌==◌, if◌then◌else◌, List, [], ◌∷◌, length, map, filter, filter_map, count_by, sum_by, Option, Some, None, option_map, ℤ, pos, int_le}
+use Rattle.std.specs.Prelude.{ℕ, ◌*◌, ◌/◌, Bool, true, false, ◌==◌, if◌then◌else◌, List, [], ◌∷◌, length, map, filter, filter_map, count_by, sum_by, Option, Some, None, option_map, ℤ, pos, int_lt}
 use Rattle.std.specs.Option.{option_map_or}
 use Rattle.aq_base.specs.Calendar.{days_in_quarter}
 use Rattle.aq_base.specs.Decimal.{half_up}
 use Rattle.aq_base.specs.Site.{Site}
 use Rattle.aq_base.specs.declared.monitor.Pollutant.TheVariants.{Pm10}
 use Rattle.aq_profile.specs.Office.Office.{Office}
-use Rattle.aq_profile.specs.Lists.{total}
+use Rattle.aq_profile.specs.Lists.{total, all_of}
+use Rattle.aq_profile.specs.Standards.{PM10_DAY_LEVEL}
 use Rattle.aq_profile.specs.Particles.ParticleDay.{net_day}
 use Rattle.aq_profile.specs.Particles.QuarterCounts.{scheduled_days, is_sampled, quarters_of}
 use Rattle.aq_profile.specs.Particles.Strata.{strata_of}
-use Rattle.aq_profile.specs.Particles.Substitution.{all_of}
 
--- above 150 µg/m3 once rounded to the nearest 10, which is 155.0 and up
+-- a value in tenths, rounded to the nearest 10 µg/m3 (Appendix K, 1.0(b)), in tens
+abbrev pub in_tens : ℤ → ℤ
+in_tens value = half_up value (pos 100)
+
+-- above 150 µg/m3 once rounded so, which is 155.0 and up
 abbrev pub exceeds : ℤ → Bool
-exceeds value = int_le (pos 1550) value
+exceeds value = int_lt PM10_DAY_LEVEL (in_tens value)
 
 -- ---- what a site has for a quarter
 
--- a quarter's days, its scheduled days and those of them with a sample; its strata with a sample, its samples, and how many exceed, of all and of those on scheduled days; and the sum over the strata of the part of their samples that exceed, in sixtieths. What is excluded is no sample but for `captured`
+-- the days of the calendar quarter, its scheduled days and those of them with a sample; its strata with a sample, its samples, and how many exceed, of all and of those on scheduled days; and the sum over the strata of the part of their samples that exceed, in sixtieths. What is excluded is no sample but for `captured`
 pub record Pm10Quarter : Type 0 where
-  pub days : ℕ
+  pub calendar_days : ℕ
   pub scheduled : ℕ
   pub captured : ℕ
   pub strata : ℕ
@@ -43,7 +47,7 @@ sixtieths_of values = 60 * count_by exceeds values / length values
 -- the quarter of these days, scheduled days, captured ones and exceeding ones, with the samples of each stratum
 abbrev pub quarter_of_strata : ℕ → ℕ → ℕ → ℕ → List (List ℤ) → Pm10Quarter
 quarter_of_strata days scheduled captured scheduled_exceedances strata = record {
-  days = days;
+  calendar_days = days;
   scheduled = scheduled;
   captured = captured;
   strata = length (sampled_strata strata);
@@ -78,13 +82,13 @@ pm10_year office site year = map (pm10_quarter office site) (quarters_of year)
 abbrev pub quarter_estimate : Pm10Quarter → Option ℤ
 quarter_estimate q =
     if q.strata == 0 then None
-    else Some (half_up (pos (100 * q.days * q.sixtieths)) (pos (60 * q.strata)))
+    else Some (half_up (pos (100 * q.calendar_days * q.sixtieths)) (pos (60 * q.strata)))
 
--- the lower estimate of a quarter, in hundredths: as if no scheduled day without a sample exceeded, and 0 where nothing is scheduled (own)
+-- the lower estimate of a quarter, in hundredths: its days times the exceedances on scheduled days that are not excluded, over the scheduled days; 0 where nothing is scheduled (own)
 abbrev pub quarter_lower : Pm10Quarter → Option ℤ
 quarter_lower q =
     if q.scheduled == 0 then Some (pos 0)
-    else Some (half_up (pos (100 * q.days * q.scheduled_exceedances)) (pos q.scheduled))
+    else Some (half_up (pos (100 * q.calendar_days * q.scheduled_exceedances)) (pos q.scheduled))
 
 -- of a year, in tenths: the sum of its quarters' hundredths, rounded
 abbrev pub year_of_quarters : (Pm10Quarter → Option ℤ) → List Pm10Quarter → Option ℤ

@@ -1,4 +1,4 @@
--- The sampled days of a PM2.5 quarter and what they are counted against (40 CFR Part 50, Appendix N, 1.0(c), 3.0 and 4.1(b)). The records of make-up samples are (own).
+-- The sampled days of a PM2.5 quarter and what they are counted against (40 CFR Part 50, Appendix N, 1.0(c) and 3.0). The records of make-up samples are (own).
 use Rattle.std.specs.Prelude.{ℕ, ◌+◌, ◌-◌, ◌*◌, Bool, not, ◌&&◌, ◌||◌, ◌==◌, if◌then◌else◌, List, [], ◌∷◌, length, map, filter, filter_map, count_by, sum_by, flat_map, Option, Some, None, is_some, ℤ, pos, unsigned_abs}
 use Rattle.std.specs.List.{list_any, range_with_len}
 use Rattle.aq_base.specs.Calendar.{quarter_of, quarter_number, quarter_first, days_in_quarter}
@@ -26,7 +26,7 @@ is_sampled office site pollutant day = is_some (site_day office site pollutant d
 abbrev pub is_kept : Office → Site → Pollutant → ℕ → Bool
 is_kept office site pollutant day = is_some (net_day office site pollutant day)
 
--- ---- make-up samples
+-- ---- make-up samples (Appendix N, 1.0(c))
 
 -- a missed day, and the day of the sample that makes up for it
 pub record Makeup : Type 0 where
@@ -70,7 +70,7 @@ quarter_counts office site quarter = record {
   counted = count_by (is_kept office site Pm25) (scheduled_days office site Pm25 quarter) + count_by (λ (m : Makeup). is_kept office site Pm25 m.makeup) (credits office site quarter);
 }
 
--- creditable samples in percent of the scheduled days, to the nearest whole one; 0 where nothing is scheduled (own)
+-- the quarter's data capture rate (Appendix N, 1.0(c)): creditable samples in percent of the scheduled days, to the nearest whole one; 0 where nothing is scheduled (own)
 abbrev pub capture : QuarterCounts → ℕ
 capture counts =
     if counts.scheduled == 0 then 0 else unsigned_abs (half_up (pos (100 * counts.creditable)) (pos counts.scheduled))
@@ -91,10 +91,6 @@ pm25_quarter office site quarter = record { counts = quarter_counts office site 
 -- the four quarters of a year, by their numbers
 abbrev pub quarters_of : ℕ → List ℕ
 quarters_of year = map (quarter_number year) (0 ∷ 1 ∷ 2 ∷ 3 ∷ [])
-
--- the three years that end with `year`, the oldest first
-abbrev pub years_to : ℕ → List ℕ
-years_to year = (year - 2) ∷ (year - 1) ∷ year ∷ []
 
 unfoldable pub pm25_year : Office → Site → ℕ → List QuarterDays
 pm25_year office site year = map (pm25_quarter office site) (quarters_of year)

@@ -1,10 +1,13 @@
 -- The answer to a question about an office: a sheet, or the exported observations (own).
-use Rattle.std.specs.Prelude.{ℕ, Bool, if◌then◌else◌, List, Option, Some, None}
+use Rattle.std.specs.Prelude.{ℕ, ◌+◌, Bool, ◌&&◌, nat_le, if◌then◌else◌, List, Option, Some, None}
 use Rattle.std.specs.List.{list_any}
+use Rattle.aq_base.specs.Calendar.{is_year}
 use Rattle.aq_base.specs.Site.{Site}
+use Rattle.aq_base.specs.declared.day.TheConstants.{FIRST_YEAR, LAST_YEAR}
 use Rattle.aq_base.specs.declared.monitor.Pollutant.{Pollutant}
 use Rattle.aq_base.specs.declared.standard.Standard.{Standard}
-use Rattle.aq_profile.specs.Office.Office.{Office, StoredLoad, load_at, sites_of}
+use Rattle.aq_profile.specs.Limits.{LAST_LOAD_NUMBER}
+use Rattle.aq_profile.specs.Office.Office.{Office, StoredLoad, load_at, sites_of, is_day}
 use Rattle.aq_profile.specs.Office.Monitors.{is_same_site}
 use Rattle.aq_profile.specs.Shown.Sheet.{Sheet}
 use Rattle.aq_profile.specs.Shown.Sheets.{load_sheet, windows_answer, days_answer}
@@ -22,6 +25,27 @@ pub data Ask : Type 0 where
   Value : (standard : Standard) (site : Site) (year : ℕ) → Ask
   Report : (standard : Standard) (year : ℕ) → Ask
   Export : (site : Site) (pollutant : Pollutant) (year : ℕ) → Ask
+
+-- ---- what is asked: words and routes take nothing else
+
+-- the years of which a design value or a report is asked: the profile has the two years before, too
+abbrev pub is_design_year : ℕ → Bool
+is_design_year year = nat_le (FIRST_YEAR + 2) year && nat_le year LAST_YEAR
+
+abbrev pub is_load_number : ℕ → Bool
+is_load_number number = nat_le 1 number && nat_le number LAST_LOAD_NUMBER
+
+abbrev pub is_asked : Ask → Bool
+is_asked (Reply number) = is_load_number number
+is_asked (Windows site day) = is_day day
+is_asked (Days site year) = is_year year
+is_asked (Pm25Quarters site year) = is_year year
+is_asked (Pm10Quarters site year) = is_year year
+is_asked (Value standard site year) = is_design_year year
+is_asked (Report standard year) = is_design_year year
+is_asked (Export site pollutant year) = is_year year
+
+-- ---- what is answered
 
 -- no site: no monitor of the site is registered; no load: none with the number stands
 pub data Answer : Type 0 where

@@ -1,52 +1,29 @@
 -- The sheets of a report, a conflict, an error and a summary, and the value sheet of any standard, filled (own).
-use Rattle.std.specs.Prelude.{ℕ, ◌+◌, ◌/◌, ◌%◌, nat_lt, if◌then◌else◌, List, [], ◌∷◌, map, filter, codes, flat_map, Option, ℤ, pos}
+use Rattle.std.specs.Prelude.{ℕ, ◌+◌, ◌/◌, ◌%◌, nat_lt, if◌then◌else◌, List, [], ◌∷◌, map, filter, codes, flat_map, Option, ℤ}
 use Rattle.aq_base.specs.Site.{Site}
 use Rattle.aq_base.specs.Standard.{standard_name}
 use Rattle.aq_base.specs.declared.monitor.Pollutant.{Pollutant}
-use Rattle.aq_base.specs.declared.monitor.Pollutant.TheVariants.{Ozone, Pm25, Pm10}
 use Rattle.aq_base.specs.declared.standard.Standard.{Standard}
-use Rattle.aq_base.specs.declared.standard.Standard.TheVariants.{Ozone2015, Annual2012, AnnualSecondary, Daily2006, Pm10Of1987}
 use Rattle.aq_base.specs.declared.standard.Verdict.{Verdict}
+use Rattle.aq_profile.specs.Standards.{pollutant_of}
+use Rattle.aq_profile.specs.DesignValues.{DesignValue, OfOzone, OfAnnual, OfDaily, OfPm10, design_value, value_in, verdict_in}
 use Rattle.aq_profile.specs.Office.Office.{Office, has_monitor, site_numbers, sites_of, with_row}
-use Rattle.aq_profile.specs.Ozone.OzoneVerdict.{ozone_design}
-use Rattle.aq_profile.specs.Particles.AnnualVerdict.{annual_design}
-use Rattle.aq_profile.specs.Particles.DailyVerdict.{daily_design}
-use Rattle.aq_profile.specs.Particles.Pm10Verdict.{pm10_design}
-use Rattle.aq_profile.specs.Shown.Sheet.{SheetCell, Sheet, head_of, count_cell, ppm_cell, site_text}
+use Rattle.aq_profile.specs.Shown.Sheet.{SheetCell, Sheet, head_of, count_cell, site_text}
 use Rattle.aq_profile.specs.Shown.Sheet.SheetCell.{Text}
-use Rattle.aq_profile.specs.Shown.Sheets.{verdict_name, ozone_value_answer}
-use Rattle.aq_profile.specs.Shown.ParticleSheets.{tenths_cell, whole_cell, annual_value_answer, daily_value_answer, pm10_value_answer}
+use Rattle.aq_profile.specs.Shown.Sheets.{design_cell, verdict_name, ozone_value_sheet}
+use Rattle.aq_profile.specs.Shown.ParticleSheets.{annual_value_sheet, daily_value_sheet, pm10_value_sheet}
 
--- ---- standards
-
-abbrev pub pollutant_of : Standard → Pollutant
-pollutant_of Ozone2015 = Ozone
-pollutant_of Annual2012 = Pm25
-pollutant_of AnnualSecondary = Pm25
-pollutant_of Daily2006 = Pm25
-pollutant_of Pm10Of1987 = Pm10
-
--- the levels of the annual standards, 12.0 and 15.0 µg/m3, in tenths (40 CFR 50.18 and 50.13)
-abbrev pub ANNUAL_LEVEL : ℤ
-ANNUAL_LEVEL = pos 120
-
-abbrev pub SECONDARY_LEVEL : ℤ
-SECONDARY_LEVEL = pos 150
+-- the value sheet of any standard
+unfoldable pub value_sheet : Standard → Site → ℕ → DesignValue → Sheet
+value_sheet standard site year (OfOzone years design) = ozone_value_sheet site year years design
+value_sheet standard site year (OfAnnual years design) = annual_value_sheet standard site year years design
+value_sheet standard site year (OfDaily years design) = daily_value_sheet site year years design
+value_sheet standard site year (OfPm10 years design) = pm10_value_sheet site year years design
 
 unfoldable pub value_answer : Standard → Office → Site → ℕ → Sheet
-value_answer Ozone2015 office site year = ozone_value_answer office site year
-value_answer Annual2012 office site year = annual_value_answer Annual2012 ANNUAL_LEVEL office site year
-value_answer AnnualSecondary office site year = annual_value_answer AnnualSecondary SECONDARY_LEVEL office site year
-value_answer Daily2006 office site year = daily_value_answer office site year
-value_answer Pm10Of1987 office site year = pm10_value_answer office site year
+value_answer standard office site year = value_sheet standard site year (design_value standard office site year)
 
 -- ---- a report
-
--- a design value in its standard's cell: ppm, tenths, or whole µg/m3
-abbrev pub design_cell : Standard → Option ℤ → SheetCell
-design_cell Ozone2015 value = ppm_cell value
-design_cell Daily2006 value = whole_cell value
-design_cell standard value = tenths_cell value
 
 -- a site's row: its design value and verdict
 pub record Judged : Type 0 where
@@ -54,17 +31,11 @@ pub record Judged : Type 0 where
   pub value : Option ℤ
   pub verdict : Verdict
 
+abbrev pub judged_by : Site → DesignValue → Judged
+judged_by site value = record { site = site; value = value_in value; verdict = verdict_in value }
+
 unfoldable pub judged : Standard → Office → ℕ → Site → Judged
-judged Ozone2015 office year site =
-    record { site = site; value = (ozone_design office site year).value; verdict = (ozone_design office site year).verdict }
-judged Annual2012 office year site =
-    record { site = site; value = (annual_design ANNUAL_LEVEL office site year).value; verdict = (annual_design ANNUAL_LEVEL office site year).verdict }
-judged AnnualSecondary office year site =
-    record { site = site; value = (annual_design SECONDARY_LEVEL office site year).value; verdict = (annual_design SECONDARY_LEVEL office site year).verdict }
-judged Daily2006 office year site =
-    record { site = site; value = (daily_design office site year).value; verdict = (daily_design office site year).verdict }
-judged Pm10Of1987 office year site =
-    record { site = site; value = (pm10_design office site year).value; verdict = (pm10_design office site year).verdict }
+judged standard office year site = judged_by site (design_value standard office site year)
 
 -- the registered sites in rising order
 abbrev pub rising_sites : List Site → List Site
@@ -110,6 +81,12 @@ conflict_sheet number kept sent = record {
   columns = [];
   rows = [];
 }
+
+-- what a reply that is not 200 or 409 names
+abbrev pub error_names : List (List ℕ)
+error_names =
+    codes "BadRequest" ∷ codes "NotFound" ∷ codes "MethodNotAllowed" ∷ codes "LengthRequired" ∷ codes "TooLarge"
+    ∷ codes "HeadTooLarge" ∷ codes "NotImplemented" ∷ codes "KeeperFailed" ∷ codes "LoadsFull" ∷ []
 
 unfoldable pub error_sheet : List ℕ → Sheet
 error_sheet name = record { heads = head_of (codes "error") (Text name) ∷ []; columns = []; rows = [] }

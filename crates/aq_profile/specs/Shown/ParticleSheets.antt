@@ -1,40 +1,28 @@
 -- The sheets of PM2.5 and PM10 quarters and design values, filled (own).
-use Rattle.std.specs.Prelude.{ℕ, ◌-◌, ◌==◌, if◌then◌else◌, Bool, List, [], ◌∷◌, ◌++◌, map, zip, codes, Option, Some, None, ℤ}
+use Rattle.std.specs.Prelude.{ℕ, ◌-◌, ◌==◌, if◌then◌else◌, Bool, List, [], ◌∷◌, ◌++◌, map, zip, codes, None}
 use Rattle.std.specs.List.{enumerate_from}
 use Rattle.aq_base.specs.Site.{Site}
 use Rattle.aq_base.specs.declared.standard.Standard.{Standard}
 use Rattle.aq_base.specs.declared.standard.Standard.TheVariants.{Daily2006, Pm10Of1987}
+use Rattle.aq_profile.specs.Standards.{years_to}
 use Rattle.aq_profile.specs.Office.Office.{Office}
-use Rattle.aq_profile.specs.Particles.QuarterCounts.{capture, years_to}
+use Rattle.aq_profile.specs.Particles.QuarterCounts.{capture}
 use Rattle.aq_profile.specs.Particles.Percentile.{rank_of}
-use Rattle.aq_profile.specs.Particles.AnnualVerdict.{ParticleDv, annual_design}
-use Rattle.aq_profile.specs.Particles.DailyVerdict.{daily_design}
+use Rattle.aq_profile.specs.Particles.AnnualVerdict.{ParticleDv}
 use Rattle.aq_profile.specs.Particles.Pm10Estimate.{Pm10Quarter, pm10_year, quarter_estimate, quarter_lower, year_of_quarters}
-use Rattle.aq_profile.specs.Particles.Pm10Verdict.{Pm10Dv, pm10_design, is_complete_year, exceedances_in}
+use Rattle.aq_profile.specs.Particles.Pm10Verdict.{Pm10Dv, is_complete_year, exceedances_in}
 use Rattle.aq_profile.specs.Kept.Summaries.{PmQuarter, PmYear, counts_of, pm25_summary}
 use Rattle.aq_profile.specs.Kept.SummaryVerdicts.{mean_of_sums, kept_percentile, kept_counted}
-use Rattle.aq_profile.specs.Shown.Sheet.{SheetCell, Sheet, head_of, count_cell, site_text, truth_text}
-use Rattle.aq_profile.specs.Shown.Sheet.SheetCell.{Int, Fixed, Text, Missing}
+use Rattle.aq_profile.specs.Shown.Sheet.{SheetCell, Sheet, head_of, count_cell, fixed_cell, tenths_cell, site_text, truth_text}
+use Rattle.aq_profile.specs.Shown.Sheet.SheetCell.{Fixed, Text, Missing}
 use Rattle.aq_profile.specs.Shown.Sheets.{value_heads}
-
--- a value in units of 10 ^ -places
-abbrev pub fixed_cell : ℕ → Option ℤ → SheetCell
-fixed_cell places None = Missing
-fixed_cell places (Some value) = Fixed value places
-
-abbrev pub tenths_cell : Option ℤ → SheetCell
-tenths_cell value = fixed_cell 1 value
-
-abbrev pub whole_cell : Option ℤ → SheetCell
-whole_cell None = Missing
-whole_cell (Some value) = Int value
 
 -- ---- quarters
 
 abbrev pub pm25_cells : ℕ × PmQuarter → List SheetCell
 pm25_cells row =
     count_cell row.0 ∷ count_cell row.1.scheduled ∷ count_cell row.1.creditable ∷ count_cell (capture (counts_of row.1))
-    ∷ count_cell row.1.counted ∷ count_cell row.1.days ∷ Fixed row.1.sum 1 ∷ tenths_cell row.1.least ∷ tenths_cell row.1.greatest
+    ∷ count_cell row.1.counted ∷ count_cell row.1.net_days ∷ Fixed row.1.sum 1 ∷ tenths_cell row.1.least ∷ tenths_cell row.1.greatest
     ∷ []
 
 -- without a counted sample there is no rank
@@ -63,7 +51,7 @@ pm25_answer office site year = pm25_sheet site year (pm25_summary office site ye
 -- `strata` counts those with a sample
 abbrev pub pm10_cells : ℕ × Pm10Quarter → List SheetCell
 pm10_cells row =
-    count_cell row.0 ∷ count_cell row.1.days ∷ count_cell row.1.scheduled ∷ count_cell row.1.captured
+    count_cell row.0 ∷ count_cell row.1.calendar_days ∷ count_cell row.1.scheduled ∷ count_cell row.1.captured
     ∷ count_cell row.1.strata ∷ count_cell row.1.samples ∷ count_cell row.1.exceedances
     ∷ fixed_cell 2 (quarter_estimate row.1) ∷ fixed_cell 2 (quarter_lower row.1)
     ∷ []
@@ -99,7 +87,7 @@ annual_cells row =
 
 unfoldable pub annual_value_sheet : Standard → Site → ℕ → List PmYear → ParticleDv → Sheet
 annual_value_sheet standard site year years design = record {
-  heads = value_heads standard site year (tenths_cell design.value) (tenths_cell design.test) design.verdict;
+  heads = value_heads standard site year design.value design.test design.verdict;
   columns = codes "year" ∷ codes "mean" ∷ capture_columns;
   rows = map annual_cells (enumerate_from (year - 2) (zip years design.valid));
 }
@@ -111,7 +99,7 @@ daily_cells row =
 
 unfoldable pub daily_value_sheet : Site → ℕ → List PmYear → ParticleDv → Sheet
 daily_value_sheet site year years design = record {
-  heads = value_heads Daily2006 site year (whole_cell design.value) (whole_cell design.test) design.verdict;
+  heads = value_heads Daily2006 site year design.value design.test design.verdict;
   columns = codes "year" ∷ codes "percentile" ∷ codes "counted" ∷ capture_columns;
   rows = map daily_cells (enumerate_from (year - 2) (zip years design.valid));
 }
@@ -125,19 +113,7 @@ pm10_year_cells row =
 -- there is no test
 unfoldable pub pm10_value_sheet : Site → ℕ → List (List Pm10Quarter) → Pm10Dv → Sheet
 pm10_value_sheet site year years design = record {
-  heads = value_heads Pm10Of1987 site year (tenths_cell design.value) Missing design.verdict;
+  heads = value_heads Pm10Of1987 site year design.value None design.verdict;
   columns = codes "year" ∷ codes "estimate" ∷ codes "lower" ∷ codes "exceedances" ∷ codes "complete" ∷ [];
   rows = map pm10_year_cells (enumerate_from (year - 2) years);
 }
-
-unfoldable pub annual_value_answer : Standard → ℤ → Office → Site → ℕ → Sheet
-annual_value_answer standard level office site year =
-    annual_value_sheet standard site year (map (pm25_summary office site) (years_to year)) (annual_design level office site year)
-
-unfoldable pub daily_value_answer : Office → Site → ℕ → Sheet
-daily_value_answer office site year =
-    daily_value_sheet site year (map (pm25_summary office site) (years_to year)) (daily_design office site year)
-
-unfoldable pub pm10_value_answer : Office → Site → ℕ → Sheet
-pm10_value_answer office site year =
-    pm10_value_sheet site year (map (pm10_year office site) (years_to year)) (pm10_design office site year)

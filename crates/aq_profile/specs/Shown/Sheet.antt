@@ -1,6 +1,7 @@
 -- A sheet and its text: heads, and a table under column names (own).
-use Rattle.std.specs.Prelude.{ℕ, Bool, true, false, List, [], ◌∷◌, ◌++◌, map, codes, flat_map, ℤ, pos, Option, Some, None}
+use Rattle.std.specs.Prelude.{ℕ, Bool, true, false, List, [], ◌∷◌, ◌++◌, map, codes, flat_map, find, bytes_eq, ℤ, pos, Option, Some, None}
 use Rattle.std.specs.List.{join_with_byte}
+use Rattle.std.specs.Option.{option_map_or}
 use Rattle.std.specs.Fmt.{signed_decimal}
 use Rattle.aq_base.specs.Calendar.{year_of, month_of, day_of_month}
 use Rattle.aq_base.specs.Decimal.{fixed, last_digits}
@@ -70,10 +71,26 @@ truth_text false = codes "N"
 abbrev pub count_cell : ℕ → SheetCell
 count_cell n = Int (pos n)
 
+-- a value in units of 10 ^ -places
+abbrev pub fixed_cell : ℕ → Option ℤ → SheetCell
+fixed_cell places None = Missing
+fixed_cell places (Some value) = Fixed value places
+
 -- thousandths of a ppm as ppm
 abbrev pub ppm_cell : Option ℤ → SheetCell
-ppm_cell None = Missing
-ppm_cell (Some value) = Fixed value 3
+ppm_cell value = fixed_cell 3 value
+
+-- tenths of a µg/m3 as µg/m3
+abbrev pub tenths_cell : Option ℤ → SheetCell
+tenths_cell value = fixed_cell 1 value
+
+abbrev pub whole_cell : Option ℤ → SheetCell
+whole_cell None = Missing
+whole_cell (Some value) = Int value
 
 abbrev pub head_of : List ℕ → SheetCell → Head
 head_of name cell = record { name = name; cell = cell }
+
+-- the cell of the head with this name
+abbrev pub cell_at : List ℕ → Sheet → SheetCell
+cell_at name sheet = option_map_or (λ (head : Head). head.cell) (find (λ (head : Head). bytes_eq head.name name) sheet.heads) Missing

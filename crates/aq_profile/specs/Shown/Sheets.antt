@@ -1,5 +1,5 @@
 -- The sheets of a load, and of ozone windows, days and design values, filled (own).
-use Rattle.std.specs.Prelude.{ℕ, ◌-◌, Bool, List, [], ◌∷◌, ◌++◌, map, zip, codes}
+use Rattle.std.specs.Prelude.{ℕ, ◌-◌, Bool, List, [], ◌∷◌, ◌++◌, map, zip, codes, Option, None, ℤ}
 use Rattle.std.specs.List.{enumerate_from}
 use Rattle.aq_base.specs.Calendar.{year_first}
 use Rattle.aq_base.specs.Rule.{rule_number, rule_name}
@@ -9,7 +9,7 @@ use Rattle.aq_base.specs.declared.reply.ListedLine.{ListedLine}
 use Rattle.aq_base.specs.declared.reply.RestRule.{RestRule}
 use Rattle.aq_base.specs.declared.reply.LoadReply.{LoadReply}
 use Rattle.aq_base.specs.declared.standard.Standard.{Standard}
-use Rattle.aq_base.specs.declared.standard.Standard.TheVariants.{Ozone2015}
+use Rattle.aq_base.specs.declared.standard.Standard.TheVariants.{Ozone2015, Annual2012, AnnualSecondary, Daily2006, Pm10Of1987}
 use Rattle.aq_base.specs.declared.standard.Verdict.{Verdict}
 use Rattle.aq_base.specs.declared.standard.Verdict.TheVariants.{Met, NotMet, Incomplete, NoValue}
 use Rattle.aq_profile.specs.Office.Office.{Office}
@@ -18,8 +18,8 @@ use Rattle.aq_profile.specs.Office.Approval.{is_approved}
 use Rattle.aq_profile.specs.Ozone.EightHour.{WindowRow}
 use Rattle.aq_profile.specs.Ozone.OzoneDay.{OzoneDay, windows}
 use Rattle.aq_profile.specs.Ozone.OzoneYear.{OzoneYear, days_of, ozone_days, ozone_year}
-use Rattle.aq_profile.specs.Ozone.OzoneVerdict.{OzoneDv, three_years, ozone_design}
-use Rattle.aq_profile.specs.Shown.Sheet.{SheetCell, Sheet, Head, head_of, count_cell, ppm_cell, site_text, day_text, hour_text, truth_text}
+use Rattle.aq_profile.specs.Ozone.OzoneVerdict.{OzoneDv}
+use Rattle.aq_profile.specs.Shown.Sheet.{SheetCell, Sheet, Head, head_of, count_cell, ppm_cell, tenths_cell, whole_cell, site_text, day_text, hour_text, truth_text}
 use Rattle.aq_profile.specs.Shown.Sheet.SheetCell.{Text, Missing}
 
 -- ---- the reply to a load
@@ -106,14 +106,22 @@ verdict_name NotMet = codes "NotMet"
 verdict_name Incomplete = codes "Incomplete"
 verdict_name NoValue = codes "NoValue"
 
+-- a design value or a test's value in its standard's unit: ppm, tenths of a µg/m3 or of a day, or whole µg/m3
+abbrev pub design_cell : Standard → Option ℤ → SheetCell
+design_cell Ozone2015 value = ppm_cell value
+design_cell Annual2012 value = tenths_cell value
+design_cell AnnualSecondary value = tenths_cell value
+design_cell Daily2006 value = whole_cell value
+design_cell Pm10Of1987 value = tenths_cell value
+
 -- the heads of a design value of any standard
-abbrev pub value_heads : Standard → Site → ℕ → SheetCell → SheetCell → Verdict → List Head
+abbrev pub value_heads : Standard → Site → ℕ → Option ℤ → Option ℤ → Verdict → List Head
 value_heads standard site year value test verdict =
     head_of (codes "standard") (Text (standard_name standard))
     ∷ head_of (codes "site") (Text (site_text site))
     ∷ head_of (codes "year") (count_cell year)
-    ∷ head_of (codes "value") value
-    ∷ head_of (codes "test") test
+    ∷ head_of (codes "value") (design_cell standard value)
+    ∷ head_of (codes "test") (design_cell standard test)
     ∷ head_of (codes "verdict") (Text (verdict_name verdict))
     ∷ []
 
@@ -126,11 +134,7 @@ year_cells row =
 -- three years, the oldest first, of which the last is `year`; there is no test
 unfoldable pub ozone_value_sheet : Site → ℕ → List OzoneYear → OzoneDv → Sheet
 ozone_value_sheet site year years design = record {
-  heads = value_heads Ozone2015 site year (ppm_cell design.value) Missing design.verdict;
+  heads = value_heads Ozone2015 site year design.value None design.verdict;
   columns = codes "year" ∷ codes "ranked" ∷ codes "fourth" ∷ codes "season_days" ∷ codes "season_valid" ∷ [];
   rows = map year_cells (enumerate_from (year - 2) years);
 }
-
-unfoldable pub ozone_value_answer : Office → Site → ℕ → Sheet
-ozone_value_answer office site year =
-    ozone_value_sheet site year (three_years office site year) (ozone_design office site year)

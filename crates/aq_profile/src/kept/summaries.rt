@@ -4,15 +4,18 @@
 ghost use Rattle.std.specs.Prelude.{◌≡◌, ℕ, List, ℤ, pos, map, filter_map, length, min, slice_get, nat_le, is_some, IsTrue, All};
 ghost use Rattle.aq_base.specs.Site.{Site};
 ghost use Rattle.aq_profile.specs.Office.Office.{IsOffice, Office};
-ghost use Rattle.aq_profile.specs.Lists.{greatest, total};
+ghost use Rattle.aq_profile.specs.Standards.{years_to};
+ghost use Rattle.aq_profile.specs.Lists.{greatest, least, total};
 ghost use Rattle.aq_profile.specs.Ozone.OzoneYear.{ozone_year};
-ghost use Rattle.aq_profile.specs.Particles.QuarterCounts.{QuarterDays, pm25_quarter, values_in, years_to};
+ghost use Rattle.aq_profile.specs.Particles.QuarterCounts.{QuarterDays, counted_in, pm25_quarter, values_in};
+ghost use Rattle.aq_profile.specs.Particles.Means.{mean_of_means, quarterly_mean};
+ghost use Rattle.aq_profile.specs.Particles.Percentile.{percentile};
+ghost use Rattle.aq_profile.specs.Particles.YearParts.{of_values};
 ghost use Rattle.aq_profile.specs.Particles.Pm10Estimate.{pm10_quarter, pm10_year};
-ghost use Rattle.aq_profile.specs.Particles.Substitution.{least};
-ghost use Rattle.aq_profile.specs.Particles.AnnualVerdict.{annual_design, annual_dv};
-ghost use Rattle.aq_profile.specs.Particles.DailyVerdict.{daily_design, daily_dv};
-ghost use Rattle.aq_profile.specs.Kept.Summaries.{KeepsOzoneYear, KeepsPm10Quarter, KeepsPm10Year, KeepsPmQuarter, KeepsPmYear, PmQuarter, days_in, eight_greatest, falls, is_sum_within, pm25_summary, summary_of_quarter, summary_of_year};
-ghost use Rattle.aq_profile.specs.Kept.SummaryVerdicts.{kept_annual_dv, kept_daily_dv};
+ghost use Rattle.aq_profile.specs.Particles.AnnualVerdict.{annual_design, annual_dv, mean_of};
+ghost use Rattle.aq_profile.specs.Particles.DailyVerdict.{daily_design, daily_dv, percentile_of};
+ghost use Rattle.aq_profile.specs.Kept.Summaries.{KeepsOzoneYear, KeepsPm10Quarter, KeepsPm10Year, KeepsPmQuarter, KeepsPmYear, PmQuarter, PmYear, net_days_in, eight_greatest, falls, is_sum_within, pm25_summary, summary_of_quarter, summary_of_year};
+ghost use Rattle.aq_profile.specs.Kept.SummaryVerdicts.{kept_annual_dv, kept_counted, kept_daily_dv, kept_percentile, mean_of_sums};
 
 /// Sums and numbers of values are enough for an annual standard, its tests with their copies too.
 pub fn sums_are_enough_for_the_annual_verdict()
@@ -25,6 +28,15 @@ pub fn eight_greatest_are_enough_for_the_daily_verdict()
     ensures { (years : List (List QuarterDays))
         → All (λ year. KeepsPmYear (summary_of_year year)) years
         → kept_daily_dv (map summary_of_year years) ≡ daily_dv years }
+{}
+
+/// Without copies the means are those of the values or of sums over numbers, and the percentile is that of
+/// the values or of the eight greatest.
+pub fn means_and_percentiles_without_copies()
+    ensures mean { (quarters : List QuarterDays) → mean_of of_values quarters ≡ mean_of_means (map (λ (q : QuarterDays). quarterly_mean q.values) quarters) }
+    ensures percentile { (year : List QuarterDays) → percentile_of of_values year ≡ percentile (values_in year) (counted_in year) }
+    ensures mean_of_sums { (quarters : List PmQuarter) → mean_of_sums quarters ≡ mean_of_means (map (λ (q : PmQuarter). (q.sum, q.net_days)) quarters) }
+    ensures kept_percentile { (year : PmYear) → kept_percentile year ≡ percentile year.top (kept_counted year.quarters) }
 {}
 
 /// The PM2.5 verdicts of a valid office are those on what is kept of its years.
@@ -72,7 +84,7 @@ pub fn quarter_summaries_keep_their_facts()
 /// first is the greatest of the quarters.
 pub fn eight_greatest_keep_their_facts()
     ensures falls { (values : List ℤ) → IsTrue (falls (eight_greatest values)) }
-    ensures count { (year : List QuarterDays) → length (eight_greatest (values_in year)) ≡ min 8 (days_in (map summary_of_quarter year)) }
+    ensures count { (year : List QuarterDays) → length (eight_greatest (values_in year)) ≡ min 8 (net_days_in (map summary_of_quarter year)) }
     ensures first { (year : List QuarterDays)
         → slice_get (eight_greatest (values_in year)) 0 ≡ greatest (filter_map (λ (q : PmQuarter). q.greatest) (map summary_of_quarter year)) }
 {}

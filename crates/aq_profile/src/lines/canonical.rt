@@ -8,7 +8,7 @@ ghost use Rattle.aq_base.specs.declared.office.OfficeKey.TheVariants.{Monitor as
 ghost use Rattle.aq_base.specs.declared.office.OfficeLine.{OfficeLine};
 ghost use Rattle.aq_base.specs.declared.office.OfficeLine.TheVariants.{Put as PutRecord, Change as ChangeRecord, Drop as DropKey};
 ghost use Rattle.aq_profile.specs.Lines.LineExamples.{home, ozone_monitor, particle_monitor, new_year, noon, code_rt};
-ghost use Rattle.aq_profile.specs.Lines.Spellings.{unit_in, value_in};
+ghost use Rattle.aq_profile.specs.Lines.Spellings.{unit_in, value_in, null_in, qualifiers_in};
 ghost use Rattle.aq_profile.specs.Lines.RdForm.{Put, Delete, RdValue};
 ghost use Rattle.aq_profile.specs.Lines.Reading.{LineValue, OfRd, OfOffice, line_value};
 ghost use Rattle.aq_profile.specs.Lines.Canonical.{canonical_rd, canonical_office, is_line_value, is_office_line, is_rd_value, printed_key};
@@ -24,6 +24,33 @@ pub fn values_are_cut()
     ensures least { value_in Ozone 3 (codes "-.9999") ≡ Some (neg_ℤ (pos 999)) }
     ensures too_low { value_in Ozone 3 (codes "-1") ≡ None }
     ensures greatest { value_in Pm25 1 (codes "+9999.99") ≡ Some (pos 99999) }
+{}
+
+/// The least and the greatest value of each pollutant are read, and the ones beyond are not.
+#[tactic(auto, unfolding(crate::specs::Lines::Spellings::value_in))]
+pub fn values_at_the_ends_of_their_range()
+    ensures least_ozone { value_in Ozone 3 (codes "-0.999") ≡ Some (neg_ℤ (pos 999)) }
+    ensures greatest_ozone { value_in Ozone 3 (codes "9.9999") ≡ Some (pos 9999) }
+    ensures above_ozone { value_in Ozone 3 (codes "10") ≡ None }
+    ensures least_pm25 { value_in Pm25 1 (codes "-99.9") ≡ Some (neg_ℤ (pos 999)) }
+    ensures below_pm25 { value_in Pm25 1 (codes "-100.0") ≡ None }
+    ensures above_pm25 { value_in Pm25 1 (codes "10000") ≡ None }
+    ensures least_pm10 { value_in Pm10 1 (codes "-99.99") ≡ Some (neg_ℤ (pos 999)) }
+    ensures greatest_pm10 { value_in Pm10 1 (codes "9999.9") ≡ Some (pos 99999) }
+    ensures above_pm10 { value_in Pm10 1 (codes "10000.0") ≡ None }
+{}
+
+/// Codes of one character and of two, in the fields of qualifiers and of the null code.
+#[tactic(auto, unfolding(crate::specs::Lines::Spellings::qualifiers_in))]
+pub fn codes_are_read()
+    ensures digit { qualifiers_in (codes "1" ∷ []) ≡ Some (record { first = 49; second = 0 } ∷ []) }
+    ensures digit_and_letter { qualifiers_in (codes "9Z" ∷ []) ≡ Some (record { first = 57; second = 90 } ∷ []) }
+    ensures behind_empty_fields { qualifiers_in ([] ∷ codes "V" ∷ [] ∷ codes "RT" ∷ []) ≡ Some (record { first = 86; second = 0 } ∷ record { first = 82; second = 84 } ∷ []) }
+    ensures twice { qualifiers_in (codes "V" ∷ codes "RT" ∷ codes "V" ∷ []) ≡ Some (record { first = 86; second = 0 } ∷ record { first = 82; second = 84 } ∷ []) }
+    ensures small_letter { qualifiers_in (codes "V" ∷ codes "v" ∷ []) ≡ None }
+    ensures three_characters { qualifiers_in (codes "RTX" ∷ []) ≡ None }
+    ensures null { null_in (codes "A1") ≡ Some (record { first = 65; second = 49 }) }
+    ensures null_of_one_character { null_in (codes "A") ≡ None }
 {}
 
 /// Three canonical RD lines, and the values that they spell.

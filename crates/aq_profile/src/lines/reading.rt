@@ -1,7 +1,9 @@
 //! Which reading rule a line breaks.
-ghost use Rattle.std.specs.Prelude.{◌≡◌, ℕ, ◌∷◌, false, Some, None, codes, List, All, is_some, is_none};
+ghost use Rattle.std.specs.Prelude.{◌≡◌, ℕ, ◌∷◌, [], ◌++◌, true, false, Some, None, codes, List, map, All, is_some, is_none};
 ghost use Rattle.aq_base.specs.declared.rule.Rule.TheVariants.{BadBytes, BadTag, FieldCount, BadAction, BadSite, ParameterOutOfProfile, BadPoc, BadDuration, BadUnit, BadMethod, BadDate, BadTime, ValueAndNull, NeitherValueNorNull, BadValue, ValueOutOfRange, BadNull, BadQualifier, BadSpan, BadInterval, BadSeason, BadMakeup, BadCode};
-ghost use Rattle.aq_profile.specs.Lines.Reading.{breaks, line_value, reading_rule, reading_rules};
+ghost use Rattle.aq_profile.specs.Lines.Spellings.{Rd, Xm, Xp, Xs, Xo, Xu, Xe, Xc, Xa};
+ghost use Rattle.aq_profile.specs.Lines.Forms.{fewest_fields, most_fields};
+ghost use Rattle.aq_profile.specs.Lines.Reading.{breaks, line_value, reading_rule, reading_rules, rules_of};
 ghost use Rattle.aq_profile.specs.Least.{IsLeastBroken};
 ghost use Rattle.aq_base.specs.declared.rule.Rule.{Rule};
 
@@ -53,6 +55,86 @@ pub fn rules_of_office_lines()
     ensures event_code { reading_rule (codes "XE|I|1|06|037|1103|44201|20240101|00:00|20240101|05:00|V") ≡ Some BadCode }
     ensures event_number { reading_rule (codes "XC|U|01|Y") ≡ Some BadCode }
     ensures eligible { reading_rule (codes "XM|I|06|037|1103|44201|1|1|y") ≡ Some BadCode }
+{}
+
+/// The reading rules that a line of each form meets beside those of all forms, in rising number: of
+/// an insertion or update those of all its fields, and of a deletion those of its key.
+pub fn rules_of_each_form()
+    ensures sample { rules_of Rd false ≡ BadSite ∷ ParameterOutOfProfile ∷ BadPoc ∷ BadDuration ∷ BadUnit ∷ BadMethod ∷ BadDate ∷ BadTime ∷ ValueAndNull ∷ NeitherValueNorNull ∷ BadValue ∷ ValueOutOfRange ∷ BadNull ∷ BadQualifier ∷ [] }
+    ensures sample_deleted { rules_of Rd true ≡ BadSite ∷ ParameterOutOfProfile ∷ BadPoc ∷ BadDate ∷ BadTime ∷ [] }
+    ensures monitor { rules_of Xm false ≡ BadSite ∷ ParameterOutOfProfile ∷ BadPoc ∷ BadDuration ∷ BadCode ∷ [] }
+    ensures monitor_not_deleted { rules_of Xm true ≡ rules_of Xm false }
+    ensures primary { rules_of Xp false ≡ BadSite ∷ ParameterOutOfProfile ∷ BadPoc ∷ BadDate ∷ [] }
+    ensures primary_deleted { rules_of Xp true ≡ BadSite ∷ ParameterOutOfProfile ∷ BadDate ∷ [] }
+    ensures schedule { rules_of Xs false ≡ BadSite ∷ ParameterOutOfProfile ∷ BadDate ∷ BadInterval ∷ [] }
+    ensures schedule_deleted { rules_of Xs true ≡ BadSite ∷ ParameterOutOfProfile ∷ BadDate ∷ [] }
+    ensures season { rules_of Xo false ≡ BadSite ∷ BadDate ∷ BadSeason ∷ [] }
+    ensures season_deleted { rules_of Xo true ≡ BadSite ∷ BadDate ∷ [] }
+    ensures makeup { rules_of Xu false ≡ BadSite ∷ ParameterOutOfProfile ∷ BadDate ∷ BadMakeup ∷ [] }
+    ensures makeup_deleted { rules_of Xu true ≡ BadSite ∷ ParameterOutOfProfile ∷ BadDate ∷ [] }
+    ensures event { rules_of Xe false ≡ BadSite ∷ ParameterOutOfProfile ∷ BadDate ∷ BadTime ∷ BadSpan ∷ BadCode ∷ [] }
+    ensures event_deleted { rules_of Xe true ≡ BadCode ∷ [] }
+    ensures concurrence { rules_of Xc false ≡ BadCode ∷ [] }
+    ensures concurrence_not_deleted { rules_of Xc true ≡ rules_of Xc false }
+    ensures approved { rules_of Xa false ≡ BadSite ∷ BadDate ∷ [] }
+    ensures approval_deleted { rules_of Xa true ≡ BadSite ∷ BadDate ∷ [] }
+{}
+
+/// How many fields a line of each form has: an insertion or update, a deletion, and at most.
+pub fn fields_of_each_form()
+    ensures put { map (λ tag. fewest_fields tag false) (Rd ∷ Xm ∷ Xp ∷ Xs ∷ Xo ∷ Xu ∷ Xe ∷ Xc ∷ Xa ∷ []) ≡ 13 ∷ 9 ∷ 8 ∷ 9 ∷ 8 ∷ 8 ∷ 12 ∷ 4 ∷ 6 ∷ [] }
+    ensures deleted { map (λ tag. fewest_fields tag true) (Rd ∷ Xm ∷ Xp ∷ Xs ∷ Xo ∷ Xu ∷ Xe ∷ Xc ∷ Xa ∷ []) ≡ 12 ∷ 7 ∷ 7 ∷ 7 ∷ 6 ∷ 7 ∷ 3 ∷ 3 ∷ 6 ∷ [] }
+    ensures most { map most_fields (Rd ∷ Xm ∷ Xp ∷ Xs ∷ Xo ∷ Xu ∷ Xe ∷ Xc ∷ Xa ∷ []) ≡ 28 ∷ 9 ∷ 8 ∷ 9 ∷ 8 ∷ 8 ∷ 12 ∷ 4 ∷ 6 ∷ [] }
+{}
+
+/// Samples on both sides of a rule of their line.
+#[tactic(auto, unfolding(crate::specs::Lines::Spellings::site_in, crate::specs::Lines::Spellings::parameter_of, crate::specs::Lines::Spellings::date_in, crate::specs::Lines::Spellings::time_in, crate::specs::Lines::Spellings::value_in, crate::specs::Lines::Spellings::qualifiers_in, aq_base::specs::Calendar::days_of_years, aq_base::specs::Calendar::days_of_months))]
+pub fn samples_at_the_edge_of_a_rule()
+    ensures last_plain_byte { reading_rule (codes "RD|I|06|037|1103|44201|1|1|007|087|20240701|13:00|0.071||~") ≡ None }
+    ensures byte_127 { reading_rule (codes "RD|I|06|037|1103|44201|1|1|007|087|20240701|13:00|0.071||" ++ 127 ∷ []) ≡ Some BadBytes }
+    ensures unread_fields { reading_rule (codes "RD|I|06|037|1103|44201|1|1|007|087|20240701|13:00|0.071||daily|?|||||||||||limit|uncertainty") ≡ None }
+    ensures field_29 { reading_rule (codes "RD|I|06|037|1103|44201|1|1|007|087|20240701|13:00|0.071||||||||||||||||x") ≡ Some FieldCount }
+    ensures behind_empty_qualifier { reading_rule (codes "RD|I|06|037|1103|44201|1|1|007|087|20240701|13:00|0.071||||V||rt") ≡ Some BadQualifier }
+    ensures tenth_qualifier { reading_rule (codes "RD|I|06|037|1103|44201|1|1|007|087|20240701|13:00|0.071|||||||||||||rt") ≡ Some BadQualifier }
+    ensures no_qualifier { reading_rule (codes "RD|I|06|037|1103|44201|1|1|007|087|20240701|13:00|0.071||||||||||||||rt") ≡ None }
+    ensures deleted_by_key { reading_rule (codes "RD|D|06|037|1103|44201|1|x|x|x|20240701|13:00|x|x") ≡ None }
+    ensures deletion_without_time { reading_rule (codes "RD|D|06|037|1103|44201|1|1|007|087|20240701") ≡ Some FieldCount }
+    ensures days_of_pm10 { reading_rule (codes "RD|U|06|037|1103|81102|12|7|001|141|20240701|00:00|9999.9") ≡ None }
+    ensures above_pm10 { reading_rule (codes "RD|U|06|037|1103|81102|12|7|001|141|20240701|00:00|10000.0") ≡ Some ValueOutOfRange }
+    ensures least_pm25 { reading_rule (codes "RD|I|06|037|1103|88101|3|7|105|145|20240701|00:00|-99.99") ≡ None }
+    ensures below_pm25 { reading_rule (codes "RD|I|06|037|1103|88101|3|7|105|145|20240701|00:00|-100") ≡ Some ValueOutOfRange }
+    ensures unit_of_pm25 { reading_rule (codes "RD|I|06|037|1103|88101|3|7|001|145|20240701|00:00|12.3") ≡ Some BadUnit }
+{}
+
+/// Office lines on both sides of a rule of their form.
+#[tactic(auto, unfolding(crate::specs::Lines::Spellings::site_in, crate::specs::Lines::Spellings::parameter_of, crate::specs::Lines::Spellings::date_in, crate::specs::Lines::Spellings::year_in, crate::specs::Lines::Spellings::time_in, crate::specs::Lines::Spellings::interval_in, crate::specs::Lines::Spellings::event_number_in, crate::specs::Lines::Spellings::event_code_in, aq_base::specs::Calendar::days_of_years, aq_base::specs::Calendar::days_of_months, aq_base::specs::Calendar::year_of, aq_base::specs::Calendar::month_of))]
+pub fn office_lines_at_the_edge_of_a_rule()
+    ensures schedule_deleted { reading_rule (codes "XS|D|06|037|1103|88101|20240101") ≡ None }
+    ensures schedule_of_any_day { reading_rule (codes "XS|D|06|037|1103|88101") ≡ Some FieldCount }
+    ensures schedule_deleted_by_key { reading_rule (codes "XS|D|06|037|1103|81102|20240101|4|x") ≡ None }
+    ensures every_second_day { reading_rule (codes "XS|I|06|037|1103|88101|20240101|2|20240107") ≡ None }
+    ensures anchor { reading_rule (codes "XS|I|06|037|1103|88101|20240101|2|20240230") ≡ Some BadDate }
+    ensures season_without_year { reading_rule (codes "XO|D|06|037|1103") ≡ Some FieldCount }
+    ensures year_of_a_deletion { reading_rule (codes "XO|D|06|037|1103|2050|x|x") ≡ Some BadDate }
+    ensures last_day_of_season { reading_rule (codes "XO|I|06|037|1103|2024|20240301|20241331") ≡ Some BadDate }
+    ensures season_of_one_day { reading_rule (codes "XO|I|06|037|1103|2024|20240301|20240301") ≡ None }
+    ensures season_before_its_year { reading_rule (codes "XO|I|06|037|1103|2024|20231101|20240331") ≡ Some BadSeason }
+    ensures primary_of_ninety_nine { reading_rule (codes "XP|I|06|037|1103|81102|20240101|99") ≡ None }
+    ensures makeup_of_a_week { reading_rule (codes "XU|I|06|037|1103|88101|20240107|20240114") ≡ None }
+    ensures makeup_of_the_same_day { reading_rule (codes "XU|I|06|037|1103|88101|20240107|20240107") ≡ Some BadMakeup }
+    ensures event_of_an_hour { reading_rule (codes "XE|I|7|06|037|1103|44201|20240101|05:00|20240101|05:00|RT") ≡ None }
+    ensures event_backwards { reading_rule (codes "XE|I|7|06|037|1103|44201|20240101|05:00|20240101|04:00|RT") ≡ Some BadSpan }
+    ensures site_of_event { reading_rule (codes "XE|I|7|06|037|103|44201|20240101|05:00|20240102|06:00|RT") ≡ Some BadSite }
+    ensures parameter_of_event { reading_rule (codes "XE|I|7|06|037|1103|88502|20240101|05:00|20240102|06:00|RT") ≡ Some ParameterOutOfProfile }
+    ensures last_date_of_event { reading_rule (codes "XE|I|7|06|037|1103|44201|20240101|05:00|20240132|06:00|RT") ≡ Some BadDate }
+    ensures last_time_of_event { reading_rule (codes "XE|I|7|06|037|1103|44201|20240101|05:00|20240102|24:00|RT") ≡ Some BadTime }
+    ensures last_event_number { reading_rule (codes "XE|D|999999") ≡ None }
+    ensures beyond_event_numbers { reading_rule (codes "XE|D|1000000") ≡ Some BadCode }
+    ensures event_deleted_by_number { reading_rule (codes "XE|D|7|x") ≡ None }
+    ensures concurrence_inserted { reading_rule (codes "XC|I|7|Y") ≡ Some BadAction }
+    ensures approval_updated { reading_rule (codes "XA|U|06|037|1103|20240701") ≡ Some BadAction }
+    ensures designation_updated { reading_rule (codes "XP|U|06|037|1103|44201|20240101|1") ≡ Some BadAction }
+    ensures monitor_deleted { reading_rule (codes "XM|D|06|037|1103|44201|1") ≡ Some BadAction }
 {}
 
 /// The rule of a line is the least one of those that its form meets and that the line breaks.

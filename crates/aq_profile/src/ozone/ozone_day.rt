@@ -1,13 +1,13 @@
 //! The daily maximum, worked out.
 #![tactic(auto)]
 
-ghost use Rattle.std.specs.Prelude.{◌≡◌, ℕ, ◌+◌, ◌*◌, ◌<◌, ◌≤◌, true, false, Some, pos};
+ghost use Rattle.std.specs.Prelude.{◌≡◌, ℕ, ◌+◌, ◌*◌, ◌<◌, ◌≤◌, true, false, ◌∷◌, ◌++◌, replicate, Some, None, pos};
 ghost use Rattle.aq_base.specs.Site.{Site};
 ghost use Rattle.aq_base.specs.Calendar.{hour_number};
 ghost use Rattle.aq_profile.specs.Office.Office.{Office};
 ghost use Rattle.aq_profile.specs.Ozone.SiteHour.{site_hour};
-ghost use Rattle.aq_profile.specs.Ozone.OzoneDay.{OzoneDay, windows, ozone_day};
-ghost use Rattle.aq_profile.specs.Ozone.OzoneExamples.{site, summer_day, afternoon, smoky, day_with};
+ghost use Rattle.aq_profile.specs.Ozone.OzoneDay.{OzoneDay, day_of_windows, windows, ozone_day};
+ghost use Rattle.aq_profile.specs.Ozone.OzoneExamples.{site, summer_day, afternoon, smoky, day_with, empty_row, excluded_row, lowered_row};
 
 /// Twelve averages do not make a valid day where the greatest is 0.070 ppm.
 pub fn twelve_averages_at_the_level_are_too_few()
@@ -43,4 +43,13 @@ pub fn day_reads_the_hours_from_seven_to_seven()
     ensures result { (a b : Office) (site : Site) (day : ℕ)
         → ((hour : ℕ) → hour_number day 7 ≤ hour → hour < hour_number day 31 → site_hour a site hour ≡ site_hour b site hour)
         → ozone_day a site day ≡ ozone_day b site day }
+{}
+
+/// What is excluded counts for a day's validity: one full average above the level, or thirteen below
+/// it, make a valid day that has no maximum.
+pub fn validity_reads_the_full_averages()
+    ensures above { day_of_windows (excluded_row 71 ∷ replicate 16 empty_row) ≡ record { averages = 1; valid = true; maximum = None } }
+    ensures at_level { day_of_windows (excluded_row 70 ∷ replicate 16 empty_row) ≡ record { averages = 1; valid = false; maximum = None } }
+    ensures thirteen { day_of_windows (replicate 13 (excluded_row 50) ++ replicate 4 empty_row) ≡ record { averages = 13; valid = true; maximum = None } }
+    ensures net_above { day_of_windows (lowered_row 75 60 ∷ replicate 16 empty_row) ≡ record { averages = 1; valid = true; maximum = Some (pos 60) } }
 {}

@@ -3,8 +3,11 @@
 
 ghost use Rattle.std.specs.Prelude.{◌≡◌, ℕ, ◌+◌, ◌*◌, ◌<◌, nat_le, true, false, ◌∷◌, [], Some, None, pos};
 ghost use Rattle.aq_base.specs.declared.standard.Verdict.TheVariants.{Met, NotMet, Incomplete, NoValue};
-ghost use Rattle.aq_profile.specs.Ozone.OzoneYear.{OzoneYear};
-ghost use Rattle.aq_profile.specs.Ozone.OzoneVerdict.{OzoneDv, is_average_kept, is_complete, ozone_dv};
+ghost use Rattle.aq_profile.specs.Ozone.OzoneYear.{OzoneYear, ozone_year};
+ghost use Rattle.aq_profile.specs.Ozone.OzoneVerdict.{OzoneDv, is_average_kept, is_complete, ozone_dv, three_years};
+ghost use Rattle.aq_base.specs.Site.{Site};
+ghost use Rattle.aq_profile.specs.Office.Office.{Office};
+ghost use Rattle.aq_profile.specs.Office.OfficeExamples.{season_of_days};
 ghost use Rattle.aq_profile.specs.Ozone.OzoneExamples.{year_with, year_without_fourth};
 
 /// A third of 212 thousandths is cut to 0.070 ppm, which meets the standard where the seasons are
@@ -42,4 +45,20 @@ pub fn nine_tenths_of_equal_seasons()
     ensures { (a b c : OzoneYear)
         → 0 < a.season_days → b.season_days ≡ a.season_days → c.season_days ≡ a.season_days
         → is_average_kept a b c ≡ nat_le (27 * a.season_days) (10 * (a.season_valid + b.season_valid + c.season_valid)) }
+{}
+
+/// Nine tenths are of the three fractions, and not of all days together: 292 of 365, 100 of 100 and
+/// 90 of 100 are enough, and with one day fewer they are not.
+pub fn seasons_are_not_pooled()
+    ensures enough { is_complete (season_of_days 365 292) (season_of_days 100 100) (season_of_days 100 90) ≡ true }
+    ensures too_few { is_complete (season_of_days 365 292) (season_of_days 100 100) (season_of_days 100 89) ≡ false }
+    ensures too_few_of_many { is_complete (season_of_days 365 291) (season_of_days 100 100) (season_of_days 100 90) ≡ false }
+    ensures one_short_season { is_complete (season_of_days 100 100) (season_of_days 100 100) (season_of_days 40 29) ≡ false }
+    ensures met { ozone_dv (season_of_days 365 292 ∷ season_of_days 100 100 ∷ season_of_days 100 90 ∷ []) ≡ record { value = Some (pos 69); verdict = Met } }
+{}
+
+/// A design value of 2024 is of 2022, 2023 and 2024.
+#[tactic(auto, unfolding(crate::specs::Ozone::OzoneVerdict::three_years))]
+pub fn three_years_end_with_the_year()
+    ensures { (office : Office) (site : Site) → three_years office site 2024 ≡ ozone_year office site 2022 ∷ ozone_year office site 2023 ∷ ozone_year office site 2024 ∷ [] }
 {}

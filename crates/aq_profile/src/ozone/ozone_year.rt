@@ -8,6 +8,7 @@ ghost use Rattle.aq_base.specs.declared.observation.Observation.{Observation};
 ghost use Rattle.aq_profile.specs.Office.Office.{Office};
 ghost use Rattle.aq_profile.specs.Ozone.OzoneExamples.{site, four_peaks};
 ghost use Rattle.aq_profile.specs.Office.Monitors.{is_same_key};
+ghost use Rattle.aq_profile.specs.Office.OfficeExamples.{approved_june, west};
 ghost use Rattle.aq_profile.specs.Ozone.EightHour.{window};
 ghost use Rattle.aq_profile.specs.Ozone.OzoneDay.{OzoneDay, ozone_day};
 ghost use Rattle.aq_profile.specs.Lists.{ranked};
@@ -56,4 +57,10 @@ pub fn ozone_forgets_the_order()
         → IsPermutation a.observations b.observations
         → ((key : ObsKey) → length (filter (λ (e : ObsKey × Observation). is_same_key e.0 key) a.observations) ≤ 1)
         → ozone_year a site year ≡ ozone_year b site year }
+{}
+
+/// A day of the season that is approved counts as valid, once, without hours too, and an approval
+/// outside the season or of another site does not. Maxima outside the season are ranked.
+pub fn approved_days_of_the_season_count()
+    ensures { ozone_year approved_june west 2024 ≡ record { season_days = 61; season_valid = 4; ranked = 4; fourth = Some (pos 71) } }
 {}

@@ -47,4 +47,7 @@ pub fn event_takes_out_three_hours()
         ≡ replicate 6 None ++ replicate 11 (Some (pos 60)) }
     ensures full { map (λ (r : WindowRow). r.full) (windows (smoky true) site summer_day)
         ≡ replicate 6 (Some (pos 75)) ++ Some (pos 70) ∷ Some (pos 65) ∷ replicate 9 (Some (pos 60)) }
+    ensures net_hours { map (λ (r : WindowRow). r.net_hours) (windows (smoky true) site summer_day)
+        ≡ replicate 6 5 ++ 6 ∷ 7 ∷ replicate 9 8 }
+    ensures full_hours { map (λ (r : WindowRow). r.full_hours) (windows (smoky true) site summer_day) ≡ replicate 17 8 }
 {}

@@ -2,7 +2,7 @@
 #![tactic(auto)]
 
 ghost use Rattle.std.specs.Prelude.{◌≡◌, ℕ, ◌<◌, ◌≤◌, ◌∷◌, ◌++◌, replicate, length, count_by, Some, None, IsSome, IsPermutation, List, ℤ, pos, int_lt, int_le, [], map};
-ghost use Rattle.aq_profile.specs.Particles.Percentile.{percentile, rank_of};
+ghost use Rattle.aq_profile.specs.Particles.Percentile.{daily_value, percentile, rank_of};
 
 /// The counted samples alone give the rank, and all values are ranked, unscheduled ones too.
 pub fn counted_samples_give_the_rank()
@@ -15,6 +15,14 @@ pub fn counted_samples_give_the_rank()
 pub fn ranks_step_at_fifties()
     ensures { map rank_of (1 ∷ 50 ∷ 51 ∷ 100 ∷ 101 ∷ 150 ∷ 151 ∷ 200 ∷ 201 ∷ 250 ∷ 251 ∷ 300 ∷ 301 ∷ 350 ∷ 351 ∷ 366 ∷ [])
         ≡ 1 ∷ 1 ∷ 2 ∷ 2 ∷ 3 ∷ 3 ∷ 4 ∷ 4 ∷ 5 ∷ 5 ∷ 6 ∷ 6 ∷ 7 ∷ 7 ∷ 8 ∷ 8 ∷ [] }
+{}
+
+/// The mean of three percentiles is rounded, and not each of them: 35.5, 35.5 and 35.4 have 35.47, and
+/// 34.5 has itself, which is rounded up.
+pub fn percentiles_are_rounded_together()
+    ensures below { daily_value (Some (pos 355)) (Some (pos 355)) (Some (pos 354)) ≡ Some (pos 35) }
+    ensures half { daily_value (Some (pos 345)) (Some (pos 345)) (Some (pos 345)) ≡ Some (pos 35) }
+    ensures missing { daily_value (Some (pos 355)) None (Some (pos 354)) ≡ None }
 {}
 
 /// The order of the values does not matter, and beside them only the number of counted samples does.

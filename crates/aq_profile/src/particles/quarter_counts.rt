@@ -1,7 +1,8 @@
 //! Data capture and make-up samples, worked out.
 #![tactic(auto)]
 
-ghost use Rattle.std.specs.Prelude.{◌≡◌, true, false};
+ghost use Rattle.std.specs.Prelude.{◌≡◌, true, false, ◌∷◌, []};
+ghost use Rattle.aq_profile.specs.Standards.{years_to};
 ghost use Rattle.aq_profile.specs.Particles.QuarterCounts.{capture, gives_credit, quarter_counts};
 ghost use Rattle.aq_base.specs.Calendar.{quarter_number};
 ghost use Rattle.aq_profile.specs.Ozone.OzoneExamples.{site};
@@ -18,7 +19,8 @@ pub fn capture_is_rounded_to_a_percent()
 
 /// Every sixth day is scheduled, and 7 January is missed. A sample makes up for it before the 13th or
 /// exactly a week later; the 13th is scheduled, and on the 8th there is none. Where every day is
-/// scheduled, one a week later makes up for none.
+/// scheduled, one a week later makes up for none. Where every third day is, one before the 10th does and
+/// one after it does not, but a week later one does.
 pub fn makeup_days_give_credit()
     ensures ninth { gives_credit with_makeups site (makeup_on 9) ≡ true }
     ensures twelfth { gives_credit with_makeups site (makeup_on 12) ≡ true }
@@ -26,10 +28,18 @@ pub fn makeup_days_give_credit()
     ensures scheduled { gives_credit with_makeups site (makeup_on 13) ≡ false }
     ensures scheduled_a_week_later { gives_credit (makeups_every 1) site (makeup_on 14) ≡ false }
     ensures not_sampled { gives_credit with_makeups site (makeup_on 8) ≡ false }
+    ensures before_the_next { gives_credit (makeups_every 3) site (makeup_on 9) ≡ true }
+    ensures behind_the_next { gives_credit (makeups_every 3) site (makeup_on 12) ≡ false }
+    ensures week_behind_the_next { gives_credit (makeups_every 3) site (makeup_on 14) ≡ true }
 {}
 
 /// Of the 91 days of the first quarter of 2024 every sixth, 16, is scheduled. Three of these have a
 /// sample, and the sample of another day makes up for a fourth; one sample is excluded.
 pub fn a_quarter_is_counted()
     ensures { quarter_counts sampled_quarter site (quarter_number 2024 0) ≡ record { scheduled = 16; creditable = 4; counted = 3 } }
+{}
+
+/// A design value is of the year and the two before it, the oldest first.
+pub fn three_years_end_with_the_year()
+    ensures { years_to 2023 ≡ 2021 ∷ 2022 ∷ 2023 ∷ [] }
 {}

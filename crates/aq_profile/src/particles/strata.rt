@@ -1,7 +1,7 @@
 //! What the strata of a PM10 quarter are, and what they make of an estimate.
 #![tactic(auto)]
 
-ghost use Rattle.std.specs.Prelude.{◌≡◌, ℕ, ◌*◌, ◌≤◌, ◌==◌, if◌then◌else◌, not, true, List, ℤ, pos, length, drop, sum_by, count_by, flat_map, All, Some, None};
+ghost use Rattle.std.specs.Prelude.{◌≡◌, ℕ, ◌*◌, ◌≤◌, ◌==◌, if◌then◌else◌, not, true, List, ◌∷◌, [], ◌++◌, ℤ, pos, length, map, replicate, drop, sum_by, count_by, flat_map, All, Some, None};
 ghost use Rattle.std.specs.List.{list_all};
 ghost use Rattle.aq_base.specs.Decimal.{half_up};
 ghost use Rattle.aq_base.specs.Site.{Site};
@@ -9,7 +9,11 @@ ghost use Rattle.aq_base.specs.declared.monitor.Pollutant.TheVariants.{Pm10};
 ghost use Rattle.aq_profile.specs.Office.Office.{Office};
 ghost use Rattle.aq_profile.specs.Office.Schedule.{is_scheduled};
 ghost use Rattle.aq_profile.specs.Particles.QuarterCounts.{days_of_quarter};
-ghost use Rattle.aq_profile.specs.Particles.Strata.{strata_of};
+ghost use Rattle.aq_profile.specs.Particles.Strata.{strata_of, stratum_of};
+ghost use Rattle.aq_base.specs.Calendar.{day_number, quarter_number};
+ghost use Rattle.aq_base.specs.declared.office.OfficeRecord.TheVariants.{Schedule};
+ghost use Rattle.aq_profile.specs.Ozone.OzoneExamples.{office_of, site as example_site};
+ghost use Rattle.aq_profile.specs.Particles.ParticleExamples.{mixed_days, third_of_2023};
 ghost use Rattle.aq_profile.specs.Particles.Pm10Estimate.{exceeds, quarter_estimate, quarter_of_strata, sixtieths_of};
 
 /// The strata one after the other are the quarter's days, so each day lies in exactly one.
@@ -22,6 +26,18 @@ pub fn strata_are_short()
     ensures six { (office : Office) (site : Site) (quarter : ℕ) → All (λ days. length days ≤ 6) (strata_of office site quarter) }
     ensures scheduled { (office : Office) (site : Site) (quarter : ℕ)
         → All (λ days. list_all (λ day. not (is_scheduled office.records site Pm10 day)) (drop 1 days) ≡ true) (strata_of office site quarter) }
+{}
+
+/// Without a schedule the 90 days of the first quarter of 2023 are fifteen strata of six. Where every
+/// sixth day is scheduled from 1 July 2023 on, that quarter has 16, of which the last has two days, and
+/// 3 July lies in the stratum of 1 July; a schedule from 10 August on begins a new one on that day.
+pub fn strata_begin_six_days_apart_or_sooner()
+    ensures unscheduled { map length (strata_of (office_of [] []) example_site (quarter_number 2023 0)) ≡ replicate 15 6 }
+    ensures scheduled { map length (strata_of mixed_days example_site third_of_2023) ≡ replicate 15 6 ++ 2 ∷ [] }
+    ensures sooner { map length (strata_of (office_of (Schedule example_site Pm10 (day_number 2023 8 10) 3 (day_number 2023 8 10) ∷ []) []) example_site third_of_2023)
+        ≡ replicate 6 6 ++ 4 ∷ replicate 17 3 ++ 1 ∷ [] }
+    ensures first_day { stratum_of mixed_days example_site (day_number 2023 7 3) ≡ Some (day_number 2023 7 1) }
+    ensures next_day { stratum_of mixed_days example_site (day_number 2023 7 7) ≡ Some (day_number 2023 7 7) }
 {}
 
 /// Of one to six samples the part that exceeds is a whole number of sixtieths.

@@ -1,10 +1,14 @@
 //! A sheet as JSON.
 #![tactic(auto)]
 
-ghost use Rattle.std.specs.Prelude.{◌≡◌, ℕ, length, codes, ◌∷◌, [], ◌++◌, replicate};
+ghost use Rattle.std.specs.Prelude.{◌≡◌, length, codes, map, ◌++◌, IsTrue};
+ghost use Rattle.std.specs.List.Sorted.{IsPermutation};
+ghost use Rattle.aq_profile.specs.Office.Office.{rises};
+ghost use Rattle.aq_profile.specs.Shown.Sheet.{Sheet};
+ghost use Rattle.aq_profile.specs.Shown.WellFormed.{IsWellFormed};
 ghost use Rattle.aq_profile.specs.Shown.Sheets.{load_sheet};
 ghost use Rattle.aq_profile.specs.Shown.OtherSheets.{conflict_sheet, error_sheet};
-ghost use Rattle.aq_profile.specs.Shown.Json.{json_of};
+ghost use Rattle.aq_profile.specs.Shown.Json.{Member, head_member, json_of, members_of, table_members};
 ghost use Rattle.aq_profile.specs.Particles.ParticleExamples.{reply_without_lines, one_row};
 
 /// The reply to a load without lines, of 96 bytes. Members go by their names.
@@ -23,4 +27,12 @@ pub fn error_has_one_member()
 pub fn cells_have_their_json()
     ensures { json_of one_row
         ≡ codes "{\"columns\":[\"a\",\"b\",\"c\",\"d\"],\"rows\":[[-7,\"-0.5\",\"Met\",null]],\"site\":\"06-037-1103\"}" }
+{}
+
+/// The members of an object are those of the heads and of the table, in byte order of their names; and
+/// where the sheet is well formed each of them is there, once.
+pub fn members_stand_once_and_in_order()
+    ensures order { (sheet : Sheet) → IsTrue (rises (λ (m : Member). m.name) (members_of sheet)) }
+    ensures once { (sheet : Sheet) → IsWellFormed sheet
+        → IsPermutation (map head_member sheet.heads ++ table_members sheet.columns sheet.rows) (members_of sheet) }
 {}

@@ -1,10 +1,8 @@
-use Rattle.aq_profile.specs.Office.Load.{decide}
-use Rattle.aq_profile.proofs.Loads.{post-known, after_decision-old}
+use Rattle.aq_profile.proofs.Loads.{post-known, post-old}
 use Rattle.aq_profile.proofs.office.load.a_known_number_changes_nothing.Goals as goal
 
 pub returns-clause-known : goal.returns-clause-known
 returns-clause-known c office number digest body kept is = post-known office number digest body kept is
 
 pub returns-clause-not_new : goal.returns-clause-not_new
-returns-clause-not_new c office number digest body old =
-    after_decision-old (decide office number digest) office number digest body old
+returns-clause-not_new c office number digest body old = post-old office number digest body old

@@ -15,3 +15,11 @@ returns-clause-net c = refl
 pub returns-clause-full : goal.returns-clause-full
 unfolding days_of_years days_of_months is_eligible excluded primary_on site_hour eight_hours window starts_of windows
 returns-clause-full c = refl
+
+pub returns-clause-net_hours : goal.returns-clause-net_hours
+unfolding days_of_years days_of_months is_eligible excluded primary_on site_hour eight_hours window starts_of windows
+returns-clause-net_hours c = refl
+
+pub returns-clause-full_hours : goal.returns-clause-full_hours
+unfolding days_of_years days_of_months is_eligible excluded primary_on site_hour eight_hours window starts_of windows
+returns-clause-full_hours c = refl

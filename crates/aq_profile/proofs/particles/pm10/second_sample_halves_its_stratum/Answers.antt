@@ -2,21 +2,22 @@ use Rattle.std.proofs.Common.{refl}
 use Rattle.aq_base.specs.Calendar.{days_of_years, days_of_months}
 use Rattle.aq_profile.specs.Office.Designation.{primary_on}
 use Rattle.aq_profile.specs.Office.Exclusion.{excluded}
-use Rattle.aq_profile.specs.Particles.ParticleDay.{samplers_of, monitor_day, site_day}
+use Rattle.aq_profile.specs.Office.Monitors.{is_eligible}
+use Rattle.aq_profile.specs.Particles.ParticleDay.{eligible_pocs, monitor_day, site_day}
 use Rattle.aq_profile.specs.Particles.Pm10Estimate.{pm10_quarter}
 use Rattle.aq_profile.specs.Particles.QuarterCounts.{days_of_quarter}
 use Rattle.aq_profile.specs.Office.Schedule.{is_scheduled}
-use Rattle.aq_profile.specs.Particles.Strata.{strata_from, strata_of}
+use Rattle.aq_profile.specs.Particles.Strata.{first_days_after, first_days, strata_of}
 use Rattle.aq_profile.proofs.particles.pm10.second_sample_halves_its_stratum.Goals as goal
 
 pub returns-clause-quarter : goal.returns-clause-quarter
-unfolding days_of_years days_of_months excluded primary_on samplers_of monitor_day site_day is_scheduled days_of_quarter strata_from strata_of pm10_quarter
+unfolding days_of_years days_of_months excluded primary_on is_eligible eligible_pocs monitor_day site_day is_scheduled days_of_quarter first_days_after first_days strata_of pm10_quarter
 returns-clause-quarter c = refl
 
 pub returns-clause-year : goal.returns-clause-year
-unfolding days_of_years days_of_months excluded primary_on samplers_of monitor_day site_day is_scheduled days_of_quarter strata_from strata_of pm10_quarter
+unfolding days_of_years days_of_months excluded primary_on is_eligible eligible_pocs monitor_day site_day is_scheduled days_of_quarter first_days_after first_days strata_of pm10_quarter
 returns-clause-year c = refl
 
 pub returns-clause-verdict : goal.returns-clause-verdict
-unfolding days_of_years days_of_months excluded primary_on samplers_of monitor_day site_day is_scheduled days_of_quarter strata_from strata_of pm10_quarter
+unfolding days_of_years days_of_months excluded primary_on is_eligible eligible_pocs monitor_day site_day is_scheduled days_of_quarter first_days_after first_days strata_of pm10_quarter
 returns-clause-verdict c = refl

@@ -1,0 +1,5 @@
+use Rattle.aq_profile.proofs.RowBatch.{batch-written}
+use Rattle.aq_profile.proofs.kept.row_changes.batch_gives_the_rows_after.Goals as goal
+
+pub returns : goal.returns
+returns c office number digest body valid = batch-written office valid number digest body

@@ -1,0 +1,38 @@
+-- Records of two sites, in the order of their keys, that the laws work out questions over.
+use Rattle.std.specs.Prelude.{ℕ, List, [], ◌∷◌, true, false}
+use Rattle.aq_base.specs.Site.{Site}
+use Rattle.aq_base.specs.declared.code.Code.{Code}
+use Rattle.aq_base.specs.declared.monitor.Pollutant.{Pollutant}
+use Rattle.aq_base.specs.declared.monitor.Pollutant.TheVariants.{Ozone, Pm25, Pm10}
+use Rattle.aq_base.specs.declared.monitor.Duration.TheVariants.{Hour, Day}
+use Rattle.aq_base.specs.declared.monitor.MonitorId.{MonitorId}
+use Rattle.aq_base.specs.declared.office.OfficeRecord.{OfficeRecord}
+use Rattle.aq_base.specs.declared.office.OfficeRecord.TheVariants.{Monitor, Primary, Makeup, Event, Concurrence}
+
+abbrev pub coast : Site
+coast = record { state = 6; county = 37; number = 1103 }
+
+abbrev pub valley : Site
+valley = record { state = 6; county = 59; number = 7 }
+
+abbrev pub desert : Site
+desert = record { state = 32; county = 3; number = 43 }
+
+abbrev pub monitor_at : Site → Pollutant → ℕ → MonitorId
+monitor_at site pollutant poc = record { site = site; pollutant = pollutant; poc = poc }
+
+-- PM10 (81102) comes before PM2.5 (88101)
+
+abbrev pub code_rf : Code
+code_rf = record { first = 82; second = 70 }
+
+abbrev pub two_sites : List OfficeRecord
+two_sites =
+    Monitor (monitor_at coast Ozone 1) Hour true ∷ Monitor (monitor_at coast Ozone 4) Hour false
+    ∷ Monitor (monitor_at coast Pm10 2) Day true ∷ Monitor (monitor_at coast Pm25 3) Day false
+    ∷ Monitor (monitor_at valley Pm25 5) Hour true
+    ∷ Primary coast Ozone 8766 4
+    ∷ Makeup coast 8772 8774 ∷ Makeup coast 8790 8793 ∷ Makeup valley 8772 8775
+    ∷ Event 12 coast Ozone 210000 210023 code_rf ∷ Event 15 valley Pm25 210010 210030 code_rf
+    ∷ Concurrence 12 true
+    ∷ []
