@@ -1,26 +1,49 @@
 //! The program: the standard streams and the top call.
 #![tactic(auto)]
 
+ghost use Rattle.std.specs.Prelude.{◌≡◌, ◌↔◌, IfOk, IsNone, OnErr, map, string_bytes};
+ghost use Rattle.aq_desk.specs.Body.{Over};
+ghost use Rattle.aq_desk.specs.Command.{Follows, Tells, message_for};
+ghost use Rattle.aq_desk.specs.Ending.{no_memory};
+ghost use Rattle.aq_desk.specs.Run.{outcome_for};
+ghost use Rattle.aq_desk.specs.Words.{command_of};
+
 mod streams;
 
 use aq_base::Memory;
-use aq_desk::{end_without_memory, run};
+use aq_desk::{Sink, Source, end_without_memory, run};
+use std::alloc::Global;
 use std::io::ErrorKind;
 use std::process::ExitCode;
 use std::{env, io};
 use streams::{Reading, Writing};
 
 fn main(rt: HostRuntime) -> ExitCode {
+    let words = words_of(&rt);
+    let mut input = Reading::new(rt.reader());
+    let mut output = Writing::new(io::writer(&rt));
     let mut errors = Writing::new(rt.stderr());
-    let status = match words_of(&rt) {
-        Ok(words) => {
-            let mut input = Reading::new(rt.reader());
-            let mut output = Writing::new(io::writer(&rt));
-            run(rt.alloc(), &words, &mut input, &mut output, &mut errors)
-        }
-        Err(Memory) => end_without_memory(&mut errors),
-    };
-    ExitCode::from(status)
+    ExitCode::from(obey(rt.alloc(), words, &mut input, &mut output, &mut errors))
+}
+
+/// Runs the command of the words, where there was memory to read them, and answers the exit status.
+fn obey<S: Source, O: Sink, E: Sink>(
+    alloc: Global,
+    words: Result<Vec<String>, Memory>,
+    input: &mut S,
+    output: &mut O,
+    errors: &mut E,
+) -> u8
+    ensures headline { IfOk words (λ words. Over (S.left input.old) (λ body. Follows (outcome_for (command_of (map string_bytes words.items)) body) result (O.written output.old) (O.written output.new))) }
+    ensures messages { IfOk words (λ words. Over (S.left input.old) (λ body. Tells (message_for (outcome_for (command_of (map string_bytes words.items)) body) result) (E.faults errors.old) (E.faults errors.new) (E.written errors.old) (E.written errors.new))) }
+    ensures no_command { IfOk words (λ words. (result ≡ 2) ↔ IsNone (command_of (map string_bytes words.items))) }
+    ensures no_memory { OnErr words (result ≡ 7) }
+    ensures no_memory_told { let ending = no_memory in OnErr words (Tells ending.message (E.faults errors.old) (E.faults errors.new) (E.written errors.old) (E.written errors.new)) }
+{
+    match words {
+        Ok(words) => run(alloc, &words, input, output, errors),
+        Err(Memory) => end_without_memory(errors),
+    }
 }
 
 /// The words behind the program's name: none, which is no command, where one of them is no text.

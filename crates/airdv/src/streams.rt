@@ -1,7 +1,15 @@
-//! The standard streams as a source and sinks. They tell none of their bytes.
+//! The standard streams as a source and sinks. They tell none of their bytes. What the stream beneath
+//! gives is passed on as it is, and what is given reaches it; the streams' own words for that are the
+//! contracts'.
+ghost use Rattle.std.specs.Prelude.{◌≤◌, length, IfOk};
+ghost use Rattle.std.specs.Io.KnownBytes.{ReadConsumes, WriteAppends};
+
 use aq_base::Failed;
 use aq_desk::{Sink, Source};
-use std::io::{Read, Write};
+use std::io::{ErrorKind, Read, Write};
+
+/// So often is a call that a signal interrupts made again; past that it is a fault.
+const MOST_TRIES: u32 = 1_000;
 
 /// A reader as a source.
 #[derive(Drop)]
@@ -21,21 +29,45 @@ impl<R: Read> Reading<R> {
 }
 
 impl<R: Read> Source for Reading<R> {
-    ghost use Rattle.std.specs.Prelude.{None};
+    ghost use Rattle.std.specs.Prelude.{◌≡◌, None, IfOk};
+    ghost use Rattle.std.specs.Io.KnownBytes.{ReadConsumes};
+    ghost use Rattle.aq_desk.specs.Outside.{HasCause, Moves, faults_after};
 
     ghost left = { λ _. None };
 
     ghost faults = { λ source. source.faults };
 
-    fn read(&mut self, buffer: &mut [u8]) -> Result<usize, Failed> {
-        match self.reader.read(buffer) {
+    fn read(&mut self, buffer: &mut [u8]) -> Result<usize, Failed>
+        ensures moved { IfOk result (λ n. Moves None None buffer.new n) }
+        ensures cause { HasCause self.old.faults self.new.faults result }
+
+        // The bytes that the reader gave are those that are answered, and no other.
+        ensures passed { ReadConsumes (R.remaining self.old.reader) (R.remaining self.new.reader) result buffer.new }
+        ensures faults { self.new.faults ≡ faults_after self.old.faults result }
+    {
+        match read_from(&mut self.reader, buffer) {
             Ok(n) => Ok(n),
-            Err(_) => {
+            Err(failed) => {
                 self.faults = self.faults.saturating_add(1);
-                Err(Failed)
+                Err(failed)
             }
         }
     }
+}
+
+/// One read, made again where a signal interrupts it.
+fn read_from<R: Read>(reader: &mut R, buffer: &mut [u8]) -> Result<usize, Failed>
+    ensures within { IfOk result (λ n. n ≤ length buffer.new) }
+    ensures passed { ReadConsumes (R.remaining reader.old) (R.remaining reader.new) result buffer.new }
+{
+    for _ in 0..MOST_TRIES {
+        match reader.read(buffer) {
+            Ok(n) => return Ok(n),
+            Err(error) if error.kind() == ErrorKind::Interrupted => {}
+            Err(_) => return Err(Failed),
+        }
+    }
+    Err(Failed)
 }
 
 /// A writer as a sink.
@@ -56,14 +88,23 @@ impl<W: Write> Writing<W> {
 }
 
 impl<W: Write> Sink for Writing<W> {
-    ghost use Rattle.std.specs.Prelude.{None};
+    ghost use Rattle.std.specs.Prelude.{◌≡◌, None, IfOk};
+    ghost use Rattle.std.specs.Io.KnownBytes.{WriteAppends};
+    ghost use Rattle.aq_desk.specs.Outside.{HasCause, Takes, faults_after};
 
     ghost written = { λ _. None };
 
     ghost faults = { λ sink. sink.faults };
 
-    fn write(&mut self, piece: &[u8]) -> Result<usize, Failed> {
-        match self.writer.write(piece) {
+    fn write(&mut self, piece: &[u8]) -> Result<usize, Failed>
+        ensures taken { IfOk result (λ n. Takes None None piece.now n) }
+        ensures cause { HasCause self.old.faults self.new.faults result }
+
+        // The bytes that are answered as taken reached the writer, and no other.
+        ensures passed { WriteAppends (W.contents self.old.writer) (W.contents self.new.writer) result piece.now }
+        ensures faults { self.new.faults ≡ faults_after self.old.faults result }
+    {
+        match write_to(&mut self.writer, piece) {
             Ok(n) if n > 0 || piece.is_empty() => Ok(n),
             _ => {
                 self.faults = self.faults.saturating_add(1);
@@ -71,4 +112,19 @@ impl<W: Write> Sink for Writing<W> {
             }
         }
     }
+}
+
+/// One write, made again where a signal interrupts it.
+fn write_to<W: Write>(writer: &mut W, piece: &[u8]) -> Result<usize, Failed>
+    ensures within { IfOk result (λ n. n ≤ length piece.now) }
+    ensures passed { WriteAppends (W.contents writer.old) (W.contents writer.new) result piece.now }
+{
+    for _ in 0..MOST_TRIES {
+        match writer.write(piece) {
+            Ok(n) => return Ok(n),
+            Err(error) if error.kind() == ErrorKind::Interrupted => {}
+            Err(_) => return Err(Failed),
+        }
+    }
+    Err(Failed)
 }

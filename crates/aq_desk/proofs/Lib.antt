@@ -1,5 +1,4 @@
 pub mod Fronts
-pub mod Bodies
 pub mod ShelfRows
 pub mod LineLemmas
 pub mod MonitorLine
@@ -9,3 +8,5 @@ pub mod Tallies
 pub mod Digits
 pub mod SheetTexts
 pub mod Outcomes
+pub mod Messages
+pub mod Causes

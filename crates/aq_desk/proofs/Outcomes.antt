@@ -1,36 +1,35 @@
 -- What a run does of a command's outcome, step by step.
-use Rattle.std.proofs.Common.{◌≡◌, ℕ, ◌+◌, ◌≤◌, true, false, List, ◌++◌, length, take, Option, Some, None, refl, sym, ap, subst, ◌∙◌, append_assoc, inl, inr, arith}
-use Rattle.std.specs.Prelude.{Result, Ok, Err, IfErr, IfSome, OnOk, is_err}
+use Rattle.std.proofs.Common.{◌≡◌, ℕ, ◌+◌, ◌<◌, ◌≤◌, Bool, true, false, List, [], ◌++◌, length, take, Option, Some, None, refl, sym, ap, subst, ◌∙◌, append_assoc, arith}
+use Rattle.std.specs.Prelude.{Result, Ok, Err, IfErr, OnOk, if◌then◌else◌, nat_le}
 use Rattle.std.specs.Option.{option_map}
+use Rattle.std.proofs.lemmas.Bool.Decides.{nat_tests}
 use Rattle.std.proofs.lemmas.List.{length-append, take-append-le}
 use Rattle.std.proofs.Math.Seq.{take-append-add}
 use Rattle.aq_base.specs.declared.reply.LoadReply.{LoadReply}
-use Rattle.aq_base.specs.Site.{Site}
-use Rattle.aq_profile.specs.Lines.Lines.{body_lines}
 use Rattle.aq_base.specs.declared.monitor.Pollutant.TheVariants.{Ozone}
+use Rattle.aq_base.specs.Site.{Site}
+use Rattle.aq_profile.specs.Limits.{MOST_BYTES, MOST_LINES}
+use Rattle.aq_profile.specs.Lines.Lines.{body_lines, line_count}
 use Rattle.aq_profile.specs.Office.Office.{Office, has_monitor, nothing}
 use Rattle.aq_profile.specs.Ozone.OzoneDay.{windows}
 use Rattle.aq_profile.specs.Shown.Sheet.{text_of}
 use Rattle.aq_profile.specs.Shown.Sheets.{load_sheet, windows_answer, windows_sheet}
-use Rattle.aq_desk.specs.declared.ending.Ending.{Ending}
-use Rattle.aq_desk.specs.declared.ending.Ending.TheVariants.{Done, NoCommand, InputFailed, OutputFailed, Memory, TooManyBytes, TooManyLines, NoSite}
+use Rattle.aq_desk.proofs.Fronts.{behind_nothing}
+use Rattle.aq_desk.specs.Body.{excess, is_within}
 use Rattle.aq_desk.specs.Built.{built_after_all, built_reply}
-use Rattle.aq_desk.specs.Ending.{HasReason, IsOutputFault, ending_from, status_of}
-use Rattle.aq_desk.specs.Outside.{HasRisen}
-use Rattle.aq_desk.specs.declared.words.Command.{Command}
-use Rattle.aq_desk.specs.Scan.{Follows, IsWhole, Outcome, outcome_for, outcome_of, after_text, reply_text, scan_answer, scanned, windows_outcome}
+use Rattle.aq_desk.specs.Command.{IsWhole, Outcome, after_text, unwritten}
+use Rattle.aq_desk.specs.Ending.{Ending, done, no_site, too_many_bytes, too_many_lines}
+use Rattle.aq_desk.specs.Scan.{reply_text, scan_answer, scan_outcome, scanned, windows_outcome}
+use Rattle.aq_desk.specs.Stop.{Obeys, ending_of, status_of}
 use Rattle.aq_desk.specs.Writing.{WritesFront}
+use Rattle.aq_desk.specs.declared.stop.Stop.{Stop}
+use Rattle.aq_desk.specs.declared.stop.Stop.TheVariants.{InputFailed, OutputFailed, Memory, TooManyBytes, TooManyLines, NoSite}
 
--- a fault in printing is no whole ending
-pub not_whole : (risen : Type 0) (ending : Ending) → IsOutputFault risen ending → IsWhole (status_of ending) → ⊥
-not_whole risen Done fault whole = absurd fault
-not_whole risen NoCommand fault whole = absurd fault
-not_whole risen InputFailed fault whole = absurd fault
-not_whole risen OutputFailed fault whole = omega arith
-not_whole risen Memory fault whole = omega arith
-not_whole risen TooManyBytes fault whole = absurd fault
-not_whole risen (TooManyLines lines) fault whole = absurd fault
-not_whole risen (NoSite site) fault whole = absurd fault
+-- ---- texts and their fronts
+
+-- nothing is a front of any text
+pub nothing_written : (written : Option (List ℕ)) (text : List ℕ) → WritesFront written written text
+nothing_written written text = record { count = 0; within = omega arith; written = sym (behind_nothing written) }
 
 -- a front of a text is a front of a longer one
 pub front_of_more : (before after : Option (List ℕ)) (first second : List ℕ) → WritesFront before after first → WritesFront before after (first ++ second)
@@ -41,7 +40,7 @@ front_of_more before after first second front = record {
 }
 
 -- a front of a text behind another is a front of both
-join : (before : Option (List ℕ)) (first part : List ℕ) → option_map (λ bytes. bytes ++ part) (option_map (λ bytes. bytes ++ first) before) ≡ option_map (λ bytes. bytes ++ (first ++ part)) before
+pub join : (before : Option (List ℕ)) (first part : List ℕ) → option_map (λ bytes. bytes ++ part) (option_map (λ bytes. bytes ++ first) before) ≡ option_map (λ bytes. bytes ++ (first ++ part)) before
 join None first part = refl
 join (Some start) first part = ap Some (append_assoc start first part)
 
@@ -55,102 +54,132 @@ front_behind before between after first second written front = record {
       ∙ ap (λ part. option_map (λ bytes. bytes ++ part) before) (sym (take-append-add first second front.count));
 }
 
-pub follows_front : (outcome : Outcome) (status : ℕ) (before after : Option (List ℕ)) → (IsWhole status → ⊥) → WritesFront before after outcome.output → Follows outcome status before after
-follows_front outcome status before after cut front = record {
-  answered = λ whole. absurd (cut whole);
+-- ---- a command that was cut short, or that writes nothing
+
+pub cut_short : (outcome : Outcome) (stop : Stop) (before after : Option (List ℕ)) → (IsWhole (status_of (Err stop)) → ⊥) → WritesFront before after outcome.output → Obeys outcome (Err stop) before after
+cut_short outcome stop before after cut front = record {
+  ending = λ whole. absurd (cut whole);
   whole = λ whole. absurd (cut whole);
   front = front;
 }
 
+pub without_memory : (outcome : Outcome) (stop : Stop) (written : Option (List ℕ)) → stop ≡ Memory → Obeys outcome (Err stop) written written
+without_memory outcome stop written is =
+    let P = λ (s : Stop). Obeys outcome (Err s) written written in
+    subst P (sym is) (cut_short outcome Memory written written (λ whole. omega arith) (nothing_written written outcome.output))
+
+pub without_input : (outcome : Outcome) (written : Option (List ℕ)) → Obeys outcome (Err InputFailed) written written
+without_input outcome written = cut_short outcome InputFailed written written (λ whole. omega arith) (nothing_written written outcome.output)
+
+pub without_output : (outcome : Outcome) (stop : Stop) (before after : Option (List ℕ)) → stop ≡ OutputFailed → WritesFront before after outcome.output → Obeys outcome (Err stop) before after
+without_output outcome stop before after is front =
+    let P = λ (s : Stop). Obeys outcome (Err s) before after in
+    subst P (sym is) (cut_short outcome OutputFailed before after (λ whole. omega arith) front)
+
+writes_nothing : (ending : Ending) (answer : Result Unit Stop) (written : Option (List ℕ)) → ending_of answer ≡ ending → Obeys (unwritten ending) answer written written
+writes_nothing ending answer written is = record {
+  ending = λ _. is;
+  whole = λ _. sym (behind_nothing written);
+  front = nothing_written written [];
+}
+
+-- ---- the limits of a body
+
+pub is_within-few : (body : List ℕ) → length body ≤ MOST_BYTES → line_count body ≤ MOST_LINES → is_within body ≡ true
+is_within-few body bytes lines = grind (arith, nat_tests)
+
+pub is_within-lines : (body : List ℕ) → MOST_LINES < line_count body → is_within body ≡ false
+is_within-lines body many = grind (arith, nat_tests)
+
+pub is_within-bytes : (body : List ℕ) → MOST_BYTES < length body → is_within body ≡ false
+is_within-bytes body many = grind (arith, nat_tests)
+
+-- a body within the limits is answered, and another is not taken
+within : (site : Site) (day : ℕ) (body : List ℕ) (answer : Result Unit Stop) (before after : Option (List ℕ)) → is_within body ≡ true → Obeys (scan_answer site day body) answer before after → Obeys (scan_outcome site day body) answer before after
+within site day body answer before after is obeys =
+    let P = λ (few : Bool). Obeys (if few then scan_answer site day body else unwritten (excess body)) answer before after in
+    subst P (sym is) obeys
+
+beyond : (site : Site) (day : ℕ) (body : List ℕ) (answer : Result Unit Stop) (written : Option (List ℕ)) → is_within body ≡ false → ending_of answer ≡ excess body → Obeys (scan_outcome site day body) answer written written
+beyond site day body answer written is ending =
+    let P = λ (few : Bool). Obeys (if few then scan_answer site day body else unwritten (excess body)) answer written written in
+    subst P (sym is) (writes_nothing (excess body) answer written ending)
+
+few_bytes : (body : List ℕ) → length body ≤ MOST_BYTES → nat_le (length body) MOST_BYTES ≡ true
+few_bytes body few = grind (arith, nat_tests)
+
+many_bytes : (body : List ℕ) → MOST_BYTES < length body → nat_le (length body) MOST_BYTES ≡ false
+many_bytes body many = grind (arith, nat_tests)
+
+excess-lines : (body : List ℕ) → length body ≤ MOST_BYTES → excess body ≡ too_many_lines (line_count body)
+excess-lines body few = ap (λ (b : Bool). if b then too_many_lines (line_count body) else too_many_bytes) (few_bytes body few)
+
+excess-bytes : (body : List ℕ) → MOST_BYTES < length body → excess body ≡ too_many_bytes
+excess-bytes body many = ap (λ (b : Bool). if b then too_many_lines (line_count body) else too_many_bytes) (many_bytes body many)
+
+pub beyond_lines : (site : Site) (day : ℕ) (body : List ℕ) (lines : ℕ) (written : Option (List ℕ)) → length body ≤ MOST_BYTES → lines ≡ line_count body → MOST_LINES < lines → Obeys (scan_outcome site day body) (Err (TooManyLines lines)) written written
+beyond_lines site day body lines written bytes count many =
+    beyond site day body (Err (TooManyLines lines)) written
+    (is_within-lines body (omega (arith, count, many)))
+    (ap too_many_lines count ∙ sym (excess-lines body bytes))
+
+pub beyond_bytes : (site : Site) (day : ℕ) (body : List ℕ) (written : Option (List ℕ)) → MOST_BYTES < length body → Obeys (scan_outcome site day body) (Err TooManyBytes) written written
+beyond_bytes site day body written many =
+    beyond site day body (Err TooManyBytes) written (is_within-bytes body many) (sym (excess-bytes body many))
+
+-- ---- the answer to a body
+
+-- a text that was printed whole or in front
+pub prints : (outcome : Outcome) (text : List ℕ) (answer : Result Unit Stop) (before after : Option (List ℕ)) → outcome ≡ record { ending = done; output = text }
+    → OnOk answer (after ≡ option_map (λ bytes. bytes ++ text) before) → WritesFront before after text → IfErr answer (λ stop. stop ≡ OutputFailed) → Obeys outcome answer before after
+prints outcome text (Ok nothing) before after same whole front fault =
+    let P = λ (o : Outcome). Obeys o (Ok nothing) before after in
+    let plain : P (record { ending = done; output = text }) = record { ending = λ _. refl; whole = λ _. whole; front = front } in
+    subst P (sym same) plain
+prints outcome text (Err stop) before after same whole front fault =
+    without_output outcome stop before after fault
+    (let P = λ (o : Outcome). WritesFront before after o.output in subst P (sym same) front)
+
+pub registered_outcome : (office : Office) (site : Site) (day : ℕ) (text : List ℕ) → has_monitor office site Ozone ≡ true → text ≡ text_of (windows_sheet site day (windows office site day)) → windows_outcome office site day ≡ record { ending = done; output = text }
+unfolding windows_answer
+registered_outcome office site day text registered same = rw (registered, same) refl
+
+pub unregistered : (office : Office) (site : Site) (day : ℕ) (written : Option (List ℕ)) → has_monitor office site Ozone ≡ false → Obeys (windows_outcome office site day) (Err (NoSite site)) written written
+unregistered office site day written none =
+    let P = λ (there : Bool). Obeys (if there then record { ending = done; output = text_of (windows_answer office site day) } else unwritten (no_site site)) (Err (NoSite site)) written written in
+    subst P (sym none) (writes_nothing (no_site site) (Err (NoSite site)) written refl)
+
 -- a text, and then what follows it
-pub follows_behind : (text : List ℕ) (outcome : Outcome) (status : ℕ) (before between after : Option (List ℕ)) → between ≡ option_map (λ bytes. bytes ++ text) before → Follows outcome status between after → Follows (after_text text outcome) status before after
-follows_behind text outcome status before between after written follows = record {
-  answered = follows.answered;
-  whole = λ whole. follows.whole whole ∙ ap (option_map (λ bytes. bytes ++ outcome.output)) written ∙ join before text outcome.output;
-  front = front_behind before between after text outcome.output written follows.front;
+obeys_behind : (text : List ℕ) (outcome : Outcome) (answer : Result Unit Stop) (before between after : Option (List ℕ)) → between ≡ option_map (λ bytes. bytes ++ text) before → Obeys outcome answer between after → Obeys (after_text text outcome) answer before after
+obeys_behind text outcome answer before between after written obeys = record {
+  ending = obeys.ending;
+  whole = λ whole. obeys.whole whole ∙ ap (option_map (λ bytes. bytes ++ outcome.output)) written ∙ join before text outcome.output;
+  front = front_behind before between after text outcome.output written obeys.front;
 }
 
 -- the reply's text and the office are those of the body
-pub reply_text-is : (body : List ℕ) (reply : LoadReply) → reply ≡ built_reply nothing 0 body → text_of (load_sheet reply) ≡ reply_text body
+reply_text-is : (body : List ℕ) (reply : LoadReply) → reply ≡ built_reply nothing 0 body → text_of (load_sheet reply) ≡ reply_text body
 unfolding reply_text
 reply_text-is body reply same = ap (λ r. text_of (load_sheet r)) same
 
-pub scanned-is : (body : List ℕ) (office : Office) → office ≡ built_after_all nothing (body_lines body) → office ≡ scanned body
+scanned-is : (body : List ℕ) (office : Office) → office ≡ built_after_all nothing (body_lines body) → office ≡ scanned body
 unfolding scanned
 scanned-is body office same = same
 
 -- the answer to a body, whose reply was printed whole
-pub answers : (body : List ℕ) (site : Site) (day : ℕ) (reply : LoadReply) (office : Office) (status : ℕ) (before between after : Option (List ℕ)) → reply ≡ built_reply nothing 0 body → office ≡ built_after_all nothing (body_lines body)
-    → between ≡ option_map (λ bytes. bytes ++ text_of (load_sheet reply)) before → Follows (windows_outcome office site day) status between after → Follows (scan_answer body site day) status before after
-answers body site day reply office status before between after same_reply same_office written follows =
-    let behind = follows_behind (text_of (load_sheet reply)) (windows_outcome office site day) status before between after written follows in
-    let P = λ (text : List ℕ). Follows (after_text text (windows_outcome office site day)) status before after in
-    let Q = λ (o : Office). Follows (after_text (reply_text body) (windows_outcome o site day)) status before after in
-    subst Q (scanned-is body office same_office) (subst P (reply_text-is body reply same_reply) behind)
+pub answers : (site : Site) (day : ℕ) (body : List ℕ) (reply : LoadReply) (office : Office) (text : List ℕ) (answer : Result Unit Stop) (before between after : Option (List ℕ)) → is_within body ≡ true → reply ≡ built_reply nothing 0 body → office ≡ built_after_all nothing (body_lines body)
+    → text ≡ text_of (load_sheet reply) → between ≡ option_map (λ bytes. bytes ++ text) before → Obeys (windows_outcome office site day) answer between after → Obeys (scan_outcome site day body) answer before after
+answers site day body reply office text answer before between after few same_reply same_office same_text written obeys =
+    let behind = obeys_behind text (windows_outcome office site day) answer before between after written obeys in
+    let P = λ (t : List ℕ). Obeys (after_text t (windows_outcome office site day)) answer before after in
+    let Q = λ (o : Office). Obeys (after_text (reply_text body) (windows_outcome o site day)) answer before after in
+    within site day body answer before after few
+    (subst Q (scanned-is body office same_office) (subst P (same_text ∙ reply_text-is body reply same_reply) behind))
 
 -- and one whose reply was not
-pub answers_front : (body : List ℕ) (site : Site) (day : ℕ) (reply : LoadReply) (status : ℕ) (before after : Option (List ℕ)) → reply ≡ built_reply nothing 0 body → (IsWhole status → ⊥) → WritesFront before after (text_of (load_sheet reply)) → Follows (scan_answer body site day) status before after
-answers_front body site day reply status before after same_reply cut front =
-    let P = λ (text : List ℕ). WritesFront before after text in
-    follows_front (scan_answer body site day) status before after cut
-    (front_of_more before after (reply_text body) (windows_outcome (scanned body) site day).output (subst P (reply_text-is body reply same_reply) front))
-
--- ---- what a call answered
-
-pub not_whole_at : (risen : Type 0) (answer : Result Unit Ending) → is_err answer ≡ true → IfErr answer (IsOutputFault risen) → IsWhole (status_of (ending_from answer)) → ⊥
-not_whole_at risen (Ok done) failed fault whole = cc
-not_whole_at risen (Err ending) failed fault whole = not_whole risen ending fault whole
-
-pub at_ok : (P : Type 0) (answer : Result Unit Ending) → is_err answer ≡ false → OnOk answer P → P
-at_ok P (Ok done) went holds = holds
-at_ok P (Err ending) went holds = cc
-
--- a rise since a later moment is one since an earlier
-risen_since : (before between after : ℕ) → before ≤ between → HasRisen between after → HasRisen before after
-risen_since before between after grows risen = elim risen [ inl more ↦ inl (omega arith) | inr most ↦ inr most ]
-
-pub reason_since : (no_words too_long whole : Type 0) (before between after : ℕ) (ending : Ending) → before ≤ between → HasReason no_words ⊥ (HasRisen between after) too_long whole ending → HasReason no_words ⊥ (HasRisen before after) too_long whole ending
-reason_since no_words too_long whole before between after Done grows reason = reason
-reason_since no_words too_long whole before between after NoCommand grows reason = reason
-reason_since no_words too_long whole before between after InputFailed grows reason = reason
-reason_since no_words too_long whole before between after OutputFailed grows reason = (risen_since before between after grows reason.0, reason.1)
-reason_since no_words too_long whole before between after Memory grows reason = reason
-reason_since no_words too_long whole before between after TooManyBytes grows reason = reason
-reason_since no_words too_long whole before between after (TooManyLines lines) grows reason = reason
-reason_since no_words too_long whole before between after (NoSite site) grows reason = reason
-
-pub reason_since_at : (no_words too_long whole : Type 0) (before between after : ℕ) (answer : Result Unit Ending) → before ≤ between → IfErr answer (HasReason no_words ⊥ (HasRisen between after) too_long whole) → IfErr answer (HasReason no_words ⊥ (HasRisen before after) too_long whole)
-reason_since_at no_words too_long whole before between after (Ok done) grows reason = tt
-reason_since_at no_words too_long whole before between after (Err ending) grows reason = reason_since no_words too_long whole before between after ending grows reason
-
--- a text that was printed whole or in front, as an outcome of status 0
-pub prints : (risen : Type 0) (outcome : Outcome) (text : List ℕ) (answer : Result Unit Ending) (before after : Option (List ℕ)) → outcome ≡ record { status = 0; output = text }
-    → OnOk answer (after ≡ option_map (λ bytes. bytes ++ text) before) → WritesFront before after text → IfErr answer (IsOutputFault risen) → Follows outcome (status_of (ending_from answer)) before after
-prints risen outcome text (Ok done) before after same whole front fault =
-    let P = λ (o : Outcome). Follows o 0 before after in
-    let plain : P (record { status = 0; output = text }) = record { answered = λ _. refl; whole = λ _. whole; front = front } in
-    subst P (sym same) plain
-prints risen outcome text (Err ending) before after same whole front fault =
-    follows_front outcome (status_of ending) before after (not_whole risen ending fault)
-    (let P = λ (o : Outcome). WritesFront before after o.output in subst P (sym same) front)
-
-pub registered_outcome : (office : Office) (site : Site) (day : ℕ) (text : List ℕ) → has_monitor office site Ozone ≡ true → text ≡ text_of (windows_sheet site day (windows office site day)) → windows_outcome office site day ≡ record { status = 0; output = text }
-unfolding windows_answer
-registered_outcome office site day text registered same = rw (registered, same) refl
-
-pub fault_reason_at : (risen : Type 0) (answer : Result Unit Ending) → IfErr answer (IsOutputFault risen) → IfErr answer (HasReason ⊥ ⊥ risen ⊥ (Unit {0}))
-fault_reason_at risen (Ok done) fault = tt
-fault_reason_at risen (Err Done) fault = absurd fault
-fault_reason_at risen (Err NoCommand) fault = absurd fault
-fault_reason_at risen (Err InputFailed) fault = absurd fault
-fault_reason_at risen (Err OutputFailed) fault = (fault, tt)
-fault_reason_at risen (Err Memory) fault = tt
-fault_reason_at risen (Err TooManyBytes) fault = absurd fault
-fault_reason_at risen (Err (TooManyLines lines)) fault = absurd fault
-fault_reason_at risen (Err (NoSite site)) fault = absurd fault
-
--- the outcome of the command that the words name
-pub for_command : (command : Command) (found : Option Command) (left : Option (List ℕ)) (status : ℕ) (before after : Option (List ℕ)) → Some command ≡ found → IfSome left (λ body. Follows (outcome_of command body) status before after) → IfSome left (λ body. Follows (outcome_for found body) status before after)
-for_command command found left status before after same told =
-    let P = λ (c : Option Command). IfSome left (λ body. Follows (outcome_for c body) status before after) in
-    subst P same told
+pub answers_front : (site : Site) (day : ℕ) (body : List ℕ) (reply : LoadReply) (text : List ℕ) (stop : Stop) (before after : Option (List ℕ)) → is_within body ≡ true → reply ≡ built_reply nothing 0 body → text ≡ text_of (load_sheet reply) → stop ≡ OutputFailed → WritesFront before after text → Obeys (scan_outcome site day body) (Err stop) before after
+answers_front site day body reply text stop before after few same_reply same_text failed front =
+    let P = λ (t : List ℕ). WritesFront before after t in
+    within site day body (Err stop) before after few
+    (without_output (scan_answer site day body) stop before after failed
+    (front_of_more before after (reply_text body) (windows_outcome (scanned body) site day).output (subst P (same_text ∙ reply_text-is body reply same_reply) front)))

@@ -1,10 +1,13 @@
 pub mod Outside
 pub mod Memories
+pub mod Ending
 pub mod Body
 pub mod Writing
 pub mod Words
-pub mod Ending
+pub mod Command
+pub mod Stop
 pub mod Built
 pub mod Scan
+pub mod Run
 pub mod OfficeView
 pub mod WindowView

@@ -1,10 +1,6 @@
 -- What contracts see of the sources and sinks in memory, which fail at the calls that they are told to.
-use Rattle.std.specs.Prelude.{ℕ, ◌+◌, ◌-◌, ◌^◌, Bool, false, ◌==◌, nat_le, min, List, [], ◌∷◌, length}
+use Rattle.std.specs.Prelude.{ℕ, Bool, false, ◌==◌, nat_le, List, [], ◌∷◌, length}
 use Rattle.std.specs.List.{list_any}
-
--- a count goes up by one, and stays at its greatest value
-abbrev pub next : ℕ → ℕ
-next count = min (count + 1) (2 ^ 64 - 1)
 
 -- the bytes left, the numbers of the calls that are to fail, the calls so far, and how many of them failed
 pub record SourceState : Type 0 where

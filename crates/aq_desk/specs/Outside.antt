@@ -1,15 +1,24 @@
 -- What contracts see of the outside: bytes that an object tells or does not tell, and its count of faults (own).
-use Rattle.std.specs.Prelude.{◌≡◌, ℕ, ◌-◌, ◌^◌, ◌<◌, ◌≤◌, ◌⊎◌, List, [], ◌++◌, length, take, Option, Result, IfSome, OnErr}
+use Rattle.std.specs.Prelude.{◌≡◌, ℕ, ◌+◌, ◌-◌, ◌^◌, ◌<◌, ◌≤◌, min, ◌⊎◌, List, [], ◌++◌, length, take, Option, Result, Ok, Err, IfSome}
 use Rattle.std.specs.Option.{option_map}
 
--- a count of faults rose, or stands at its greatest value, where it counts as risen
+-- a count of faults rose, or stood at its greatest value, where it counts as risen
 abbrev pub HasRisen : ℕ → ℕ → Type 0
-HasRisen before after = (before < after) ⊎ (after ≡ 2 ^ 64 - 1)
+HasRisen before after = (before < after) ⊎ ((before ≡ 2 ^ 64 - 1) × (after ≡ before))
 
--- a count never falls, and a refusal comes only where it rose
-pub record HasCause {A E : Type 0} (before after : ℕ) (answer : Result A E) : Type 0 where
-  pub grows : before ≤ after
-  pub failed : OnErr answer (HasRisen before after)
+-- a count rises at a call that answers with a fault, and at no other
+abbrev pub HasCause : {A E : Type 0} → ℕ → ℕ → Result A E → Type 0
+HasCause before after (Ok answer) = after ≡ before
+HasCause before after (Err fault) = HasRisen before after
+
+-- a count goes up by one, and stays at its greatest value
+abbrev pub next : ℕ → ℕ
+next count = min (count + 1) (2 ^ 64 - 1)
+
+-- how many faults are counted after a call: one more where it answers with a fault, and else as many as before
+abbrev pub faults_after : {A E : Type 0} → ℕ → Result A E → ℕ
+faults_after before (Ok answer) = before
+faults_after before (Err fault) = next before
 
 -- the first n bytes that were left went into the buffer; none of a buffer with room is the end
 pub record Moves (before after : Option (List ℕ)) (buffer : List ℕ) (n : ℕ) : Type 0 where

@@ -1,9 +1,16 @@
 -- A text as it is written to a sink.
-use Rattle.std.specs.Prelude.{◌≡◌, ℕ, ◌≤◌, List, ◌++◌, length, take, Option}
+use Rattle.std.specs.Prelude.{◌≡◌, ℕ, ◌≤◌, List, ◌++◌, length, take, Option, Result, OnOk}
 use Rattle.std.specs.Option.{option_map}
+use Rattle.aq_desk.specs.Outside.{HasCause}
 
 -- a front of the text, all of it among them, went behind what was written
 pub record WritesFront (before after : Option (List ℕ)) (text : List ℕ) : Type 0 where
   pub count : ℕ
   pub within : count ≤ length text
   pub written : after ≡ option_map (λ bytes. bytes ++ take count text) before
+
+-- all of the text did, or, where the count of faults rose, a front
+pub record Writes {A E : Type 0} (text : List ℕ) (before after : Option (List ℕ)) (count_before count_after : ℕ) (answer : Result A E) : Type 0 where
+  pub whole : OnOk answer (after ≡ option_map (λ bytes. bytes ++ text) before)
+  pub front : WritesFront before after text
+  pub cause : HasCause count_before count_after answer

@@ -1,6 +1,6 @@
 //! The body of a load, read from a source to its end.
 ghost use Rattle.std.specs.Prelude.{◌≡◌, ◌<◌, ◌≤◌, length, vec_len, [], IfOk, IfErr, OnOk};
-ghost use Rattle.aq_desk.specs.Body.{IsBody, IsBodyFault, TellsTooMany, Extends};
+ghost use Rattle.aq_desk.specs.Body.{Extends, HasTooMany, IsBody, IsBodyFault};
 
 use crate::outside::Source;
 use aq_base::{Failed, Memory};
@@ -48,7 +48,7 @@ fn read_piece<S: Source>(
     requires { 0 < length buffer.old }
     ensures count { IfOk result (λ n. Extends (S.left input.old) (S.left input.new) body.old.items body.new.items n) }
     ensures within { IfOk result (λ n. n ≤ length buffer.old) }
-    ensures grows { S.faults input.old ≤ S.faults input.new }
+    ensures steady { OnOk result (S.faults input.new ≡ S.faults input.old) }
     ensures fault { IfErr result (λ fault. IsBodyFault (S.faults input.old) (S.faults input.new) ⊥ fault) }
 {
     let n = input.read(buffer)?;
@@ -62,8 +62,8 @@ fn fill<S: Source>(input: &mut S, buffer: &mut [u8], body: &mut Vec<u8>) -> Resu
     requires empty { body.old.items ≡ [] }
     ensures body { OnOk result (IsBody (S.left input.old) body.new.items) }
     ensures few { OnOk result (vec_len body.new ≤ MOST_BYTES) }
-    ensures grows { S.faults input.old ≤ S.faults input.new }
-    ensures fault { IfErr result (λ fault. IsBodyFault (S.faults input.old) (S.faults input.new) (TellsTooMany (S.left input.old)) fault) }
+    ensures steady { OnOk result (S.faults input.new ≡ S.faults input.old) }
+    ensures fault { IfErr result (λ fault. IsBodyFault (S.faults input.old) (S.faults input.new) (HasTooMany (S.left input.old)) fault) }
 {
     while body.len() <= MOST_BYTES {
         let room = buffer.len().min(MOST_BYTES + 1 - body.len());
@@ -79,8 +79,8 @@ fn fill<S: Source>(input: &mut S, buffer: &mut [u8], body: &mut Vec<u8>) -> Resu
 pub(crate) fn read_body<S: Source>(alloc: Global, input: &mut S) -> Result<Vec<u8>, BodyFault>
     ensures body { IfOk result (λ body. IsBody (S.left input.old) body.items) }
     ensures few { IfOk result (λ body. vec_len body ≤ MOST_BYTES) }
-    ensures grows { S.faults input.old ≤ S.faults input.new }
-    ensures fault { IfErr result (λ fault. IsBodyFault (S.faults input.old) (S.faults input.new) (TellsTooMany (S.left input.old)) fault) }
+    ensures steady { OnOk result (S.faults input.new ≡ S.faults input.old) }
+    ensures fault { IfErr result (λ fault. IsBodyFault (S.faults input.old) (S.faults input.new) (HasTooMany (S.left input.old)) fault) }
 {
     let mut buffer = vec![in alloc; 0; PIECE]?;
     let mut body = Vec::new(alloc);

@@ -3,20 +3,20 @@
 
 mod body;
 mod command;
-mod ending;
 mod load;
 mod memory_sink;
 mod memory_source;
 mod office;
 mod outside;
+mod scan;
 mod sheets;
+mod stop;
 mod text;
 mod windows;
 mod words;
 mod writing;
 
-pub use command::run;
-pub use ending::end_without_memory;
+pub use command::{end_without_memory, run};
 pub use memory_sink::MemorySink;
 pub use memory_source::MemorySource;
 pub use outside::{Sink, Source};

@@ -55,8 +55,8 @@ impl MemorySink {
 
 impl Sink for MemorySink {
     ghost use Rattle.std.specs.Prelude.{◌≡◌, ◌↔◌, ◌&&◌, ◌||◌, ◌==◌, not, length, IsTrue, IsErr, IfOk, OnErr, Some};
-    ghost use Rattle.aq_desk.specs.Outside.{HasCause, Takes};
-    ghost use Rattle.aq_desk.specs.Memories.{next, is_listed, finds_no_room};
+    ghost use Rattle.aq_desk.specs.Outside.{HasCause, Takes, faults_after, next};
+    ghost use Rattle.aq_desk.specs.Memories.{is_listed, finds_no_room};
 
     ghost written = { λ sink. Some sink.written };
 
@@ -69,6 +69,7 @@ impl Sink for MemorySink {
 
         // It fails exactly at the listed calls, and where a piece with bytes finds no room.
         ensures listed { IsErr result ↔ IsTrue (is_listed self.old.failing (next self.old.calls) || finds_no_room self.old piece.now) }
+        ensures faults { self.new.faults ≡ faults_after self.old.faults result }
         ensures calls { self.new.calls ≡ next self.old.calls }
         ensures kept { self.new.failing ≡ self.old.failing }
         ensures room { self.new.room ≡ self.old.room }

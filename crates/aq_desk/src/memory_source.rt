@@ -54,8 +54,8 @@ fn copy_front(left: &[u8], buffer: &mut [u8]) -> usize
 
 impl Source for MemorySource {
     ghost use Rattle.std.specs.Prelude.{◌≡◌, ◌↔◌, IsTrue, IsErr, IfOk, OnErr, Some};
-    ghost use Rattle.aq_desk.specs.Outside.{HasCause, Moves};
-    ghost use Rattle.aq_desk.specs.Memories.{next, is_listed};
+    ghost use Rattle.aq_desk.specs.Outside.{HasCause, Moves, faults_after, next};
+    ghost use Rattle.aq_desk.specs.Memories.{is_listed};
 
     ghost left = { λ source. Some source.left };
 
@@ -68,6 +68,7 @@ impl Source for MemorySource {
 
         // It fails exactly at the listed calls.
         ensures listed { IsErr result ↔ IsTrue (is_listed self.old.failing (next self.old.calls)) }
+        ensures faults { self.new.faults ≡ faults_after self.old.faults result }
         ensures calls { self.new.calls ≡ next self.old.calls }
         ensures kept { self.new.failing ≡ self.old.failing }
     {

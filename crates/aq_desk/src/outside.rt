@@ -1,5 +1,6 @@
 //! The outside: where bytes come from and where they go. An object tells its bytes or does not, and
-//! counts its faults. A count never falls, and one at its greatest value counts as risen.
+//! counts its faults. A count rises at a call that fails, and at no other; one at its greatest value
+//! counts as risen.
 ghost use Rattle.std.specs.Prelude.{◌≡◌, ℕ, List, Option, IfOk, OnErr};
 ghost use Rattle.aq_desk.specs.Outside.{HasCause, Moves, Takes};
 

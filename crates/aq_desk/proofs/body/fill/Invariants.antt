@@ -7,7 +7,7 @@ abbrev pub invariant-loop-body : goal.invariant-loop-body
 invariant-loop-body g l = record {
   told : option_map (λ left. l.body.items ++ left) (g.S.Source.left l.input) ≡ g.S.Source.left l.fn.input;
   few : vec_len l.body ≤ MOST_BYTES + 1;
-  grows : g.S.Source.faults l.fn.input ≤ g.S.Source.faults l.input;
+  steady : g.S.Source.faults l.input ≡ g.S.Source.faults l.fn.input;
 }
 
 abbrev pub decreases-loop-body : goal.decreases-loop-body

@@ -1,8 +1,19 @@
-use Rattle.aq_desk.proofs.Outcomes.{for_command}
+use Rattle.std.specs.Prelude.{ℕ, List}
+use Rattle.aq_desk.specs.Body.{Over}
+use Rattle.aq_desk.specs.Command.{Outcome}
+use Rattle.aq_desk.specs.Run.{outcome_of}
+use Rattle.aq_desk.specs.Scan.{scan_outcome}
+use Rattle.aq_desk.specs.Stop.{Obeys}
+use Rattle.aq_desk.specs.declared.words.Command.{Command}
+use Rattle.aq_desk.specs.declared.words.Command.TheVariants.{Scan}
+use Rattle.aq_desk.specs.contracts.words.Command.{enum}
+use borrow.Enum.Total.{values_d}
 use Rattle.aq_desk.proofs.command.perform.Goals as goal
 
-pub returns-in-Ok-clause-headline : goal.returns-in-Ok-clause-headline
-returns-in-Ok-clause-headline g c = for_command c.in-Some.command _ _ _ _ _ c.in-Some.ensures c.in-Ok.ensures.told
-
-pub returns-in-Err-clause-headline : goal.returns-in-Err-clause-headline
-returns-in-Err-clause-headline g c = for_command c.in-Some.command _ _ _ _ _ c.in-Some.ensures c.in-Err.ensures.told
+pub returns-clause-told : goal.returns-clause-told
+returns-clause-told g c =
+    let told_by = λ (outcome : List ℕ → Outcome). Over (g.S.Source.left c.args.input.now) (λ body. Obeys (outcome body) c.scan.result (g.O.Sink.written c.args.output.now) (g.O.Sink.written c.scan.new.output)) in
+    let by_command : (command : Command) → told_by (scan_outcome (values_d enum 0 c.site-1.given.0 command).0 (values_d enum 0 c.day-1.given.0 command).1.0) → told_by (outcome_of command) =
+    elim [ (Scan site day) ↦ λ told. told ]
+    in
+    by_command c.args.command.now c.scan.ensures.told

@@ -6,7 +6,7 @@ abbrev pub invariant-loop-count : goal.invariant-loop-count
 invariant-loop-count g l = record {
   within : l.count ≤ length l.text;
   written : g.O.Sink.written l.sink ≡ option_map (λ bytes. bytes ++ take l.count l.text) (g.O.Sink.written l.fn.sink);
-  grows : g.O.Sink.faults l.fn.sink ≤ g.O.Sink.faults l.sink;
+  steady : g.O.Sink.faults l.sink ≡ g.O.Sink.faults l.fn.sink;
 }
 
 abbrev pub decreases-loop-count : goal.decreases-loop-count

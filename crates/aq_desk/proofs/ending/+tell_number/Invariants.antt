@@ -1,4 +1,0 @@
-use Rattle.aq_desk.proofs.ending.+tell_number.Given as goal
-
-abbrev pub decreases-tell_number : goal.decreases-tell_number
-decreases-tell_number g l = l.number

@@ -1,0 +1,15 @@
+use Rattle.aq_desk.specs.declared.stop.Stop.TheVariants.{InputFailed, OutputFailed, Memory, TooManyBytes}
+use Rattle.aq_desk.proofs.Messages.{bytes_message, input_message, memory_message, output_message, writes_at}
+use Rattle.aq_desk.proofs.stop.Stop.write.Goals as goal
+
+pub returns-in-InputFailed : goal.returns-in-InputFailed
+returns-in-InputFailed g c = writes_at _ _ InputFailed _ _ _ _ c.write_all.result c.in-InputFailed.is input_message c.write_all.ensures
+
+pub returns-in-OutputFailed : goal.returns-in-OutputFailed
+returns-in-OutputFailed g c = writes_at _ _ OutputFailed _ _ _ _ c.write_all-in-OutputFailed.result c.in-OutputFailed.is output_message c.write_all-in-OutputFailed.ensures
+
+pub returns-in-Memory : goal.returns-in-Memory
+returns-in-Memory g c = writes_at _ _ Memory _ _ _ _ c.write_all-in-Memory.result c.in-Memory.is memory_message c.write_all-in-Memory.ensures
+
+pub returns-in-TooManyBytes : goal.returns-in-TooManyBytes
+returns-in-TooManyBytes g c = writes_at _ _ TooManyBytes _ _ _ _ c.write_all-in-TooManyBytes.result c.in-TooManyBytes.is bytes_message c.write_all-in-TooManyBytes.ensures

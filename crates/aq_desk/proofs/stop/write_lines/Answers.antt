@@ -1,0 +1,32 @@
+use Rattle.std.proofs.Common.{◌++◌, codes, refl}
+use Rattle.std.specs.Prelude.{decimal}
+use Rattle.aq_desk.proofs.Messages.{lines_message, writes_cut, writes_same, writes_then}
+use Rattle.aq_desk.proofs.stop.write_lines.Goals as goal
+
+pub returns-in_err-write_all : goal.returns-in_err-write_all
+returns-in_err-write_all g c =
+    let first = codes "airdv: 10 " in
+    let number = decimal c.args.lines in
+    let last = codes " lines\n" in
+    writes_same ((first ++ number) ++ last) _ _ _ _ _ c.from_residual.result (lines_message c.args.lines)
+    (writes_cut (first ++ number) last _ _ _ _ _ _ c.from_residual.ensures.0
+    (writes_cut first number _ _ _ _ c.in_err-write_all.field-0.0 _ refl c.in_err-write_all.ensures))
+
+pub returns-in_err-write_number : goal.returns-in_err-write_number
+returns-in_err-write_number g c =
+    let first = codes "airdv: 10 " in
+    let number = decimal c.args.lines in
+    let last = codes " lines\n" in
+    writes_same ((first ++ number) ++ last) _ _ _ _ _ c.from_residual-in_err-write_number.result (lines_message c.args.lines)
+    (writes_cut (first ++ number) last _ _ _ _ c.in_err-write_number.field-0.0 _ c.from_residual-in_err-write_number.ensures.0
+    (writes_then first number _ _ _ _ _ _ c.in_ok-write_all.field-0 _ c.in_ok-write_all.ensures c.in_err-write_number.ensures))
+
+pub returns : goal.returns
+returns g c =
+    let first = codes "airdv: 10 " in
+    let number = decimal c.args.lines in
+    let last = codes " lines\n" in
+    writes_same ((first ++ number) ++ last) _ _ _ _ _ c.write_all-2.result (lines_message c.args.lines)
+    (writes_then (first ++ number) last _ _ _ _ _ _ c.in_ok-write_number.field-0 _
+    (writes_then first number _ _ _ _ _ _ c.in_ok-write_all.field-0 _ c.in_ok-write_all.ensures c.in_ok-write_number.ensures)
+    c.write_all-2.ensures)

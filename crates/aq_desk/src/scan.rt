@@ -1,0 +1,103 @@
+//! The command `scan`.
+ghost use Rattle.std.specs.Prelude.{◌≡◌, ◌<◌, ◌≤◌, true, false, length, IsTrue, map};
+ghost use Rattle.aq_base.specs.declared.monitor.Pollutant.TheVariants.{Ozone};
+ghost use Rattle.aq_profile.specs.Office.Office.{has_monitor};
+ghost use Rattle.aq_profile.specs.Ozone.OzoneDay.{windows};
+ghost use Rattle.aq_desk.specs.Body.{Over, is_within};
+ghost use Rattle.aq_desk.specs.Command.{ReadsWhole, RisesAt, WritesNothing};
+ghost use Rattle.aq_desk.specs.Scan.{scan_outcome, windows_outcome};
+ghost use Rattle.aq_desk.specs.Stop.{HasCauses, IsTaken, Obeys, status_of};
+ghost use Rattle.aq_desk.specs.WindowView.{row_view};
+ghost use Rattle.aq_forms.specs.declared.lines.TheConstants.{MOST_BYTES};
+
+use crate::body::read_body;
+use crate::load::take_load;
+use crate::office::Office;
+use crate::outside::{Sink, Source};
+use crate::sheets::{load_text, windows_text};
+use crate::stop::Stop;
+use crate::windows::{WINDOWS, WindowRow, day_windows};
+use crate::writing::print;
+use aq_base::{Day, SiteId, Steps};
+use aq_forms::count_lines;
+use std::alloc::Global;
+use std::marker::Brand;
+use std::sync::ledger::{Blank, Ledger};
+
+/// A load has at most this many lines.
+const MOST_LINES: u32 = 120_000;
+
+/// Takes the input as a load over an office of which nothing stands, and prints the reply and then the
+/// day's windows.
+pub(crate) fn scan<S: Source, O: Sink>(
+    alloc: Global,
+    site: SiteId,
+    day: Day,
+    input: &mut S,
+    output: &mut O,
+) -> Result<(), Stop>
+    ensures told { Over (S.left input.old) (λ body. Obeys (scan_outcome site day body) result (O.written output.old) (O.written output.new)) }
+    ensures causes { HasCauses (S.left input.old) (status_of result) (S.faults input.old) (S.faults input.new) (O.faults output.old) (O.faults output.new) }
+    ensures silent { WritesNothing (status_of result) → output.new ≡ output.old }
+{
+    let body = read_body(alloc, input)?;
+    answer(alloc, site, day, &body, output)
+}
+
+/// Answers to a body within the limit of bytes.
+fn answer<O: Sink>(
+    alloc: Global,
+    site: SiteId,
+    day: Day,
+    body: &[u8],
+    output: &mut O,
+) -> Result<(), Stop>
+    requires { length body.now ≤ MOST_BYTES }
+    ensures told { Obeys (scan_outcome site day body.now) result (O.written output.old) (O.written output.new) }
+    ensures input_read { status_of result ≡ 3 → ⊥ }
+    ensures output_failed { RisesAt 4 (status_of result) (O.faults output.old) (O.faults output.new) }
+    ensures too_many { status_of result ≡ 10 → is_within body.now ≡ false }
+    ensures few { ReadsWhole (status_of result) → is_within body.now ≡ true }
+    ensures silent { WritesNothing (status_of result) → output.new ≡ output.old }
+{
+    let lines = count_lines(body);
+    if lines > MOST_LINES {
+        return Err(Stop::TooManyLines(lines));
+    }
+    let taken = take_load(alloc, body, lines)?;
+    let reply = load_text(alloc, &taken.reply)?;
+    print(output, &reply)?;
+    print_windows(alloc, &taken.office, site, day, output)
+}
+
+/// Prints the day's windows of a registered site.
+fn print_windows<O: Sink>(
+    alloc: Global,
+    office: &Office,
+    site: SiteId,
+    day: Day,
+    output: &mut O,
+) -> Result<(), Stop>
+    ensures told { Obeys (windows_outcome office.now site day) result (O.written output.old) (O.written output.new) }
+    ensures taken { IsTaken (status_of result) }
+    ensures output_failed { RisesAt 4 (status_of result) (O.faults output.old) (O.faults output.new) }
+{
+    if !office.has_site(site) {
+        return Err(Stop::NoSite(site));
+    }
+    let rows = counted::<Brand>(office, site, day, Blank::new(1));
+    let text = windows_text(alloc, site, day, &rows)?;
+    print(output, &text)
+}
+
+/// The day's windows, on a counter of their own, which nobody reads.
+fn counted<L: Ledger>(office: &Office, site: SiteId, day: Day, blank: Blank) -> [WindowRow; WINDOWS]
+    requires site { IsTrue (has_monitor office.now site Ozone) }
+    requires name { blank.name ≡ L.name }
+    requires parts { blank.parts ≡ L.parts }
+    requires some { 0 < L.parts }
+    ensures { map row_view result ≡ windows office.now site day }
+{
+    let mut steps = Steps::<L>::new(blank);
+    day_windows(office, site, day, &mut steps)
+}
