@@ -1,7 +1,5 @@
 //! Reading RD lines.
 ghost use Rattle.std.specs.Prelude.{◌≡◌, ◌≤◌, true, false, IfOk, IfErr, IsTrue, OnOk, OnErr, Some, None};
-ghost use Rattle.std.specs.List.{list_all};
-ghost use Rattle.aq_base.specs.declared.monitor.Pollutant.{Pollutant};
 ghost use Rattle.aq_profile.specs.Lines.Canonical.{is_rd_value};
 ghost use Rattle.aq_profile.specs.Lines.Reading.{reading_rule, line_value, has_wrong_count, is_deletion, OfRd};
 ghost use Rattle.aq_profile.specs.Lines.Spellings.{Rd};
