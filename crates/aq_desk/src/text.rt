@@ -16,6 +16,7 @@ pub(crate) fn site_text(site: SiteId) -> [u8; 11]
 }
 
 /// An hour of a day, `HH:00`.
+#[tactic(auto, unfolding(aq_profile::specs::Shown::Sheet::hour_text))]
 pub(crate) fn hour_text(hour: u16) -> [u8; 5]
     ensures { result ≡ book.hour_text hour }
 {
