@@ -1,10 +1,6 @@
 //! Writing RD lines.
-ghost use Rattle.std.specs.Prelude.{◌≡◌, ◌≤◌, true, false, length, ◌+◌, ◌%◌, ◌++◌, ◌∷◌, map, if◌then◌else◌, codes, IfOk, IsTrue, OnOk, Some};
+ghost use Rattle.std.specs.Prelude.{◌≡◌, false, ◌+◌, ◌++◌, ◌∷◌, map, if◌then◌else◌, codes, IfOk, IsTrue, OnOk, Some};
 ghost use Rattle.aq_base.specs.Decimal.{last_digits};
-ghost use Rattle.aq_base.specs.Quals.{all_distinct};
-ghost use Rattle.aq_base.specs.Site.{IsSite};
-ghost use Rattle.aq_base.specs.declared.day.TheConstants.{LAST_HOUR};
-ghost use Rattle.aq_base.specs.declared.quals.TheConstants.{MOST_QUALIFIERS};
 ghost use Rattle.aq_profile.specs.Lines.Reading.{line_value, OfRd};
 ghost use Rattle.aq_profile.specs.Lines.Canonical.{canonical_rd, is_rd_value, monitor_texts, start_texts, date_text, code_text, value_text, texts_behind, parameter_text, duration_text, unit_text, value_places};
 ghost use Rattle.aq_rd.specs.Printing.{behind_bars, null_text};

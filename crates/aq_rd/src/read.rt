@@ -1,7 +1,5 @@
 //! Reading RD lines.
 ghost use Rattle.std.specs.Prelude.{◌≡◌, ◌≤◌, true, false, IfOk, IfErr, IsTrue, OnOk, OnErr, Some, None};
-ghost use Rattle.std.specs.List.{list_all};
-ghost use Rattle.aq_base.specs.declared.monitor.Pollutant.{Pollutant};
 ghost use Rattle.aq_profile.specs.Lines.Canonical.{is_rd_value};
 ghost use Rattle.aq_profile.specs.Lines.Reading.{reading_rule, line_value, has_wrong_count, is_deletion, OfRd};
 ghost use Rattle.aq_profile.specs.Lines.Spellings.{Rd};
@@ -9,6 +7,7 @@ ghost use Rattle.aq_rd.specs.Ranges.{HasLineRange};
 ghost use Rattle.aq_rd.specs.RdReading.{monitor_reading, start_reading, content_reading, valued_reading, null_reading, put_reading, delete_reading, form_reading, rd_reading, value_of};
 ghost use Rattle.aq_rd.specs.Tags.{has_office_tag};
 
+use crate::bytes::has_spaces;
 use crate::fields::{Fields, MOST_FIELDS};
 use crate::line::RdLine;
 use crate::spellings::{
@@ -36,12 +35,14 @@ pub fn read_rd(line: &[u8]) -> Result<RdLine, Rule>
     read
 }
 
-// In the order of the rules.
+// In the order of the rules. The fields are cut where they are read, since to hand them on in a
+// `Result` copies all their places.
 #[tactic(auto, unfolding(crate::specs::RdReading::rd_reading))]
 fn read_line(line: &[u8]) -> Result<RdLine, Rule>
     ensures { result ≡ rd_reading line.now }
 {
-    let texts = Fields::new(line)?;
+    let has_spaces = has_spaces(line)?;
+    let texts = Fields::cut(line, has_spaces);
     if texts.field(1) != b"RD".as_slice() {
         return Err(Rule::BadTag);
     }

@@ -1,9 +1,8 @@
-//! The spelling of each field of an RD line.
-ghost use Rattle.std.specs.Prelude.{◌≡◌, true, ℕ, ◌≤◌, ◌<◌, ◌^◌, length, take, drop, IfSome, IfOk, Some, ◌≤ℤ◌};
+//! The spelling of each field: what RD lines, office lines and words share, and what RD lines alone have.
+ghost use Rattle.std.specs.Prelude.{◌≡◌, true, ◌≤◌, ◌<◌, take, drop, IfSome, IfOk, Some, ◌≤ℤ◌};
 ghost use Rattle.std.specs.Int.{IsInRange};
-ghost use Rattle.std.specs.List.{list_all};
 ghost use Rattle.aq_base.specs.Values.{least_value, greatest_value};
-ghost use Rattle.aq_profile.specs.Lines.Spellings.{has_duration, site_in, parameter_in, poc_in, duration_in, unit_in, method_in, date_in, year_in, time_in, truth_in, null_in, qualifier_in, qualifiers_in, digits_in, is_code_byte};
+ghost use Rattle.aq_profile.specs.Lines.Spellings.{site_in, parameter_in, poc_in, duration_in, unit_in, method_in, date_in, year_in, time_in, truth_in, null_in, qualifier_in, qualifiers_in, is_code_byte};
 ghost use Rattle.aq_profile.specs.Lines.RdForm.{qualifier_fields};
 ghost use Rattle.aq_rd.specs.RdReading.{value_reading};
 ghost use Rattle.aq_rd.specs.Words.{date_of};
