@@ -1,11 +1,9 @@
 pub mod Fronts
 pub mod ShelfRows
 pub mod LineLemmas
-pub mod MonitorLine
 pub mod BuiltLaws
 pub mod OneMonitor
 pub mod Tallies
-pub mod Digits
 pub mod SheetTexts
 pub mod Outcomes
 pub mod Messages

@@ -13,17 +13,8 @@ use Rattle.aq_profile.specs.Limits.{MOST_LISTED}
 use Rattle.aq_profile.specs.Lines.Lines.{NumberedLine, line_count, body_lines}
 use Rattle.aq_profile.specs.Office.Load.{after, all_rules, listed_for, refusal, rest_for}
 use Rattle.aq_profile.specs.Office.Office.{Office}
-use Rattle.aq_rd.specs.Front.{◌>>=◌, after as behind, whole}
-use Rattle.aq_rd.specs.PlainForm.{ozone_monitor_at}
+use Rattle.aq_rd.specs.PlainForm.{plain_monitor}
 use Rattle.aq_rd.specs.Tags.{has_office_tag}
-
--- XM|I|SS|CCC|NNNN|44201|P|1|Y, with no spaces
-unfoldable pub plain_monitor : List ℕ → Option MonitorId
-plain_monitor text = do
-  first ← behind (codes "XM|I|") text
-  monitor ← ozone_monitor_at first
-  rest ← behind (codes "Y") monitor.1
-  whole monitor.0 rest
 
 -- an eligible monitor of hours
 abbrev pub registered : MonitorId → OfficeRecord

@@ -1,21 +1,10 @@
 -- The words of the command line, and the command that they name (own).
 use Rattle.std.specs.Prelude.{ℕ, List, [], ◌∷◌, Option, Some, None, if◌then◌else◌, codes, bytes_eq}
 use Rattle.aq_base.specs.Site.{Site}
-use Rattle.aq_rd.specs.Front.{◌>>=◌, site_at, date_at, whole}
+use Rattle.aq_profile.specs.Lines.Spellings.{◌>>=◌}
+use Rattle.aq_rd.specs.Words.{site_word, day_word}
 use Rattle.aq_desk.specs.declared.words.Command.{Command}
 use Rattle.aq_desk.specs.declared.words.Command.TheVariants.{Scan}
-
--- SS-CCC-NNNN
-unfoldable pub site_word : List ℕ → Option Site
-site_word word = do
-  site ← site_at (codes "-") word
-  whole site.0 site.1
-
--- YYYY-MM-DD, by its day number
-unfoldable pub day_word : List ℕ → Option ℕ
-day_word word = do
-  day ← date_at (codes "-") word
-  whole day.0 day.1
 
 unfoldable pub scan_of : List ℕ → List ℕ → Option Command
 scan_of site day = do
