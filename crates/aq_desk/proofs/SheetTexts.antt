@@ -6,7 +6,6 @@ use Rattle.aq_base.specs.Site.{Site}
 use Rattle.aq_base.specs.declared.reply.ListedLine.{ListedLine}
 use Rattle.aq_base.specs.declared.reply.LoadReply.{LoadReply}
 use Rattle.aq_base.specs.declared.reply.RestRule.{RestRule}
-use Rattle.aq_cal.specs.DayText as cal
 use Rattle.aq_profile.specs.Ozone.EightHour.{WindowRow}
 use Rattle.aq_profile.specs.Shown.Sheet.{SheetCell, Head, text_of, head_text, head_of, row_text, line_of, cell_text, count_cell, ppm_cell, site_text, day_text, hour_text}
 use Rattle.aq_profile.specs.Shown.Sheet.SheetCell.{Text}
@@ -46,7 +45,7 @@ load_text_is reply listed rest start one two three four five six all same_listed
     (map listed_row reply.listed) (map rest_row reply.rest) (codes "line rule name count\n") refl
 
 -- a day's text, its pieces joined in the other way
-day_text_is : (day : ℕ) → cal.day_text day ≡ day_text day
+day_text_is : (day : ℕ) → day_text day ≡ day_text day
 unfolding day_text
 day_text_is day = simp append_assoc
 
@@ -84,7 +83,7 @@ pub windows_text_is : (site : Site) (day : ℕ) (rows : List WindowRow) (place s
     → one ≡ start ++ codes "site "
     → two ≡ one ++ place
     → three ≡ two ++ codes "\nday "
-    → four ≡ three ++ cal.day_text day
+    → four ≡ three ++ day_text day
     → five ≡ four ++ codes "\nhour average hours full full_hours\n"
     → all ≡ five ++ flat_map row_text (map window_cells (enumerate_from 7 rows))
     → all ≡ text_of (windows_sheet site day rows)
