@@ -1,4 +1,6 @@
 -- Lemmas for the laws. Crates above may cite them.
+pub mod Tests
+pub mod Elements
 pub mod Ranges
 pub mod Order
 pub mod Ranked

@@ -8,6 +8,7 @@ use Rattle.std.proofs.lemmas.List.FromFn.{length-range_with_len}
 use Rattle.std.proofs.lemmas.List.Sums.{count_by-le-length}
 use Rattle.std.proofs.lemmas.Bool.Decides.{nat_tests}
 use Rattle.std.proofs.Math.Nat.{div-le_of_le-mul}
+use Rattle.std.proofs.lemmas.Bool.{and_parts, eqb-true, leb-true}
 use Rattle.aq_base.specs.Calendar.{year_first, days_in_year, year_of, is_year, day_of_hour}
 use Rattle.aq_base.specs.Decimal.{truncated}
 use Rattle.aq_base.specs.Site.{Site}
@@ -32,17 +33,14 @@ use Rattle.aq_profile.specs.Ozone.EightHour.{average, eight_hours, cells_from, f
 use Rattle.aq_profile.specs.Ozone.OzoneDay.{OzoneDay, starts_of, windows, net_averages, ozone_day}
 use Rattle.aq_profile.specs.Ozone.OzoneYear.{days_of, ozone_days, ranked_maximum, is_season_day, counts_as_valid, ozone_year}
 use Rattle.aq_profile.specs.Kept.Summaries.{is_value, KeepsOzoneYear}
+use Rattle.aq_profile.proofs.Elements.{Every}
 use Rattle.aq_profile.proofs.Sameness.{same_pollutant}
 use Rattle.aq_profile.proofs.Sums.{total-cons, greater_of, greatest-some}
 use Rattle.aq_profile.proofs.Descent.{length-ranked}
-use Rattle.aq_profile.proofs.Spans.{Every, in_span}
+use Rattle.aq_profile.proofs.Spans.{in_span}
 use Rattle.aq_profile.proofs.Pm10Facts.{count-implied, length-kept}
 use Rattle.aq_profile.proofs.Pm25Counts.{is_record-of}
 use Rattle.aq_profile.proofs.Pm25Range.{measured-of, measured-in_range}
-
-both : (a b : Bool) → (a && b) ≡ true → (a ≡ true) × (b ≡ true)
-both true b h = (refl, h)
-both false b h = cc
 
 -- ---- values of ozone
 
@@ -51,7 +49,7 @@ InRange v = (negsuc 998 ≤ℤ v) × (v ≤ℤ pos 9999)
 
 pub from_test : (v : ℤ) → is_in_range Ozone v ≡ true → InRange v
 from_test v h =
-    let parts = both (int_le (negsuc 998) v) (int_le v (pos 9999)) h in
+    let parts = and_parts (int_le (negsuc 998) v) (int_le v (pos 9999)) h in
     let low : int_le (negsuc 998) v ≡ true = parts.0 in
     let high : int_le v (pos 9999) ≡ true = parts.1 in
     (grind (arith, ints, low), grind (arith, ints, high))
@@ -144,7 +142,7 @@ samples-in_range : (office : Office) (site : Site) (hour : ℕ) (entries : List 
     → Every SampleIn (filter_map (sample_of office site hour) entries)
 samples-in_range office site hour [] fits = tt
 samples-in_range office site hour (entry ∷ entries) fits =
-    let parts = both (fits_monitors office entry) (list_all (fits_monitors office) entries) fits in
+    let parts = and_parts (fits_monitors office entry) (list_all (fits_monitors office) entries) fits in
     sample-onto (sample_of office site hour entry) (filter_map (sample_of office site hour) entries) (sample-in_range office site hour entry parts.0) (samples-in_range office site hour entries parts.1)
 
 sample_values : (samples : List Sample) → Every SampleIn samples → Every InRange (map (λ (s : Sample). s.cell.value) samples)
@@ -277,12 +275,6 @@ abbrev IfBegins : ℕ → Option Season → Type 0
 IfBegins year None = ⊤
 IfBegins year (Some season) = Begins year season
 
-within : (a b : ℕ) → nat_le a b ≡ true → a ≤ b
-within a b h = grind (arith, nat_tests)
-
-same : (a b : ℕ) → (a == b) ≡ true → a ≡ b
-same a b h = grind (arith, nat_tests)
-
 module _ (site : Site) (year : ℕ) (holds : HoldsYear year) where
   season-begins : (r : OfficeRecord) → is_record r ≡ true → IfBegins year (season_by site year r)
   season-begins (SeasonRecord other y first last) is = by_test (is_same_site other site) (y == year) refl
@@ -291,13 +283,13 @@ module _ (site : Site) (year : ℕ) (holds : HoldsYear year) where
       by_test false b e = tt
       by_test true false e = tt
       by_test true true e =
-          let d = both (is_site other && is_year y) (is_day first && is_day last && is_season y first last) is in
-          let c = both (is_day first && is_day last) (is_season y first last) d.1 in
-          let b = both (is_day first) (is_day last) c.0 in
-          let s = both _ (nat_le first last) c.1 in
-          let t = both (year_of first == y) (year_of last == y) s.0 in
-          let span = holds first (within first LAST_DAY b.0) (same (year_of first) y t.0 ∙ same y year e) in
-          record { low = span.0; high = span.1; rises = within first last s.1 }
+          let d = and_parts (is_site other && is_year y) (is_day first && is_day last && is_season y first last) is in
+          let c = and_parts (is_day first && is_day last) (is_season y first last) d.1 in
+          let b = and_parts (is_day first) (is_day last) c.0 in
+          let s = and_parts _ (nat_le first last) c.1 in
+          let t = and_parts (year_of first == y) (year_of last == y) s.0 in
+          let span = holds first (leb-true first LAST_DAY b.0) (eqb-true (year_of first) y t.0 ∙ eqb-true y year e) in
+          record { low = span.0; high = span.1; rises = leb-true first last s.1 }
   season-begins (Monitor id duration eligible) is = tt
   season-begins (Primary other pollutant from poc) is = tt
   season-begins (Schedule other pollutant from interval anchor) is = tt
@@ -321,7 +313,7 @@ module _ (site : Site) (year : ℕ) (holds : HoldsYear year) where
       → Begins year (unwrap_or (slice_get (filter_map (season_by site year) records) 0) (whole_year year))
   recorded-begins office [] fits = whole-begins
   recorded-begins office (r ∷ records) fits =
-      let parts = both (fits_records office r) (list_all (fits_records office) records) fits in
+      let parts = and_parts (fits_records office r) (list_all (fits_records office) records) fits in
       first_by (season_by site year r) (filter_map (season_by site year) records) (season-begins r (is_record-of site year office r parts.0)) (recorded-begins office records parts.1)
 
   season_of-begins : (office : Office) → IsOffice office → Begins year (season_of office.records site year)
@@ -330,7 +322,7 @@ module _ (site : Site) (year : ℕ) (holds : HoldsYear year) where
 
 in_season : (season : Season) (d e : ℕ) → season.first ≤ season.last → d ≡ season.first → (d == e) ≡ true → is_in_season season e ≡ true
 in_season season d e rises is at =
-    let here : d ≡ e = same d e at in
+    let here : d ≡ e = eqb-true d e at in
     let low : nat_le season.first e ≡ true = grind (arith, nat_tests) in
     let high : nat_le e season.last ≡ true = grind (arith, nat_tests) in
     rw (low, high) refl
@@ -355,7 +347,7 @@ ozone_year-keeps office site year valid holds =
     record {
       some_season = season-some year (season_of office.records site year) (season_of-begins site year holds office valid);
       season_days = omega (arith, count_by-le-length (is_season_day office site year) D, number, most);
-      season_valid = count-implied (λ day. is_season_day office site year day && counts_as_valid office site day) (is_season_day office site year) (λ day h. (both (is_season_day office site year day) (counts_as_valid office site day) h).0) D;
+      season_valid = count-implied (λ day. is_season_day office site year day && counts_as_valid office site day) (is_season_day office site year) (λ day h. (and_parts (is_season_day office site year day) (counts_as_valid office site day) h).0) D;
       ranked = omega (arith, few, length-ranked maxima, number, most);
       fourth = fourth-there (ranked maxima);
       fourth_in_range = value_test (slice_get (ranked maxima) 3) (at-in_range (ranked maxima) 3 (every-ranked maxima (maxima-in_range office site D valid)));

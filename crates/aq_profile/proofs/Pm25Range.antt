@@ -8,6 +8,7 @@ use Rattle.aq_profile.specs.Office.Schedule.{is_scheduled}
 use Rattle.std.proofs.lemmas.Int.{ints}
 use Rattle.std.proofs.lemmas.Bool.Decides.{nat_tests}
 use Rattle.std.proofs.Math.Nat.{div-le_of_le-mul}
+use Rattle.std.proofs.lemmas.Bool.{and_parts}
 use Rattle.aq_base.specs.Decimal.{truncated}
 use Rattle.aq_base.specs.Site.{Site}
 use Rattle.aq_base.specs.declared.code.Code.{Code}
@@ -28,16 +29,12 @@ use Rattle.aq_profile.specs.Ozone.SiteHour.{Cell, Sample, mean_of, chosen, is_of
 use Rattle.aq_profile.specs.Particles.ParticleDay.{starts_on, cell_of, mean_or_high_sum, day_value, day_cell, day_of_samples, monitor_day, sample_on, samples_on, eligible_pocs, site_day, net_day, unless_excluded}
 use Rattle.aq_profile.specs.Particles.QuarterCounts.{days_of_quarter, quarter_counts, pm25_quarter, quarter_values, quarters_of, pm25_year, values_in}
 use Rattle.aq_profile.specs.Kept.Summaries.{is_value, PmQuarter, KeepsPmQuarter, KeepsPmYear, eight_greatest, summary_of_quarter, pm25_summary}
+use Rattle.aq_profile.proofs.Elements.{Every}
 use Rattle.aq_profile.proofs.Sameness.{same_pollutant}
 use Rattle.aq_profile.proofs.Sums.{total-cons, lesser_of, greater_of, least-some, greatest-some}
-use Rattle.aq_profile.proofs.Spans.{Every}
 use Rattle.aq_profile.proofs.Pm25Facts.{least-there, greatest-there, sum-within, no-sum, top-falls, top-count, top-greatest}
 use Rattle.aq_profile.proofs.Pm10Facts.{length-days, length-filter-le}
 use Rattle.aq_profile.proofs.Pm25Counts.{HoldsDays, counts-keep}
-
-both : (a b : Bool) → (a && b) ≡ true → (a ≡ true) × (b ≡ true)
-both true b h = (refl, h)
-both false b h = cc
 
 -- a value of PM2.5
 abbrev InRange : ℤ → Type 0
@@ -45,7 +42,7 @@ InRange v = (negsuc 998 ≤ℤ v) × (v ≤ℤ pos 99999)
 
 from_test : (v : ℤ) → is_in_range Pm25 v ≡ true → InRange v
 from_test v h =
-    let parts = both (int_le (negsuc 998) v) (int_le v (pos 99999)) h in
+    let parts = and_parts (int_le (negsuc 998) v) (int_le v (pos 99999)) h in
     let low : int_le (negsuc 998) v ≡ true = parts.0 in
     let high : int_le v (pos 99999) ≡ true = parts.1 in
     (grind (arith, ints, low), grind (arith, ints, high))
@@ -127,10 +124,10 @@ of_value out pollutant (Some v) null is h =
 
 pub measured-of : (office : Office) (entry : ObsKey × Observation) → fits_monitors office entry ≡ true → is_measured entry.0.monitor.pollutant entry.1.value entry.1.null ≡ true
 measured-of office entry fits =
-    let content = (both _ (is_content entry.0.monitor.pollutant entry.1) fits).1 in
-    let c = both _ (nat_le (length entry.1.quals) 10) content in
-    let b = both _ _ c.0 in
-    (both (is_measured entry.0.monitor.pollutant entry.1.value entry.1.null) _ b.0).0
+    let content = (and_parts _ (is_content entry.0.monitor.pollutant entry.1) fits).1 in
+    let c = and_parts _ (nat_le (length entry.1.quals) 10) content in
+    let b = and_parts _ _ c.0 in
+    (and_parts (is_measured entry.0.monitor.pollutant entry.1.value entry.1.null) _ b.0).0
 
 cell-in_range : (office : Office) (monitor : MonitorId) (duration : Duration) (day : ℕ) (entry : ObsKey × Observation) → monitor.pollutant ≡ Pm25 → fits_monitors office entry ≡ true
     → IfCell (cell_of office monitor duration day entry)
@@ -142,8 +139,8 @@ cell-in_range office monitor duration day entry is fits =
     by_test false b e = tt
     by_test true false e = tt
     by_test true true e =
-        let site_and = both _ (entry.0.monitor.poc == monitor.poc) e in
-        let pollutant = (both (is_same_site entry.0.monitor.site monitor.site) (is_same_pollutant entry.0.monitor.pollutant monitor.pollutant) site_and.0).1 in
+        let site_and = and_parts _ (entry.0.monitor.poc == monitor.poc) e in
+        let pollutant = (and_parts (is_same_site entry.0.monitor.site monitor.site) (is_same_pollutant entry.0.monitor.pollutant monitor.pollutant) site_and.0).1 in
         of_value (excluded office.records entry.0 entry.1.quals) entry.0.monitor.pollutant entry.1.value entry.1.null (same_pollutant entry.0.monitor.pollutant monitor.pollutant pollutant ∙ is) (measured-of office entry fits)
 
 every-onto : (o : Option Cell) (cells : List Cell) → IfCell o → Every CellIn cells → Every CellIn (cons_option o cells)
@@ -154,7 +151,7 @@ cells-in_range : (office : Office) (monitor : MonitorId) (duration : Duration) (
     → list_all (fits_monitors office) entries ≡ true → Every CellIn (filter_map (cell_of office monitor duration day) entries)
 cells-in_range office monitor duration day [] is fits = tt
 cells-in_range office monitor duration day (entry ∷ entries) is fits =
-    let parts = both (fits_monitors office entry) (list_all (fits_monitors office) entries) fits in
+    let parts = and_parts (fits_monitors office entry) (list_all (fits_monitors office) entries) fits in
     every-onto (cell_of office monitor duration day entry) (filter_map (cell_of office monitor duration day) entries) (cell-in_range office monitor duration day entry is parts.0)
     (cells-in_range office monitor duration day entries is parts.1)
 

@@ -5,6 +5,7 @@ use Rattle.std.specs.List.{filter_map, cons_option, flat_map, list_all, zip}
 use Rattle.std.specs.Option.{IfSome}
 use Rattle.std.proofs.lemmas.Int.{ints}
 use Rattle.std.proofs.lemmas.Bool.Decides.{nat_tests}
+use Rattle.std.proofs.lemmas.Bool.{and_parts}
 use Rattle.aq_base.specs.Site.{Site}
 use Rattle.aq_profile.specs.Lists.{least, greatest, ranked, all_of}
 use Rattle.aq_profile.specs.Office.Office.{Office, IsOffice}
@@ -15,8 +16,7 @@ use Rattle.aq_profile.specs.Particles.YearParts.{of_values}
 use Rattle.aq_profile.specs.Particles.Substitution.{Matched, minimum_for, maximum_for, same_part, matched}
 use Rattle.aq_profile.specs.Particles.AnnualVerdict.{annual_test, annual_value, filled_mean, filled_value, are_all}
 use Rattle.aq_profile.specs.Particles.DailyVerdict.{daily_test, daily_value_of, percentile_of, filled_percentile, value_of_three}
-use Rattle.aq_profile.proofs.Least.{both}
-use Rattle.aq_profile.proofs.Spans.{Every}
+use Rattle.aq_profile.proofs.Elements.{Every, every-append, every-map}
 use Rattle.aq_profile.proofs.Pm25Range.{least-in_range, greatest-in_range, every-ranked, quarter_values-in_range}
 use Rattle.aq_profile.proofs.Held.{Held, IfHeld, Part, half_up-held, total-held, mean_of_means-held, all_of-every}
 
@@ -46,17 +46,9 @@ pub years-in : (office : Office) (site : Site) (years : List ℕ) → IsOffice o
 years-in office site [] valid = tt
 years-in office site (year ∷ years) valid = (year-in office site year valid, years-in office site years valid)
 
-pub every-join : {X : Type 0} (P : X → Type 0) (xs ys : List X) → Every P xs → Every P ys → Every P (xs ++ ys)
-every-join P [] ys every more = more
-every-join P (x ∷ xs) ys every more = (every.0, every-join P xs ys every.1 more)
-
-pub every-map : {X Y : Type 0} (P : X → Type 0) (Q : Y → Type 0) (f : X → Y) → ((x : X) → P x → Q (f x)) → (xs : List X) → Every P xs → Every Q (map f xs)
-every-map P Q f h [] every = tt
-every-map P Q f h (x ∷ xs) every = (h x every.0, every-map P Q f h xs every.1)
-
 every-flat : {X Y : Type 0} (P : X → Type 0) (Q : Y → Type 0) (f : X → List Y) → ((x : X) → P x → Every Q (f x)) → (xs : List X) → Every P xs → Every Q (flat_map f xs)
 every-flat P Q f h [] every = tt
-every-flat P Q f h (x ∷ xs) every = every-join Q (f x) (flat_map f xs) (h x every.0) (every-flat P Q f h xs every.1)
+every-flat P Q f h (x ∷ xs) every = every-append Q (f x) (flat_map f xs) (h x every.0) (every-flat P Q f h xs every.1)
 
 -- ---- means
 
@@ -67,7 +59,7 @@ MeanIn f = has_days f ≡ true → Part 999 99999 f
 parts-of : (fs : List Fraction) → Every MeanIn fs → list_all has_days fs ≡ true → Every (Part 999 99999) fs
 parts-of [] every days = tt
 parts-of (f ∷ fs) every days =
-    let d = both (has_days f) (list_all has_days fs) days in (every.0 d.0, parts-of fs every.1 d.1)
+    let d = and_parts (has_days f) (list_all has_days fs) days in (every.0 d.0, parts-of fs every.1 d.1)
 
 pub mean_of_means-in : (fs : List Fraction) → Every MeanIn fs → IfIn (mean_of_means fs)
 mean_of_means-in fs every = mean_of_means-held 999 99999 fs (parts-of fs every)
@@ -79,7 +71,7 @@ list-mean values every days =
     record { some = some; least = sum.0; most = sum.1 }
 
 mean_with-in : (copies : List ℤ) (q : QuarterDays) → Every In copies → QuarterIn q → MeanIn (of_values.mean_with copies q)
-mean_with-in copies q more every = list-mean (q.values ++ copies) (every-join In q.values copies every more)
+mean_with-in copies q more every = list-mean (q.values ++ copies) (every-append In q.values copies every more)
 
 pub annual_value-in : (years : List (List QuarterDays)) → Every YearIn years → IfIn (annual_value of_values years)
 annual_value-in years every =
@@ -106,7 +98,7 @@ values-in year every = every-flat QuarterIn In (λ (q : QuarterDays). q.values) 
 
 percentile_with-in : (copies : List ℤ) (year : List QuarterDays) → Every In copies → YearIn year → IfIn (of_values.percentile_with copies year)
 percentile_with-in copies year more every =
-    percentile-in (values_in year ++ copies) (counted_in year + length copies) (every-join In (values_in year) copies (values-in year every) more)
+    percentile-in (values_in year ++ copies) (counted_in year + length copies) (every-append In (values_in year) copies (values-in year every) more)
 
 of_three : (os : List (Option ℤ)) → Every IfIn os → IfIn (value_of_three os)
 of_three [] every = tt

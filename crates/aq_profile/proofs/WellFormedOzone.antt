@@ -20,7 +20,7 @@ use Rattle.aq_profile.specs.Ozone.OzoneYear.{days_of, ozone_days, ozone_year}
 use Rattle.aq_profile.specs.Kept.Summaries.{KeepsOzoneYear, is_value}
 use Rattle.aq_profile.specs.Shown.Sheets.{window_cells, windows_sheet, windows_answer, day_cells, days_sheet, days_answer}
 use Rattle.aq_profile.specs.Shown.WellFormed.{is_row, IsWellFormed}
-use Rattle.aq_profile.proofs.Spans.{Every}
+use Rattle.aq_profile.proofs.Elements.{Every}
 use Rattle.aq_profile.proofs.Pm10Facts.{length-kept, length-filter-le}
 use Rattle.aq_profile.proofs.OzoneFacts.{InRange, CellIn, total-between, average-in_range, hours-in_range, window-in_range, day-in_range, from_test, ozone_year-keeps}
 use Rattle.aq_profile.proofs.Quarters.{year-holds}
