@@ -28,6 +28,7 @@ pub mod Pm10Facts
 pub mod Pm25Facts
 pub mod Rising
 pub mod Pm25Counts
+pub mod ValueRange
 pub mod Pm25Range
 pub mod Damage
 pub mod OzoneFacts

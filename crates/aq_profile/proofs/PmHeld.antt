@@ -17,7 +17,8 @@ use Rattle.aq_profile.specs.Particles.Substitution.{Matched, minimum_for, maximu
 use Rattle.aq_profile.specs.Particles.AnnualVerdict.{annual_test, annual_value, filled_mean, filled_value, are_all}
 use Rattle.aq_profile.specs.Particles.DailyVerdict.{daily_test, daily_value_of, percentile_of, filled_percentile, value_of_three}
 use Rattle.aq_profile.proofs.Elements.{Every, every-append, every-map}
-use Rattle.aq_profile.proofs.Pm25Range.{least-in_range, greatest-in_range, every-ranked, quarter_values-in_range}
+use Rattle.aq_profile.proofs.Pm25Range.{quarter_values-in_range}
+use Rattle.aq_profile.proofs.ValueRange.{least-in_range, greatest-in_range, every-ranked}
 use Rattle.aq_profile.proofs.Held.{Held, IfHeld, Part, half_up-held, total-held, mean_of_means-held, all_of-every}
 
 -- ---- quarters of values in range
@@ -90,7 +91,7 @@ pub percentile-in : (values : List ℤ) (counted : ℕ) → Every In values → 
 percentile-in values counted every =
     elim (counted == 0) as (λ b. IfIn (cond b None (slice_get (ranked values) (rank_of counted - 1)))) [
       | true ↦ tt
-      | false ↦ at-in (ranked values) (rank_of counted - 1) (every-ranked values every)
+      | false ↦ at-in (ranked values) (rank_of counted - 1) (every-ranked 99999 values every)
     ]
 
 pub values-in : (year : List QuarterDays) → YearIn year → Every In (values_in year)
@@ -151,12 +152,12 @@ kept-in f h (q ∷ qs) every = value-onto (f q) (filter_map f qs) (h q every.0) 
 minimum-in : CopiesIn (minimum_for of_values)
 minimum-in row h =
     by_tests _ _ (11 - row.0.counts.creditable) (least (filter_map of_values.least_value row.1))
-    (least-in_range (filter_map of_values.least_value row.1) (kept-in of_values.least_value (λ q k. least-in_range q.values k) row.1 h.1))
+    (least-in_range 99999 (filter_map of_values.least_value row.1) (kept-in of_values.least_value (λ q k. least-in_range 99999 q.values k) row.1 h.1))
 
 maximum-in : CopiesIn (maximum_for of_values)
 maximum-in row h =
     by_tests _ _ (row.0.counts.scheduled - row.0.counts.creditable) (greatest (filter_map of_values.greatest_value row.1))
-    (greatest-in_range (filter_map of_values.greatest_value row.1) (kept-in of_values.greatest_value (λ q k. greatest-in_range q.values k) row.1 h.1))
+    (greatest-in_range 99999 (filter_map of_values.greatest_value row.1) (kept-in of_values.greatest_value (λ q k. greatest-in_range 99999 q.values k) row.1 h.1))
 
 onto-in : (o : Option QuarterDays) (qs : List QuarterDays) → IfSome o QuarterIn → YearIn qs → YearIn (cons_option o qs)
 onto-in None qs h every = every

@@ -32,7 +32,7 @@ use Rattle.aq_profile.specs.Shown.OtherSheets.{Judged, judged, judged_cells, rep
 use Rattle.aq_profile.specs.Shown.Answer.{is_design_year}
 use Rattle.aq_profile.specs.Shown.WellFormed.{is_cell, is_head, is_row, IsWellFormed}
 use Rattle.aq_profile.proofs.Elements.{Every}
-use Rattle.aq_profile.proofs.OzoneFacts.{trunc-in_range}
+use Rattle.aq_profile.proofs.ValueRange.{trunc-in_range}
 use Rattle.aq_profile.proofs.Pm10Facts.{pm10_year-keeps}
 use Rattle.aq_profile.proofs.Held.{IfHeld, if_held-wider}
 use Rattle.aq_profile.proofs.PmHeld.{IfIn, YearIn, years-in, annual_value-in, minimum_value-in, maximum_value-in, annual_test-in, daily_value-in, maximum_daily-in, daily_test-in}
@@ -85,7 +85,7 @@ ozone_sheet site year years design few three keeps value = record {
 
 third : (a b c : Option ℤ) → IfHeld 999 9999 a → IfHeld 999 9999 b → IfHeld 999 9999 c → IfHeld 999 9999 (design_value_of a b c)
 third (Some a) (Some b) (Some c) h k l =
-    trunc-in_range (a +ℤ b +ℤ c) 3 (omega arith) (omega (arith, ints, h.0, k.0, l.0), omega (arith, ints, h.1, k.1, l.1))
+    trunc-in_range 9999 (a +ℤ b +ℤ c) 3 (omega arith) (omega (arith, ints, h.0, k.0, l.0), omega (arith, ints, h.1, k.1, l.1))
 third None b c h k l = tt
 third (Some a) None c h k l = tt
 third (Some a) (Some b) None h k l = tt
