@@ -13,7 +13,7 @@ use Rattle.aq_profile.specs.Office.Office.{Office, StoredLoad, IsOffice, comes_b
 use Rattle.aq_profile.specs.Office.Load.{OfficeChange, PutRecord, DropRecord, PutObservation, DropObservation, PutLoad, is_same_record, is_same_content, record_change, observation_change, record_changes, observation_changes, keys_of_either, load_change, batch, stored, after_all}
 use Rattle.aq_profile.specs.Kept.RowChanges.{key_before, keys_rise, keys_rise_from, changed_key, row_change, row_batch}
 use Rattle.aq_profile.proofs.Elements.{Every, every-All, every-append}
-use Rattle.aq_profile.proofs.Rising.{before-trans}
+use Rattle.aq_profile.specs.Office.RowOrder.{before-trans}
 use Rattle.aq_profile.proofs.RowOrder.{office-agree, obs-agree, load-agree}
 use Rattle.aq_profile.proofs.BatchDone.{HasKey, found-key}
 use Rattle.aq_profile.proofs.Changes.{either-rises, keys-rise}

@@ -6,7 +6,7 @@ use Rattle.std.proofs.lemmas.Bool.{and_from, and_parts}
 use Rattle.aq_profile.specs.Office.Office.{is_same, comes_before, rises_from, rises, row_at, with_row}
 use Rattle.aq_profile.specs.Office.Load.{keys_of_either}
 use Rattle.aq_profile.proofs.Elements.{Every}
-use Rattle.aq_profile.proofs.Rising.{before-trans, with_row-rises}
+use Rattle.aq_profile.specs.Office.RowOrder.{before-trans, with_row-rises}
 use Rattle.aq_profile.proofs.Lookups.{same-is, before-other, found-with, rises-rest, one_list}
 
 -- ---- keys of either list

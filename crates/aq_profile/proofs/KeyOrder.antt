@@ -14,7 +14,7 @@ use Rattle.aq_base.specs.declared.monitor.Pollutant.TheVariants.{Ozone, Pm25, Pm
 use Rattle.aq_profile.specs.Lines.Spellings.{has_parameter, Xs}
 use Rattle.aq_profile.specs.Office.Office.{is_same, comes_before, parameter_number, site_numbers, series_numbers, part_numbers, key_numbers, kind_of, is_site, is_day, is_poc, is_key}
 use Rattle.aq_profile.specs.Lines.Canonical.{parameter_text, date_text, site_texts, joined, key_texts, printed_key}
-use Rattle.aq_profile.proofs.Rising.{before-total}
+use Rattle.aq_profile.specs.Office.RowOrder.{before-total}
 use Rattle.aq_profile.proofs.Days.{IsDate, date_of, years_rise, months_rise, months_next}
 
 -- two texts that stand to each other as two numbers

@@ -5,8 +5,6 @@ pub mod Ranges
 pub mod Order
 pub mod Ranked
 pub mod AnyOrder
-pub mod Sameness
-pub mod Exclusions
 pub mod Greatest
 pub mod Rows
 pub mod Least
@@ -26,7 +24,6 @@ pub mod Thirds
 pub mod Joined
 pub mod Pm10Facts
 pub mod Pm25Facts
-pub mod Rising
 pub mod Pm25Counts
 pub mod ValueRange
 pub mod Pm25Range

@@ -16,7 +16,7 @@ use Rattle.aq_profile.specs.Lines.Reading.{LineValue, OfRd, OfOffice, line_value
 use Rattle.aq_profile.specs.Office.Office.{Office, StoredLoad, KeysRise, record_rank, observation_rank, load_rank, key_numbers, observation_numbers, load_at}
 use Rattle.aq_profile.specs.Office.Refusal.{kept_key}
 use Rattle.aq_profile.specs.Office.Load.{Repeat, Conflict, Full, New, with_record, without_record, without_key, changed, changed_by, refusal, after, after_all, with_load, reply, load, decide, decide_known, Posted, TooManyLines, Repeated, Differing, NoRoom, Taken, posted_again, posted_anew, posted_beside, posted, decision_of, office_after, post}
-use Rattle.aq_profile.proofs.Rising.{with_row-rises, without_row-rises}
+use Rattle.aq_profile.specs.Office.RowOrder.{with_row-rises, without_row-rises}
 
 pub after-refused : (office : Office) (line : List ℕ) (rule : Rule) → refusal office line ≡ Some rule → after office line ≡ office
 after-refused office line rule is =

@@ -12,7 +12,7 @@ use Rattle.aq_profile.specs.Shown.Sheet.{SheetCell, Head, Sheet}
 use Rattle.aq_profile.specs.Shown.Json.{Member, head_member, table_members, members_of}
 use Rattle.aq_profile.specs.Shown.WellFormed.{all_differ, names_in, IsWellFormed}
 use Rattle.aq_profile.proofs.Elements.{Every}
-use Rattle.aq_profile.proofs.Rising.{with_row-rises}
+use Rattle.aq_profile.specs.Office.RowOrder.{with_row-rises}
 
 abbrev name_of : Member → List ℕ
 name_of m = m.name

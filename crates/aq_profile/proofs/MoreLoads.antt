@@ -5,7 +5,7 @@ use Rattle.std.specs.List.{list_all}
 use Rattle.std.proofs.lemmas.Bool.{and_from, and_parts}
 use Rattle.aq_profile.specs.Office.Office.{Office, StoredLoad, IsOffice, comes_before, is_same, load_rank, is_load, with_row}
 use Rattle.aq_profile.specs.Office.Load.{with_load}
-use Rattle.aq_profile.proofs.Rising.{with_row-rises}
+use Rattle.aq_profile.specs.Office.RowOrder.{with_row-rises}
 
 module _ {X : Type 0} (rank : X → List ℕ) where
   pub length-with_row : (row : X) (rows : List X) → length (with_row rank row rows) ≤ length rows + 1

@@ -34,7 +34,7 @@ use Rattle.aq_profile.specs.Ozone.OzoneDay.{OzoneDay, starts_of, windows, net_av
 use Rattle.aq_profile.specs.Ozone.OzoneYear.{days_of, ozone_days, ranked_maximum, is_season_day, counts_as_valid, ozone_year}
 use Rattle.aq_profile.specs.Kept.Summaries.{is_value, KeepsOzoneYear}
 use Rattle.aq_profile.proofs.Elements.{Every}
-use Rattle.aq_profile.proofs.Sameness.{same_pollutant}
+use Rattle.aq_profile.specs.Office.Sameness.{same_pollutant}
 use Rattle.aq_profile.proofs.Sums.{total-cons, greater_of, greatest-some}
 use Rattle.aq_profile.proofs.Descent.{length-ranked}
 use Rattle.aq_profile.proofs.Spans.{in_span}

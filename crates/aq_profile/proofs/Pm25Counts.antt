@@ -21,7 +21,7 @@ use Rattle.aq_profile.specs.Ozone.SiteHour.{Cell}
 use Rattle.aq_profile.specs.Particles.ParticleDay.{site_day, net_day, unless_excluded}
 use Rattle.aq_profile.specs.Particles.QuarterCounts.{days_of_quarter, is_sampled, is_kept, Makeup, makeup_by, is_in_time, gives_credit, credits, QuarterCounts, quarter_counts, quarter_values}
 use Rattle.aq_profile.proofs.Elements.{Every, every-to}
-use Rattle.aq_profile.proofs.Sameness.{same_site}
+use Rattle.aq_profile.specs.Office.Sameness.{same_site}
 use Rattle.aq_profile.proofs.Spans.{one_rank, on, fit}
 use Rattle.aq_profile.proofs.Pm10Facts.{quarter_days, length-days, count-filter, count-implied, length-filter-le}
 

@@ -30,7 +30,7 @@ use Rattle.aq_profile.specs.Particles.ParticleDay.{starts_on, cell_of, mean_or_h
 use Rattle.aq_profile.specs.Particles.QuarterCounts.{days_of_quarter, quarter_counts, pm25_quarter, quarter_values, quarters_of, pm25_year, values_in}
 use Rattle.aq_profile.specs.Kept.Summaries.{is_value, PmQuarter, KeepsPmQuarter, KeepsPmYear, eight_greatest, summary_of_quarter, pm25_summary}
 use Rattle.aq_profile.proofs.Elements.{Every, every-append}
-use Rattle.aq_profile.proofs.Sameness.{same_pollutant}
+use Rattle.aq_profile.specs.Office.Sameness.{same_pollutant}
 use Rattle.aq_profile.proofs.Sums.{total-cons, lesser_of, greater_of, least-some, greatest-some}
 use Rattle.aq_profile.proofs.Pm25Facts.{least-there, greatest-there, sum-within, no-sum, top-falls, top-count, top-greatest}
 use Rattle.aq_profile.proofs.Pm10Facts.{length-days, length-filter-le}

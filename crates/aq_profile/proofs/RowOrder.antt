@@ -12,7 +12,7 @@ use Rattle.aq_profile.specs.Lines.Canonical.{printed_key}
 use Rattle.aq_profile.specs.Office.Office.{is_same, comes_before, kind_of, key_numbers, is_key, is_site, pollutant_number, observation_numbers}
 use Rattle.aq_profile.specs.Kept.Rows.{site_key}
 use Rattle.aq_profile.specs.Kept.RowChanges.{RowKey, LoadRowKey, columns_before, key_before, is_same_row_key, office_row_key, obs_row_key}
-use Rattle.aq_profile.proofs.Rising.{before-total}
+use Rattle.aq_profile.specs.Office.RowOrder.{before-total}
 use Rattle.aq_profile.proofs.KeyOrder.{printed_order}
 use Rattle.aq_profile.proofs.Lookups.{same-is, before-other, before-other_way}
 

@@ -8,7 +8,7 @@ use Rattle.std.proofs.lemmas.List.Sums.{sum_by-cons}
 use Rattle.std.proofs.lemmas.Slice.Eq.{bytes_eq-Decides}
 use Rattle.aq_profile.specs.Lines.Spellings.{◌>>=◌}
 use Rattle.aq_profile.specs.Office.Office.{is_same, comes_before, rises_from, rises, row_at, with_row}
-use Rattle.aq_profile.proofs.Rising.{before-trans}
+use Rattle.aq_profile.specs.Office.RowOrder.{before-trans}
 
 -- ---- ranks
 

@@ -17,8 +17,8 @@ use Rattle.aq_base.specs.declared.office.OfficeRecord.{OfficeRecord}
 use Rattle.aq_base.specs.declared.office.OfficeRecord.TheVariants.{Monitor, Primary, Schedule, Season, Makeup, Event, Concurrence, Approved}
 use Rattle.aq_profile.specs.Office.Monitors.{is_same_site, is_same_pollutant, is_same_monitor}
 use Rattle.aq_profile.specs.Office.Load.{is_same_duration, is_same_record, is_same_content}
-use Rattle.aq_profile.proofs.Tests.{int_is, int_itself, number_itself}
-use Rattle.aq_profile.proofs.Sameness.{same_site, same_pollutant, same_monitor, site_itself, pollutant_itself}
+use Rattle.aq_profile.proofs.Tests.{int_is, int_itself}
+use Rattle.aq_profile.specs.Office.Sameness.{number_itself, same_site, same_pollutant, same_monitor, site_itself, pollutant_itself}
 
 truths : (a b : Bool) → beq a b ≡ true → a ≡ b
 truths a b h = (booleans_Decides a b).0 h

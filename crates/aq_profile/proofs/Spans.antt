@@ -7,7 +7,7 @@ use Rattle.std.proofs.lemmas.Bool.Decides.{nat_tests}
 use Rattle.std.proofs.lemmas.Slice.Eq.{bytes_eq-Decides}
 use Rattle.std.proofs.lemmas.Bool.{and_parts}
 use Rattle.aq_profile.proofs.Elements.{Every}
-use Rattle.aq_profile.proofs.Rising.{before-trans}
+use Rattle.aq_profile.specs.Office.RowOrder.{before-trans}
 use Rattle.aq_profile.specs.Office.Office.{is_same, comes_before, rises_from, rises}
 
 -- ---- the order of ranks

@@ -1,8 +1,7 @@
 -- What tests on Booleans and numbers say, where std has no word for it.
-use Rattle.std.proofs.Common.{◌≡◌, ℕ, Bool, true, false, ◌||◌, refl}
-use Rattle.std.specs.Prelude.{ℤ, ◌==◌}
+use Rattle.std.proofs.Common.{◌≡◌, Bool, true, false, ◌||◌, refl}
+use Rattle.std.specs.Prelude.{ℤ}
 use Rattle.std.specs.Ordering.{int_eq}
-use Rattle.std.proofs.lemmas.Bool.{eq-eqb}
 use Rattle.std.proofs.lemmas.Bool.Decides.{Decides-int_eq}
 
 pub or_turns : (a b c : Bool) → (a || (b || c)) ≡ (b || (a || c))
@@ -10,9 +9,6 @@ or_turns true true c = refl
 or_turns true false c = refl
 or_turns false true c = refl
 or_turns false false c = refl
-
-pub number_itself : (n : ℕ) → (n == n) ≡ true
-number_itself n = eq-eqb n n refl
 
 pub int_is : (a b : ℤ) → int_eq a b ≡ true → a ≡ b
 int_is a b h = (Decides-int_eq a b).0 h

@@ -33,7 +33,7 @@ use Rattle.aq_profile.specs.Office.Office.{Office, IsOffice, KeysRise, is_same, 
 use Rattle.aq_profile.specs.Office.Refusal.{broken, breaks_office, kept_key, kept_at, is_other_duration, is_taken, key_stands}
 use Rattle.aq_profile.specs.Office.Load.{with_record, without_record, without_key, changed, changed_by, broken_by, after, after_all}
 use Rattle.aq_profile.proofs.Loads.{KeysRise-changed}
-use Rattle.aq_profile.proofs.Rising.{without_row-rises}
+use Rattle.aq_profile.specs.Office.RowOrder.{without_row-rises}
 use Rattle.aq_profile.proofs.RowsPlaced.{same_is, find_none-first, count_none, filter_all, filter_twice, with_row-all, length-with_row, length-replaced}
 use Rattle.aq_profile.proofs.SitesCounted.{lists, sites_with, length-with_site}
 use Rattle.aq_profile.proofs.ValidLines.{line_valid}

@@ -22,7 +22,7 @@ use Rattle.aq_profile.specs.Office.Refusal.{is_taken}
 use Rattle.aq_profile.specs.Office.Load.{with_record}
 use Rattle.aq_profile.proofs.RowsPlaced.{Inserted, Replaced, same_is, is_same-refl, all_joined, all_at, all_rest, all_weaker, all_standing, any_joined, any_alike, is_some-find, find_alike, count_joined, count_alike, counted_once, filter_all, filter_keeps, find-filter, any-filter, count-filter, with_row-new, with_row-old, row_at-inserted}
 use Rattle.aq_profile.proofs.SitesCounted.{sites_with, sites_joined, sites_alike, sites-filter}
-use Rattle.aq_profile.proofs.Rising.{with_row-rises}
+use Rattle.aq_profile.specs.Office.RowOrder.{with_row-rises}
 
 -- ---- numbers and tests
 
