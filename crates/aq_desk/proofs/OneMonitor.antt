@@ -26,8 +26,8 @@ use Rattle.aq_profile.specs.Lists.{total}
 use Rattle.aq_profile.specs.Office.Monitors.{is_same_site, is_same_pollutant, is_same_monitor, is_eligible}
 use Rattle.aq_profile.specs.Office.Office.{Office, has_monitor, is_same, series_numbers}
 use Rattle.aq_profile.specs.Ozone.SiteHour.{Sample, chosen, is_of_poc, sample_of, site_hour}
-use Rattle.aq_profile.proofs.Exclusions.{excluded-unagreed}
-use Rattle.aq_profile.proofs.Sameness.{site_itself}
+use Rattle.aq_profile.specs.Office.Unagreed.{excluded-unagreed}
+use Rattle.aq_profile.specs.Office.Sameness.{number_itself, site_itself}
 use Rattle.aq_shelf.specs.Keys.{key_cmp, same_key, same_monitor, pollutant_place}
 use Rattle.aq_shelf.specs.Entries.{observation_at}
 use Rattle.aq_shelf.proofs.Order.{is_eq-key_cmp}

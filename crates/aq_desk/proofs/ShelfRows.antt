@@ -15,7 +15,7 @@ use Rattle.aq_base.specs.declared.observation.ObsKey.{ObsKey}
 use Rattle.aq_base.specs.declared.observation.Observation.{Observation}
 use Rattle.aq_profile.specs.Office.Monitors.{is_same_pollutant}
 use Rattle.aq_profile.specs.Office.Office.{Office, observation_numbers, observation_rank, pollutant_number, is_same, comes_before, with_row, without_row, content_of, row_at, observation_at as found_at}
-use Rattle.aq_profile.proofs.Sameness as sameness
+use Rattle.aq_profile.specs.Office.Sameness as sameness
 use Rattle.aq_shelf.specs.Keys.{key_cmp, site_cmp, same_key, same_site, pollutant_place}
 use Rattle.aq_shelf.specs.Entries.{IsShelf, observation_at, with_entry, with_content, without_key}
 use Rattle.aq_shelf.proofs.Order.{is_eq-key_cmp, key_cmp_total}

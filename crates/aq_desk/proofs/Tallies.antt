@@ -11,7 +11,7 @@ use Rattle.aq_profile.specs.Ozone.EightHour.{WindowRow, average_of, average, eig
 use Rattle.aq_profile.specs.Office.Office.{Office}
 use Rattle.aq_profile.specs.Ozone.OzoneDay.{windows, starts_of}
 use Rattle.aq_profile.specs.Ozone.SiteHour.{Cell, site_hour}
-use Rattle.aq_profile.proofs.Exclusions.{row-unexcluded}
+use Rattle.aq_profile.specs.Ozone.Unexcluded.{row-unexcluded}
 use Rattle.aq_desk.specs.WindowView.{IsTally, cells_at, cells_of, row_view}
 use Rattle.aq_desk.specs.declared.windows.Tally.{Tally}
 use Rattle.aq_desk.specs.declared.windows.WindowRow.{WindowRow as Row}
