@@ -1,8 +1,7 @@
 -- Where no concurrence is on record nothing is excluded.
-use Rattle.std.proofs.Common.{◌≡◌, ℕ, Bool, true, false, cond, not, ◌&&◌, ◌||◌, List, [], ◌∷◌, refl, ap}
+use Rattle.std.proofs.Common.{◌≡◌, ℕ, Bool, false, List, [], ◌∷◌, refl}
 use Rattle.std.proofs.lemmas.Bool.{and_right}
-use Rattle.std.specs.List.{list_any, filter}
-use Rattle.std.specs.Prelude.{ℤ}
+use Rattle.std.specs.List.{list_any}
 use Rattle.aq_base.specs.declared.code.Code.{Code}
 use Rattle.aq_base.specs.declared.observation.ObsKey.{ObsKey}
 use Rattle.aq_base.specs.declared.office.OfficeRecord.{OfficeRecord}
