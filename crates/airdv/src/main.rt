@@ -2,6 +2,7 @@
 #![tactic(auto)]
 
 ghost use Rattle.std.specs.Prelude.{◌≡◌, ◌↔◌, IfOk, IsNone, OnErr, map, string_bytes};
+ghost use Rattle.std.specs.Process.{exit_status};
 ghost use Rattle.aq_desk.specs.Body.{Over};
 ghost use Rattle.aq_desk.specs.Command.{Follows, Tells, message_for};
 ghost use Rattle.aq_desk.specs.Ending.{no_memory};
@@ -23,26 +24,26 @@ fn main(rt: HostRuntime) -> ExitCode {
     let mut input = Reading::new(rt.reader());
     let mut output = Writing::new(io::writer(&rt));
     let mut errors = Writing::new(rt.stderr());
-    ExitCode::from(obey(rt.alloc(), words, &mut input, &mut output, &mut errors))
+    obey(rt.alloc(), words, &mut input, &mut output, &mut errors)
 }
 
-/// Runs the command of the words, where there was memory to read them, and answers the exit status.
+/// Runs the command of the words, where there was memory to read them.
 fn obey<S: Source, O: Sink, E: Sink>(
     alloc: Global,
     words: Result<Vec<String>, Memory>,
     input: &mut S,
     output: &mut O,
     errors: &mut E,
-) -> u8
-    ensures headline { IfOk words (λ words. Over (S.left input.old) (λ body. Follows (outcome_for (command_of (map string_bytes words.items)) body) result (O.written output.old) (O.written output.new))) }
-    ensures messages { IfOk words (λ words. Over (S.left input.old) (λ body. Tells (message_for (outcome_for (command_of (map string_bytes words.items)) body) result) (E.faults errors.old) (E.faults errors.new) (E.written errors.old) (E.written errors.new))) }
-    ensures no_command { IfOk words (λ words. (result ≡ 2) ↔ IsNone (command_of (map string_bytes words.items))) }
-    ensures no_memory { OnErr words (result ≡ 7) }
+) -> ExitCode
+    ensures headline { IfOk words (λ words. Over (S.left input.old) (λ body. Follows (outcome_for (command_of (map string_bytes words.items)) body) (exit_status result) (O.written output.old) (O.written output.new))) }
+    ensures messages { IfOk words (λ words. Over (S.left input.old) (λ body. Tells (message_for (outcome_for (command_of (map string_bytes words.items)) body) (exit_status result)) (E.faults errors.old) (E.faults errors.new) (E.written errors.old) (E.written errors.new))) }
+    ensures no_command { IfOk words (λ words. (exit_status result ≡ 2) ↔ IsNone (command_of (map string_bytes words.items))) }
+    ensures no_memory { OnErr words (exit_status result ≡ 7) }
     ensures no_memory_told { let ending = no_memory in OnErr words (Tells ending.message (E.faults errors.old) (E.faults errors.new) (E.written errors.old) (E.written errors.new)) }
 {
     match words {
-        Ok(words) => run(alloc, &words, input, output, errors),
-        Err(Memory) => end_without_memory(errors),
+        Ok(words) => ExitCode::from(run(alloc, &words, input, output, errors)),
+        Err(Memory) => ExitCode::from(end_without_memory(errors)),
     }
 }
 
