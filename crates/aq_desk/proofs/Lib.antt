@@ -1,5 +1,4 @@
 pub mod Fronts
-pub mod ShelfRows
 pub mod LineLemmas
 pub mod BuiltLaws
 pub mod OneMonitor

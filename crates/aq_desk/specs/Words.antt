@@ -1,6 +1,5 @@
 -- The words of the command line, and the command that they name (own).
 use Rattle.std.specs.Prelude.{ℕ, List, [], ◌∷◌, Option, Some, None, if◌then◌else◌, codes, bytes_eq}
-use Rattle.aq_base.specs.Site.{Site}
 use Rattle.aq_profile.specs.Lines.Spellings.{◌>>=◌}
 use Rattle.aq_rd.specs.Words.{site_word, day_word}
 use Rattle.aq_desk.specs.declared.words.Command.{Command}

@@ -21,7 +21,7 @@ pub returns-clause-after : goal.returns-clause-after
 returns-clause-after c =
     let at : IsAt c.args.self.now c.self.inside.monitor c.self.inside.shelf c.args.monitor.now = record { view = c.self.view_is; known = known_from c.is_registered.result _ c.is_registered.ensures c.if-not-is_registered.false } in
     elim c.match-remove.branch [
-      | in-Ok w ↦ rw w.result-is (after-delete c.args.self.now c.self.inside.monitor c.self.inside.shelf c.args.monitor.now at c.args.hour c.remove.new.self c.remove.ensures.shelf w.in-Ok.ensures.ok)
+      | in-Ok w ↦ rw w.result-is (after-delete c.args.self.now c.self.inside.monitor c.self.inside.shelf c.args.monitor.now at c.args.hour c.remove.new.self w.in-Ok.ensures.ok)
       | in-Err w ↦ rw w.result-is tt
     ]
 

@@ -1,6 +1,6 @@
 use Rattle.std.proofs.Common.{◌∙◌}
 use Rattle.std.proofs.lemmas.Result.{err_from_is_err_and}
-use Rattle.aq_desk.proofs.LineLemmas.{IsAt, known_from, hours_from_eq, key_at, IsBuilt-insert, IsBuilt-update, IsBuilt-same, broken-same, insert-unbroken, insert-refused, update-unbroken, update-not_there, after-insert, after-update}
+use Rattle.aq_desk.proofs.LineLemmas.{IsAt, known_from, hours_from_eq, IsBuilt-put, IsBuilt-same, broken-same, insert-unbroken, insert-refused, update-unbroken, update-not_there, after-put}
 use Rattle.aq_desk.proofs.office.Office.put.Goals as goal
 use Rattle.aq_desk.proofs.office.Office.put.Goals.{in-Ok, in-Err}
 
@@ -8,8 +8,9 @@ use Rattle.aq_desk.proofs.office.Office.put.Goals.{in-Ok, in-Err}
 
 pub invariant_of-self : goal.invariant_of-self
 invariant_of-self c =
+    let at : IsAt c.args.self.now c.self.inside.monitor c.self.inside.shelf c.args.monitor.now = record { view = c.self.view_is; known = known_from c.is_registered.result _ c.is_registered.ensures c.if-not-is_registered.false } in
     elim c.match-update.branch [
-      | in-Ok w ↦ IsBuilt-update c.self.inside.monitor c.self.inside.shelf c.update.new.self (key_at c.args.monitor.now c.args.hour) c.args.content.now c.self.invariant w.in-Ok.ensures.ok
+      | in-Ok w ↦ IsBuilt-put c.args.self.now c.self.inside.monitor c.self.inside.shelf c.update.new.self c.args.monitor.now c.args.hour c.args.content.now at c.self.invariant w.in-Ok.ensures.ok
       | in-Err w ↦ IsBuilt-same c.self.inside.monitor c.self.inside.shelf c.update.new.self c.self.invariant w.in-Err.ensures.unchanged
     ]
 
@@ -26,7 +27,7 @@ pub returns-after-update-clause-after : goal.returns-after-update-clause-after
 returns-after-update-clause-after c =
     let at : IsAt c.args.self.now c.self.inside.monitor c.self.inside.shelf c.args.monitor.now = record { view = c.self.view_is; known = known_from c.is_registered.result _ c.is_registered.ensures c.if-not-is_registered.false } in
     elim c.match-update.branch [
-      | in-Ok w ↦ rw w.result-is (λ method. after-update c.args.self.now c.self.inside.monitor c.self.inside.shelf c.args.monitor.now at c.args.hour c.args.update c.args.duration method c.args.content.now _ c.update.new.self c.update.ensures.shelf w.in-Ok.ensures.before w.in-Ok.ensures.ok)
+      | in-Ok w ↦ rw w.result-is (λ method. after-put c.args.self.now c.self.inside.monitor c.self.inside.shelf c.args.monitor.now at c.args.hour c.args.update c.args.duration method c.args.content.now c.update.new.self w.in-Ok.ensures.ok)
       | in-Err w ↦ rw w.result-is tt
     ]
 
@@ -44,7 +45,7 @@ returns-after-update-clause-refused c =
 pub invariant_of-self-else-update : goal.invariant_of-self-else-update
 invariant_of-self-else-update c =
     let at : IsAt c.args.self.now c.self.inside.monitor c.self.inside.shelf c.args.monitor.now = record { view = c.self.view_is; known = known_from c.is_registered.result _ c.is_registered.ensures c.if-not-is_registered.false } in
-    IsBuilt-insert c.args.self.now c.self.inside.monitor c.self.inside.shelf c.insert.new.self c.args.monitor.now c.args.hour c.args.content.now at c.self.invariant c.in_ok-insert.ensures.ok
+    IsBuilt-put c.args.self.now c.self.inside.monitor c.self.inside.shelf c.insert.new.self c.args.monitor.now c.args.hour c.args.content.now at c.self.invariant c.in_ok-insert.ensures.ok
 
 pub returns-in_ok-insert-clause-unbroken : goal.returns-in_ok-insert-clause-unbroken
 returns-in_ok-insert-clause-unbroken c =
@@ -55,7 +56,7 @@ returns-in_ok-insert-clause-unbroken c =
 pub returns-in_ok-insert-clause-after : goal.returns-in_ok-insert-clause-after
 returns-in_ok-insert-clause-after c =
     let at : IsAt c.args.self.now c.self.inside.monitor c.self.inside.shelf c.args.monitor.now = record { view = c.self.view_is; known = known_from c.is_registered.result _ c.is_registered.ensures c.if-not-is_registered.false } in
-    λ method. after-insert c.args.self.now c.self.inside.monitor c.self.inside.shelf c.args.monitor.now at c.args.hour c.args.update c.args.duration method c.args.content.now c.insert.new.self c.in_ok-insert.ensures.ok
+    λ method. after-put c.args.self.now c.self.inside.monitor c.self.inside.shelf c.args.monitor.now at c.args.hour c.args.update c.args.duration method c.args.content.now c.insert.new.self c.in_ok-insert.ensures.ok
 
 pub returns-in_err-insert-clause-refused : goal.returns-in_err-insert-clause-refused
 returns-in_err-insert-clause-refused c =
