@@ -1,2 +1,3 @@
 -- Lemmas on the lines of a body.
 pub mod Cuts
+pub mod OfficeOrder

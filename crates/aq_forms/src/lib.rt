@@ -1,9 +1,13 @@
-//! The lines of a load's body.
+//! The lines of a load's body, and the lines of the agency's own forms (own), both ways.
 #![tactic(auto)]
 
+mod forms;
 mod lines;
+mod read;
+mod spellings;
 
 pub use lines::{BodyLine, Lines, MOST_BYTES, count_lines, lines_of};
+pub use read::read_office;
 
 #[cfg(test)]
 mod tests;
