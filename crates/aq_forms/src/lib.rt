@@ -3,10 +3,12 @@
 
 mod forms;
 mod lines;
+mod print;
 mod read;
 mod spellings;
 
 pub use lines::{BodyLine, Lines, MOST_BYTES, count_lines, lines_of};
+pub use print::{print_key, print_office};
 pub use read::read_office;
 
 #[cfg(test)]
