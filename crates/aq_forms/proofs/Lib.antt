@@ -2,3 +2,4 @@
 pub mod Cuts
 pub mod OfficeOrder
 pub mod OfficePrinted
+pub mod OfficeTags

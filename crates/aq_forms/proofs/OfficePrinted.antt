@@ -6,7 +6,7 @@ use Rattle.aq_base.specs.declared.office.OfficeKey.TheVariants.{Monitor, Primary
 use Rattle.aq_base.specs.declared.office.OfficeLine.{OfficeLine}
 use Rattle.aq_base.specs.declared.office.OfficeLine.TheVariants.{Put, Change, Drop}
 use Rattle.aq_profile.specs.Office.Office.{key_of}
-use Rattle.aq_profile.specs.Lines.Canonical.{canonical_office, office_texts, key_tag}
+use Rattle.aq_profile.specs.Lines.Canonical.{canonical_office, office_texts, joined, key_tag, deletion_texts}
 use Rattle.aq_profile.specs.Lines.Reading.{is_plain, tag_of}
 use Rattle.aq_forms.specs.OfficeReading.{is_rd, has_rd_tag}
 
@@ -26,6 +26,17 @@ pub six-written : (o0 o1 o2 : List ℕ) (n : ℕ) → o1 ≡ o0 ++ last_digits 3
 six-written o0 o1 o2 n e1 e2 =
     e2 ∙ ap (λ o. o ++ last_digits 3 (n % 1000)) e1 ∙ append_assoc o0 (last_digits 3 (n / 1000 % 1000)) (last_digits 3 (n % 1000))
     ∙ ap (λ digits. o0 ++ digits) (six_digits n)
+
+-- the fields of a deletion are some
+pub behind_the_first_bar : (key : OfficeKey) (tag action : List ℕ) → joined (tag ∷ action ∷ deletion_texts key) ≡ tag ++ 124 ∷ (action ++ 124 ∷ joined (deletion_texts key))
+behind_the_first_bar (Monitor id) tag action = refl
+behind_the_first_bar (Primary site pollutant from) tag action = refl
+behind_the_first_bar (Schedule site pollutant from) tag action = refl
+behind_the_first_bar (Season site year) tag action = refl
+behind_the_first_bar (Makeup site missed) tag action = refl
+behind_the_first_bar (Event number) tag action = refl
+behind_the_first_bar (Concurrence number) tag action = refl
+behind_the_first_bar (Approved site day) tag action = refl
 
 -- a written line does not begin with RD
 no_rd-key : (key : OfficeKey) (rest : List ℕ) → is_rd (tag_of (key_tag key ++ 124 ∷ rest)) ≡ false

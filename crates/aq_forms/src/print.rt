@@ -3,7 +3,7 @@ ghost use Rattle.std.specs.Prelude.{◌≡◌, false, ◌++◌, ◌∷◌, [], d
 ghost use Rattle.aq_base.specs.Decimal.{last_digits};
 ghost use Rattle.aq_profile.specs.Office.Office.{key_of};
 ghost use Rattle.aq_profile.specs.Lines.Reading.{line_value, OfOffice};
-ghost use Rattle.aq_profile.specs.Lines.Canonical.{canonical_office, is_office_line, printed_key, joined, office_texts_of, key_tag, deletion_texts, content_texts, site_texts, start_texts, parameter_text, duration_text, date_text, code_text, truth_text};
+ghost use Rattle.aq_profile.specs.Lines.Canonical.{canonical_office, is_office_line, printed_key, joined, office_texts_of, key_tag, deletion_texts, content_texts, list_texts, site_texts, start_texts, parameter_text, duration_text, date_text, code_text, truth_text};
 ghost use Rattle.aq_rd.specs.Printing.{behind_bars};
 ghost use Rattle.aq_forms.specs.OfficeReading.{has_rd_tag};
 
@@ -44,18 +44,9 @@ fn write_line(out: &mut Vec<u8>, line: &OfficeLine) -> Result<(), Memory>
     ensures { OnOk result (out.new.items ≡ out.old.items ++ canonical_office line.now) }
 {
     match line {
-        OfficeLine::Put(entry) => {
-            write_record(out, b"I", entry)?;
-            Ok(())
-        }
-        OfficeLine::Change(entry) => {
-            write_record(out, b"U", entry)?;
-            Ok(())
-        }
-        OfficeLine::Drop(key) => {
-            write_front(out, b"D", key)?;
-            Ok(())
-        }
+        OfficeLine::Put(entry) => write_record(out, b"I", entry),
+        OfficeLine::Change(entry) => write_record(out, b"U", entry),
+        OfficeLine::Drop(key) => write_front(out, b"D", key),
     }
 }
 
@@ -100,13 +91,15 @@ fn key_of(entry: &OfficeRecord) -> OfficeKey
     }
 }
 
-// The tag, an action and the fields of a key.
+// The tag, an action and the fields of a deletion.
+#[tactic(auto, using(crate::proofs::OfficePrinted::behind_the_first_bar))]
 fn write_front(out: &mut Vec<u8>, action: &[u8], key: &OfficeKey) -> Result<(), Memory>
     ensures { OnOk result (out.new.items ≡ out.old.items ++ joined (key_tag key.now ∷ action.now ∷ deletion_texts key.now)) }
 {
     out.extend_from_slice(key_tag(key))?;
     write_field(out, action)?;
-    write_key_fields(out, key)?;
+    out.push(b'|')?;
+    write_deletion(out, key)?;
     Ok(())
 }
 
@@ -125,12 +118,12 @@ fn key_tag(key: &OfficeKey) -> &'static [u8]
     }
 }
 
-fn write_key_fields(out: &mut Vec<u8>, key: &OfficeKey) -> Result<(), Memory>
-    ensures { OnOk result (out.new.items ≡ out.old.items ++ behind_bars (deletion_texts key.now)) }
+// The fields of a deletion, behind its action.
+fn write_deletion(out: &mut Vec<u8>, key: &OfficeKey) -> Result<(), Memory>
+    ensures { OnOk result (out.new.items ≡ out.old.items ++ joined (deletion_texts key.now)) }
 {
     match key {
         OfficeKey::Monitor { id } => {
-            out.push(b'|')?;
             write_series(out, &id.site, id.pollutant)?;
             write_number(out, u32::from(id.poc))?;
             Ok(())
@@ -139,48 +132,22 @@ fn write_key_fields(out: &mut Vec<u8>, key: &OfficeKey) -> Result<(), Memory>
             site,
             pollutant,
             from,
-        } => {
-            out.push(b'|')?;
-            write_series(out, site, *pollutant)?;
-            write_date(out, *from)?;
-            Ok(())
-        }
+        } => write_listed(out, site, *pollutant, *from),
         OfficeKey::Schedule {
             site,
             pollutant,
             from,
-        } => {
-            out.push(b'|')?;
-            write_series(out, site, *pollutant)?;
-            write_date(out, *from)?;
-            Ok(())
-        }
+        } => write_listed(out, site, *pollutant, *from),
         OfficeKey::Season { site, year } => {
-            out.push(b'|')?;
             write_site(out, site)?;
             write_field(out, &last_digits::<4>(*year))?;
             Ok(())
         }
-        OfficeKey::Makeup { site, missed } => {
-            out.push(b'|')?;
-            write_series(out, site, Pollutant::Pm25)?;
-            write_date(out, *missed)?;
-            Ok(())
+        OfficeKey::Makeup { site, missed } => write_listed(out, site, Pollutant::Pm25, *missed),
+        OfficeKey::Event { number } | OfficeKey::Concurrence { number } => {
+            write_fixed(out, i64::from(*number), 0)
         }
-        OfficeKey::Event { number } => {
-            write_number(out, *number)?;
-            Ok(())
-        }
-        OfficeKey::Concurrence { number } => {
-            write_number(out, *number)?;
-            Ok(())
-        }
-        OfficeKey::Approved { site, day } => {
-            out.push(b'|')?;
-            write_site(out, site)?;
-            write_date(out, *day)?;
-            Ok(())
-        }
+        OfficeKey::Approved { site, day } => write_site_day(out, site, *day),
     }
 }
 
@@ -244,6 +211,8 @@ fn write_content(out: &mut Vec<u8>, entry: &OfficeRecord) -> Result<(), Memory>
     }
 }
 
+// A printed key has the fields of a deletion, but for the POC, a make-up record's parameter and an
+// event's number.
 #[tactic(auto, unfolding(aq_profile::specs::Lines::Canonical::key_texts))]
 fn write_key(out: &mut Vec<u8>, key: &OfficeKey) -> Result<(), Memory>
     ensures { OnOk result (out.new.items ≡ out.old.items ++ printed_key key.now) }
@@ -254,48 +223,37 @@ fn write_key(out: &mut Vec<u8>, key: &OfficeKey) -> Result<(), Memory>
             write_field(out, &last_digits::<2>(u16::from(id.poc)))?;
             Ok(())
         }
-        OfficeKey::Primary {
-            site,
-            pollutant,
-            from,
-        } => {
-            write_series(out, site, *pollutant)?;
-            write_date(out, *from)?;
-            Ok(())
+        OfficeKey::Makeup { site, missed } => write_site_day(out, site, *missed),
+        OfficeKey::Event { number } | OfficeKey::Concurrence { number } => {
+            write_six_digits(out, *number)
         }
-        OfficeKey::Schedule {
-            site,
-            pollutant,
-            from,
-        } => {
-            write_series(out, site, *pollutant)?;
-            write_date(out, *from)?;
-            Ok(())
-        }
-        OfficeKey::Season { site, year } => {
-            write_site(out, site)?;
-            write_field(out, &last_digits::<4>(*year))?;
-            Ok(())
-        }
-        OfficeKey::Makeup { site, missed } => {
-            write_site(out, site)?;
-            write_date(out, *missed)?;
-            Ok(())
-        }
-        OfficeKey::Event { number } => {
-            write_six_digits(out, *number)?;
-            Ok(())
-        }
-        OfficeKey::Concurrence { number } => {
-            write_six_digits(out, *number)?;
-            Ok(())
-        }
-        OfficeKey::Approved { site, day } => {
-            write_site(out, site)?;
-            write_date(out, *day)?;
-            Ok(())
-        }
+        OfficeKey::Primary { .. }
+        | OfficeKey::Schedule { .. }
+        | OfficeKey::Season { .. }
+        | OfficeKey::Approved { .. } => write_deletion(out, key),
     }
+}
+
+// A site, a parameter and a date.
+fn write_listed(
+    out: &mut Vec<u8>,
+    site: &SiteId,
+    pollutant: Pollutant,
+    from: Day,
+) -> Result<(), Memory>
+    ensures { OnOk result (out.new.items ≡ out.old.items ++ joined (list_texts site.now pollutant from)) }
+{
+    write_series(out, site, pollutant)?;
+    write_date(out, from)?;
+    Ok(())
+}
+
+fn write_site_day(out: &mut Vec<u8>, site: &SiteId, day: Day) -> Result<(), Memory>
+    ensures { OnOk result (out.new.items ≡ out.old.items ++ joined (site_texts site.now ++ date_text day ∷ [])) }
+{
+    write_site(out, site)?;
+    write_date(out, day)?;
+    Ok(())
 }
 
 // Appends a field behind a bar.
