@@ -1,0 +1,12 @@
+//! Ozone (40 CFR Part 50, Appendix U): the 8-hour averages of a site, and the daily maximum 8-hour
+//! average that they give. It takes no memory.
+#![tactic(auto)]
+
+mod eight_hour;
+mod ozone_day;
+
+pub use eight_hour::{DayWindows, LEVEL, WINDOWS, WindowRow, average};
+pub use ozone_day::{OzoneDay, day_of_windows};
+
+#[cfg(test)]
+mod tests;

@@ -1,0 +1,7 @@
+use Rattle.std.proofs.Common.{◌≡◌, ◌++◌, drop, flat_map}
+use Rattle.aq_profile.specs.Shown.Sheet as book
+use Rattle.aq_reports.proofs.text.write_table.Given as goal
+
+abbrev pub invariant-loop-row : goal.invariant-loop-row
+invariant-loop-row l =
+    l.out.items ++ flat_map book.row_text (drop l.row-index l.rows) ≡ (l.fn.out.items ++ book.line_of l.columns) ++ flat_map book.row_text l.rows

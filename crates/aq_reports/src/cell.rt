@@ -1,0 +1,91 @@
+//! The cells of a sheet.
+use aq_base::{Bytes, Memory};
+use std::alloc::Global;
+use std::marker::Model;
+
+/// A whole number; a value of so many places, in units of `10^-places`; a text; or no value.
+#[derive(Debug, Drop)]
+pub(crate) enum Content {
+    Int(i64),
+    Fixed(i64, u8),
+    Text(Bytes),
+    Missing,
+}
+
+/// A cell of a sheet, of which a value has at most six places. Contracts see the book's cell.
+#[derive(Debug, Drop)]
+pub struct SheetCell {
+    pub(crate) content: Content,
+}
+
+impl Model for SheetCell {
+    ghost use Rattle.aq_profile.specs.Shown.Sheet as book;
+
+    ghost Value = { book.SheetCell };
+
+    ghost use Rattle.aq_reports.specs.CellView.{HasFewPlaces, cell_of};
+
+    ghost view = { λ cell. cell_of cell.content };
+
+    ghost invariant = { λ cell. HasFewPlaces cell.content };
+}
+
+impl SheetCell {
+    ghost use Rattle.std.specs.Prelude.{◌≡◌, ◌≤◌, IfOk};
+    ghost use Rattle.aq_profile.specs.Shown.Sheet as book;
+
+    /// A whole number.
+    pub fn int(value: i64) -> SheetCell
+        ensures { result ≡ book.SheetCell.Int value }
+    {
+        SheetCell {
+            content: Content::Int(value),
+        }
+    }
+
+    /// A number of things.
+    pub fn count(number: u32) -> SheetCell
+        ensures { result ≡ book.count_cell number }
+    {
+        SheetCell::int(i64::from(number))
+    }
+
+    /// The value `value / 10^places`.
+    pub fn fixed(value: i64, places: u8) -> SheetCell
+        requires { places ≤ 6 }
+        ensures { result ≡ book.SheetCell.Fixed value places }
+    {
+        SheetCell {
+            content: Content::Fixed(value, places),
+        }
+    }
+
+    /// Thousandths of a ppm as ppm, where there are any.
+    pub fn ppm(value: Option<i32>) -> SheetCell
+        ensures { result ≡ book.ppm_cell value }
+    {
+        match value {
+            Some(value) => SheetCell::fixed(i64::from(value), 3),
+            None => SheetCell::missing(),
+        }
+    }
+
+    /// A text.
+    pub fn text(alloc: Global, text: &[u8]) -> Result<SheetCell, Memory>
+        ensures { IfOk result (λ cell. cell ≡ book.SheetCell.Text text.now) }
+    {
+        let text = Bytes::from_vec(text.to_vec(alloc)?);
+        Ok(SheetCell {
+            content: Content::Text(text),
+        })
+    }
+
+    /// No value.
+    pub fn missing() -> SheetCell
+        ensures { result ≡ book.SheetCell.Missing }
+    {
+        SheetCell {
+            content: Content::Missing,
+        }
+    }
+}

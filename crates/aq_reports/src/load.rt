@@ -1,0 +1,75 @@
+//! The sheet of a load's reply.
+ghost use Rattle.std.specs.Prelude.{◌≡◌, ◌∷◌, [], ◌++◌, IfOk, OnOk, map};
+ghost use Rattle.aq_profile.specs.Shown.Sheets as book;
+
+use crate::cell::SheetCell;
+use crate::list::{list, names};
+use crate::sheet::{Cells, Head, Rows, Sheet};
+use aq_base::{ListedLine, LoadReply, Memory, RestRule};
+use std::alloc::Global;
+
+/// The sheet of a reply: the listed lines in order, and then the further refused lines by their rules.
+pub fn load_sheet(alloc: Global, reply: &LoadReply) -> Result<Sheet, Memory>
+    ensures { IfOk result (λ sheet. sheet ≡ book.load_sheet reply.now) }
+{
+    let number = Head::new(alloc, b"load", SheetCell::count(reply.number))?;
+    let lines = Head::new(alloc, b"lines", SheetCell::count(reply.lines))?;
+    let accepted = Head::new(alloc, b"accepted", SheetCell::count(reply.accepted))?;
+    let refused = Head::new(alloc, b"refused", SheetCell::count(reply.refused))?;
+    let heads = list(alloc, [number, lines, accepted, refused])?;
+    let columns = names(alloc, &[b"line", b"rule", b"name", b"count"])?;
+    let mut rows = Rows::new(alloc);
+    add_listed(alloc, &mut rows, reply.listed.as_slice())?;
+    add_rest(alloc, &mut rows, reply.rest.as_slice())?;
+    Ok(Sheet::new(heads, columns, rows))
+}
+
+/// A row for each refused line that is listed.
+fn add_listed(alloc: Global, rows: &mut Rows, lines: &[ListedLine]) -> Result<(), Memory>
+    ensures { OnOk result (rows.new ≡ rows.old ++ map book.listed_row lines.now) }
+{
+    for listed in lines {
+        rows.push(listed_row(alloc, listed)?)?;
+    }
+    Ok(())
+}
+
+fn listed_row(alloc: Global, listed: &ListedLine) -> Result<Cells, Memory>
+    ensures { IfOk result (λ cells. cells ≡ book.listed_row listed.now) }
+{
+    let name = SheetCell::text(alloc, listed.rule.name().as_bytes())?;
+    list(
+        alloc,
+        [
+            SheetCell::count(listed.line),
+            SheetCell::count(u32::from(listed.rule.number())),
+            name,
+            SheetCell::count(1),
+        ],
+    )
+}
+
+/// A row for each rule that further lines broke.
+fn add_rest(alloc: Global, rows: &mut Rows, rules: &[RestRule]) -> Result<(), Memory>
+    ensures { OnOk result (rows.new ≡ rows.old ++ map book.rest_row rules.now) }
+{
+    for rest in rules {
+        rows.push(rest_row(alloc, rest)?)?;
+    }
+    Ok(())
+}
+
+fn rest_row(alloc: Global, rest: &RestRule) -> Result<Cells, Memory>
+    ensures { IfOk result (λ cells. cells ≡ book.rest_row rest.now) }
+{
+    let name = SheetCell::text(alloc, rest.rule.name().as_bytes())?;
+    list(
+        alloc,
+        [
+            SheetCell::missing(),
+            SheetCell::count(u32::from(rest.rule.number())),
+            name,
+            SheetCell::count(rest.count),
+        ],
+    )
+}

@@ -1,0 +1,76 @@
+//! Sheets as values.
+use crate::cell::SheetCell;
+use aq_base::{Bytes, Items, Memory};
+use std::alloc::Global;
+use std::marker::Model;
+
+/// A name and its value. Contracts see the book's head.
+#[derive(Debug, Drop)]
+pub struct Head {
+    pub(crate) name: Bytes,
+    pub(crate) cell: SheetCell,
+}
+
+impl Model for Head {
+    ghost use Rattle.aq_profile.specs.Shown.Sheet as book;
+
+    ghost Value = { book.Head };
+
+    ghost view = { λ head. record { name = head.name; cell = head.cell } };
+}
+
+impl Head {
+    ghost use Rattle.std.specs.Prelude.{◌≡◌, IfOk};
+    ghost use Rattle.aq_profile.specs.Shown.Sheet as book;
+
+    /// The head of this name and value.
+    pub fn new(alloc: Global, name: &[u8], cell: SheetCell) -> Result<Head, Memory>
+        ensures { IfOk result (λ head. head ≡ book.head_of name.now cell) }
+    {
+        let name = Bytes::from_vec(name.to_vec(alloc)?);
+        Ok(Head { name, cell })
+    }
+}
+
+/// The heads of a sheet, in order.
+pub type Heads = Items<Head>;
+
+/// The names of its columns.
+pub type Names = Items<Bytes>;
+
+/// The cells of a row, one for each column.
+pub type Cells = Items<SheetCell>;
+
+/// The rows of a sheet, in order.
+pub type Rows = Items<Cells>;
+
+/// A sheet: heads, and a table of rows below its column names. Contracts see the book's sheet.
+#[derive(Debug, Drop)]
+pub struct Sheet {
+    pub(crate) heads: Heads,
+    pub(crate) columns: Names,
+    pub(crate) rows: Rows,
+}
+
+impl Model for Sheet {
+    ghost use Rattle.aq_profile.specs.Shown.Sheet as book;
+
+    ghost Value = { book.Sheet };
+
+    ghost view = { λ sheet. record { heads = sheet.heads; columns = sheet.columns; rows = sheet.rows } };
+}
+
+impl Sheet {
+    ghost use Rattle.std.specs.Prelude.{◌≡◌};
+
+    /// The sheet of these heads, column names and rows.
+    pub fn new(heads: Heads, columns: Names, rows: Rows) -> Sheet
+        ensures { result ≡ record { heads = heads; columns = columns; rows = rows } }
+    {
+        Sheet {
+            heads,
+            columns,
+            rows,
+        }
+    }
+}
