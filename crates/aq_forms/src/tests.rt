@@ -114,6 +114,13 @@ fn canonical_lines_are_written_as_they_are_read(rt: HostRuntime) -> Result<(), F
     Ok(())
 }
 
+fn refusal(line: &str) -> Option<Rule> {
+    match reading(line) {
+        Ok(_) => None,
+        Err(rule) => Some(rule),
+    }
+}
+
 #[test]
 fn the_first_broken_rule_refuses_a_line(rt: HostRuntime) {
     for (line, rule) in [
@@ -168,7 +175,7 @@ fn the_first_broken_rule_refuses_a_line(rt: HostRuntime) {
         ("XC|U|01|Y", Rule::BadCode),
         ("XM|I|06|037|1103|44201|1|1|y", Rule::BadCode),
     ] {
-        assert_eq!(rt; reading(line).err(), Some(rule), "{line}");
+        assert_eq!(rt; refusal(line), Some(rule), "{line}");
     }
 }
 
