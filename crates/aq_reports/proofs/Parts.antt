@@ -1,14 +1,7 @@
 -- The parts of a sheet, as they are made one after another.
 use Rattle.std.proofs.Common.{◌≡◌, ℕ, List, [], ◌++◌, ap, ◌∙◌, append_assoc}
-use Rattle.aq_base.specs.Text as base
-use Rattle.aq_cal.specs.DayText as cal
 
 -- rows that come in two parts
 pub two_parts : {X : Type 0} (start one all a b : List X) → start ≡ [] → one ≡ start ++ a → all ≡ one ++ b → all ≡ a ++ b
 two_parts start one all a b none first second =
     second ∙ ap (λ rows. rows ++ b) (first ∙ ap (λ rows. rows ++ a) none)
-
--- a day's text, its pieces joined in the other way
-pub day_text_is : (day : ℕ) → cal.day_text day ≡ base.day_text day
-unfolding base.day_text
-day_text_is day = simp append_assoc
