@@ -1,0 +1,7 @@
+-- Lemmas on the order of places, and on entries.
+pub mod PlaceOrder
+pub mod EntryLemmas
+pub mod SeriesLemmas
+pub mod QuestionLemmas
+pub mod SiteLemmas
+pub mod LatestLemmas

@@ -1,0 +1,86 @@
+//! What one record says.
+ghost use Rattle.std.specs.Prelude.{◌≡◌, option_map};
+ghost use Rattle.std.specs.Option.{option_and_then};
+ghost use Rattle.aq_profile.specs.Office.Designation.{designated_poc};
+ghost use Rattle.aq_registry.specs.Registry.{coverage_in, days_of, designation_in, makeup_in, pair_of, poc_in, registration_in, season_in, site_in};
+
+use aq_base::{Day, Duration, Hour, OfficeRecord, SiteId};
+
+/// How long a monitor's samples last, and whether its values count.
+pub(crate) fn registration(of: &Option<OfficeRecord>) -> Option<(Duration, bool)>
+    ensures { result ≡ option_map pair_of (option_and_then registration_in of.now) }
+{
+    match of {
+        Some(
+            OfficeRecord::Monitor {
+                duration,
+                eligible,
+                ..
+            },
+        ) => Some((*duration, *eligible)),
+        _ => None,
+    }
+}
+
+/// A monitor's POC.
+pub(crate) fn poc(of: &Option<OfficeRecord>) -> Option<u8>
+    ensures { result ≡ option_and_then poc_in of.now }
+{
+    match of {
+        Some(OfficeRecord::Monitor { id, .. }) => Some(id.poc),
+        _ => None,
+    }
+}
+
+/// A monitor's site.
+pub(crate) fn site(of: &Option<OfficeRecord>) -> Option<SiteId>
+    ensures { result ≡ option_and_then site_in of.now }
+{
+    match of {
+        Some(OfficeRecord::Monitor { id, .. }) => Some(id.site),
+        _ => None,
+    }
+}
+
+/// A season's first and last day.
+pub(crate) fn season(of: &Option<OfficeRecord>) -> Option<(Day, Day)>
+    ensures { result ≡ option_map days_of (option_and_then season_in of.now) }
+{
+    match of {
+        Some(OfficeRecord::Season { first, last, .. }) => Some((*first, *last)),
+        _ => None,
+    }
+}
+
+/// The day of a make-up sample.
+pub(crate) fn makeup(of: &Option<OfficeRecord>) -> Option<Day>
+    ensures { result ≡ option_and_then makeup_in of.now }
+{
+    match of {
+        Some(OfficeRecord::Makeup { makeup, .. }) => Some(*makeup),
+        _ => None,
+    }
+}
+
+/// Whether an event holds an hour in its span.
+pub(crate) fn coverage(of: &Option<OfficeRecord>, hour: Hour) -> Option<bool>
+    ensures { result ≡ option_and_then (coverage_in hour) of.now }
+{
+    match of {
+        Some(OfficeRecord::Event { first, last, .. }) => {
+            let hour = hour.number();
+            Some(first.number() <= hour && hour <= last.number())
+        }
+        _ => None,
+    }
+}
+
+/// The POC of a designation, which names none where it is 0.
+pub(crate) fn designated(of: &Option<OfficeRecord>) -> Option<u8>
+    ensures { result ≡ option_and_then designated_poc (option_and_then designation_in of.now) }
+{
+    match of {
+        Some(OfficeRecord::Primary { poc, .. }) if *poc != 0 => Some(*poc),
+        _ => None,
+    }
+}
