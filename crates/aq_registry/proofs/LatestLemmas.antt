@@ -91,7 +91,7 @@ module _ {X : Type 0} (answer word : OfficeRecord → Option X) (day : X → ℕ
       in
       ap (λ o. fold (later day) (word before) (cons_option o (filter_map answer rows))) (tells r) ∙ at (is_of_between kind site parameter 0 end r) refl
 
-  latest-last : (rows : List OfficeRecord) → IsStrictlySortedBy place_cmp (places_of rows) → latest day (filter_map answer rows) ≡ option_and_then word (last_or None (filter (is_of_between kind site parameter 0 end) rows))
+  pub latest-last : (rows : List OfficeRecord) → IsStrictlySortedBy place_cmp (places_of rows) → latest day (filter_map answer rows) ≡ option_and_then word (last_or None (filter (is_of_between kind site parameter 0 end) rows))
   unfolding IsStrictlySortedBy
   latest-last [] sorted = refl
   latest-last (r ∷ rows) sorted =
@@ -106,7 +106,7 @@ module _ {X : Type 0} (answer word : OfficeRecord → Option X) (day : X → ℕ
 
 -- ---- designations
 
-until : (a : Bool) (from day : ℕ) → (a && nat_le from day) ≡ ((a && nat_le 0 from) && nat_lt from (day + 1))
+pub until : (a : Bool) (from day : ℕ) → (a && nat_le from day) ≡ ((a && nat_le 0 from) && nat_lt from (day + 1))
 until true from day = grind (arith, nat_tests)
 until false from day = refl
 

@@ -5,3 +5,4 @@ pub mod SeriesLemmas
 pub mod QuestionLemmas
 pub mod SiteLemmas
 pub mod LatestLemmas
+pub mod ScheduleLemmas

@@ -1,5 +1,5 @@
 -- What holds of the records of every registry, and what its answers read of one record.
-use Rattle.std.specs.Prelude.{◌≡◌, ℕ, Bool, ◌&&◌, nat_le, Option, Some, None, List, [], ◌∷◌, length, count_by}
+use Rattle.std.specs.Prelude.{◌≡◌, ◌==◌, if◌then◌else◌, ℕ, Bool, ◌&&◌, nat_le, Option, Some, None, List, [], ◌∷◌, length, count_by}
 use Rattle.aq_base.specs.Site.{Site}
 use Rattle.aq_base.specs.declared.monitor.Duration.{Duration}
 use Rattle.aq_base.specs.declared.office.OfficeRecord.{OfficeRecord}
@@ -64,3 +64,8 @@ designation_in r = None
 abbrev pub schedule_in : OfficeRecord → Option Sampling
 schedule_in (Schedule site pollutant from interval anchor) = Some (record { from = from; interval = interval; anchor = anchor })
 schedule_in r = None
+
+-- the missed day for which the sample of a day makes up
+abbrev pub missed_by : ℕ → OfficeRecord → Option ℕ
+missed_by day (Makeup site missed makeup) = if makeup == day then Some missed else None
+missed_by day r = None

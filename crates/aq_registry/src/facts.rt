@@ -1,8 +1,10 @@
 //! What one record says.
-ghost use Rattle.std.specs.Prelude.{◌≡◌, option_map};
-ghost use Rattle.std.specs.Option.{option_and_then};
+ghost use Rattle.std.specs.Prelude.{◌≡◌, false, option_map, IfSome, IsTrue};
+ghost use Rattle.std.specs.Option.{option_and_then, option_map_or};
 ghost use Rattle.aq_profile.specs.Office.Designation.{designated_poc};
-ghost use Rattle.aq_registry.specs.Registry.{coverage_in, days_of, designation_in, makeup_in, pair_of, poc_in, registration_in, season_in, site_in};
+ghost use Rattle.aq_profile.specs.Office.Office.{is_record};
+ghost use Rattle.aq_profile.specs.Office.Schedule.{asks_for, distance};
+ghost use Rattle.aq_registry.specs.Registry.{coverage_in, days_of, designation_in, schedule_in, missed_by, makeup_in, pair_of, poc_in, registration_in, season_in, site_in};
 
 use aq_base::{Day, Duration, Hour, OfficeRecord, SiteId};
 
@@ -81,6 +83,45 @@ pub(crate) fn designated(of: &Option<OfficeRecord>) -> Option<u8>
 {
     match of {
         Some(OfficeRecord::Primary { poc, .. }) if *poc != 0 => Some(*poc),
+        _ => None,
+    }
+}
+
+/// Whether a schedule asks for a sample on a day.
+#[tactic(auto, using(crate::proofs::ScheduleLemmas::interval_is_some))]
+pub(crate) fn asks(of: &Option<OfficeRecord>, day: Day) -> bool
+    requires { IfSome of.now (λ r. IsTrue (is_record r)) }
+    ensures { result ≡ option_map_or (asks_for day) (option_and_then schedule_in of.now) false }
+{
+    match of {
+        Some(
+            OfficeRecord::Schedule {
+                interval,
+                anchor,
+                ..
+            },
+        ) => distance(day, *anchor) % u16::from(*interval) == 0,
+        _ => false,
+    }
+}
+
+/// The days from one to the other, whichever comes first.
+fn distance(a: Day, b: Day) -> u16
+    ensures { result ≡ distance a b }
+{
+    let a = a.number();
+    let b = b.number();
+    if a < b { b - a } else { a - b }
+}
+
+/// The missed day for which the sample of a day makes up.
+pub(crate) fn missed(of: &OfficeRecord, day: Day) -> Option<Day>
+    ensures { result ≡ missed_by day of.now }
+{
+    match of {
+        OfficeRecord::Makeup { missed, makeup, .. } if makeup.number() == day.number() => {
+            Some(*missed)
+        }
         _ => None,
     }
 }

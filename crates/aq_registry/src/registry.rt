@@ -1,14 +1,16 @@
 //! The registry: the records of the office.
 ghost use Rattle.std.specs.Prelude.{◌≡◌, ◌≤◌, [], option_map, IfOk};
 ghost use Rattle.std.specs.List.{list_any};
+ghost use Rattle.std.specs.Map.{values_of};
 ghost use Rattle.aq_profile.specs.Office.Monitors.{is_same_site};
 ghost use Rattle.aq_profile.specs.Office.Office.{sites_of};
 ghost use Rattle.aq_profile.specs.Office.Questions as book;
 ghost use Rattle.aq_profile.specs.Office.Designation as designations;
+ghost use Rattle.aq_profile.specs.Office.Schedule as schedules;
 ghost use Rattle.aq_profile.specs.Office.Season as seasons;
 ghost use Rattle.aq_profile.specs.Office.Approval as approvals;
 ghost use Rattle.aq_registry.specs.Places.{behind_sites};
-ghost use Rattle.aq_registry.specs.Registry.{days_of, pair_of};
+ghost use Rattle.aq_registry.specs.Registry.{days_of, missed_by, pair_of};
 ghost use Rattle.aq_base.specs.declared.day.TheConstants.{FIRST_YEAR, LAST_YEAR};
 
 use crate::facts;
@@ -18,6 +20,8 @@ use aq_base::{Day, Duration, Hour, Memory, MonitorId, OfficeKey, OfficeRecord, P
 use aq_cal::year_span;
 use aq_profile::office::valid_load::an_office_of_nothing_is_valid;
 use std::alloc::Global;
+use std::collections::btree_map::Range;
+use std::iter::Iterator;
 use std::marker::Model;
 
 /// The office's records, one for each key. Contracts see the list of them in the order of rows: by kind,
@@ -138,6 +142,19 @@ impl Registry {
         )
     }
 
+    /// Whether a day is scheduled: by the standing schedule with the greatest start date not after it, and
+    /// not where there is none (40 CFR 58.12). By one search of the map.
+    #[tactic(auto, using(crate::proofs::ScheduleLemmas::schedule_found, crate::proofs::ScheduleLemmas::last_is_record))]
+    pub fn is_scheduled(&self, site: SiteId, pollutant: Pollutant, day: Day) -> bool
+        ensures { result ≡ schedules.is_scheduled self.now site pollutant day }
+    {
+        let end = u32::from(day.number()) + 1;
+        let found = self
+            .records
+            .last_before(3, &site, parameter(pollutant), end);
+        facts::asks(&found, day)
+    }
+
     /// The ozone season of a site and year: the season on record, else the whole year (40 CFR Part 50,
     /// Appendix U, 4(b)). By one search of the map. The year is 2000 to 2049.
     #[tactic(auto, using(crate::proofs::QuestionLemmas::season_found))]
@@ -172,6 +189,18 @@ impl Registry {
         facts::makeup(&self.records.get(&OfficeKey::Makeup { site, missed }))
     }
 
+    /// The missed day for which the sample of a day of a site makes up, by a walk over the make-up records
+    /// of the seven days before alone.
+    #[tactic(auto, using(crate::proofs::ScheduleLemmas::missed_found))]
+    pub fn missed_of(&self, site: SiteId, makeup: Day) -> Option<Day>
+        ensures { result ≡ book.missed_of self.now site makeup }
+    {
+        let end = u32::from(makeup.number());
+        let start = Place::of_site(5, &site, 0, end.saturating_sub(7));
+        let end = Place::of_site(5, &site, 0, end);
+        first_missed(self.records.between(start, end), makeup)
+    }
+
     /// Whether an event holds an hour in its span, and `None` where no event has the number, by one search
     /// of the map.
     #[tactic(auto, using(crate::proofs::QuestionLemmas::event_found))]
@@ -200,4 +229,17 @@ fn behind_sites(after: &Option<SiteId>) -> Place
         Some(site) => Place::behind_site(1, site),
         None => Place::of_kind(1),
     }
+}
+
+/// The first missed day of a part of the map for which the sample of a day makes up.
+fn first_missed(part: Range<'_, Place, OfficeRecord>, makeup: Day) -> Option<Day>
+    ensures { result ≡ book.first_given (missed_by makeup) (values_of part.entry) }
+{
+    for (_, row) in part {
+        let missed = facts::missed(row, makeup);
+        if missed.is_some() {
+            return missed;
+        }
+    }
+    None
 }
