@@ -16,7 +16,7 @@ pub const MOST_LOADS: usize = 100_000;
 pub const LAST_LOAD_NUMBER: u32 = 4_294_967_295;
 
 /// At most this many observations stand.
-pub const MOST_OBSERVATIONS: usize = 4_000_000;
+pub const MOST_OBSERVATIONS: u32 = 4_000_000;
 
 /// At most this many sites have a registered monitor.
 pub const MOST_SITES: usize = 256;

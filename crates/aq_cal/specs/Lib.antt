@@ -1,2 +1,1 @@
--- What this crate's contracts cite beside aq_base's definitions.
-pub mod DayText
+-- This crate has no definitions of its own: its contracts cite those of aq_base.

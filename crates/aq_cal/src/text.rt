@@ -1,7 +1,7 @@
 //! Numbers and days as text.
 ghost use Rattle.std.specs.Prelude.{◌≡◌, ◌+◌, ◌<◌, ◌++◌, OnOk, OnErr, vec_len, vec_capacity};
 ghost use Rattle.aq_base.specs.Decimal.{last_digits};
-ghost use Rattle.aq_cal.specs.DayText.{day_text};
+ghost use Rattle.aq_base.specs.Text.{day_text};
 
 use crate::date::civil_of;
 use aq_base::{Day, Memory};
@@ -20,6 +20,7 @@ pub fn last_digits<const N: usize>(number: u16) -> [u8; N]
 }
 
 /// A day as `YYYY-MM-DD`.
+#[tactic(auto, unfolding(aq_base::specs::Text::day_text))]
 pub fn day_text(day: Day) -> [u8; 10]
     ensures { result ≡ day_text day }
 {

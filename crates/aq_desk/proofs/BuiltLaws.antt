@@ -1,7 +1,9 @@
 -- Laws of loads as far as the forms of lines are built.
-use Rattle.std.proofs.Common.{◌≡◌, ℕ, ◌-◌, ◌≤◌, min, take, drop, Bool, true, false, List, [], ◌∷◌, ◌++◌, length, Option, Some, None, refl, sym, ap, ◌∙◌, inl, inr, arith}
-use Rattle.std.specs.Option.{is_some}
-use Rattle.std.proofs.lemmas.List.{length-append, append-nil, take_all, take_min, length-drop, nil_from_length}
+use Rattle.std.proofs.Common.{◌≡◌, ℕ, ◌-◌, ◌<◌, ◌≤◌, min, take, drop, replicate, Bool, true, false, List, [], ◌∷◌, ◌++◌, length, Option, Some, None, refl, sym, ap, ◌∙◌, inl, inr, arith}
+use Rattle.std.specs.Option.{is_some, option_to_list}
+use Rattle.std.specs.List.{cons_option, filter_map}
+use Rattle.std.proofs.lemmas.List.Elements.{filter_map-append}
+use Rattle.std.proofs.lemmas.List.{get_or-replicate, length-append, append-nil, take_all, take_min, length-drop, nil_from_length}
 use Rattle.std.proofs.lemmas.Bool.{cases_lt}
 use Rattle.std.proofs.Math.Nat.{min_comm}
 use Rattle.aq_base.specs.declared.reply.LoadReply.{LoadReply}
@@ -9,14 +11,15 @@ use Rattle.aq_base.specs.declared.reply.RestRule.{RestRule}
 use Rattle.aq_profile.specs.Limits.{MOST_LISTED}
 use Rattle.aq_base.specs.declared.monitor.MonitorId.{MonitorId}
 use Rattle.aq_base.specs.declared.reply.ListedLine.{ListedLine}
+use Rattle.aq_base.specs.Rule.{rule_number}
 use Rattle.aq_base.specs.declared.rule.Rule.{Rule}
-use Rattle.aq_base.specs.declared.rule.Rule.TheVariants.{NotBuilt}
+use Rattle.aq_base.specs.declared.rule.Rule.TheVariants.{BadBytes, NotBuilt}
 use Rattle.std.specs.Bool.{if◌then◌else◌}
 use Rattle.aq_profile.specs.Lines.Reading.{line_value}
 use Rattle.aq_profile.specs.Lines.Lines.{NumberedLine}
-use Rattle.aq_profile.specs.Office.Load.{after, changed_by, listed_for, refusal}
+use Rattle.aq_profile.specs.Office.Load.{after, changed_by, listed_for, refusal, rest_for}
 use Rattle.aq_profile.specs.Office.Office.{Office}
-use Rattle.aq_desk.specs.Built.{after_beside, built_after, built_after_all, built_refusal, built_refusals, built_reply_for, built_rest_of, monitor_for, refusal_beside}
+use Rattle.aq_desk.specs.Built.{CountsByNumber, counted, counted_in, after_beside, built_after, built_after_all, built_refusal, built_refusals, built_reply_for, built_rest_of, monitor_for, refusal_beside}
 use Rattle.aq_rd.specs.Tags.{has_office_tag}
 
 -- a line that is refused leaves the office
@@ -76,3 +79,40 @@ same_reply lines taken refused listed rest same_listed same_rest = cc
 pub reply_for-same : (lines lines' taken taken' : ℕ) (refused refused' : List ListedLine) → lines ≡ lines' → taken ≡ taken' → refused ≡ refused' → built_reply_for 0 lines taken refused ≡ built_reply_for 0 lines' taken' refused'
 reply_for-same lines lines' taken taken' refused refused' p q r =
     ap (λ n. built_reply_for 0 n taken refused) p ∙ ap (λ n. built_reply_for 0 lines' n refused) q ∙ ap (λ xs. built_reply_for 0 lines' taken' xs) r
+
+-- ---- counts by number
+
+number_fits : (rule : Rule) → rule_number rule < 256
+number_fits BadBytes = omega arith
+number_fits _ = omega arith
+
+counted-is : (refused : List ListedLine) (counts : List ℕ) (rule : Rule) → CountsByNumber refused counts → counted_in counts rule ≡ rest_for refused rule
+counted-is refused counts rule counted_by = ap (counted rule) (counted_by (rule_number rule) (number_fits rule))
+
+all_counted : (refused : List ListedLine) (counts : List ℕ) (rules : List Rule) → CountsByNumber refused counts → filter_map (counted_in counts) rules ≡ filter_map (rest_for refused) rules
+all_counted refused counts [] counted_by = refl
+all_counted refused counts (rule ∷ rules) counted_by =
+    ap (λ (first : Option RestRule). cons_option first (filter_map (counted_in counts) rules)) (counted-is refused counts rule counted_by)
+    ∙ ap (cons_option (rest_for refused rule)) (all_counted refused counts rules counted_by)
+
+one_row : (row : Option RestRule) → option_to_list row ≡ cons_option row []
+one_row None = refl
+one_row (Some row) = refl
+
+pub rest_counted : (refused : List ListedLine) (counts : List ℕ) (rules said : List Rule) (last : Rule) (start one all : List RestRule) → CountsByNumber refused counts → said ≡ rules → start ≡ [] → one ≡ start ++ filter_map (counted_in counts) said → all ≡ one ++ option_to_list (counted_in counts last)
+    → all ≡ filter_map (rest_for refused) (rules ++ last ∷ [])
+rest_counted refused counts rules said last start one all counted_by same none by_rules by_last =
+    let rows : one ≡ filter_map (rest_for refused) rules =
+    by_rules
+    ∙ ap (λ (before : List RestRule). before ++ filter_map (counted_in counts) said) none
+    ∙ ap (filter_map (counted_in counts)) same
+    ∙ all_counted refused counts rules counted_by
+    in
+    by_last
+    ∙ ap (λ (before : List RestRule). before ++ option_to_list (counted_in counts last)) rows
+    ∙ ap (λ (row : Option RestRule). filter_map (rest_for refused) rules ++ option_to_list row) (counted-is refused counts last counted_by)
+    ∙ ap (λ (row : List RestRule). filter_map (rest_for refused) rules ++ row) (one_row (rest_for refused last))
+    ∙ sym (filter_map-append (rest_for refused) rules (last ∷ []))
+
+pub none_counted : CountsByNumber [] (replicate 256 0)
+none_counted number fits = get_or-replicate 256 number 0 0 fits

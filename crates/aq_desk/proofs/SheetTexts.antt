@@ -6,7 +6,6 @@ use Rattle.aq_base.specs.Site.{Site}
 use Rattle.aq_base.specs.declared.reply.ListedLine.{ListedLine}
 use Rattle.aq_base.specs.declared.reply.LoadReply.{LoadReply}
 use Rattle.aq_base.specs.declared.reply.RestRule.{RestRule}
-use Rattle.aq_cal.specs.DayText as cal
 use Rattle.aq_profile.specs.Ozone.EightHour.{WindowRow}
 use Rattle.aq_profile.specs.Shown.Sheet.{SheetCell, Head, text_of, head_text, head_of, row_text, line_of, cell_text, count_cell, ppm_cell, site_text, day_text, hour_text}
 use Rattle.aq_profile.specs.Shown.Sheet.SheetCell.{Text}
@@ -45,11 +44,6 @@ load_text_is reply listed rest start one two three four five six all same_listed
     (codes "line") (codes "rule" ∷ codes "name" ∷ codes "count" ∷ [])
     (map listed_row reply.listed) (map rest_row reply.rest) (codes "line rule name count\n") refl
 
--- a day's text, its pieces joined in the other way
-day_text_is : (day : ℕ) → cal.day_text day ≡ day_text day
-unfolding day_text
-day_text_is day = simp append_assoc
-
 -- the five cells of a window's row
 five_cells : (before hour net net_hours full full_hours : List ℕ) → (((((before ++ hour) ++ 32 ∷ []) ++ (net ++ 32 ∷ net_hours)) ++ 32 ∷ []) ++ (full ++ 32 ∷ full_hours)) ++ 10 ∷ [] ≡ before ++ ((hour ++ 32 ∷ (net ++ 32 ∷ (net_hours ++ 32 ∷ (full ++ 32 ∷ full_hours)))) ++ 10 ∷ [])
 five_cells before hour net net_hours full full_hours = simp append_assoc
@@ -84,15 +78,14 @@ pub windows_text_is : (site : Site) (day : ℕ) (rows : List WindowRow) (place s
     → one ≡ start ++ codes "site "
     → two ≡ one ++ place
     → three ≡ two ++ codes "\nday "
-    → four ≡ three ++ cal.day_text day
+    → four ≡ three ++ day_text day
     → five ≡ four ++ codes "\nhour average hours full full_hours\n"
     → all ≡ five ++ flat_map row_text (map window_cells (enumerate_from 7 rows))
     → all ≡ text_of (windows_sheet site day rows)
 unfolding windows_sheet
 windows_text_is site day rows place start one two three four five all named p q r s t u v =
     let the_site : two ≡ one ++ site_text site = r ∙ ap (λ text. one ++ text) named in
-    let the_day : four ≡ three ++ day_text day = t ∙ ap (λ text. three ++ text) (day_text_is day) in
-    all_of_six start one two three four five all _ _ _ _ _ _ p q the_site s the_day u v
+    all_of_six start one two three four five all _ _ _ _ _ _ p q the_site s t u v
     ∙ two_heads (codes "site") (site_text site) (codes "day") (day_text day)
     (codes "hour") (codes "average" ∷ codes "hours" ∷ codes "full" ∷ codes "full_hours" ∷ [])
     (map window_cells (enumerate_from 7 rows)) (codes "hour average hours full full_hours\n") refl

@@ -1,11 +1,12 @@
 -- What a load's lines make of an office, as far as the forms of lines are built: RD lines whole, and of the office's own lines the plain one of an ozone monitor, once (own).
-use Rattle.std.specs.Prelude.{ℕ, true, ◌==◌, if◌then◌else◌, Option, Some, None, List, [], ◌∷◌, ◌++◌, ◌-◌, length, take, drop, filter_map, codes}
+use Rattle.std.specs.Prelude.{◌≡◌, ℕ, ◌<◌, true, ◌==◌, count_by, slice_index, if◌then◌else◌, Option, Some, None, List, [], ◌∷◌, ◌++◌, ◌-◌, length, take, drop, filter_map, codes}
 use Rattle.aq_base.specs.declared.monitor.MonitorId.{MonitorId}
 use Rattle.aq_base.specs.declared.monitor.Duration.TheVariants.{Hour}
 use Rattle.aq_base.specs.declared.office.OfficeRecord.{OfficeRecord}
 use Rattle.aq_base.specs.declared.office.OfficeRecord.TheVariants.{Monitor}
 use Rattle.aq_base.specs.declared.reply.LoadReply.{LoadReply}
 use Rattle.aq_base.specs.declared.reply.ListedLine.{ListedLine}
+use Rattle.aq_base.specs.Rule.{rule_number}
 use Rattle.aq_base.specs.declared.rule.Rule.{Rule}
 use Rattle.aq_base.specs.declared.rule.Rule.TheVariants.{NotBuilt}
 use Rattle.aq_base.specs.declared.reply.RestRule.{RestRule}
@@ -60,9 +61,16 @@ listed_for_line office number text = listed_for number (built_refusal office tex
 abbrev pub built_rest_of : List ListedLine → List RestRule
 built_rest_of refused = filter_map (rest_for refused) (all_rules ++ NotBuilt ∷ [])
 
--- so many lines under a rule, where there are any
+-- counts by the numbers of rules are those of the refused lines
+abbrev pub CountsByNumber : List ListedLine → List ℕ → Type 0
+CountsByNumber refused counts = (number : ℕ) → number < 256 → slice_index counts number ≡ count_by (λ listed. rule_number listed.rule == number) refused
+
+-- so many lines under a rule as its number has, where there are any
 abbrev pub counted : Rule → ℕ → Option RestRule
 counted rule count = if count == 0 then None else Some (record { rule = rule; count = count })
+
+abbrev pub counted_in : List ℕ → Rule → Option RestRule
+counted_in counts rule = counted rule (slice_index counts (rule_number rule))
 
 abbrev pub built_reply_for : ℕ → ℕ → ℕ → List ListedLine → LoadReply
 built_reply_for number lines taken refused = record {

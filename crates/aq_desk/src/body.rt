@@ -3,8 +3,7 @@ ghost use Rattle.std.specs.Prelude.{◌≡◌, ◌<◌, ◌≤◌, length, vec_l
 ghost use Rattle.aq_desk.specs.Body.{Extends, HasTooMany, IsBody, IsBodyFault};
 
 use crate::outside::Source;
-use aq_base::{Failed, Memory};
-use aq_forms::MOST_BYTES;
+use aq_base::{Failed, MOST_BYTES};
 use std::alloc::{AllocError, Global};
 
 const PIECE: usize = 65_536;

@@ -1,59 +1,18 @@
 //! A load's lines, taken in their order, and the reply.
 ghost use Rattle.std.specs.Prelude.{◌≡◌, ◌<◌, ◌≤◌, ◌++◌, ◌^◌, [], ◌∷◌, length, count_by, ◌==◌, filter_map, IfOk, OnOk};
 ghost use Rattle.std.specs.Option.{option_to_list};
-ghost use Rattle.aq_base.specs.Rule.{rule_number};
+ghost use Rattle.aq_profile.specs.Limits.{MOST_BYTES};
 ghost use Rattle.aq_profile.specs.Lines.Lines.{body_lines, line_count};
-ghost use Rattle.aq_profile.specs.Office.Load.{refused_under, rest_for};
 ghost use Rattle.aq_profile.specs.Office.Office.{nothing};
-ghost use Rattle.aq_desk.specs.Built.{built_after, built_after_all, built_reply, built_reply_for, counted, listed_for_line};
-ghost use Rattle.aq_forms.specs.declared.lines.TheConstants.{MOST_BYTES};
+ghost use Rattle.aq_desk.specs.Built.{built_after, built_after_all, built_reply, built_reply_for, built_rest_of, counted_in, CountsByNumber, listed_for_line};
 
 use crate::office::{Office, Refusal};
-use aq_base::{Listed, ListedLine, LoadReply, Memory, Rest, RestRule, Rule};
+use aq_base::{Listed, ListedLine, LoadReply, MOST_LISTED, Memory, Rest, RestRule, Rule};
 use aq_forms::lines_of;
 use std::alloc::Global;
 
-/// At most this many refused lines are listed in a reply; the others are counted by rule.
-const MOST_LISTED: usize = 500;
-
-/// All rules, in rising number.
-const RULES: [Rule; 35] = [
-    Rule::BadBytes,
-    Rule::BadTag,
-    Rule::FieldCount,
-    Rule::BadAction,
-    Rule::BadSite,
-    Rule::ParameterOutOfProfile,
-    Rule::BadPoc,
-    Rule::BadDuration,
-    Rule::BadUnit,
-    Rule::BadMethod,
-    Rule::BadDate,
-    Rule::BadTime,
-    Rule::ValueAndNull,
-    Rule::NeitherValueNorNull,
-    Rule::BadValue,
-    Rule::ValueOutOfRange,
-    Rule::BadNull,
-    Rule::BadQualifier,
-    Rule::UnknownMonitor,
-    Rule::WrongDuration,
-    Rule::AlreadyThere,
-    Rule::NotThere,
-    Rule::ObservationsFull,
-    Rule::SitesFull,
-    Rule::MonitorsFull,
-    Rule::BadSpan,
-    Rule::BadInterval,
-    Rule::BadSeason,
-    Rule::BadMakeup,
-    Rule::MakeupsFull,
-    Rule::UnknownEvent,
-    Rule::EventsFull,
-    Rule::BadCode,
-    Rule::ListFull,
-    Rule::NotBuilt,
-];
+/// A rule's number is below this.
+const NUMBERS: usize = 256;
 
 /// What became of a load: the office after it, and the reply.
 #[derive(Drop)]
@@ -101,34 +60,45 @@ fn take_line(
     }
 }
 
-/// How many of the lines are refused under a rule.
-fn count_under(refused: &[ListedLine], rule: Rule) -> u32
+/// How many of the lines are refused under each rule, by its number.
+fn counts_by_number(refused: &[ListedLine]) -> [u32; NUMBERS]
     requires { length refused.now < 2 ^ 32 }
-    ensures { result ≡ refused_under rule refused.now }
+    ensures { CountsByNumber refused.now result }
 {
-    let number = rule.number();
-    refused
-        .iter()
-        .filter(|line| line.rule.number() == number)
-        .count() as u32
+    let mut counts = [0; NUMBERS];
+    for line in refused {
+        counts[usize::from(line.rule.number())] += 1;
+    }
+    counts
 }
 
 /// The lines by rule, in the order of the rules.
-fn rest_of(alloc: Global, rules: &[Rule], refused: &[ListedLine]) -> Result<Rest, Memory>
+fn rest_of(alloc: Global, refused: &[ListedLine]) -> Result<Rest, Memory>
     requires { length refused.now < 2 ^ 32 }
-    ensures { IfOk result (λ rest. rest ≡ filter_map (rest_for refused.now) rules.now) }
+    ensures { IfOk result (λ rest. rest ≡ built_rest_of refused.now) }
 {
+    let counts = counts_by_number(refused);
     let mut rest = Rest::new(alloc);
-    for rule in rules {
-        add_count(&mut rest, *rule, count_under(refused, *rule))?;
-    }
+    add_counts(&mut rest, &Rule::all(), &counts)?;
+    add_count(&mut rest, Rule::NotBuilt, &counts)?;
     Ok(rest)
 }
 
-/// Adds how many lines are refused under a rule, unless none is.
-fn add_count(rest: &mut Rest, rule: Rule, count: u32) -> Result<(), Memory>
-    ensures { OnOk result (rest.new ≡ rest.old ++ option_to_list (counted rule count)) }
+/// Adds how many lines are refused under each of these rules.
+fn add_counts(rest: &mut Rest, rules: &[Rule], counts: &[u32; NUMBERS]) -> Result<(), Memory>
+    ensures { OnOk result (rest.new ≡ rest.old ++ filter_map (counted_in counts.now) rules.now) }
 {
+    for rule in rules {
+        add_count(rest, *rule, counts)?;
+    }
+    Ok(())
+}
+
+/// Adds how many lines are refused under a rule, unless none is.
+fn add_count(rest: &mut Rest, rule: Rule, counts: &[u32; NUMBERS]) -> Result<(), Memory>
+    ensures { OnOk result (rest.new ≡ rest.old ++ option_to_list (counted_in counts.now rule)) }
+{
+    let count = counts[usize::from(rule.number())];
     if count > 0 {
         rest.push(RestRule { rule, count })?;
     }
@@ -162,6 +132,6 @@ fn reply_of(
         accepted: taken - refused.len() as u32,
         refused: refused.len() as u32,
         listed: listed_of(alloc, &refused[..cut])?,
-        rest: rest_of(alloc, &RULES, &refused[cut..])?,
+        rest: rest_of(alloc, &refused[cut..])?,
     })
 }

@@ -8,7 +8,7 @@ ghost use Rattle.aq_desk.specs.Command.{ReadsWhole, RisesAt, WritesNothing};
 ghost use Rattle.aq_desk.specs.Scan.{scan_outcome, windows_outcome};
 ghost use Rattle.aq_desk.specs.Stop.{HasCauses, IsTaken, Obeys, status_of};
 ghost use Rattle.aq_desk.specs.WindowView.{row_view};
-ghost use Rattle.aq_forms.specs.declared.lines.TheConstants.{MOST_BYTES};
+ghost use Rattle.aq_profile.specs.Limits.{MOST_BYTES};
 
 use crate::body::read_body;
 use crate::load::take_load;
@@ -18,14 +18,11 @@ use crate::sheets::{load_text, windows_text};
 use crate::stop::Stop;
 use crate::windows::{WINDOWS, WindowRow, day_windows};
 use crate::writing::print;
-use aq_base::{Day, SiteId, Steps};
+use aq_base::{Day, MOST_LINES, SiteId, Steps};
 use aq_forms::count_lines;
 use std::alloc::Global;
 use std::marker::Brand;
 use std::sync::ledger::{Blank, Ledger};
-
-/// A load has at most this many lines.
-const MOST_LINES: u32 = 120_000;
 
 /// Takes the input as a load over an office of which nothing stands, and prints the reply and then the
 /// day's windows.

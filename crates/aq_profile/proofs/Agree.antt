@@ -2,7 +2,7 @@
 use Rattle.std.proofs.Common.{◌≡◌, ℕ, Bool, true, false, cond, not, ◌&&◌, ◌||◌, List, [], ◌∷◌, Some, None, Option, refl, sym, ap, ◌∙◌, inl, inr, subst}
 use Rattle.std.specs.List.{AllByRecursion, list_any}
 use Rattle.std.specs.Prelude.{bytes_eq, codes, filter, find, is_some, is_none, ℤ, if◌then◌else◌}
-use Rattle.std.proofs.lemmas.Bool.{false≢true}
+use Rattle.std.proofs.lemmas.Bool.{false≢true, cases_Bool}
 use Rattle.std.proofs.lemmas.Slice.Eq.{bytes_eq-Decides}
 use Rattle.aq_base.specs.Decimal.{is_decimal, cut}
 use Rattle.aq_base.specs.declared.code.Code.{Code}
@@ -13,7 +13,6 @@ use Rattle.aq_base.specs.declared.office.OfficeRecord.{OfficeRecord}
 use Rattle.aq_base.specs.declared.office.OfficeRecord.TheVariants.{Season, Makeup, Event, Concurrence}
 use Rattle.aq_base.specs.declared.rule.Rule.{Rule}
 use Rattle.aq_base.specs.declared.rule.Rule.TheVariants.{BadBytes, BadTag, FieldCount, BadAction, BadSite, ParameterOutOfProfile, BadPoc, BadDuration, BadUnit, BadMethod, BadDate, BadTime, ValueAndNull, NeitherValueNorNull, BadValue, ValueOutOfRange, BadNull, BadQualifier, BadSpan, BadInterval, BadSeason, BadMakeup, BadCode}
-use Rattle.aq_profile.proofs.Least.{true_or_false}
 use Rattle.aq_profile.specs.Lines.FormRules.{rd_put_rule, rd_put-rule, rd_delete_rule, rd_delete-rule, xm_rule, xm-rule, xp_rule, xp-rule, xp_key_rule, xp_key-rule, xs_rule, xs-rule, xs_key_rule, xs_key-rule, xo_rule, xo-rule, xo_key_rule, xo_key-rule, xu_rule, xu-rule, xu_key_rule, xu_key-rule, xe_rule, xe-rule, xe_key_rule, xe_key-rule, xc_rule, xc-rule, xa_rule, xa-rule, xa_key_rule, xa_key-rule}
 use Rattle.aq_profile.specs.Lines.Fields.{is_empty, field, fields}
 use Rattle.aq_profile.specs.Lines.Forms.{acts}
@@ -358,7 +357,7 @@ spelled : (tag : Tag) (part : Option Action) (action : Action)
     → (part >>= λ a. if acts tag a then Some a else None) ≡ Some action → (part ≡ Some action) × (acts tag action ≡ true)
 spelled tag None action is = cc
 spelled tag (Some a) action is =
-    elim (true_or_false (acts tag a)) [
+    elim (cases_Bool (acts tag a)) [
       | inl may ↦
           let same : Some a ≡ Some action = sym (ap (λ b. cond b (Some a) None) may) ∙ is in
           let equal : a ≡ action = cc in
@@ -372,7 +371,7 @@ same_find : (p q kept : Rule → Bool) (rules : List Rule) → AllByRecursion (�
     → find p (filter kept rules) ≡ find q (filter kept rules)
 same_find p q kept [] same = refl
 same_find p q kept (rule ∷ rules) same =
-    elim (true_or_false (kept rule)) [
+    elim (cases_Bool (kept rule)) [
       | inl is ↦
           subst (λ b. find p (cond b (rule ∷ filter kept rules) (filter kept rules)) ≡ find q (cond b (rule ∷ filter kept rules) (filter kept rules))) (sym is)
           (ap (λ b. cond b (Some rule) (find p (filter kept rules))) same.0

@@ -23,6 +23,7 @@ use Rattle.aq_profile.specs.Office.Approval.{is_approved}
 use Rattle.aq_profile.specs.Ozone.EightHour.{window}
 use Rattle.aq_profile.specs.Ozone.OzoneDay.{OzoneDay, ozone_day}
 use Rattle.aq_profile.specs.Ozone.OzoneYear.{OzoneYear, days_of, ozone_days, ranked_maxima, fourth_of, ozone_year}
+use Rattle.aq_profile.proofs.Tests.{or_turns}
 use Rattle.aq_profile.proofs.Ranges.{window-same, ozone_day-same}
 use Rattle.aq_profile.proofs.Order.{fold_in_any_order, filter_map-moved, one_order}
 
@@ -44,12 +45,6 @@ mean_of-by (sample ∷ samples) = refl
 
 sum_turns : (a b c : ℤ) → a +ℤ (b +ℤ c) ≡ b +ℤ (a +ℤ c)
 sum_turns a b c = omega (arith, ints)
-
-or_turns : (a b c : Bool) → (a || (b || c)) ≡ (b || (a || c))
-or_turns true true c = refl
-or_turns true false c = refl
-or_turns false true c = refl
-or_turns false false c = refl
 
 -- the sum of a first value and the others
 total-from : (a : ℤ) (xs : List ℤ) → fold (λ sum value. sum +ℤ value) a xs ≡ a +ℤ total xs

@@ -1,7 +1,7 @@
 -- Each change of a load's batch changes the rows of the office.
 use Rattle.std.proofs.Common.{◌≡◌, ℕ, Bool, true, false, cond, not, List, [], ◌∷◌, ◌++◌, map, refl, sym, ap, ◌∙◌, subst, inl, inr}
 use Rattle.std.specs.Prelude.{Option, Some, None, IsSome, All, find, option_map, pos, ◌==◌}
-use Rattle.std.proofs.lemmas.Bool.{false≢true}
+use Rattle.std.proofs.lemmas.Bool.{false≢true, cases_Bool}
 use Rattle.std.proofs.lemmas.Bool.Decides.{Decides-int_eq}
 use lib.Pointwise.{pointwise_decides}
 use Rattle.std.proofs.lemmas.List.Elements.{All-cons, All-nil}
@@ -14,15 +14,14 @@ use Rattle.aq_profile.specs.Office.Office.{Office, StoredLoad, IsOffice, is_same
 use Rattle.aq_profile.specs.Office.Load.{OfficeChange, PutRecord, PutObservation, PutLoad, is_same_record, is_same_content, record_change, observation_change, record_changes, observation_changes, keys_of_either, load_change, batch, stored, after_all}
 use Rattle.aq_profile.specs.Kept.Rows.{Row, office_row, obs_row, rows_of, record_of_row, observation_of_row}
 use Rattle.aq_profile.specs.Kept.RowChanges.{RowKey, LoadRowKey, row_key, columns, key_before, is_same_row_key, put_row, drop_row, with_row_change, PutRow, DropRow, row_with, office_row_key, obs_row_key, RowChange, Alters, row_change, row_batch}
-use Rattle.aq_profile.proofs.Least.{true_or_false}
-use Rattle.aq_profile.proofs.Spans.{Every}
+use Rattle.aq_profile.proofs.Elements.{Every, every-All, every-append, every-to}
 use Rattle.aq_profile.proofs.SameRows.{record-itself, content-itself}
 use Rattle.aq_profile.proofs.RowsBack.{record-back}
-use Rattle.aq_profile.proofs.OfficeBack.{IsSpelled, spelled-back, every-to}
+use Rattle.aq_profile.proofs.OfficeBack.{IsSpelled, spelled-back}
 use Rattle.aq_profile.proofs.SpelledOffice.{AllSpelled, valid-spelled, spelled-after_all}
 use Rattle.aq_profile.proofs.RowOrder.{office-agree, obs-agree, load-agree}
 use Rattle.aq_profile.proofs.BatchDone.{HasKey, found-key, one_place}
-use Rattle.aq_profile.proofs.RowBatch.{R, O, L, IfOne, record-key, each, every-append, found-every, filter-every, record-keys, observation-keys}
+use Rattle.aq_profile.proofs.RowBatch.{R, O, L, IfOne, record-key, each, found-every, filter-every, record-keys, observation-keys}
 
 -- ---- what stands under a row's key
 
@@ -157,10 +156,6 @@ module _ (office : Office) (all : AllSpelled office) where
 
 -- ---- the batch
 
-pub every-All : {X : Type 0} (P : X → Type 0) (xs : List X) → Every P xs → All P xs
-every-All P [] every = All-nil P
-every-All P (x ∷ xs) every = All-cons P x xs every.0 (every-All P xs every.1)
-
 every-change : (rows : List Row) (changes : List OfficeChange) → Every (λ c. Alters rows (row_change c)) changes → Every (Alters rows) (map row_change changes)
 every-change rows [] every = tt
 every-change rows (c ∷ changes) every = (every.0, every-change rows changes every.1)
@@ -219,7 +214,7 @@ same_key-itself key = (pointwise_decides Decides-int_eq (columns key) (columns k
 
 same_key-turned : (a b : RowKey) → is_same_row_key a b ≡ false → is_same_row_key b a ≡ false
 same_key-turned a b differ =
-    elim (true_or_false (is_same_row_key b a)) [
+    elim (cases_Bool (is_same_row_key b a)) [
       | inr other ↦ other
       | inl same ↦
           let equal : columns b ≡ columns a = (pointwise_decides Decides-int_eq (columns b) (columns a)).0 same in

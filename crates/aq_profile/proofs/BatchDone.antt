@@ -16,7 +16,7 @@ use Rattle.aq_profile.specs.Lines.Reading.{LineValue, OfRd, OfOffice, line_value
 use Rattle.aq_profile.specs.Office.Office.{Office, StoredLoad, KeysRise, is_same, key_of, key_numbers, pollutant_number, observation_numbers, observation_key, content_of, record_rank, observation_rank, load_rank, rises, row_at, with_row, without_row, record_at, observation_at}
 use Rattle.aq_profile.specs.Office.Load.{keys_of_either, OfficeChange, PutRecord, DropRecord, PutObservation, DropObservation, PutLoad, with_change, is_same_record, is_same_content, record_change, observation_change, record_changes, observation_changes, load_change, batch, stored, load, changed, changed_by, refusal, after, after_all}
 use Rattle.aq_profile.proofs.Loads.{KeysRise-after_all}
-use Rattle.aq_profile.proofs.Rising.{with_row-rises, without_row-rises}
+use Rattle.aq_profile.specs.Office.RowOrder.{with_row-rises, without_row-rises}
 use Rattle.aq_profile.proofs.SameRows.{record-same, content-same}
 use Rattle.aq_profile.proofs.Lookups.{same-is, found-with, found-without}
 use Rattle.aq_profile.proofs.Changes.{GoodChange, done_if, changes-done, idle}

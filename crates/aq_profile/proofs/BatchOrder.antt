@@ -3,6 +3,7 @@ use Rattle.std.proofs.Common.{append-nil, ◌≡◌, ℕ, ◌<◌, ◌≤◌, Bo
 use Rattle.std.specs.Prelude.{Option, Some, None, All, filter_map, nat_lt, ◌==◌}
 use Rattle.std.specs.List.{cons_option}
 use Rattle.std.proofs.lemmas.Bool.Decides.{nat_tests}
+use Rattle.std.proofs.lemmas.Bool.{and_from, and_parts}
 use Rattle.aq_base.specs.declared.observation.ObsKey.{ObsKey}
 use Rattle.aq_base.specs.declared.observation.Observation.{Observation}
 use Rattle.aq_base.specs.declared.office.OfficeRecord.{OfficeRecord}
@@ -11,15 +12,12 @@ use Rattle.aq_profile.specs.Lines.Lines.{body_lines}
 use Rattle.aq_profile.specs.Office.Office.{Office, StoredLoad, IsOffice, comes_before, key_of, key_numbers, observation_numbers, observation_key, record_rank, observation_rank, rises, rises_from, record_at, observation_at}
 use Rattle.aq_profile.specs.Office.Load.{OfficeChange, PutRecord, DropRecord, PutObservation, DropObservation, PutLoad, is_same_record, is_same_content, record_change, observation_change, record_changes, observation_changes, keys_of_either, load_change, batch, stored, after_all}
 use Rattle.aq_profile.specs.Kept.RowChanges.{key_before, keys_rise, keys_rise_from, changed_key, row_change, row_batch}
-use Rattle.aq_profile.proofs.Least.{both}
-use Rattle.aq_profile.proofs.JoinedFields.{and_true}
-use Rattle.aq_profile.proofs.Spans.{Every}
-use Rattle.aq_profile.proofs.Rising.{before-trans}
+use Rattle.aq_profile.proofs.Elements.{Every, every-All, every-append}
+use Rattle.aq_profile.specs.Office.RowOrder.{before-trans}
 use Rattle.aq_profile.proofs.RowOrder.{office-agree, obs-agree, load-agree}
 use Rattle.aq_profile.proofs.BatchDone.{HasKey, found-key}
 use Rattle.aq_profile.proofs.Changes.{either-rises, keys-rise}
-use Rattle.aq_profile.proofs.BatchAlters.{every-All}
-use Rattle.aq_profile.proofs.RowBatch.{IfOne, IsSpelledChange, record-key, batch-spelled, every-append}
+use Rattle.aq_profile.proofs.RowBatch.{IfOne, IsSpelledChange, record-key, batch-spelled}
 
 -- a change's table and its key as numbers
 abbrev table : OfficeChange → ℕ
@@ -66,13 +64,13 @@ module _ {K : Type 0} (krank : K → List ℕ) (t : ℕ) (change : K → Option 
   behind : (k : K) (keys : List K) → rises_from krank k keys ≡ true → From (krank k) keys
   unfolding From
   behind k [] rising = tt
-  behind k (next ∷ keys) rising = both (comes_before (krank k) (krank next)) (rises_from krank next keys) rising
+  behind k (next ∷ keys) rising = and_parts (comes_before (krank k) (krank next)) (rises_from krank next keys) rising
 
   skipped : (key : List ℕ) (k : K) (keys : List K) → From key (k ∷ keys) → From key keys
   unfolding From
   skipped key k [] from = tt
   skipped key k (next ∷ keys) from =
-      let parts = both (comes_before (krank k) (krank next)) (rises_from krank next keys) from.1 in
+      let parts = and_parts (comes_before (krank k) (krank next)) (rises_from krank next keys) from.1 in
       (before-trans key (krank k) (krank next) from.0 parts.0, parts.1)
 
   changes-from : (first : OfficeChange) (key : List ℕ) → At t key first → (keys : List K) → From key keys → rises_from rank first (filter_map change keys) ≡ true
@@ -88,7 +86,7 @@ module _ {K : Type 0} (krank : K → List ℕ) (t : ℕ) (change : K → Option 
           let before : comes_before (rank first) (rank c) ≡ true =
           (λ i. comes_before (here.in_table i ∷ here.at_key i) (there.in_table i ∷ there.at_key i)) ∙ same-table t key (krank k) from.0
           in
-          and_true _ _ before (next c there)
+          and_from _ _ before (next c there)
 
   changes-rise : (keys : List K) → rises krank keys ≡ true → rises rank (filter_map change keys) ≡ true
   unfolding IfOne
@@ -97,7 +95,7 @@ module _ {K : Type 0} (krank : K → List ℕ) (t : ℕ) (change : K → Option 
     where
       rest : (k : K) (keys : List K) → rises_from krank k keys ≡ true → rises krank keys ≡ true
       rest k [] rising = refl
-      rest k (next ∷ keys) rising = (both (comes_before (krank k) (krank next)) (rises_from krank next keys) rising).1
+      rest k (next ∷ keys) rising = (and_parts (comes_before (krank k) (krank next)) (rises_from krank next keys) rising).1
 
       by_option : (c : Option OfficeChange) → IfOne (At t (krank k)) c → rises rank (filter_map change keys) ≡ true
           → ((c : OfficeChange) → At t (krank k) c → rises_from rank c (filter_map change keys) ≡ true) → rises rank (cons_option c (filter_map change keys)) ≡ true
@@ -121,10 +119,10 @@ BeforeAll later c = Every (λ d. comes_before (rank c) (rank d) ≡ true) later
 from-append : (first : OfficeChange) (xs ys : List OfficeChange) → rises_from rank first xs ≡ true → rises rank ys ≡ true → BeforeAll ys first → Every (BeforeAll ys) xs → rises_from rank first (xs ++ ys) ≡ true
 unfolding BeforeAll
 from-append first [] [] from rising here all = refl
-from-append first [] (y ∷ ys) from rising here all = and_true _ _ here.0 rising
+from-append first [] (y ∷ ys) from rising here all = and_from _ _ here.0 rising
 from-append first (x ∷ xs) ys from rising here all =
-    let parts = both (comes_before (rank first) (rank x)) (rises_from rank x xs) from in
-    and_true _ _ parts.0 (from-append x xs ys parts.1 rising all.0 all.1)
+    let parts = and_parts (comes_before (rank first) (rank x)) (rises_from rank x xs) from in
+    and_from _ _ parts.0 (from-append x xs ys parts.1 rising all.0 all.1)
 
 rises-append : (xs ys : List OfficeChange) → rises rank xs ≡ true → rises rank ys ≡ true → Every (BeforeAll ys) xs → rises rank (xs ++ ys) ≡ true
 rises-append [] ys from rising all = rising

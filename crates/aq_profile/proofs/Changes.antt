@@ -2,12 +2,11 @@
 use Rattle.std.proofs.Common.{◌≡◌, ℕ, Bool, true, false, cond, List, [], ◌∷◌, map, refl, sym, ap, ◌∙◌}
 use Rattle.std.specs.Prelude.{Option, Some, None, fold, filter_map}
 use Rattle.std.specs.List.{cons_option}
+use Rattle.std.proofs.lemmas.Bool.{and_from, and_parts}
 use Rattle.aq_profile.specs.Office.Office.{is_same, comes_before, rises_from, rises, row_at, with_row}
 use Rattle.aq_profile.specs.Office.Load.{keys_of_either}
-use Rattle.aq_profile.proofs.Least.{both}
-use Rattle.aq_profile.proofs.Rising.{before-trans, with_row-rises}
-use Rattle.aq_profile.proofs.JoinedFields.{and_true}
-use Rattle.aq_profile.proofs.Spans.{Every}
+use Rattle.aq_profile.proofs.Elements.{Every}
+use Rattle.aq_profile.specs.Office.RowOrder.{before-trans, with_row-rises}
 use Rattle.aq_profile.proofs.Lookups.{same-is, before-other, found-with, rises-rest, one_list}
 
 -- ---- keys of either list
@@ -40,8 +39,8 @@ keys-rise {X = X} key rank (x ∷ rows) rising = from x rows rising
     from : (first : X) (rest : List X) → rises_from (λ x. rank (key x)) first rest ≡ true → rises_from rank (key first) (map key rest) ≡ true
     from first [] rising = refl
     from first (next ∷ rest) rising =
-        let parts = both (comes_before (rank (key first)) (rank (key next))) (rises_from (λ x. rank (key x)) next rest) rising in
-        and_true _ _ parts.0 (from next rest parts.1)
+        let parts = and_parts (comes_before (rank (key first)) (rank (key next))) (rises_from (λ x. rank (key x)) next rest) rising in
+        and_from _ _ parts.0 (from next rest parts.1)
 
 -- ---- the changes of a list of rows
 
@@ -93,7 +92,7 @@ module _ {X K C : Type 0} (key : X → K) (rank : K → List ℕ) (change : K �
       unfolding Same
       still-same first [] earlier rising same = (kept first (before-other (rank k) (rank first) earlier) same.0, tt)
       still-same first (next ∷ keys) earlier rising same =
-          let parts = both (comes_before (rank first) (rank next)) (rises_from rank next keys) rising in (
+          let parts = and_parts (comes_before (rank first) (rank next)) (rises_from rank next keys) rising in (
             kept first (before-other (rank k) (rank first) earlier) same.0,
             still-same next keys (before-trans (rank k) (rank first) (rank next) earlier parts.0) parts.1 same.1,
           )
@@ -102,7 +101,7 @@ module _ {X K C : Type 0} (key : X → K) (rank : K → List ℕ) (change : K �
       unfolding Same
       rest-same [] rising same = tt
       rest-same (first ∷ keys) rising same =
-          let parts = both (comes_before (rank k) (rank first)) (rises_from rank first keys) rising in
+          let parts = and_parts (comes_before (rank k) (rank first)) (rises_from rank first keys) rising in
           still-same first keys parts.0 parts.1 same
 
       rest-others : (keys : List K) → ((at : List ℕ) → row_at rank at (k ∷ keys) ≡ None → At at rows ≡ At at now)

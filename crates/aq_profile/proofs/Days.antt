@@ -4,8 +4,8 @@ use Rattle.std.specs.Prelude.{nat_lt, nat_le, ◌==◌, count_by, if◌then◌el
 use Rattle.std.specs.List.{range_with_len}
 use Rattle.std.proofs.lemmas.List.Sums.{sum_by-cons}
 use Rattle.std.proofs.lemmas.Bool.Decides.{nat_tests}
+use Rattle.std.proofs.lemmas.Bool.{cases_Bool}
 use Rattle.aq_base.specs.Calendar.{days_of_years, days_of_months, days_in_year, days_in_month, year_of, month_of, day_of_month, day_of_year, year_first, day_number, day_of_date, is_date}
-use Rattle.aq_profile.proofs.Least.{true_or_false}
 
 -- how many of a rising row of numbers are at most d
 record Counted (h : ℕ → ℕ) (start len d k : ℕ) : Type 0 where
@@ -48,7 +48,7 @@ counted h rising start zero d =
     let none : at_most h d start zero ≡ 0 = unfold at_most in refl in
     record { low = λ j e. absurd (omega arith); high = λ l. absurd (omega arith); most = omega arith }
 counted h rising start (suc len) d =
-    elim (true_or_false (nat_le (h start) d)) [
+    elim (cases_Bool (nat_le (h start) d)) [
       | inl here ↦
           let below : h start ≤ d = grind (arith, nat_tests) in
           subst (λ k. Counted h start (suc len) d k)
@@ -86,7 +86,7 @@ years_count d = at_most (λ n. days_of_years (n + 1)) d 0 50
 year_few : (d k : ℕ) → d ≤ 18262 → Counted (λ n. days_of_years (n + 1)) 0 50 d k → k < 50
 unfolding days_of_years
 year_few d k small c =
-    elim (true_or_false (nat_lt k 50)) [
+    elim (cases_Bool (nat_lt k 50)) [
       | inl less ↦ grind (arith, nat_tests)
       | inr not_less ↦
           let most = c.most in
@@ -122,7 +122,7 @@ months_rise y n = omega (arith, months_next y n)
 
 pub twelve_months : (y : ℕ) → days_of_months y 12 ≡ days_in_year y
 unfolding days_of_months
-twelve_months y = elim (true_or_false (y % 4 == 0)) [ inl leap ↦ rw leap refl | inr plain ↦ rw plain refl ]
+twelve_months y = elim (cases_Bool (y % 4 == 0)) [ inl leap ↦ rw leap refl | inr plain ↦ rw plain refl ]
 
 -- the months of a year that are over by a day of it
 pub record InMonth (y day j : ℕ) : Type 0 where
@@ -135,7 +135,7 @@ months_count y day = at_most (days_of_months y) day 1 12
 
 month_few : (y day k : ℕ) → day < days_in_year y → Counted (days_of_months y) 1 12 day k → k < 12
 month_few y day k small c =
-    elim (true_or_false (nat_lt k 12)) [
+    elim (cases_Bool (nat_lt k 12)) [
       | inl less ↦ grind (arith, nat_tests)
       | inr not_less ↦
           let most = c.most in

@@ -28,17 +28,12 @@ use Rattle.aq_profile.specs.Particles.ParticleDay.{cell_of, mean_of_hours, mean_
 use Rattle.aq_profile.specs.Particles.QuarterCounts.{Makeup, makeup_by, QuarterDays, days_of_quarter, credits, quarter_counts, quarter_values, quarters_of, pm25_year}
 use Rattle.aq_profile.specs.Particles.Strata.{first_days_among, first_days, strata_from, quarter_end, strata_of}
 use Rattle.aq_profile.specs.Particles.Pm10Estimate.{Pm10Quarter, exceeds, quarter_of_strata, pm10_quarter, pm10_year}
+use Rattle.aq_profile.proofs.Tests.{or_turns}
 use Rattle.aq_profile.proofs.Order.{fold_in_any_order, filter_map-moved, one_order}
 use Rattle.aq_profile.proofs.Sums.{total-cons}
 
 sum_turns : (a b c : ℤ) → a +ℤ (b +ℤ c) ≡ b +ℤ (a +ℤ c)
 sum_turns a b c = omega (arith, ints)
-
-or_turns : (a b c : Bool) → (a || (b || c)) ≡ (b || (a || c))
-or_turns true true c = refl
-or_turns true false c = refl
-or_turns false true c = refl
-or_turns false false c = refl
 
 -- ---- sums and exclusions of lists in any order
 

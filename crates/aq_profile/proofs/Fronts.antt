@@ -13,6 +13,7 @@ use Rattle.std.proofs.lemmas.List.Folds.{list_any-append, find-append}
 use Rattle.std.proofs.lemmas.Bool.Decides.{nat_tests}
 use Rattle.std.proofs.lemmas.Slice.Eq.{bytes_eq-Decides}
 use Rattle.std.proofs.Math.Bool.{or-false}
+use Rattle.std.proofs.lemmas.Bool.{and_from, and_parts, eq-eqb, eqb-true, le-leb, leb-true}
 use Rattle.aq_base.specs.Site.{Site}
 use Rattle.aq_base.specs.declared.monitor.Pollutant.{Pollutant}
 use Rattle.aq_base.specs.declared.monitor.Pollutant.TheVariants.{Ozone, Pm25}
@@ -22,21 +23,7 @@ use Rattle.aq_base.specs.declared.office.OfficeRecord.{OfficeRecord}
 use Rattle.aq_base.specs.declared.office.OfficeRecord.TheVariants.{Monitor, Primary, Schedule, Season, Makeup, Event, Concurrence, Approved}
 use Rattle.aq_profile.specs.Lines.Spellings.{◌>>=◌}
 use Rattle.aq_profile.specs.Office.Office.{Office, StoredLoad, IsOffice, observation_rank, load_rank, fits_monitors, is_load, is_same, comes_before, rises_from, rises, part_numbers, kind_of, key_of, record_rank, monitor_duration, registers, has_monitor, has_its_monitor, has_its_event, group_of, group_size, most_in_group, is_record, fits_records, site_numbers, makes_up_on, makeups_on, has_own_makeup_day, with_site, sites_of}
-use Rattle.aq_profile.proofs.Spans.{Every}
-
-both : (a b : Bool) → (a && b) ≡ true → (a ≡ true) × (b ≡ true)
-both true b h = (refl, h)
-both false b h = cc
-
-joined : (a b : Bool) → a ≡ true → b ≡ true → (a && b) ≡ true
-joined true b h k = k
-joined false b h k = cc
-
-within : (a b : ℕ) → nat_le a b ≡ true → a ≤ b
-within a b h = grind (arith, nat_tests)
-
-is_within : (a b : ℕ) → a ≤ b → nat_le a b ≡ true
-is_within a b h = grind (arith, nat_tests)
+use Rattle.aq_profile.proofs.Elements.{Every, every-to}
 
 -- ---- the records behind one have its kind or a greater one
 
@@ -57,7 +44,7 @@ kinds r s h = kind-before (kind r) (kind s) (part_numbers (key_of r)) (part_numb
 behind : (r : OfficeRecord) (records : List OfficeRecord) → rises_from record_rank r records ≡ true → Every (λ s. kind r ≤ kind s) records
 behind r [] rising = tt
 behind r (s ∷ records) rising =
-    let parts = both (comes_before (record_rank r) (record_rank s)) (rises_from record_rank s records) rising in
+    let parts = and_parts (comes_before (record_rank r) (record_rank s)) (rises_from record_rank s records) rising in
     let low = kinds r s parts.0 in
     (low, higher r s records low (behind s records parts.1))
   where
@@ -67,7 +54,7 @@ behind r (s ∷ records) rising =
 
 rises-rest : (r : OfficeRecord) (records : List OfficeRecord) → rises_from record_rank r records ≡ true → rises record_rank records ≡ true
 rises-rest r [] rising = refl
-rises-rest r (s ∷ records) rising = (both (comes_before (record_rank r) (record_rank s)) (rises_from record_rank s records) rising).1
+rises-rest r (s ∷ records) rising = (and_parts (comes_before (record_rank r) (record_rank s)) (rises_from record_rank s records) rising).1
 
 -- of records that rise, those behind a front have the kind of each record of the front or a greater one
 every-split : {X : Type 0} (P : X → Type 0) (xs ys : List X) → Every P (xs ++ ys) → Every P xs × Every P ys
@@ -82,8 +69,8 @@ front-kinds (x ∷ xs) ys rising =
 from-front : {X : Type 0} (rank : X → List ℕ) (x : X) (xs ys : List X) → rises_from rank x (xs ++ ys) ≡ true → rises_from rank x xs ≡ true
 from-front rank x [] ys rising = refl
 from-front rank x (y ∷ xs) ys rising =
-    let parts = both (comes_before (rank x) (rank y)) (rises_from rank y (xs ++ ys)) rising in
-    joined (comes_before (rank x) (rank y)) (rises_from rank y xs) parts.0 (from-front rank y xs ys parts.1)
+    let parts = and_parts (comes_before (rank x) (rank y)) (rises_from rank y (xs ++ ys)) rising in
+    and_from (comes_before (rank x) (rank y)) (rises_from rank y xs) parts.0 (from-front rank y xs ys parts.1)
 
 pub rises-front : {X : Type 0} (rank : X → List ℕ) (xs ys : List X) → rises rank (xs ++ ys) ≡ true → rises rank xs ≡ true
 rises-front rank [] ys rising = refl
@@ -98,10 +85,6 @@ none_any p (y ∷ ys) every = rw (every.0, none_any p ys every.1) refl
 none_found : {X : Type 0} (p : X → Bool) (ys : List X) → Every (λ y. p y ≡ false) ys → find p ys ≡ None
 none_found p [] every = refl
 none_found p (y ∷ ys) every = rw every.0 (none_found p ys every.1)
-
-every-to : {X : Type 0} (P Q : X → Type 0) → ((x : X) → P x → Q x) → (xs : List X) → Every P xs → Every Q xs
-every-to P Q h [] every = tt
-every-to P Q h (x ∷ xs) every = (h x every.0, every-to P Q h xs every.1)
 
 -- a rank of another kind
 other_kind : (k : ℕ) (rest : List ℕ) (s : OfficeRecord) → k < kind s → is_same (record_rank s) (k ∷ rest) ≡ false
@@ -178,20 +161,20 @@ module _ (office : Office) (xs ys : List OfficeRecord) (is : office.records ≡ 
 
   fits-front : (r : OfficeRecord) → Every (λ s. kind r ≤ kind s) ys → fits_records office r ≡ true → fits_records front r ≡ true
   fits-front r every fits =
-      let c = both _ (nat_le (group_size office r) (most_in_group r)) fits in
-      let b = both _ (has_its_event office r) c.0 in
-      let a = both (is_record r) (has_its_monitor office r) b.0 in
-      let few = within (group_size office r) (most_in_group r) c.1 in
+      let c = and_parts _ (nat_le (group_size office r) (most_in_group r)) fits in
+      let b = and_parts _ (has_its_event office r) c.0 in
+      let a = and_parts (is_record r) (has_its_monitor office r) b.0 in
+      let few = leb-true (group_size office r) (most_in_group r) c.1 in
       let less = count-front (λ other. is_same (group_of other) (group_of r)) in
-      joined _ (nat_le (group_size front r) (most_in_group r))
-      (joined _ (has_its_event front r) (joined (is_record r) (has_its_monitor front r) a.0 (monitor-front r every a.1)) (event-front r every b.1))
-      (is_within (group_size front r) (most_in_group r) (omega (arith, few, less)))
+      and_from _ (nat_le (group_size front r) (most_in_group r))
+      (and_from _ (has_its_event front r) (and_from (is_record r) (has_its_monitor front r) a.0 (monitor-front r every a.1)) (event-front r every b.1))
+      (le-leb (group_size front r) (most_in_group r) (omega (arith, few, less)))
 
   all-fit : (rs : List OfficeRecord) → Every (λ r. Every (λ s. kind r ≤ kind s) ys) rs → list_all (fits_records office) rs ≡ true → list_all (fits_records front) rs ≡ true
   all-fit [] every fits = refl
   all-fit (r ∷ rs) every fits =
-      let parts = both (fits_records office r) (list_all (fits_records office) rs) fits in
-      joined (fits_records front r) (list_all (fits_records front) rs) (fits-front r every.0 parts.0) (all-fit rs every.1 parts.1)
+      let parts = and_parts (fits_records office r) (list_all (fits_records office) rs) fits in
+      and_from (fits_records front r) (list_all (fits_records front) rs) (fits-front r every.0 parts.0) (all-fit rs every.1 parts.1)
 
 -- ---- the sites of a front are no more than all
 
@@ -316,22 +299,16 @@ module _ (office : Office) (xs ys : List OfficeRecord) (is : office.records ≡ 
       let one : count_by p (r ∷ rest) ≡ 1 + count_by p rest = sum_by-cons (λ s. cond (p s) 1 0) r rest ∙ rw passes refl in
       omega (arith, all, one)
 
-  number_is : (a b : ℕ) → (a == b) ≡ true → a ≡ b
-  number_is a b h = grind (arith, nat_tests)
-
-  number-test : (a b : ℕ) → a ≡ b → (a == b) ≡ true
-  number-test a b h = grind (arith, nat_tests)
-
   own-front : (before : List OfficeRecord) (r : OfficeRecord) (rest : List OfficeRecord) → xs ≡ before ++ r ∷ rest → has_own_makeup_day office r ≡ true → has_own_makeup_day (front office xs ys is) r ≡ true
   own-front before (Makeup site missed makeup) rest split own =
       let p : OfficeRecord → Bool = makes_up_on site makeup in
       let itself : p (Makeup site missed makeup) ≡ true =
-      joined (is_same (site_numbers site) (site_numbers site)) (makeup == makeup) ((bytes_eq-Decides (site_numbers site) (site_numbers site)).1 refl) (number-test makeup makeup refl)
+      and_from (is_same (site_numbers site) (site_numbers site)) (makeup == makeup) ((bytes_eq-Decides (site_numbers site) (site_numbers site)).1 refl) (eq-eqb makeup makeup refl)
       in
-      let one : makeups_on office site makeup ≡ 1 = number_is (makeups_on office site makeup) 1 own in
+      let one : makeups_on office site makeup ≡ 1 = eqb-true (makeups_on office site makeup) 1 own in
       let few = count-front office xs ys is p in
       let some = here before (Makeup site missed makeup) rest p split itself in
-      number-test (count_by p xs) 1 (omega (arith, one, few, some))
+      eq-eqb (count_by p xs) 1 (omega (arith, one, few, some))
   own-front before (Monitor a b c) rest split own = refl
   own-front before (Primary a b c d) rest split own = refl
   own-front before (Schedule a b c d e) rest split own = refl
@@ -343,13 +320,13 @@ module _ (office : Office) (xs ys : List OfficeRecord) (is : office.records ≡ 
   all-own : (before rest : List OfficeRecord) → xs ≡ before ++ rest → list_all (has_own_makeup_day office) rest ≡ true → list_all (has_own_makeup_day (front office xs ys is)) rest ≡ true
   all-own before [] split own = refl
   all-own before (r ∷ rest) split own =
-      let parts = both (has_own_makeup_day office r) (list_all (has_own_makeup_day office) rest) own in
-      joined (has_own_makeup_day (front office xs ys is) r) (list_all (has_own_makeup_day (front office xs ys is)) rest) (own-front before r rest split parts.0)
+      let parts = and_parts (has_own_makeup_day office r) (list_all (has_own_makeup_day office) rest) own in
+      and_from (has_own_makeup_day (front office xs ys is) r) (list_all (has_own_makeup_day (front office xs ys is)) rest) (own-front before r rest split parts.0)
       (all-own (before ++ r ∷ []) rest (split ∙ sym (append_assoc before (r ∷ []) rest)) parts.1)
 
 all-front : {X : Type 0} (p : X → Bool) (xs ys : List X) → list_all p (xs ++ ys) ≡ true → list_all p xs ≡ true
 all-front p [] ys h = refl
-all-front p (x ∷ xs) ys h = let parts = both (p x) (list_all p (xs ++ ys)) h in joined (p x) (list_all p xs) parts.0 (all-front p xs ys parts.1)
+all-front p (x ∷ xs) ys h = let parts = and_parts (p x) (list_all p (xs ++ ys)) h in and_from (p x) (list_all p xs) parts.0 (all-front p xs ys parts.1)
 
 length-front : {X : Type 0} (xs ys : List X) → length xs ≤ length (xs ++ ys)
 length-front xs ys = omega (arith, length-append xs ys)

@@ -10,7 +10,7 @@ use Rattle.std.proofs.Math.IntN.{suc_ℤ-*ℤ, *ℤ_comm, *ℤ-zero}
 use Rattle.aq_base.specs.Decimal.{half_up}
 use Rattle.aq_profile.specs.Lists.{total, all_of}
 use Rattle.aq_profile.specs.Particles.Means.{Fraction, sum_of_fractions, has_days, mean_of_means}
-use Rattle.aq_profile.proofs.Spans.{Every}
+use Rattle.aq_profile.proofs.Elements.{Every}
 use Rattle.aq_profile.proofs.Sums.{total-cons}
 
 -- from -low to high

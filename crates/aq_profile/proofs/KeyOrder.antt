@@ -2,7 +2,7 @@
 use Rattle.std.proofs.Common.{◌≡◌, ℕ, suc, zero, ◌+◌, ◌-◌, ◌*◌, ◌/◌, ◌%◌, ◌^◌, ◌<◌, ◌≤◌, Bool, true, false, ◌&&◌, ◌||◌, List, [], ◌∷◌, ◌++◌, length, refl, sym, ap, ◌∙◌, arith, inl, inr, subst, length-append}
 use Rattle.std.specs.Prelude.{nat_lt, nat_le, ◌==◌, bytes_eq}
 use native.Mathlib.Numerals.{unary_clauses}
-use Rattle.std.proofs.lemmas.Bool.{false≢true}
+use Rattle.std.proofs.lemmas.Bool.{false≢true, and_parts, cases_Bool}
 use Rattle.std.proofs.lemmas.Bool.Decides.{nat_tests}
 use Rattle.aq_base.specs.Calendar.{days_of_years, days_of_months, year_of, month_of, day_of_month, days_in_month, is_year}
 use Rattle.aq_base.specs.Decimal.{last_digits}
@@ -14,8 +14,7 @@ use Rattle.aq_base.specs.declared.monitor.Pollutant.TheVariants.{Ozone, Pm25, Pm
 use Rattle.aq_profile.specs.Lines.Spellings.{has_parameter, Xs}
 use Rattle.aq_profile.specs.Office.Office.{is_same, comes_before, parameter_number, site_numbers, series_numbers, part_numbers, key_numbers, kind_of, is_site, is_day, is_poc, is_key}
 use Rattle.aq_profile.specs.Lines.Canonical.{parameter_text, date_text, site_texts, joined, key_texts, printed_key}
-use Rattle.aq_profile.proofs.Rising.{before-total}
-use Rattle.aq_profile.proofs.Least.{true_or_false, both}
+use Rattle.aq_profile.specs.Office.RowOrder.{before-total}
 use Rattle.aq_profile.proofs.Days.{IsDate, date_of, years_rise, months_rise, months_next}
 
 -- two texts that stand to each other as two numbers
@@ -168,8 +167,8 @@ same-two xs ys m n us vs r o rest =
 
 pub site_bounds : (s : Site) → is_site s ≡ true → (s.state < 10 ^ 2) × (s.county < 10 ^ 3) × (s.number < 10 ^ 4)
 site_bounds s p =
-    let one = both (nat_le s.state 99 && nat_le s.county 999) (nat_le s.number 9999) p in
-    let two = both (nat_le s.state 99) (nat_le s.county 999) one.0 in
+    let one = and_parts (nat_le s.state 99 && nat_le s.county 999) (nat_le s.number 9999) p in
+    let two = and_parts (nat_le s.state 99) (nat_le s.county 999) one.0 in
     (less s.state 99 two.0, less s.county 999 two.1, less s.number 9999 one.1)
   where
     less : (n m : ℕ) → nat_le n m ≡ true → n < m + 1
@@ -293,49 +292,49 @@ same_kind : (a b : OfficeKey) → is_key a ≡ true → is_key b ≡ true → ki
     → comes_before (printed_key a) (printed_key b) ≡ comes_before (part_numbers a) (part_numbers b)
 unfolding key_texts
 same_kind (MonitorKey a) (MonitorKey b) p q e =
-    let x = both (is_site a.site) (is_poc a.poc) p in
-    let y = both (is_site b.site) (is_poc b.poc) q in
-    let m = both (nat_le 1 a.poc) (nat_le a.poc 99) x.1 in
-    let n = both (nat_le 1 b.poc) (nat_le b.poc 99) y.1 in
+    let x = and_parts (is_site a.site) (is_poc a.poc) p in
+    let y = and_parts (is_site b.site) (is_poc b.poc) q in
+    let m = and_parts (nat_le 1 a.poc) (nat_le a.poc 99) x.1 in
+    let n = and_parts (nat_le 1 b.poc) (nat_le b.poc 99) y.1 in
     series_parts a.site b.site a.pollutant b.pollutant _ _ a.poc b.poc x.0 y.0
     (ordered-digits 2 a.poc b.poc (less_or a.poc 99 100 m.1 (omega arith)) (less_or b.poc 99 100 n.1 (omega arith)))
 same_kind (PrimaryKey s p d) (PrimaryKey t q f) h i e =
-    let x = both (is_site s) (is_day d) h in
-    let y = both (is_site t) (is_day f) i in
+    let x = and_parts (is_site s) (is_day d) h in
+    let y = and_parts (is_site t) (is_day f) i in
     series_parts s t p q _ _ d f x.0 y.0 (ordered-date d f (at_most_day d x.1) (at_most_day f y.1))
 same_kind (ScheduleKey s p d) (ScheduleKey t q f) h i e =
-    let x = both (is_site s && has_parameter Xs p) (is_day d) h in
-    let y = both (is_site t && has_parameter Xs q) (is_day f) i in
-    let a = both (is_site s) (has_parameter Xs p) x.0 in
-    let b = both (is_site t) (has_parameter Xs q) y.0 in
+    let x = and_parts (is_site s && has_parameter Xs p) (is_day d) h in
+    let y = and_parts (is_site t && has_parameter Xs q) (is_day f) i in
+    let a = and_parts (is_site s) (has_parameter Xs p) x.0 in
+    let b = and_parts (is_site t) (has_parameter Xs q) y.0 in
     series_parts s t p q _ _ d f a.0 b.0 (ordered-date d f (at_most_day d x.1) (at_most_day f y.1))
 same_kind (SeasonKey s m) (SeasonKey t n) h i e =
-    let x = both (is_site s) (is_year m) h in
-    let y = both (is_site t) (is_year n) i in
-    let k = both (nat_le 2000 m) (nat_le m 2049) x.1 in
-    let l = both (nat_le 2000 n) (nat_le n 2049) y.1 in
+    let x = and_parts (is_site s) (is_year m) h in
+    let y = and_parts (is_site t) (is_year n) i in
+    let k = and_parts (nat_le 2000 m) (nat_le m 2049) x.1 in
+    let l = and_parts (nat_le 2000 n) (nat_le n 2049) y.1 in
     site_parts s t _ _ (m ∷ []) (n ∷ []) x.0 y.0
     (last_part _ _ m n (ordered-digits 4 m n (less_or m 2049 10000 k.1 (omega arith)) (less_or n 2049 10000 l.1 (omega arith))))
 same_kind (MakeupKey s d) (MakeupKey t f) h i e =
-    let x = both (is_site s) (is_day d) h in
-    let y = both (is_site t) (is_day f) i in
+    let x = and_parts (is_site s) (is_day d) h in
+    let y = and_parts (is_site t) (is_day f) i in
     site_parts s t _ _ (d ∷ []) (f ∷ []) x.0 y.0 (last_part _ _ d f (ordered-date d f (at_most_day d x.1) (at_most_day f y.1)))
 same_kind (ApprovedKey s d) (ApprovedKey t f) h i e =
-    let x = both (is_site s) (is_day d) h in
-    let y = both (is_site t) (is_day f) i in
+    let x = and_parts (is_site s) (is_day d) h in
+    let y = and_parts (is_site t) (is_day f) i in
     site_parts s t _ _ (d ∷ []) (f ∷ []) x.0 y.0 (last_part _ _ d f (ordered-date d f (at_most_day d x.1) (at_most_day f y.1)))
 same_kind (EventKey m) (EventKey n) h i e =
-    let x = both (nat_le 1 m) (nat_le m 999999) h in
-    let y = both (nat_le 1 n) (nat_le n 999999) i in
+    let x = and_parts (nat_le 1 m) (nat_le m 999999) h in
+    let y = and_parts (nat_le 1 n) (nat_le n 999999) i in
     last_part _ _ m n (ordered-digits 6 m n (less_or m 999999 1000000 x.1 (omega arith)) (less_or n 999999 1000000 y.1 (omega arith)))
 same_kind (ConcurrenceKey m) (ConcurrenceKey n) h i e =
-    let x = both (nat_le 1 m) (nat_le m 999999) h in
-    let y = both (nat_le 1 n) (nat_le n 999999) i in
+    let x = and_parts (nat_le 1 m) (nat_le m 999999) h in
+    let y = and_parts (nat_le 1 n) (nat_le n 999999) i in
     last_part _ _ m n (ordered-digits 6 m n (less_or m 999999 1000000 x.1 (omega arith)) (less_or n 999999 1000000 y.1 (omega arith)))
 same_kind a b h i e = absurd (omega arith)
 
 by_kind : (m n : ℕ) (p q : Bool) → (m ≡ n → p ≡ q) → (nat_lt m n || ((m == n) && p)) ≡ (nat_lt m n || ((m == n) && q))
-by_kind m n p q h = elim (true_or_false (m == n)) [
+by_kind m n p q h = elim (cases_Bool (m == n)) [
   | inl same ↦ let equal : m ≡ n = grind (arith, nat_tests) in ap (λ b. nat_lt m n || ((m == n) && b)) (h equal)
   | inr other ↦ rw other refl
 ]
@@ -358,7 +357,7 @@ before-itself (x ∷ a) = not_less x (comes_before a a) (before-itself a)
 pub printed_same : (a b : OfficeKey) → is_key a ≡ true → is_key b ≡ true → kind_of a ≡ kind_of b → printed_key a ≡ printed_key b
     → is_same (key_numbers a) (key_numbers b) ≡ true
 printed_same a b p q kinds texts =
-    elim (true_or_false (is_same (key_numbers a) (key_numbers b))) [
+    elim (cases_Bool (is_same (key_numbers a) (key_numbers b))) [
       | inl same ↦ same
       | inr other ↦
           let there : comes_before (key_numbers a) (key_numbers b) ≡ false =

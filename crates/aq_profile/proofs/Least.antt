@@ -3,7 +3,7 @@ use Rattle.std.proofs.Common.{◌≡◌, ℕ, ◌<◌, ◌≤◌, ◌⊎◌, Boo
 use Rattle.std.specs.Prelude.{All, Contains, find}
 use Rattle.std.specs.List.{AllByRecursion}
 use Rattle.std.proofs.lemmas.List.Elements.{All-from_recursion, All-cons, All-nil}
-use Rattle.std.proofs.lemmas.Bool.{false≢true}
+use Rattle.std.proofs.lemmas.Bool.{false≢true, and_parts, cases_Bool}
 use Rattle.std.proofs.lemmas.Bool.Decides.{nat_tests}
 use Rattle.aq_base.specs.Rule.{rule_number}
 use Rattle.aq_base.specs.declared.rule.Rule.{Rule}
@@ -19,15 +19,6 @@ use Rattle.aq_profile.specs.Office.Refusal.{office_rules}
 use Rattle.aq_profile.specs.Office.Office.{rises, rises_from, comes_before}
 use Rattle.aq_profile.specs.Least.{IsLeastBroken, rule_rank}
 
--- the parts of two tests that must hold
-pub both : (a b : Bool) → (a && b) ≡ true → (a ≡ true) × (b ≡ true)
-both true b h = (refl, h)
-both false b h = absurd (false≢true h)
-
-pub true_or_false : (b : Bool) → (b ≡ true) ⊎ (b ≡ false)
-true_or_false true = inl refl
-true_or_false false = inr refl
-
 one_before : (a b : ℕ) → comes_before (a ∷ []) (b ∷ []) ≡ true → a < b
 one_before a b h = grind (arith, nat_tests)
 
@@ -36,14 +27,14 @@ above : (n : ℕ) (first : Rule) (rest : List Rule) → n ≤ rule_number first 
     → AllByRecursion (λ other. n < rule_number other) rest
 above n first [] small rising = tt
 above n first (next ∷ rest) small rising =
-    let parts = both (comes_before (rule_rank first) (rule_rank next)) (rises_from rule_rank next rest) rising in
+    let parts = and_parts (comes_before (rule_rank first) (rule_rank next)) (rises_from rule_rank next rest) rising in
     let lower : rule_number first < rule_number next = one_before (rule_number first) (rule_number next) parts.0 in
     (omega arith, above n next rest (omega arith) parts.1)
 
 rises_rest : (first : Rule) (rest : List Rule) → rises_from rule_rank first rest ≡ true → rises rule_rank rest ≡ true
 rises_rest first [] rising = refl
 rises_rest first (next ∷ rest) rising =
-    (both (comes_before (rule_rank first) (rule_rank next)) (rises_from rule_rank next rest) rising).1
+    (and_parts (comes_before (rule_rank first) (rule_rank next)) (rises_from rule_rank next rest) rising).1
 
 greater_not_less : (p : Rule → Bool) (rule : Rule) (rest : List Rule) → AllByRecursion (λ other. rule_number rule < rule_number other) rest
     → AllByRecursion (λ other. rule_number other < rule_number rule → p other ≡ false) rest
@@ -60,7 +51,7 @@ pub IsLeastBroken-find : (p : Rule → Bool) (rules : List Rule) (rule : Rule) �
     → IsLeastBroken p rules rule
 IsLeastBroken-find p [] rule rising found = cc
 IsLeastBroken-find p (first ∷ rest) rule rising found =
-    elim (true_or_false (p first)) [
+    elim (cases_Bool (p first)) [
       | inl here ↦
           let same : Some first ≡ Some rule = sym (ap (λ b. cond b (Some first) (find p rest)) here) ∙ found in
           let is : first ≡ rule = cc in
@@ -84,7 +75,7 @@ IsLeastBroken-find p (first ∷ rest) rule rising found =
 pub none_broken-find : (p : Rule → Bool) (rules : List Rule) → find p rules ≡ None → All (λ other. p other ≡ false) rules
 none_broken-find p [] none = All-nil (λ other. p other ≡ false)
 none_broken-find p (first ∷ rest) none =
-    elim (true_or_false (p first)) [
+    elim (cases_Bool (p first)) [
       | inl here ↦
           let same : Some first ≡ None = sym (ap (λ b. cond b (Some first) (find p rest)) here) ∙ none in
           cc

@@ -1,10 +1,10 @@
 -- Lemmas for the laws. Crates above may cite them.
+pub mod Tests
+pub mod Elements
 pub mod Ranges
 pub mod Order
 pub mod Ranked
 pub mod AnyOrder
-pub mod Sameness
-pub mod Exclusions
 pub mod Greatest
 pub mod Rows
 pub mod Least
@@ -24,8 +24,8 @@ pub mod Thirds
 pub mod Joined
 pub mod Pm10Facts
 pub mod Pm25Facts
-pub mod Rising
 pub mod Pm25Counts
+pub mod ValueRange
 pub mod Pm25Range
 pub mod Damage
 pub mod OzoneFacts

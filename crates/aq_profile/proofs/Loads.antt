@@ -3,6 +3,7 @@ use Rattle.std.proofs.Common.{◌≡◌, ℕ, ◌<◌, ◌≤◌, arith, Bool, t
 use Rattle.std.specs.Prelude.{is_some, if◌then◌else◌, bytes_eq, nat_le, nat_lt, ◌==◌, length}
 use Rattle.std.proofs.lemmas.Bool.Decides.{nat_tests}
 use Rattle.std.proofs.lemmas.Slice.Eq.{bytes_eq-Decides}
+use Rattle.std.proofs.lemmas.Bool.{cases_Bool, le-leb, le-ltb, lt-ltb}
 use Rattle.aq_base.specs.declared.office.OfficeRecord.{OfficeRecord}
 use Rattle.aq_base.specs.declared.office.OfficeKey.{OfficeKey}
 use Rattle.aq_base.specs.declared.office.OfficeKey.TheVariants.{Event as EventKey, Concurrence as ConcurrenceKey}
@@ -15,8 +16,7 @@ use Rattle.aq_profile.specs.Lines.Reading.{LineValue, OfRd, OfOffice, line_value
 use Rattle.aq_profile.specs.Office.Office.{Office, StoredLoad, KeysRise, record_rank, observation_rank, load_rank, key_numbers, observation_numbers, load_at}
 use Rattle.aq_profile.specs.Office.Refusal.{kept_key}
 use Rattle.aq_profile.specs.Office.Load.{Repeat, Conflict, Full, New, with_record, without_record, without_key, changed, changed_by, refusal, after, after_all, with_load, reply, load, decide, decide_known, Posted, TooManyLines, Repeated, Differing, NoRoom, Taken, posted_again, posted_anew, posted_beside, posted, decision_of, office_after, post}
-use Rattle.aq_profile.proofs.Least.{true_or_false}
-use Rattle.aq_profile.proofs.Rising.{with_row-rises, without_row-rises}
+use Rattle.aq_profile.specs.Office.RowOrder.{with_row-rises, without_row-rises}
 
 pub after-refused : (office : Office) (line : List ℕ) (rule : Rule) → refusal office line ≡ Some rule → after office line ≡ office
 after-refused office line rule is =
@@ -28,26 +28,17 @@ same-digest : (a b : List ℕ) → a ≡ b → bytes_eq a b ≡ true
 same-digest a b same = (bytes_eq-Decides a b).1 same
 
 other-digest : (a b : List ℕ) → (a ≡ b → ⊥) → bytes_eq a b ≡ false
-other-digest a b other = elim (true_or_false (bytes_eq a b)) [ inl same ↦ absurd (other ((bytes_eq-Decides a b).0 same)) | inr differs ↦ differs ]
-
-less : (a b : ℕ) → a < b → nat_lt a b ≡ true
-less a b h = grind (arith, nat_tests)
-
-not-less : (a b : ℕ) → b ≤ a → nat_lt a b ≡ false
-not-less a b h = grind (arith, nat_tests)
-
-within : (a b : ℕ) → a ≤ b → nat_le a b ≡ true
-within a b h = grind (arith, nat_tests)
+other-digest a b other = elim (cases_Bool (bytes_eq a b)) [ inl same ↦ absurd (other ((bytes_eq-Decides a b).0 same)) | inr differs ↦ differs ]
 
 not-within : (a b : ℕ) → b < a → nat_le a b ≡ false
 not-within a b h = grind (arith, nat_tests)
 
 module _ (office : Office) (number : ℕ) (digest body : List ℕ) where
   pub posted-too_many : 120000 < line_count body → posted office number digest body ≡ TooManyLines
-  posted-too_many many = ap (λ b. cond b TooManyLines (posted_beside (load_at office number) office number digest body)) (less 120000 (line_count body) many)
+  posted-too_many many = ap (λ b. cond b TooManyLines (posted_beside (load_at office number) office number digest body)) (lt-ltb 120000 (line_count body) many)
 
   pub posted-few : line_count body ≤ 120000 → posted office number digest body ≡ posted_beside (load_at office number) office number digest body
-  posted-few few = ap (λ b. cond b TooManyLines (posted_beside (load_at office number) office number digest body)) (not-less 120000 (line_count body) few)
+  posted-few few = ap (λ b. cond b TooManyLines (posted_beside (load_at office number) office number digest body)) (le-ltb 120000 (line_count body) few)
 
   known : (kept : StoredLoad) → line_count body ≤ 120000 → load_at office number ≡ Some kept → posted office number digest body ≡ posted_again kept digest
   known kept few is = posted-few few ∙ ap (λ o. posted_beside o office number digest body) is
@@ -67,7 +58,7 @@ module _ (office : Office) (number : ℕ) (digest body : List ℕ) where
   taken = Taken (reply office number body) (load office number digest body)
 
   pub posted-full : line_count body ≤ 120000 → load_at office number ≡ None → 100000 ≤ length office.loads → posted office number digest body ≡ NoRoom
-  posted-full few is many = new few is ∙ ap (λ b. cond b NoRoom taken) (within 100000 (length office.loads) many)
+  posted-full few is many = new few is ∙ ap (λ b. cond b NoRoom taken) (le-leb 100000 (length office.loads) many)
 
   pub posted-taken : line_count body ≤ 120000 → load_at office number ≡ None → length office.loads < 100000 → posted office number digest body ≡ taken
   posted-taken few is room = new few is ∙ ap (λ b. cond b NoRoom taken) (not-within 100000 (length office.loads) room)

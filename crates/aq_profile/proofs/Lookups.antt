@@ -1,10 +1,9 @@
 -- What is found under a key after a row is put or dropped; and two lists in rising order in which the same is found are one list.
 use Rattle.std.proofs.Common.{◌≡◌, ℕ, Bool, true, false, cond, not, List, [], ◌∷◌, refl, sym, ap, ◌∙◌, inl, inr, subst}
 use Rattle.std.specs.Prelude.{Option, Some, None}
-use Rattle.std.proofs.lemmas.Bool.{false≢true}
+use Rattle.std.proofs.lemmas.Bool.{false≢true, and_parts, cases_Bool}
 use Rattle.std.proofs.lemmas.Slice.Eq.{bytes_eq-Decides}
-use Rattle.aq_profile.proofs.Least.{both, true_or_false}
-use Rattle.aq_profile.proofs.Rising.{before-total, before-trans}
+use Rattle.aq_profile.specs.Office.RowOrder.{before-total, before-trans}
 use Rattle.aq_profile.proofs.Spans.{before-itself}
 use Rattle.aq_profile.specs.Office.Office.{is_same, comes_before, rises_from, rises, row_at, with_row, without_row}
 
@@ -16,14 +15,14 @@ same-is a b h = (bytes_eq-Decides a b).0 h
 
 pub before-other : (a b : List ℕ) → comes_before a b ≡ true → is_same a b ≡ false
 before-other a b before =
-    elim (true_or_false (is_same a b)) [
+    elim (cases_Bool (is_same a b)) [
       | inl same ↦ absurd (before-itself b (subst (λ l. comes_before l b ≡ true) (same-is a b same) before))
       | inr other ↦ other
     ]
 
 pub before-other_way : (a b : List ℕ) → comes_before a b ≡ true → is_same b a ≡ false
 before-other_way a b before =
-    elim (true_or_false (is_same b a)) [
+    elim (cases_Bool (is_same b a)) [
       | inl same ↦ absurd (before-itself b (subst (λ l. comes_before l b ≡ true) (sym (same-is b a same)) before))
       | inr other ↦ other
     ]
@@ -94,7 +93,7 @@ module _ {X : Type 0} (rank : X → List ℕ) where
   none-before : (key : List ℕ) (first : X) (rows : List X) → comes_before key (rank first) ≡ true → rises_from rank first rows ≡ true → At key (first ∷ rows) ≡ None
   none-before key first [] before rising = ap (λ b. cond b (Some first) None) (before-other_way key (rank first) before)
   none-before key first (next ∷ rows) before rising =
-      let parts = both (comes_before (rank first) (rank next)) (rises_from rank next rows) rising in
+      let parts = and_parts (comes_before (rank first) (rank next)) (rises_from rank next rows) rising in
       ap (λ b. cond b (Some first) (At key (next ∷ rows))) (before-other_way key (rank first) before)
       ∙ none-before key next rows (before-trans key (rank first) (rank next) before parts.0) parts.1
 
@@ -102,12 +101,12 @@ module _ {X : Type 0} (rank : X → List ℕ) where
   pub none-behind : (first : X) (rows : List X) → rises_from rank first rows ≡ true → At (rank first) rows ≡ None
   none-behind first [] rising = refl
   none-behind first (next ∷ rows) rising =
-      let parts = both (comes_before (rank first) (rank next)) (rises_from rank next rows) rising in
+      let parts = and_parts (comes_before (rank first) (rank next)) (rises_from rank next rows) rising in
       none-before (rank first) next rows parts.0 parts.1
 
   pub rises-rest : (first : X) (rows : List X) → rises_from rank first rows ≡ true → rises rank rows ≡ true
   rises-rest first [] rising = refl
-  rises-rest first (next ∷ rows) rising = (both (comes_before (rank first) (rank next)) (rises_from rank next rows) rising).1
+  rises-rest first (next ∷ rows) rising = (and_parts (comes_before (rank first) (rank next)) (rises_from rank next rows) rising).1
 
   first-found : (first : X) (rows : List X) → At (rank first) (first ∷ rows) ≡ Some first
   first-found first rows = ap (λ b. cond b (Some first) (At (rank first) rows)) (same-itself (rank first))
@@ -120,11 +119,11 @@ module _ {X : Type 0} (rank : X → List ℕ) where
   one_list [] (y ∷ ys) p q found = let none : None ≡ Some y = found (rank y) ∙ first-found y ys in cc
   one_list (x ∷ xs) [] p q found = let none : None ≡ Some x = sym (found (rank x)) ∙ first-found x xs in cc
   one_list (x ∷ xs) (y ∷ ys) p q found =
-      elim (true_or_false (comes_before (rank x) (rank y))) [
+      elim (cases_Bool (comes_before (rank x) (rank y))) [
         | inl before ↦
             let none : None ≡ Some x = sym (none-before (rank x) y ys before q) ∙ sym (found (rank x)) ∙ first-found x xs in
             cc
-        | inr behind ↦ elim (true_or_false (is_same (rank x) (rank y))) [
+        | inr behind ↦ elim (cases_Bool (is_same (rank x) (rank y))) [
           | inr other ↦
               let after = before-total (rank x) (rank y) behind other in
               let none : None ≡ Some y = sym (none-before (rank y) x xs after p) ∙ found (rank y) ∙ first-found y ys in

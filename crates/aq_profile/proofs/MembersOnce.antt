@@ -6,13 +6,13 @@ use Rattle.std.specs.List.Sorted.{IsPermutation}
 use Rattle.std.proofs.lemmas.List.Sorted.{IsPermutation-refl, IsPermutation-trans, IsPermutation-cons, IsPermutation-append_right, IsPermutation-middle, IsPermutation-sym, list_any-IsPermutation}
 use Rattle.std.proofs.lemmas.List.Folds.{list_any-append}
 use Rattle.std.proofs.lemmas.Slice.Eq.{bytes_eq-Decides}
+use Rattle.std.proofs.lemmas.Bool.{and_parts, not-true, or_parts}
 use Rattle.aq_profile.specs.Office.Office.{is_same, comes_before, rises, with_row}
 use Rattle.aq_profile.specs.Shown.Sheet.{SheetCell, Head, Sheet}
 use Rattle.aq_profile.specs.Shown.Json.{Member, head_member, table_members, members_of}
 use Rattle.aq_profile.specs.Shown.WellFormed.{all_differ, names_in, IsWellFormed}
-use Rattle.aq_profile.proofs.Least.{both}
-use Rattle.aq_profile.proofs.Spans.{Every}
-use Rattle.aq_profile.proofs.Rising.{with_row-rises}
+use Rattle.aq_profile.proofs.Elements.{Every}
+use Rattle.aq_profile.specs.Office.RowOrder.{with_row-rises}
 
 abbrev name_of : Member → List ℕ
 name_of m = m.name
@@ -35,18 +35,10 @@ members-rise sheet = fold-rises (map head_member sheet.heads ++ table_members sh
 abbrev IsNew : List ℕ → List Member → Type 0
 IsNew name members = list_any (λ (m : Member). bytes_eq name m.name) members ≡ false
 
-not_true : (b : Bool) → not b ≡ true → b ≡ false
-not_true true h = cc
-not_true false h = refl
-
-neither : (a b : Bool) → (a || b) ≡ false → (a ≡ false) × (b ≡ false)
-neither true b h = cc
-neither false b h = (refl, h)
-
 with_row-moved : (m : Member) (rows : List Member) → IsNew m.name rows → IsPermutation (m ∷ rows) (with_row name_of m rows)
 with_row-moved m [] new = IsPermutation-refl (m ∷ [])
 with_row-moved m (first ∷ rows) new =
-    let parts = neither (bytes_eq m.name first.name) (list_any (λ (o : Member). bytes_eq m.name o.name) rows) new in
+    let parts = or_parts (bytes_eq m.name first.name) (list_any (λ (o : Member). bytes_eq m.name o.name) rows) new in
     by_tests (comes_before m.name first.name) (is_same m.name first.name) parts.0 (with_row-moved m rows parts.1)
   where
     by_tests : (a b : Bool) → b ≡ false → IsPermutation (m ∷ rows) (with_row name_of m rows)
@@ -68,7 +60,7 @@ apart a b h = by_test (bytes_eq b a) refl
 others-apart : (name : List ℕ) (ms : List Member) → list_any (bytes_eq name) (map name_of ms) ≡ false → Every (λ (o : Member). bytes_eq name o.name ≡ false) ms
 others-apart name [] h = tt
 others-apart name (o ∷ ms) h =
-    let parts = neither (bytes_eq name o.name) (list_any (bytes_eq name) (map name_of ms)) h in (parts.0, others-apart name ms parts.1)
+    let parts = or_parts (bytes_eq name o.name) (list_any (bytes_eq name) (map name_of ms)) h in (parts.0, others-apart name ms parts.1)
 
 -- the members that are left are new
 abbrev AllNew : List Member → List Member → Type 0
@@ -89,8 +81,8 @@ still-new m done (o ∷ ms) new news others =
 fold-moved : (ms done : List Member) → all_differ (map name_of ms) ≡ true → AllNew ms done → IsPermutation (ms ++ done) (fold onto done ms)
 fold-moved [] done differ news = IsPermutation-refl done
 fold-moved (m ∷ ms) done differ news =
-    let parts = both (not (list_any (bytes_eq m.name) (map name_of ms))) (all_differ (map name_of ms)) differ in
-    let others = others-apart m.name ms (not_true (list_any (bytes_eq m.name) (map name_of ms)) parts.0) in
+    let parts = and_parts (not (list_any (bytes_eq m.name) (map name_of ms))) (all_differ (map name_of ms)) differ in
+    let others = others-apart m.name ms (not-true (list_any (bytes_eq m.name) (map name_of ms)) parts.0) in
     IsPermutation-trans (m ∷ (ms ++ done)) (ms ++ m ∷ done) (fold onto (onto done m) ms)
     (IsPermutation-sym (ms ++ m ∷ done) (m ∷ (ms ++ done)) (IsPermutation-middle ms m done))
     (IsPermutation-trans (ms ++ m ∷ done) (ms ++ onto done m) (fold onto (onto done m) ms)
@@ -106,9 +98,9 @@ none-new (m ∷ ms) = (refl, none-new ms)
 front-differs : (xs ys : List (List ℕ)) → all_differ (xs ++ ys) ≡ true → all_differ xs ≡ true
 front-differs [] ys h = refl
 front-differs (x ∷ xs) ys h =
-    let parts = both (not (list_any (bytes_eq x) (xs ++ ys))) (all_differ (xs ++ ys)) h in
-    let none = not_true (list_any (bytes_eq x) (xs ++ ys)) parts.0 in
-    let front = neither (list_any (bytes_eq x) xs) (list_any (bytes_eq x) ys) (sym (list_any-append (bytes_eq x) xs ys) ∙ none) in
+    let parts = and_parts (not (list_any (bytes_eq x) (xs ++ ys))) (all_differ (xs ++ ys)) h in
+    let none = not-true (list_any (bytes_eq x) (xs ++ ys)) parts.0 in
+    let front = or_parts (list_any (bytes_eq x) xs) (list_any (bytes_eq x) ys) (sym (list_any-append (bytes_eq x) xs ys) ∙ none) in
     let first : list_any (bytes_eq x) xs ≡ false = front.0 in
     rw first (front-differs xs ys parts.1)
 

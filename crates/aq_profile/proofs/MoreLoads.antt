@@ -2,11 +2,10 @@
 use Rattle.std.proofs.Common.{◌≡◌, ℕ, ◌+◌, ◌<◌, ◌≤◌, Bool, true, false, cond, ◌&&◌, List, [], ◌∷◌, length, refl, arith}
 use Rattle.std.specs.Prelude.{◌==◌}
 use Rattle.std.specs.List.{list_all}
+use Rattle.std.proofs.lemmas.Bool.{and_from, and_parts}
 use Rattle.aq_profile.specs.Office.Office.{Office, StoredLoad, IsOffice, comes_before, is_same, load_rank, is_load, with_row}
 use Rattle.aq_profile.specs.Office.Load.{with_load}
-use Rattle.aq_profile.proofs.JoinedFields.{and_true}
-use Rattle.aq_profile.proofs.Least.{both}
-use Rattle.aq_profile.proofs.Rising.{with_row-rises}
+use Rattle.aq_profile.specs.Office.RowOrder.{with_row-rises}
 
 module _ {X : Type 0} (rank : X → List ℕ) where
   pub length-with_row : (row : X) (rows : List X) → length (with_row rank row rows) ≤ length rows + 1
@@ -20,16 +19,16 @@ module _ {X : Type 0} (rank : X → List ℕ) where
       by_tests false false rest = omega arith
 
   pub all-with_row : (p : X → Bool) (row : X) (rows : List X) → p row ≡ true → list_all p rows ≡ true → list_all p (with_row rank row rows) ≡ true
-  all-with_row p row [] here all = and_true (p row) true here refl
+  all-with_row p row [] here all = and_from (p row) true here refl
   all-with_row p row (first ∷ rows) here all =
-      let parts = both (p first) (list_all p rows) all in
+      let parts = and_parts (p first) (list_all p rows) all in
       by_tests (comes_before (rank row) (rank first)) (is_same (rank row) (rank first)) parts.1 parts.0 (all-with_row p row rows here parts.1)
     where
       by_tests : (b s : Bool) → list_all p rows ≡ true → p first ≡ true → list_all p (with_row rank row rows) ≡ true
           → list_all p (cond b (row ∷ first ∷ rows) (cond s (row ∷ rows) (first ∷ with_row rank row rows))) ≡ true
-      by_tests true s others one rest = and_true (p row) (p first && list_all p rows) here (and_true (p first) (list_all p rows) one others)
-      by_tests false true others one rest = and_true (p row) (list_all p rows) here others
-      by_tests false false others one rest = and_true (p first) (list_all p (with_row rank row rows)) one rest
+      by_tests true s others one rest = and_from (p row) (p first && list_all p rows) here (and_from (p first) (list_all p rows) one others)
+      by_tests false true others one rest = and_from (p row) (list_all p rows) here others
+      by_tests false false others one rest = and_from (p first) (list_all p (with_row rank row rows)) one rest
 
 pub load-fits : (office : Office) (load : StoredLoad) → IsOffice office → length office.loads < 100000 → is_load load ≡ true → IsOffice (with_load load office)
 load-fits office load valid room is = by_number (load.number == 0)

@@ -7,6 +7,7 @@ use Rattle.std.specs.Ordering.{int_eq}
 use Rattle.std.proofs.lemmas.Bool.Decides.{nat_tests, Decides-int_eq}
 use Rattle.std.proofs.lemmas.List.Elements.{filter_map-append}
 use Rattle.std.proofs.lemmas.Slice.Eq.{bytes_eq-Decides}
+use Rattle.std.proofs.lemmas.Bool.{and_from, and_parts, leb-true}
 use Rattle.aq_base.specs.Site.{Site}
 use Rattle.aq_base.specs.declared.code.Code.{Code}
 use Rattle.aq_base.specs.declared.monitor.MonitorId.{MonitorId}
@@ -21,29 +22,18 @@ use Rattle.aq_profile.specs.Lines.Spellings.{◌>>=◌}
 use Rattle.aq_profile.specs.Office.Office.{Office, StoredLoad, IsOffice, is_same, key_numbers, record_rank, record_at, monitor_duration, duration_at, is_site, is_poc, is_record, fits_records, has_its_monitor, has_its_event, group_size, most_in_group, is_qualifier, is_measured, is_content, is_kept_hour, fits_monitors, is_load, pollutant_number}
 use Rattle.aq_profile.specs.Shown.Export.{null_text}
 use Rattle.aq_profile.specs.Kept.Rows.{Row, ObsRow, OfOfficeRow, OfObsRow, OfLoadRow, office_row, obs_row, load_row, rows_of, site_key, site_with, pollutant_with, null_of, only_if, is_obs_row, record_of_row, observation_of_row, load_of_row, record_in_row, observation_in_row, load_in_row, says_something, office_in, table_of, tables_follow, is_valid, are_office_rows, office_of_rows}
-use Rattle.aq_profile.proofs.Spans.{Every}
+use Rattle.aq_profile.proofs.Elements.{Every, all-append, every-to}
 use Rattle.aq_profile.proofs.RowTexts.{null-read, qualifiers-read}
 use Rattle.aq_profile.proofs.RowsBack.{record-back, load-back}
 use Rattle.aq_profile.proofs.ValidOffice.{office-is_valid}
-
-both : (a b : Bool) → (a && b) ≡ true → (a ≡ true) × (b ≡ true)
-both true b h = (refl, h)
-both false b h = cc
-
-joined : (a b : Bool) → a ≡ true → b ≡ true → (a && b) ≡ true
-joined true b h k = k
-joined false b h k = cc
-
-within : (a b : ℕ) → nat_le a b ≡ true → a ≤ b
-within a b h = grind (arith, nat_tests)
 
 -- ---- the site of an observation, which has a monitor
 
 pub is_record-of : (office : Office) (r : OfficeRecord) → fits_records office r ≡ true → is_record r ≡ true
 is_record-of office r fits =
-    let c = both _ (nat_le (group_size office r) (most_in_group r)) fits in
-    let b = both _ (has_its_event office r) c.0 in
-    (both (is_record r) (has_its_monitor office r) b.0).0
+    let c = and_parts _ (nat_le (group_size office r) (most_in_group r)) fits in
+    let b = and_parts _ (has_its_event office r) c.0 in
+    (and_parts (is_record r) (has_its_monitor office r) b.0).0
 
 -- the record that is found is one that fits, with the rank
 abbrev IfFound : List ℕ → Option OfficeRecord → Type 0
@@ -53,7 +43,7 @@ IfFound key (Some r) = (is_record r ≡ true) × (is_same (record_rank r) key �
 found-fits : (office : Office) (key : List ℕ) (records : List OfficeRecord) → list_all (fits_records office) records ≡ true → IfFound key (find (λ r. is_same (record_rank r) key) records)
 found-fits office key [] fits = tt
 found-fits office key (r ∷ records) fits =
-    let parts = both (fits_records office r) (list_all (fits_records office) records) fits in
+    let parts = and_parts (fits_records office r) (list_all (fits_records office) records) fits in
     by_test (is_same (record_rank r) key) refl (is_record-of office r parts.0) (found-fits office key records parts.1)
   where
     by_test : (b : Bool) → is_same (record_rank r) key ≡ b → is_record r ≡ true → IfFound key (find (λ s. is_same (record_rank s) key) records)
@@ -73,8 +63,8 @@ monitor-site id None hour found kept = cc
 monitor-site id (Some (Monitor other duration eligible)) hour found kept =
     let numbers = (bytes_eq-Decides (key_numbers (MonitorKey other)) (key_numbers (MonitorKey id))).0 found.1 in
     let site = site_of-numbers id other numbers in
-    let key = both (is_site other.site && is_poc other.poc) _ found.0 in
-    let is = (both (is_site other.site) (is_poc other.poc) key.0).0 in
+    let key = and_parts (is_site other.site && is_poc other.poc) _ found.0 in
+    let is = (and_parts (is_site other.site) (is_poc other.poc) key.0).0 in
     let P : Site → Type 0 = λ s. is_site s ≡ true in
     subst P site is
 monitor-site id (Some (Primary site pollutant from poc)) hour found kept = cc
@@ -87,10 +77,10 @@ monitor-site id (Some (Approved site day)) hour found kept = cc
 
 site-back : (site : Site) → is_site site ≡ true → site_with (site_key site) ≡ site
 site-back site is =
-    let b = both (nat_le site.state 99 && nat_le site.county 999) (nat_le site.number 9999) is in
-    let a = both (nat_le site.state 99) (nat_le site.county 999) b.0 in
-    let county = within site.county 999 a.1 in
-    let number = within site.number 9999 b.1 in
+    let b = and_parts (nat_le site.state 99 && nat_le site.county 999) (nat_le site.number 9999) is in
+    let a = and_parts (nat_le site.state 99) (nat_le site.county 999) b.0 in
+    let county = leb-true site.county 999 a.1 in
+    let number = leb-true site.number 9999 b.1 in
     let s : site_key site / 10000000 ≡ site.state = omega (arith, county, number) in
     let c : site_key site / 10000 % 1000 ≡ site.county = omega (arith, county, number) in
     let n : site_key site % 10000 ≡ site.number = omega (arith, county, number) in
@@ -114,12 +104,12 @@ value-itself (Some v) = (Decides-int_eq v v).1 refl
 
 obs_row-itself : (row : ObsRow) → is_obs_row row row ≡ true
 obs_row-itself row =
-    joined _ (bytes_eq row.quals row.quals)
-    (joined _ (bytes_eq row.null row.null)
-    (joined _ (option_eq int_eq row.value row.value)
-    (joined _ (int_eq row.hour row.hour)
-    (joined _ (int_eq row.poc row.poc)
-    (joined (int_eq row.site row.site) (int_eq row.pollutant row.pollutant) ((Decides-int_eq row.site row.site).1 refl) ((Decides-int_eq row.pollutant row.pollutant).1 refl))
+    and_from _ (bytes_eq row.quals row.quals)
+    (and_from _ (bytes_eq row.null row.null)
+    (and_from _ (option_eq int_eq row.value row.value)
+    (and_from _ (int_eq row.hour row.hour)
+    (and_from _ (int_eq row.poc row.poc)
+    (and_from (int_eq row.site row.site) (int_eq row.pollutant row.pollutant) ((Decides-int_eq row.site row.site).1 refl) ((Decides-int_eq row.pollutant row.pollutant).1 refl))
     ((Decides-int_eq row.poc row.poc).1 refl))
     ((Decides-int_eq row.hour row.hour).1 refl))
     (value-itself row.value))
@@ -134,8 +124,8 @@ pub record IsSpelled (o : ObsKey × Observation) : Type 0 where
 pub fitting-is_spelled : (office : Office) (o : ObsKey × Observation) → IsOffice office → fits_monitors office o ≡ true → IsSpelled o
 fitting-is_spelled office o valid fits =
     let id = o.0.monitor in
-    let b = both _ (is_content id.pollutant o.1) fits in
-    let a = both (nat_le o.0.hour 438311) (is_kept_hour (duration_at office id) o.0.hour) b.0 in
+    let b = and_parts _ (is_content id.pollutant o.1) fits in
+    let a = and_parts (nat_le o.0.hour 438311) (is_kept_hour (duration_at office id) o.0.hour) b.0 in
     record {
       site = monitor-site id (record_at office (MonitorKey id)) o.0.hour (found-fits office (key_numbers (MonitorKey id)) office.records valid.records_fit) a.1;
       content = b.1;
@@ -145,9 +135,9 @@ pub spelled-back : (o : ObsKey × Observation) → IsSpelled o → observation_o
 unfolding observation_of_row
 spelled-back o spelled =
     let id = o.0.monitor in
-    let z = both _ (nat_le (length o.1.quals) 10) spelled.content in
-    let y = both _ _ z.0 in
-    let x = both (is_measured id.pollutant o.1.value o.1.null) (list_all is_qualifier o.1.quals) y.0 in
+    let z = and_parts _ (nat_le (length o.1.quals) 10) spelled.content in
+    let y = and_parts _ _ z.0 in
+    let x = and_parts (is_measured id.pollutant o.1.value o.1.null) (list_all is_qualifier o.1.quals) y.0 in
     let pollutant = pollutant-back id.pollutant in
     let null = null-back id.pollutant o.1.value o.1.null x.0 in
     let quals = qualifiers-read o.1.quals x.1 in
@@ -170,21 +160,13 @@ none : {X Y Z : Type 0} (read : Y → Option Z) (write : X → Y) (xs : List X) 
 none read write [] h = refl
 none {Z = Z} read write (x ∷ xs) h = ap (λ (o : Option Z). cons_option o (filter_map read (map write xs))) (h x) ∙ none read write xs h
 
-all-append : {X : Type 0} (p : X → Bool) (xs ys : List X) → list_all p xs ≡ true → list_all p ys ≡ true → list_all p (xs ++ ys) ≡ true
-all-append p [] ys h k = k
-all-append p (x ∷ xs) ys h k = let parts = both (p x) (list_all p xs) h in joined (p x) (list_all p (xs ++ ys)) parts.0 (all-append p xs ys parts.1 k)
-
 all-said : {X Y : Type 0} (p : Y → Bool) (write : X → Y) (xs : List X) → Every (λ x. p (write x) ≡ true) xs → list_all p (map write xs) ≡ true
 all-said p write [] every = refl
-all-said p write (x ∷ xs) every = joined (p (write x)) (list_all p (map write xs)) every.0 (all-said p write xs every.1)
+all-said p write (x ∷ xs) every = and_from (p (write x)) (list_all p (map write xs)) every.0 (all-said p write xs every.1)
 
 pub every-from : {X : Type 0} (p : X → Bool) (P : X → Type 0) → ((x : X) → p x ≡ true → P x) → (xs : List X) → list_all p xs ≡ true → Every P xs
 every-from p P h [] all = tt
-every-from p P h (x ∷ xs) all = let parts = both (p x) (list_all p xs) all in (h x parts.0, every-from p P h xs parts.1)
-
-pub every-to : {X : Type 0} (P Q : X → Type 0) → ((x : X) → P x → Q x) → (xs : List X) → Every P xs → Every Q xs
-every-to P Q h [] every = tt
-every-to P Q h (x ∷ xs) every = (h x every.0, every-to P Q h xs every.1)
+every-from p P h (x ∷ xs) all = let parts = and_parts (p x) (list_all p xs) all in (h x parts.0, every-from p P h xs parts.1)
 
 -- tables in order
 abbrev From : ℕ → List Row → Type 0
@@ -192,7 +174,7 @@ From t rows = Every (λ row. nat_le t (table_of row) ≡ true) rows
 
 follow-one : (row : Row) (rows : List Row) → From (table_of row) rows → tables_follow rows ≡ true → tables_follow (row ∷ rows) ≡ true
 follow-one row [] from follow = refl
-follow-one row (next ∷ rows) from follow = joined (nat_le (table_of row) (table_of next)) (tables_follow (next ∷ rows)) from.0 follow
+follow-one row (next ∷ rows) from follow = and_from (nat_le (table_of row) (table_of next)) (tables_follow (next ∷ rows)) from.0 follow
 
 from-append : (t : ℕ) (xs ys : List Row) → From t xs → From t ys → From t (xs ++ ys)
 from-append t [] ys h k = k
@@ -275,8 +257,8 @@ module _ (office : Office) (valid : IsOffice office) where
   pub rows-are : are_office_rows (rows_of office) ≡ true
   unfolding are_office_rows rows_of
   rows-are =
-      joined (list_all says_something three && tables_follow three) (is_valid (office_in three))
-      (joined (list_all says_something three) (tables_follow three) said follow) (ap is_valid office-in ∙ office-is_valid office valid)
+      and_from (list_all says_something three && tables_follow three) (is_valid (office_in three))
+      (and_from (list_all says_something three) (tables_follow three) said follow) (ap is_valid office-in ∙ office-is_valid office valid)
 
   pub office-back : office_of_rows (rows_of office) ≡ Some office
   unfolding office_of_rows rows_of

@@ -1,15 +1,14 @@
 -- The rows of a valid office are in the order of their keys.
 use Rattle.std.proofs.Common.{◌≡◌, true, ◌&&◌, List, [], ◌∷◌, ◌++◌, ℕ, map, refl, ◌∙◌}
+use Rattle.std.proofs.lemmas.Bool.{and_from, and_parts}
 use Rattle.aq_profile.specs.Office.Office.{Office, StoredLoad, IsOffice, comes_before, key_of, record_rank, observation_rank, load_rank, is_record, rises, rises_from}
 use Rattle.aq_profile.specs.Kept.Rows.{Row, rows_of}
 use Rattle.aq_profile.specs.Kept.RowChanges.{row_key, key_before, keys_rise, keys_rise_from}
-use Rattle.aq_profile.proofs.JoinedFields.{and_true}
-use Rattle.aq_profile.proofs.Least.{both}
-use Rattle.aq_profile.proofs.Spans.{Every}
+use Rattle.aq_profile.proofs.Elements.{Every, every-append}
 use Rattle.aq_profile.proofs.OfficeBack.{IsSpelled}
 use Rattle.aq_profile.proofs.SpelledOffice.{valid-spelled}
 use Rattle.aq_profile.proofs.RowOrder.{office-agree, obs-agree, load-agree}
-use Rattle.aq_profile.proofs.RowBatch.{R, O, L, record-key, each, every-append}
+use Rattle.aq_profile.proofs.RowBatch.{R, O, L, record-key, each}
 
 -- ---- one table
 
@@ -32,10 +31,10 @@ append-from : (first : Row) (xs ys : List Row) → keys_rise_from (row_key first
     → keys_rise_from (row_key first) (map row_key (xs ++ ys)) ≡ true
 unfolding Before
 append-from first [] [] p q before all = refl
-append-from first [] (y ∷ ys) p q before all = and_true (key_before (row_key first) (row_key y)) _ before.0 q
+append-from first [] (y ∷ ys) p q before all = and_from (key_before (row_key first) (row_key y)) _ before.0 q
 append-from first (x ∷ xs) ys p q before all =
-    let parts = both (key_before (row_key first) (row_key x)) (keys_rise_from (row_key x) (map row_key xs)) p in
-    and_true (key_before (row_key first) (row_key x)) _ parts.0 (append-from x xs ys parts.1 q all.0 all.1)
+    let parts = and_parts (key_before (row_key first) (row_key x)) (keys_rise_from (row_key x) (map row_key xs)) p in
+    and_from (key_before (row_key first) (row_key x)) _ parts.0 (append-from x xs ys parts.1 q all.0 all.1)
 
 append-rises : (xs ys : List Row) → keys_rise (map row_key xs) ≡ true → keys_rise (map row_key ys) ≡ true → Every (Before ys) xs → keys_rise (map row_key (xs ++ ys)) ≡ true
 append-rises [] ys p q all = q

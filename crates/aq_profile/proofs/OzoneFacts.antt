@@ -8,6 +8,7 @@ use Rattle.std.proofs.lemmas.List.FromFn.{length-range_with_len}
 use Rattle.std.proofs.lemmas.List.Sums.{count_by-le-length}
 use Rattle.std.proofs.lemmas.Bool.Decides.{nat_tests}
 use Rattle.std.proofs.Math.Nat.{div-le_of_le-mul}
+use Rattle.std.proofs.lemmas.Bool.{and_parts, eqb-true, leb-true}
 use Rattle.aq_base.specs.Calendar.{year_first, days_in_year, year_of, is_year, day_of_hour}
 use Rattle.aq_base.specs.Decimal.{truncated}
 use Rattle.aq_base.specs.Site.{Site}
@@ -32,54 +33,42 @@ use Rattle.aq_profile.specs.Ozone.EightHour.{average, eight_hours, cells_from, f
 use Rattle.aq_profile.specs.Ozone.OzoneDay.{OzoneDay, starts_of, windows, net_averages, ozone_day}
 use Rattle.aq_profile.specs.Ozone.OzoneYear.{days_of, ozone_days, ranked_maximum, is_season_day, counts_as_valid, ozone_year}
 use Rattle.aq_profile.specs.Kept.Summaries.{is_value, KeepsOzoneYear}
-use Rattle.aq_profile.proofs.Sameness.{same_pollutant}
+use Rattle.aq_profile.proofs.Elements.{Every}
+use Rattle.aq_profile.specs.Office.Sameness.{same_pollutant}
 use Rattle.aq_profile.proofs.Sums.{total-cons, greater_of, greatest-some}
 use Rattle.aq_profile.proofs.Descent.{length-ranked}
-use Rattle.aq_profile.proofs.Spans.{Every, in_span}
+use Rattle.aq_profile.proofs.Spans.{in_span}
 use Rattle.aq_profile.proofs.Pm10Facts.{count-implied, length-kept}
 use Rattle.aq_profile.proofs.Pm25Counts.{is_record-of}
 use Rattle.aq_profile.proofs.Pm25Range.{measured-of, measured-in_range}
+use Rattle.aq_profile.proofs.ValueRange.{InRangeTo, SumTo, IfValueTo, CellTo, IfCellTo, SampleTo, IfSampleTo, from_test, to_test, total-between, trunc-in_range, value-onto, greatest-in_range, every-ranked, at-in_range, cell-onto, found-in_range, chosen-in_range}
 
-both : (a b : Bool) → (a && b) ≡ true → (a ≡ true) × (b ≡ true)
-both true b h = (refl, h)
-both false b h = cc
-
--- ---- values of ozone
+-- the greatest value that a line can tell
+abbrev top : ℕ
+top = 9999
 
 abbrev pub InRange : ℤ → Type 0
-InRange v = (negsuc 998 ≤ℤ v) × (v ≤ℤ pos 9999)
-
-pub from_test : (v : ℤ) → is_in_range Ozone v ≡ true → InRange v
-from_test v h =
-    let parts = both (int_le (negsuc 998) v) (int_le v (pos 9999)) h in
-    let low : int_le (negsuc 998) v ≡ true = parts.0 in
-    let high : int_le v (pos 9999) ≡ true = parts.1 in
-    (grind (arith, ints, low), grind (arith, ints, high))
-
-to_test : (v : ℤ) → InRange v → is_in_range Ozone v ≡ true
-to_test v h =
-    let low : int_le (negsuc 998) v ≡ true = grind (arith, ints, h.0) in
-    let high : int_le v (pos 9999) ≡ true = grind (arith, ints, h.1) in
-    rw (low, high) refl
+InRange = InRangeTo top
 
 abbrev Between : ℕ → ℤ → Type 0
-Between n t = (neg_ℤ (pos (999 * n)) ≤ℤ t) × (t ≤ℤ pos (9999 * n))
+Between = SumTo top
 
-pub total-between : (values : List ℤ) → Every InRange values → Between (length values) (total values)
-total-between [] every = (omega (arith, ints), omega (arith, ints))
-total-between (v ∷ vs) every =
-    let rest = total-between vs every.1 in
-    (omega (arith, ints, rest.0, every.0.0, total-cons v vs), omega (arith, ints, rest.1, every.0.1, total-cons v vs))
+abbrev IfValue : Option ℤ → Type 0
+IfValue = IfValueTo top
 
-pub trunc-in_range : (t : ℤ) (n : ℕ) → 0 < n → Between n t → InRange (truncated t (pos n))
-trunc-in_range (pos a) n some h =
-    let few : a ≤ n * 9999 = omega (arith, ints, h.1) in
-    let q : a / n ≤ 9999 = div-le_of_le-mul n few in
-    (omega (arith, ints), omega (arith, ints, q))
-trunc-in_range (negsuc a) n some h =
-    let few : suc a ≤ n * 999 = omega (arith, ints, h.0) in
-    let q : suc a / n ≤ 999 = div-le_of_le-mul n few in
-    (omega (arith, ints, q), omega (arith, ints))
+abbrev pub CellIn : Cell → Type 0
+CellIn = CellTo top
+
+abbrev IfCell : Option Cell → Type 0
+IfCell = IfCellTo top
+
+abbrev SampleIn : Sample → Type 0
+SampleIn = SampleTo top
+
+abbrev IfSample : Option Sample → Type 0
+IfSample = IfSampleTo top
+
+-- ---- values of ozone
 
 eighth-in_range : (t : ℤ) (n : ℕ) → n ≤ 5 → pos 568 ≤ℤ t → Between n t → InRange (truncated t (pos 8))
 eighth-in_range (pos a) n few high h =
@@ -87,16 +76,12 @@ eighth-in_range (pos a) n few high h =
     (omega (arith, ints), omega (arith, ints, q))
 eighth-in_range (negsuc a) n few high h = absurd (omega (arith, ints, high))
 
-abbrev IfValue : Option ℤ → Type 0
-IfValue None = ⊤
-IfValue (Some v) = InRange v
-
 pub average-in_range : (n : ℕ) (t : ℤ) → Between n t → IfValue (average n t)
 average-in_range n t h = by_tests (nat_le 6 n) (int_le (pos 568) t) refl refl
   where
     by_tests : (a b : Bool) → nat_le 6 n ≡ a → int_le (pos 568) t ≡ b
         → IfValue (cond a (Some (truncated t (pos n))) (cond b (Some (truncated t (pos 8))) None))
-    by_tests true b e f = let many : 6 ≤ n = grind (arith, nat_tests) in trunc-in_range t n (omega arith) h
+    by_tests true b e f = let many : 6 ≤ n = grind (arith, nat_tests) in trunc-in_range top t n (omega arith) h
     by_tests false true e f =
         let few : n ≤ 5 = grind (arith, nat_tests) in
         let high : pos 568 ≤ℤ t = grind (arith, ints) in
@@ -105,23 +90,12 @@ average-in_range n t h = by_tests (nat_le 6 n) (int_le (pos 568) t) refl refl
 
 -- ---- hours
 
-abbrev SampleIn : Sample → Type 0
-SampleIn sample = InRange sample.cell.value
-
-abbrev IfSample : Option Sample → Type 0
-IfSample None = ⊤
-IfSample (Some sample) = SampleIn sample
-
-abbrev IfCell : Option Cell → Type 0
-IfCell None = ⊤
-IfCell (Some cell) = InRange cell.value
-
 of_value : (poc : ℕ) (out : Bool) (pollutant : Pollutant) (value : Option ℤ) (null : Option Code) → pollutant ≡ Ozone → is_measured pollutant value null ≡ true
     → IfSample (option_map (λ v. record { poc = poc; cell = record { value = v; excluded = out } }) value)
 of_value poc out pollutant None null is h = tt
 of_value poc out pollutant (Some v) null is h =
     let P : Pollutant → Type 0 = λ p. is_in_range p v ≡ true in
-    from_test v (subst P is (measured-in_range pollutant v null h))
+    from_test top v (subst P is (measured-in_range pollutant v null h))
 
 sample-in_range : (office : Office) (site : Site) (hour : ℕ) (entry : ObsKey × Observation) → fits_monitors office entry ≡ true → IfSample (sample_of office site hour entry)
 sample-in_range office site hour entry fits =
@@ -144,50 +118,22 @@ samples-in_range : (office : Office) (site : Site) (hour : ℕ) (entries : List 
     → Every SampleIn (filter_map (sample_of office site hour) entries)
 samples-in_range office site hour [] fits = tt
 samples-in_range office site hour (entry ∷ entries) fits =
-    let parts = both (fits_monitors office entry) (list_all (fits_monitors office) entries) fits in
+    let parts = and_parts (fits_monitors office entry) (list_all (fits_monitors office) entries) fits in
     sample-onto (sample_of office site hour entry) (filter_map (sample_of office site hour) entries) (sample-in_range office site hour entry parts.0) (samples-in_range office site hour entries parts.1)
-
-sample_values : (samples : List Sample) → Every SampleIn samples → Every InRange (map (λ (s : Sample). s.cell.value) samples)
-sample_values [] every = tt
-sample_values (sample ∷ samples) every = (every.0, sample_values samples every.1)
-
-mean-in_range : (samples : List Sample) → Every SampleIn samples → IfCell (mean_of samples)
-mean-in_range [] every = tt
-mean-in_range (sample ∷ samples) every =
-    let values = map (λ (s : Sample). s.cell.value) (sample ∷ samples) in
-    let h : Between (length values) (total values) = total-between values (sample_values (sample ∷ samples) every) in
-    let P : ℕ → Type 0 = λ n. Between n (total values) in
-    trunc-in_range (total values) (length (sample ∷ samples)) (omega arith) (subst P (length-map (sample ∷ samples) (λ (s : Sample). s.cell.value)) h)
-
-found-in_range : (p : Sample → Bool) (samples : List Sample) → Every SampleIn samples → IfSample (find p samples)
-found-in_range p [] every = tt
-found-in_range p (sample ∷ samples) every =
-    elim (p sample) as (λ b. IfSample (cond b (Some sample) (find p samples))) [ true ↦ every.0 | false ↦ found-in_range p samples every.1 ]
-
-chosen-in_range : (primary : Option Sample) (samples : List Sample) → IfSample primary → Every SampleIn samples → IfCell (chosen primary samples)
-chosen-in_range None samples h every = mean-in_range samples every
-chosen-in_range (Some sample) samples h every = h
 
 site_hour-in_range : (office : Office) (site : Site) (hour : ℕ) → IsOffice office → IfCell (site_hour office site hour)
 unfolding site_hour
 site_hour-in_range office site hour valid =
     let every = samples-in_range office site hour office.observations valid.observations_fit in
     let p : Sample → Bool = is_of_poc (primary_on office.records site Ozone (day_of_hour hour)) in
-    chosen-in_range (find p (samples_at office site hour)) (samples_at office site hour) (found-in_range p (samples_at office site hour) every) every
+    chosen-in_range top (find p (samples_at office site hour)) (samples_at office site hour) (found-in_range top p (samples_at office site hour) every) every
 
 -- ---- averages and days
-
-abbrev pub CellIn : Cell → Type 0
-CellIn cell = InRange cell.value
-
-cell-onto : (o : Option Cell) (cells : List Cell) → IfCell o → Every CellIn cells → Every CellIn (cons_option o cells)
-cell-onto None cells h every = every
-cell-onto (Some cell) cells h every = (h, every)
 
 pub hours-in_range : (office : Office) (site : Site) (hours : List ℕ) → IsOffice office → Every CellIn (filter_map (site_hour office site) hours)
 hours-in_range office site [] valid = tt
 hours-in_range office site (hour ∷ hours) valid =
-    cell-onto (site_hour office site hour) (filter_map (site_hour office site) hours) (site_hour-in_range office site hour valid) (hours-in_range office site hours valid)
+    cell-onto top (site_hour office site hour) (filter_map (site_hour office site) hours) (site_hour-in_range office site hour valid) (hours-in_range office site hours valid)
 
 net-in_range : (cells : List Cell) → Every CellIn cells → Every InRange (net_values cells)
 net-in_range [] every = tt
@@ -201,28 +147,16 @@ pub window-in_range : (office : Office) (site : Site) (start : ℕ) → IsOffice
 unfolding window
 window-in_range office site start valid =
     let values = net_values (cells_from office site start) in
-    average-in_range (length values) (total values) (total-between values (net-in_range (cells_from office site start) (hours-in_range office site (eight_hours start) valid)))
-
-value-onto : (o : Option ℤ) (values : List ℤ) → IfValue o → Every InRange values → Every InRange (cons_option o values)
-value-onto None values h every = every
-value-onto (Some v) values h every = (h, every)
+    average-in_range (length values) (total values) (total-between top values (net-in_range (cells_from office site start) (hours-in_range office site (eight_hours start) valid)))
 
 averages-in_range : (office : Office) (site : Site) (starts : List ℕ) → IsOffice office → Every InRange (net_averages (map (window office site) starts))
 averages-in_range office site [] valid = tt
 averages-in_range office site (start ∷ starts) valid =
-    value-onto (window office site start).net (net_averages (map (window office site) starts)) (window-in_range office site start valid) (averages-in_range office site starts valid)
-
-max-in_range : (x : ℤ) (o : Option ℤ) → InRange x → IfValue o → IfValue (greater_of (Some x) o)
-max-in_range x None h k = h
-max-in_range x (Some y) h k = (grind (arith, ints, h.0, k.0), grind (arith, ints, h.1, k.1))
-
-greatest-in_range : (values : List ℤ) → Every InRange values → IfValue (greatest values)
-greatest-in_range [] every = tt
-greatest-in_range (v ∷ vs) every = rw (greatest-some v vs) (max-in_range v (greatest vs) every.0 (greatest-in_range vs every.1))
+    value-onto top (window office site start).net (net_averages (map (window office site) starts)) (window-in_range office site start valid) (averages-in_range office site starts valid)
 
 pub day-in_range : (office : Office) (site : Site) (day : ℕ) → IsOffice office → IfValue (ozone_day office site day).maximum
 unfolding ozone_day windows
-day-in_range office site day valid = greatest-in_range (net_averages (map (window office site) (starts_of day))) (averages-in_range office site (starts_of day) valid)
+day-in_range office site day valid = greatest-in_range top (net_averages (map (window office site) (starts_of day))) (averages-in_range office site (starts_of day) valid)
 
 -- ---- the ranked maxima
 
@@ -232,27 +166,12 @@ maximum-in_range day h = elim day.valid as (λ b. IfValue (cond b day.maximum No
 maxima-in_range : (office : Office) (site : Site) (days : List ℕ) → IsOffice office → Every InRange (filter_map ranked_maximum (map (ozone_day office site) days))
 maxima-in_range office site [] valid = tt
 maxima-in_range office site (day ∷ days) valid =
-    value-onto (ranked_maximum (ozone_day office site day)) (filter_map ranked_maximum (map (ozone_day office site) days))
+    value-onto top (ranked_maximum (ozone_day office site day)) (filter_map ranked_maximum (map (ozone_day office site) days))
     (maximum-in_range (ozone_day office site day) (day-in_range office site day valid)) (maxima-in_range office site days valid)
-
-every-ranked_in : (v : ℤ) (zs : List ℤ) → InRange v → Every InRange zs → Every InRange (ranked_in v zs)
-every-ranked_in v [] h every = (h, tt)
-every-ranked_in v (z ∷ zs) h every =
-    elim (int_lt v z) as (λ b. Every InRange (cond b (z ∷ ranked_in v zs) (v ∷ z ∷ zs))) [ true ↦ (every.0, every-ranked_in v zs h every.1) | false ↦ (h, every) ]
-
-every-ranked : (values : List ℤ) → Every InRange values → Every InRange (ranked values)
-unfolding ranked
-every-ranked [] every = tt
-every-ranked (v ∷ vs) every = every-ranked_in v (ranked vs) every.0 (every-ranked vs every.1)
-
-at-in_range : (values : List ℤ) (k : ℕ) → Every InRange values → IfValue (slice_get values k)
-at-in_range [] k every = tt
-at-in_range (v ∷ vs) zero every = every.0
-at-in_range (v ∷ vs) (suc k) every = at-in_range vs k every.1
 
 value_test : (o : Option ℤ) → IfValue o → IsTrue (is_value Ozone o)
 value_test None h = refl
-value_test (Some v) h = to_test v h
+value_test (Some v) h = to_test top v h
 
 fourth-there : (values : List ℤ) → is_some (slice_get values 3) ≡ nat_le 4 (length values)
 fourth-there [] = refl
@@ -277,12 +196,6 @@ abbrev IfBegins : ℕ → Option Season → Type 0
 IfBegins year None = ⊤
 IfBegins year (Some season) = Begins year season
 
-within : (a b : ℕ) → nat_le a b ≡ true → a ≤ b
-within a b h = grind (arith, nat_tests)
-
-same : (a b : ℕ) → (a == b) ≡ true → a ≡ b
-same a b h = grind (arith, nat_tests)
-
 module _ (site : Site) (year : ℕ) (holds : HoldsYear year) where
   season-begins : (r : OfficeRecord) → is_record r ≡ true → IfBegins year (season_by site year r)
   season-begins (SeasonRecord other y first last) is = by_test (is_same_site other site) (y == year) refl
@@ -291,13 +204,13 @@ module _ (site : Site) (year : ℕ) (holds : HoldsYear year) where
       by_test false b e = tt
       by_test true false e = tt
       by_test true true e =
-          let d = both (is_site other && is_year y) (is_day first && is_day last && is_season y first last) is in
-          let c = both (is_day first && is_day last) (is_season y first last) d.1 in
-          let b = both (is_day first) (is_day last) c.0 in
-          let s = both _ (nat_le first last) c.1 in
-          let t = both (year_of first == y) (year_of last == y) s.0 in
-          let span = holds first (within first LAST_DAY b.0) (same (year_of first) y t.0 ∙ same y year e) in
-          record { low = span.0; high = span.1; rises = within first last s.1 }
+          let d = and_parts (is_site other && is_year y) (is_day first && is_day last && is_season y first last) is in
+          let c = and_parts (is_day first && is_day last) (is_season y first last) d.1 in
+          let b = and_parts (is_day first) (is_day last) c.0 in
+          let s = and_parts _ (nat_le first last) c.1 in
+          let t = and_parts (year_of first == y) (year_of last == y) s.0 in
+          let span = holds first (leb-true first LAST_DAY b.0) (eqb-true (year_of first) y t.0 ∙ eqb-true y year e) in
+          record { low = span.0; high = span.1; rises = leb-true first last s.1 }
   season-begins (Monitor id duration eligible) is = tt
   season-begins (Primary other pollutant from poc) is = tt
   season-begins (Schedule other pollutant from interval anchor) is = tt
@@ -321,7 +234,7 @@ module _ (site : Site) (year : ℕ) (holds : HoldsYear year) where
       → Begins year (unwrap_or (slice_get (filter_map (season_by site year) records) 0) (whole_year year))
   recorded-begins office [] fits = whole-begins
   recorded-begins office (r ∷ records) fits =
-      let parts = both (fits_records office r) (list_all (fits_records office) records) fits in
+      let parts = and_parts (fits_records office r) (list_all (fits_records office) records) fits in
       first_by (season_by site year r) (filter_map (season_by site year) records) (season-begins r (is_record-of site year office r parts.0)) (recorded-begins office records parts.1)
 
   season_of-begins : (office : Office) → IsOffice office → Begins year (season_of office.records site year)
@@ -330,7 +243,7 @@ module _ (site : Site) (year : ℕ) (holds : HoldsYear year) where
 
 in_season : (season : Season) (d e : ℕ) → season.first ≤ season.last → d ≡ season.first → (d == e) ≡ true → is_in_season season e ≡ true
 in_season season d e rises is at =
-    let here : d ≡ e = same d e at in
+    let here : d ≡ e = eqb-true d e at in
     let low : nat_le season.first e ≡ true = grind (arith, nat_tests) in
     let high : nat_le e season.last ≡ true = grind (arith, nat_tests) in
     rw (low, high) refl
@@ -355,8 +268,8 @@ ozone_year-keeps office site year valid holds =
     record {
       some_season = season-some year (season_of office.records site year) (season_of-begins site year holds office valid);
       season_days = omega (arith, count_by-le-length (is_season_day office site year) D, number, most);
-      season_valid = count-implied (λ day. is_season_day office site year day && counts_as_valid office site day) (is_season_day office site year) (λ day h. (both (is_season_day office site year day) (counts_as_valid office site day) h).0) D;
+      season_valid = count-implied (λ day. is_season_day office site year day && counts_as_valid office site day) (is_season_day office site year) (λ day h. (and_parts (is_season_day office site year day) (counts_as_valid office site day) h).0) D;
       ranked = omega (arith, few, length-ranked maxima, number, most);
       fourth = fourth-there (ranked maxima);
-      fourth_in_range = value_test (slice_get (ranked maxima) 3) (at-in_range (ranked maxima) 3 (every-ranked maxima (maxima-in_range office site D valid)));
+      fourth_in_range = value_test (slice_get (ranked maxima) 3) (at-in_range top (ranked maxima) 3 (every-ranked top maxima (maxima-in_range office site D valid)));
     }

@@ -13,7 +13,7 @@ use Rattle.aq_profile.specs.Lists.{total, all_of}
 use Rattle.aq_profile.specs.Kept.Summaries.{KeepsPm10Quarter, KeepsPm10Year}
 use Rattle.aq_profile.specs.Particles.Pm10Estimate.{Pm10Quarter, quarter_estimate, quarter_lower, year_of_quarters, mean_of_years}
 use Rattle.aq_profile.specs.Particles.Pm10Verdict.{exceedances_in}
-use Rattle.aq_profile.proofs.Spans.{Every}
+use Rattle.aq_profile.proofs.Elements.{Every}
 use Rattle.aq_profile.proofs.Held.{Held, IfHeld, if_held-wider, half_up-held, total-held, all_of-every, all_of-length}
 
 -- days * part ≤ 92 * whole, in hundredths

@@ -5,6 +5,7 @@ use Rattle.std.specs.List.{count_by, sum_by, filter, filter_map, cons_option, li
 use Rattle.std.proofs.lemmas.List.Sums.{sum_by-cons, length-filter, count_by-le-length}
 use Rattle.std.proofs.lemmas.Bool.Decides.{nat_tests}
 use Rattle.std.proofs.lemmas.Slice.Eq.{bytes_eq-Decides}
+use Rattle.std.proofs.lemmas.Bool.{and_from, and_parts, eqb-true, leb-true}
 use Rattle.aq_base.specs.Calendar.{quarter_of, quarter_first, days_in_quarter}
 use Rattle.aq_base.specs.Site.{Site}
 use Rattle.aq_base.specs.declared.day.TheConstants.{LAST_DAY}
@@ -19,13 +20,10 @@ use Rattle.aq_profile.specs.Office.Schedule.{is_scheduled}
 use Rattle.aq_profile.specs.Ozone.SiteHour.{Cell}
 use Rattle.aq_profile.specs.Particles.ParticleDay.{site_day, net_day, unless_excluded}
 use Rattle.aq_profile.specs.Particles.QuarterCounts.{days_of_quarter, is_sampled, is_kept, Makeup, makeup_by, is_in_time, gives_credit, credits, QuarterCounts, quarter_counts, quarter_values}
-use Rattle.aq_profile.proofs.Sameness.{same_site}
-use Rattle.aq_profile.proofs.Spans.{Every, one_rank, on, fit}
+use Rattle.aq_profile.proofs.Elements.{Every, every-to}
+use Rattle.aq_profile.specs.Office.Sameness.{same_site}
+use Rattle.aq_profile.proofs.Spans.{one_rank, on, fit}
 use Rattle.aq_profile.proofs.Pm10Facts.{quarter_days, length-days, count-filter, count-implied, length-filter-le}
-
-both : (a b : Bool) → (a && b) ≡ true → (a ≡ true) × (b ≡ true)
-both true b h = (refl, h)
-both false b h = cc
 
 -- ---- lists
 
@@ -36,10 +34,6 @@ every-filter {X = X} P f (x ∷ xs) every = by_test (f x) refl (every-filter P f
     by_test : (b : Bool) → f x ≡ b → Every (λ y. P y × (f y ≡ true)) (filter f xs) → Every (λ y. P y × (f y ≡ true)) (cond b (x ∷ filter f xs) (filter f xs))
     by_test true e rest = ((every.0, e), rest)
     by_test false e rest = rest
-
-every-weaker : {X : Type 0} (P Q : X → Type 0) → ((x : X) → P x → Q x) → (xs : List X) → Every P xs → Every Q xs
-every-weaker P Q h [] every = tt
-every-weaker P Q h (x ∷ xs) every = (h x every.0, every-weaker P Q h xs every.1)
 
 -- of those that pass one test, the ones that pass another and the ones that do not
 tests_split : (f p : Bool) → cond f (cond p 1 0) 0 + cond (f && not p) 1 0 ≡ cond f 1 0
@@ -69,12 +63,6 @@ abbrev IfMade : (Makeup → Type 0) → Option Makeup → Type 0
 IfMade P None = ⊤
 IfMade P (Some m) = P m
 
-within : (a b : ℕ) → nat_le a b ≡ true → a ≤ b
-within a b h = grind (arith, nat_tests)
-
-same : (a b : ℕ) → (a == b) ≡ true → a ≡ b
-same a b h = grind (arith, nat_tests)
-
 module _ (site : Site) (quarter : ℕ) where
   made-in_quarter : (r : OfficeRecord) → is_record r ≡ true → IfMade (InQuarter quarter) (makeup_by site quarter r)
   made-in_quarter (MakeupRecord other missed makeup) is = by_test (is_same_site other site) (quarter_of missed == quarter) refl refl
@@ -84,13 +72,13 @@ module _ (site : Site) (quarter : ℕ) where
       by_test false b e f = tt
       by_test true false e f = tt
       by_test true true e f =
-          let h = both (is_site other && is_day missed) (is_day makeup && is_makeup missed makeup) is in
-          let b = both (is_site other) (is_day missed) h.0 in
-          let c = both (is_day makeup) (is_makeup missed makeup) h.1 in
-          let span = both _ (nat_le makeup (missed + 7)) c.1 in
-          let there = both _ (quarter_of makeup == quarter_of missed) span.0 in
-          let q : quarter_of missed ≡ quarter = same (quarter_of missed) quarter f in
-          (within missed LAST_DAY b.1, q, within makeup LAST_DAY c.0, same (quarter_of makeup) (quarter_of missed) there.1 ∙ q)
+          let h = and_parts (is_site other && is_day missed) (is_day makeup && is_makeup missed makeup) is in
+          let b = and_parts (is_site other) (is_day missed) h.0 in
+          let c = and_parts (is_day makeup) (is_makeup missed makeup) h.1 in
+          let span = and_parts _ (nat_le makeup (missed + 7)) c.1 in
+          let there = and_parts _ (quarter_of makeup == quarter_of missed) span.0 in
+          let q : quarter_of missed ≡ quarter = eqb-true (quarter_of missed) quarter f in
+          (leb-true missed LAST_DAY b.1, q, leb-true makeup LAST_DAY c.0, eqb-true (quarter_of makeup) (quarter_of missed) there.1 ∙ q)
   made-in_quarter (Monitor id duration eligible) is = tt
   made-in_quarter (Primary other pollutant from poc) is = tt
   made-in_quarter (Schedule other pollutant from interval anchor) is = tt
@@ -105,14 +93,14 @@ module _ (site : Site) (quarter : ℕ) where
 
   pub is_record-of : (office : Office) (r : OfficeRecord) → fits_records office r ≡ true → is_record r ≡ true
   is_record-of office r fits =
-      let c = both _ (nat_le (group_size office r) (most_in_group r)) fits in
-      let b = both _ (has_its_event office r) c.0 in
-      (both (is_record r) (has_its_monitor office r) b.0).0
+      let c = and_parts _ (nat_le (group_size office r) (most_in_group r)) fits in
+      let b = and_parts _ (has_its_event office r) c.0 in
+      (and_parts (is_record r) (has_its_monitor office r) b.0).0
 
   makeups-in_quarter : (office : Office) (records : List OfficeRecord) → list_all (fits_records office) records ≡ true → Every (InQuarter quarter) (filter_map (makeup_by site quarter) records)
   makeups-in_quarter office [] fits = tt
   makeups-in_quarter office (r ∷ records) fits =
-      let parts = both (fits_records office r) (list_all (fits_records office) records) fits in
+      let parts = and_parts (fits_records office r) (list_all (fits_records office) records) fits in
       onto (InQuarter quarter) (makeup_by site quarter r) (filter_map (makeup_by site quarter) records) (made-in_quarter r (is_record-of office r parts.0))
       (makeups-in_quarter office records parts.1)
 
@@ -166,7 +154,7 @@ module _ (site : Site) (quarter : ℕ) where
         by_test true e true k =
             let first : on day d (m ∷ ms) ≡ 1 + on day d ms = sum_by-cons (λ y. cond (day y == d) 1 0) m ms ∙ rw e refl in
             omega (arith, first)
-        by_test true e false k = let f = k (same (day m) d e) in cc
+        by_test true e false k = let f = k (eqb-true (day m) d e) in cc
         by_test false e c k =
             let first : on day d (m ∷ ms) ≡ 0 + on day d ms = sum_by-cons (λ y. cond (day y == d) 1 0) m ms ∙ rw e refl in
             omega (arith, first)
@@ -187,10 +175,10 @@ same_numbers a b e =
 module _ (office : Office) (site : Site) (d : ℕ) where
   own_day : (r : OfficeRecord) → makes_up_on site d r ≡ true → has_own_makeup_day office r ≡ true → makeups_on office site d ≤ 1
   own_day (MakeupRecord other missed makeup) on_day own =
-      let parts = both (is_same (site_numbers other) (site_numbers site)) (makeup == d) on_day in
+      let parts = and_parts (is_same (site_numbers other) (site_numbers site)) (makeup == d) on_day in
       let s : other ≡ site = same_numbers other site ((bytes_eq-Decides (site_numbers other) (site_numbers site)).0 parts.0) in
-      let m : makeup ≡ d = same makeup d parts.1 in
-      let one : makeups_on office other makeup ≡ 1 = same (makeups_on office other makeup) 1 own in
+      let m : makeup ≡ d = eqb-true makeup d parts.1 in
+      let one : makeups_on office other makeup ≡ 1 = eqb-true (makeups_on office other makeup) 1 own in
       let here : makeups_on office site d ≡ 1 = (λ i. makeups_on office (sym s i) (sym m i)) ∙ one in
       omega (arith, here)
   own_day (Monitor id duration eligible) on_day own = cc
@@ -204,7 +192,7 @@ module _ (office : Office) (site : Site) (d : ℕ) where
   none_or_one : (records : List OfficeRecord) → list_all (has_own_makeup_day office) records ≡ true → (count_by (makes_up_on site d) records ≡ 0) ⊎ (makeups_on office site d ≤ 1)
   none_or_one [] own = inl refl
   none_or_one (r ∷ records) own =
-      let parts = both (has_own_makeup_day office r) (list_all (has_own_makeup_day office) records) own in
+      let parts = and_parts (has_own_makeup_day office r) (list_all (has_own_makeup_day office) records) own in
       by_test (makes_up_on site d r) refl parts.0 (none_or_one records parts.1)
     where
       by_test : (b : Bool) → makes_up_on site d r ≡ b → has_own_makeup_day office r ≡ true → (count_by (makes_up_on site d) records ≡ 0) ⊎ (makeups_on office site d ≤ 1)
@@ -298,10 +286,10 @@ module _ (office : Office) (site : Site) (quarter : ℕ) (valid : IsOffice offic
   credit m h =
       let missed = holds m.missed h.0.0 h.0.1 in
       let makeup = holds m.makeup h.0.2 h.0.3 in
-      let d = both _ (is_in_time office site m) h.1 in
-      let c = both _ (is_sampled office site Pm25 m.makeup) d.0 in
-      let b = both _ (not (is_scheduled office.records site Pm25 m.makeup)) c.0 in
-      let a = both (is_scheduled office.records site Pm25 m.missed) (not (is_sampled office site Pm25 m.missed)) b.0 in
+      let d = and_parts _ (is_in_time office site m) h.1 in
+      let c = and_parts _ (is_sampled office site Pm25 m.makeup) d.0 in
+      let b = and_parts _ (not (is_scheduled office.records site Pm25 m.makeup)) c.0 in
+      let a = and_parts (is_scheduled office.records site Pm25 m.missed) (not (is_sampled office site Pm25 m.missed)) b.0 in
       record {
         missed_low = missed.0;
         missed_high = missed.1;
@@ -316,7 +304,7 @@ module _ (office : Office) (site : Site) (quarter : ℕ) (valid : IsOffice offic
   every-credit : Every Credit (credits office site quarter)
   unfolding credits
   every-credit =
-      every-weaker (λ m. InQuarter quarter m × (gives_credit office site m ≡ true)) Credit credit (credits office site quarter)
+      every-to (λ m. InQuarter quarter m × (gives_credit office site m ≡ true)) Credit credit (credits office site quarter)
       (every-filter (InQuarter quarter) (gives_credit office site) (filter_map (makeup_by site quarter) office.records) (makeups-in_quarter site quarter office office.records valid.records_fit))
 
   missed-once : (d : ℕ) → on (λ (m : Makeup). m.missed) d (credits office site quarter) ≤ 1
@@ -339,16 +327,12 @@ module _ (office : Office) (site : Site) (quarter : ℕ) (valid : IsOffice offic
         one_makeup office site d valid,
       )
 
-  and_both : (a b : Bool) → a ≡ true → b ≡ true → (a && b) ≡ true
-  and_both true b h k = k
-  and_both false b h k = cc
-
   pub credits-few : length (credits office site quarter) ≤ count_by (λ d. is_scheduled office.records site Pm25 d && not (is_sampled office site Pm25 d)) (days_of_quarter quarter)
   unfolding days_of_quarter
   credits-few =
       fit (λ (m : Makeup). m.missed) (λ d. is_scheduled office.records site Pm25 d && not (is_sampled office site Pm25 d)) (quarter_first quarter) (days_in_quarter quarter) (credits office site quarter)
-      (every-weaker Credit (λ m. (quarter_first quarter ≤ m.missed) × (m.missed < quarter_first quarter + days_in_quarter quarter)) (λ m c. (c.missed_low, c.missed_high)) (credits office site quarter) every-credit)
-      (every-weaker Credit (λ m. (is_scheduled office.records site Pm25 m.missed && not (is_sampled office site Pm25 m.missed)) ≡ true) (λ m c. and_both _ _ c.scheduled c.unsampled) (credits office site quarter) every-credit)
+      (every-to Credit (λ m. (quarter_first quarter ≤ m.missed) × (m.missed < quarter_first quarter + days_in_quarter quarter)) (λ m c. (c.missed_low, c.missed_high)) (credits office site quarter) every-credit)
+      (every-to Credit (λ m. (is_scheduled office.records site Pm25 m.missed && not (is_sampled office site Pm25 m.missed)) ≡ true) (λ m c. and_from _ _ c.scheduled c.unsampled) (credits office site quarter) every-credit)
       missed-once
 
   -- the credits whose make-up day is not excluded
@@ -364,8 +348,8 @@ module _ (office : Office) (site : Site) (quarter : ℕ) (valid : IsOffice offic
       let every : Every (λ m. Credit m × (keep m ≡ true)) (filter keep cs) = every-filter Credit keep cs every-credit in
       let once : (d : ℕ) → on (λ (m : Makeup). m.makeup) d (filter keep cs) ≤ 1 = λ d. omega (arith, count-filter (λ (m : Makeup). m.makeup == d) keep cs, makeup-once d) in
       let few = fit (λ (m : Makeup). m.makeup) (λ d. is_kept office site Pm25 d && not (is_scheduled office.records site Pm25 d)) (quarter_first quarter) (days_in_quarter quarter) (filter keep cs)
-      (every-weaker (λ m. Credit m × (keep m ≡ true)) (λ m. (quarter_first quarter ≤ m.makeup) × (m.makeup < quarter_first quarter + days_in_quarter quarter)) (λ m c. (c.0.makeup_low, c.0.makeup_high)) (filter keep cs) every)
-      (every-weaker (λ m. Credit m × (keep m ≡ true)) (λ m. (is_kept office site Pm25 m.makeup && not (is_scheduled office.records site Pm25 m.makeup)) ≡ true) (λ m c. and_both _ _ c.1 c.0.unscheduled) (filter keep cs) every)
+      (every-to (λ m. Credit m × (keep m ≡ true)) (λ m. (quarter_first quarter ≤ m.makeup) × (m.makeup < quarter_first quarter + days_in_quarter quarter)) (λ m c. (c.0.makeup_low, c.0.makeup_high)) (filter keep cs) every)
+      (every-to (λ m. Credit m × (keep m ≡ true)) (λ m. (is_kept office site Pm25 m.makeup && not (is_scheduled office.records site Pm25 m.makeup)) ≡ true) (λ m c. and_from _ _ c.1 c.0.unscheduled) (filter keep cs) every)
       once
       in
       omega (arith, few, length-filter keep cs)

@@ -8,6 +8,7 @@ use Rattle.aq_profile.specs.Office.Schedule.{is_scheduled}
 use Rattle.std.proofs.lemmas.Int.{ints}
 use Rattle.std.proofs.lemmas.Bool.Decides.{nat_tests}
 use Rattle.std.proofs.Math.Nat.{div-le_of_le-mul}
+use Rattle.std.proofs.lemmas.Bool.{and_parts}
 use Rattle.aq_base.specs.Decimal.{truncated}
 use Rattle.aq_base.specs.Site.{Site}
 use Rattle.aq_base.specs.declared.code.Code.{Code}
@@ -28,55 +29,37 @@ use Rattle.aq_profile.specs.Ozone.SiteHour.{Cell, Sample, mean_of, chosen, is_of
 use Rattle.aq_profile.specs.Particles.ParticleDay.{starts_on, cell_of, mean_or_high_sum, day_value, day_cell, day_of_samples, monitor_day, sample_on, samples_on, eligible_pocs, site_day, net_day, unless_excluded}
 use Rattle.aq_profile.specs.Particles.QuarterCounts.{days_of_quarter, quarter_counts, pm25_quarter, quarter_values, quarters_of, pm25_year, values_in}
 use Rattle.aq_profile.specs.Kept.Summaries.{is_value, PmQuarter, KeepsPmQuarter, KeepsPmYear, eight_greatest, summary_of_quarter, pm25_summary}
-use Rattle.aq_profile.proofs.Sameness.{same_pollutant}
+use Rattle.aq_profile.proofs.Elements.{Every, every-append}
+use Rattle.aq_profile.specs.Office.Sameness.{same_pollutant}
 use Rattle.aq_profile.proofs.Sums.{total-cons, lesser_of, greater_of, least-some, greatest-some}
-use Rattle.aq_profile.proofs.Spans.{Every}
 use Rattle.aq_profile.proofs.Pm25Facts.{least-there, greatest-there, sum-within, no-sum, top-falls, top-count, top-greatest}
 use Rattle.aq_profile.proofs.Pm10Facts.{length-days, length-filter-le}
 use Rattle.aq_profile.proofs.Pm25Counts.{HoldsDays, counts-keep}
+use Rattle.aq_profile.proofs.ValueRange.{InRangeTo, SumTo, IfValueTo, CellTo, IfCellTo, SampleTo, from_test, to_test, total-between, trunc-in_range, value-onto, least-in_range, greatest-in_range, every-ranked, cell-onto, found-in_range, chosen-in_range}
 
-both : (a b : Bool) → (a && b) ≡ true → (a ≡ true) × (b ≡ true)
-both true b h = (refl, h)
-both false b h = cc
+-- the greatest value that a line can tell
+abbrev top : ℕ
+top = 99999
 
--- a value of PM2.5
 abbrev InRange : ℤ → Type 0
-InRange v = (negsuc 998 ≤ℤ v) × (v ≤ℤ pos 99999)
-
-from_test : (v : ℤ) → is_in_range Pm25 v ≡ true → InRange v
-from_test v h =
-    let parts = both (int_le (negsuc 998) v) (int_le v (pos 99999)) h in
-    let low : int_le (negsuc 998) v ≡ true = parts.0 in
-    let high : int_le v (pos 99999) ≡ true = parts.1 in
-    (grind (arith, ints, low), grind (arith, ints, high))
-
-to_test : (v : ℤ) → InRange v → is_in_range Pm25 v ≡ true
-to_test v h =
-    let low : int_le (negsuc 998) v ≡ true = grind (arith, ints, h.0) in
-    let high : int_le v (pos 99999) ≡ true = grind (arith, ints, h.1) in
-    rw (low, high) refl
-
--- ---- means
+InRange = InRangeTo top
 
 abbrev Between : ℕ → ℤ → Type 0
-Between n t = (neg_ℤ (pos (999 * n)) ≤ℤ t) × (t ≤ℤ pos (99999 * n))
+Between = SumTo top
 
-total-between : (values : List ℤ) → Every InRange values → Between (length values) (total values)
-total-between [] every = (omega (arith, ints), omega (arith, ints))
-total-between (v ∷ vs) every =
-    let rest = total-between vs every.1 in
-    (omega (arith, ints, rest.0, every.0.0, total-cons v vs), omega (arith, ints, rest.1, every.0.1, total-cons v vs))
+abbrev IfValue : Option ℤ → Type 0
+IfValue = IfValueTo top
 
--- a mean of values in range
-trunc-in_range : (t : ℤ) (n : ℕ) → 0 < n → Between n t → InRange (truncated t (pos n))
-trunc-in_range (pos a) n some h =
-    let few : a ≤ n * 99999 = omega (arith, ints, h.1) in
-    let q : a / n ≤ 99999 = div-le_of_le-mul n few in
-    (omega (arith, ints), omega (arith, ints, q))
-trunc-in_range (negsuc a) n some h =
-    let few : suc a ≤ n * 999 = omega (arith, ints, h.0) in
-    let q : suc a / n ≤ 999 = div-le_of_le-mul n few in
-    (omega (arith, ints, q), omega (arith, ints))
+abbrev CellIn : Cell → Type 0
+CellIn = CellTo top
+
+abbrev IfCell : Option Cell → Type 0
+IfCell = IfCellTo top
+
+abbrev SampleIn : Sample → Type 0
+SampleIn = SampleTo top
+
+-- ---- means
 
 -- and of few hours over 24
 high-in_range : (t : ℤ) (n : ℕ) → n ≤ 17 → pos 8520 ≤ℤ t → Between n t → InRange (truncated t (pos 24))
@@ -85,16 +68,12 @@ high-in_range (pos a) n few high h =
     (omega (arith, ints), omega (arith, ints, q))
 high-in_range (negsuc a) n few high h = absurd (omega (arith, ints, high))
 
-abbrev IfValue : Option ℤ → Type 0
-IfValue None = ⊤
-IfValue (Some v) = InRange v
-
 hours-in_range : (n : ℕ) (t : ℤ) → Between n t → IfValue (mean_or_high_sum n t)
 hours-in_range n t h = by_tests (nat_le 18 n) (int_le (pos 8520) t) refl refl
   where
     by_tests : (a b : Bool) → nat_le 18 n ≡ a → int_le (pos 8520) t ≡ b
         → IfValue (cond a (Some (truncated t (pos n))) (cond b (Some (truncated t (pos 24))) None))
-    by_tests true b e f = let many : 18 ≤ n = grind (arith, nat_tests) in trunc-in_range t n (omega arith) h
+    by_tests true b e f = let many : 18 ≤ n = grind (arith, nat_tests) in trunc-in_range top t n (omega arith) h
     by_tests false true e f =
         let few : n ≤ 17 = grind (arith, nat_tests) in
         let high : pos 8520 ≤ℤ t = grind (arith, ints) in
@@ -107,13 +86,6 @@ first-in_range (v ∷ vs) every = every.0
 
 -- ---- observations, monitors and sites
 
-abbrev CellIn : Cell → Type 0
-CellIn cell = InRange cell.value
-
-abbrev IfCell : Option Cell → Type 0
-IfCell None = ⊤
-IfCell (Some cell) = CellIn cell
-
 pub measured-in_range : (pollutant : Pollutant) (v : ℤ) (null : Option Code) → is_measured pollutant (Some v) null ≡ true → is_in_range pollutant v ≡ true
 measured-in_range pollutant v None h = h
 measured-in_range pollutant v (Some code) h = cc
@@ -123,14 +95,14 @@ of_value : (out : Bool) (pollutant : Pollutant) (value : Option ℤ) (null : Opt
 of_value out pollutant None null is h = tt
 of_value out pollutant (Some v) null is h =
     let P : Pollutant → Type 0 = λ p. is_in_range p v ≡ true in
-    from_test v (subst P is (measured-in_range pollutant v null h))
+    from_test top v (subst P is (measured-in_range pollutant v null h))
 
 pub measured-of : (office : Office) (entry : ObsKey × Observation) → fits_monitors office entry ≡ true → is_measured entry.0.monitor.pollutant entry.1.value entry.1.null ≡ true
 measured-of office entry fits =
-    let content = (both _ (is_content entry.0.monitor.pollutant entry.1) fits).1 in
-    let c = both _ (nat_le (length entry.1.quals) 10) content in
-    let b = both _ _ c.0 in
-    (both (is_measured entry.0.monitor.pollutant entry.1.value entry.1.null) _ b.0).0
+    let content = (and_parts _ (is_content entry.0.monitor.pollutant entry.1) fits).1 in
+    let c = and_parts _ (nat_le (length entry.1.quals) 10) content in
+    let b = and_parts _ _ c.0 in
+    (and_parts (is_measured entry.0.monitor.pollutant entry.1.value entry.1.null) _ b.0).0
 
 cell-in_range : (office : Office) (monitor : MonitorId) (duration : Duration) (day : ℕ) (entry : ObsKey × Observation) → monitor.pollutant ≡ Pm25 → fits_monitors office entry ≡ true
     → IfCell (cell_of office monitor duration day entry)
@@ -142,20 +114,16 @@ cell-in_range office monitor duration day entry is fits =
     by_test false b e = tt
     by_test true false e = tt
     by_test true true e =
-        let site_and = both _ (entry.0.monitor.poc == monitor.poc) e in
-        let pollutant = (both (is_same_site entry.0.monitor.site monitor.site) (is_same_pollutant entry.0.monitor.pollutant monitor.pollutant) site_and.0).1 in
+        let site_and = and_parts _ (entry.0.monitor.poc == monitor.poc) e in
+        let pollutant = (and_parts (is_same_site entry.0.monitor.site monitor.site) (is_same_pollutant entry.0.monitor.pollutant monitor.pollutant) site_and.0).1 in
         of_value (excluded office.records entry.0 entry.1.quals) entry.0.monitor.pollutant entry.1.value entry.1.null (same_pollutant entry.0.monitor.pollutant monitor.pollutant pollutant ∙ is) (measured-of office entry fits)
-
-every-onto : (o : Option Cell) (cells : List Cell) → IfCell o → Every CellIn cells → Every CellIn (cons_option o cells)
-every-onto None cells h every = every
-every-onto (Some cell) cells h every = (h, every)
 
 cells-in_range : (office : Office) (monitor : MonitorId) (duration : Duration) (day : ℕ) (entries : List (ObsKey × Observation)) → monitor.pollutant ≡ Pm25
     → list_all (fits_monitors office) entries ≡ true → Every CellIn (filter_map (cell_of office monitor duration day) entries)
 cells-in_range office monitor duration day [] is fits = tt
 cells-in_range office monitor duration day (entry ∷ entries) is fits =
-    let parts = both (fits_monitors office entry) (list_all (fits_monitors office) entries) fits in
-    every-onto (cell_of office monitor duration day entry) (filter_map (cell_of office monitor duration day) entries) (cell-in_range office monitor duration day entry is parts.0)
+    let parts = and_parts (fits_monitors office entry) (list_all (fits_monitors office) entries) fits in
+    cell-onto top (cell_of office monitor duration day entry) (filter_map (cell_of office monitor duration day) entries) (cell-in_range office monitor duration day entry is parts.0)
     (cells-in_range office monitor duration day entries is parts.1)
 
 values-in_range : (cells : List Cell) → Every CellIn cells → Every InRange (map (λ (c : Cell). c.value) cells)
@@ -163,7 +131,7 @@ values-in_range [] every = tt
 values-in_range (cell ∷ cells) every = (every.0, values-in_range cells every.1)
 
 day_value-in_range : (duration : Duration) (values : List ℤ) → Every InRange values → IfValue (day_value Pm25 duration values)
-day_value-in_range Hour values every = hours-in_range (length values) (total values) (total-between values every)
+day_value-in_range Hour values every = hours-in_range (length values) (total values) (total-between top values every)
 day_value-in_range Day values every = first-in_range values every
 
 with_value : (out : Bool) (o : Option ℤ) → IfValue o → IfCell (option_map (λ value. record { value = value; excluded = out }) o)
@@ -190,9 +158,6 @@ monitor_day-in_range office monitor day valid is = by_case (is_eligible office.r
     by_case true None = tt
     by_case true (Some duration) = day_of_samples-in_range office monitor duration day valid is
 
-abbrev SampleIn : Sample → Type 0
-SampleIn sample = CellIn sample.cell
-
 sample-onto : (poc : ℕ) (o : Option Cell) (samples : List Sample) → IfCell o → Every SampleIn samples
     → Every SampleIn (cons_option (option_map (λ (cell : Cell). record { poc = poc; cell = cell }) o) samples)
 sample-onto poc None samples h every = every
@@ -205,41 +170,12 @@ samples-in_range office site day (poc ∷ pocs) valid =
     sample-onto poc (monitor_day office monitor day) (filter_map (sample_on office site Pm25 day) pocs)
     (monitor_day-in_range office monitor day valid refl) (samples-in_range office site day pocs valid)
 
-sample_values : (samples : List Sample) → Every SampleIn samples → Every InRange (map (λ (s : Sample). s.cell.value) samples)
-sample_values [] every = tt
-sample_values (sample ∷ samples) every = (every.0, sample_values samples every.1)
-
-length-values : (samples : List Sample) → length (map (λ (s : Sample). s.cell.value) samples) ≡ length samples
-length-values [] = refl
-length-values (sample ∷ samples) = ap suc (length-values samples)
-
-mean-in_range : (samples : List Sample) → Every SampleIn samples → IfCell (mean_of samples)
-mean-in_range [] every = tt
-mean-in_range (sample ∷ samples) every =
-    let values = map (λ (s : Sample). s.cell.value) (sample ∷ samples) in
-    let h : Between (length values) (total values) = total-between values (sample_values (sample ∷ samples) every) in
-    let P : ℕ → Type 0 = λ n. Between n (total values) in
-    trunc-in_range (total values) (length (sample ∷ samples)) (omega arith) (subst P (length-values (sample ∷ samples)) h)
-
-abbrev IfSample : Option Sample → Type 0
-IfSample None = ⊤
-IfSample (Some sample) = SampleIn sample
-
-found-in_range : (p : Sample → Bool) (samples : List Sample) → Every SampleIn samples → IfSample (find p samples)
-found-in_range p [] every = tt
-found-in_range p (sample ∷ samples) every =
-    elim (p sample) as (λ b. IfSample (cond b (Some sample) (find p samples))) [ true ↦ every.0 | false ↦ found-in_range p samples every.1 ]
-
-chosen-in_range : (primary : Option Sample) (samples : List Sample) → IfSample primary → Every SampleIn samples → IfCell (chosen primary samples)
-chosen-in_range None samples h every = mean-in_range samples every
-chosen-in_range (Some sample) samples h every = h
-
 pub site_day-in_range : (office : Office) (site : Site) (day : ℕ) → IsOffice office → IfCell (site_day office site Pm25 day)
 unfolding site_day
 site_day-in_range office site day valid =
     let every = samples-in_range office site day (eligible_pocs office.records site Pm25) valid in
-    chosen-in_range (find (is_of_poc (primary_on office.records site Pm25 day)) (samples_on office site Pm25 day)) (samples_on office site Pm25 day)
-    (found-in_range (is_of_poc (primary_on office.records site Pm25 day)) (samples_on office site Pm25 day) every) every
+    chosen-in_range top (find (is_of_poc (primary_on office.records site Pm25 day)) (samples_on office site Pm25 day)) (samples_on office site Pm25 day)
+    (found-in_range top (is_of_poc (primary_on office.records site Pm25 day)) (samples_on office site Pm25 day) every) every
 
 -- ---- the quarter
 
@@ -247,38 +183,18 @@ net-in_range : (o : Option Cell) → IfCell o → IfValue (option_and_then unles
 net-in_range None h = tt
 net-in_range (Some cell) h = elim cell.excluded as (λ b. IfValue (cond b None (Some cell.value))) [ true ↦ tt | false ↦ h ]
 
-value-onto : (o : Option ℤ) (values : List ℤ) → IfValue o → Every InRange values → Every InRange (cons_option o values)
-value-onto None values h every = every
-value-onto (Some v) values h every = (h, every)
-
 days-in_range : (office : Office) (site : Site) (days : List ℕ) → IsOffice office → Every InRange (filter_map (net_day office site Pm25) days)
 days-in_range office site [] valid = tt
 days-in_range office site (day ∷ days) valid =
-    value-onto (net_day office site Pm25 day) (filter_map (net_day office site Pm25) days) (net-in_range (site_day office site Pm25 day) (site_day-in_range office site day valid)) (days-in_range office site days valid)
+    value-onto top (net_day office site Pm25 day) (filter_map (net_day office site Pm25) days) (net-in_range (site_day office site Pm25 day) (site_day-in_range office site day valid)) (days-in_range office site days valid)
 
 pub quarter_values-in_range : (office : Office) (site : Site) (quarter : ℕ) → IsOffice office → Every InRange (quarter_values office site Pm25 quarter)
 unfolding quarter_values
 quarter_values-in_range office site quarter valid = days-in_range office site (days_of_quarter quarter) valid
 
-min-in_range : (x : ℤ) (o : Option ℤ) → InRange x → IfValue o → IfValue (lesser_of (Some x) o)
-min-in_range x None h k = h
-min-in_range x (Some y) h k = (grind (arith, ints, h.0, k.0), grind (arith, ints, h.1, k.1))
-
-max-in_range : (x : ℤ) (o : Option ℤ) → InRange x → IfValue o → IfValue (greater_of (Some x) o)
-max-in_range x None h k = h
-max-in_range x (Some y) h k = (grind (arith, ints, h.0, k.0), grind (arith, ints, h.1, k.1))
-
-pub least-in_range : (values : List ℤ) → Every InRange values → IfValue (least values)
-least-in_range [] every = tt
-least-in_range (v ∷ vs) every = rw (least-some v vs) (min-in_range v (least vs) every.0 (least-in_range vs every.1))
-
-pub greatest-in_range : (values : List ℤ) → Every InRange values → IfValue (greatest values)
-greatest-in_range [] every = tt
-greatest-in_range (v ∷ vs) every = rw (greatest-some v vs) (max-in_range v (greatest vs) every.0 (greatest-in_range vs every.1))
-
 value_test : (o : Option ℤ) → IfValue o → IsTrue (is_value Pm25 o)
 value_test None h = refl
-value_test (Some v) h = to_test v h
+value_test (Some v) h = to_test top v h
 
 pub pm25_quarter-keeps : (office : Office) (site : Site) (quarter : ℕ) → IsOffice office → HoldsDays quarter → KeepsPmQuarter (summary_of_quarter (pm25_quarter office site quarter))
 pm25_quarter-keeps office site quarter valid holds =
@@ -293,23 +209,13 @@ pm25_quarter-keeps office site quarter valid holds =
       net_days = counts.room;
       some_least = least-there values;
       some_greatest = greatest-there values;
-      least_in_range = value_test (least values) (least-in_range values every);
-      greatest_in_range = value_test (greatest values) (greatest-in_range values every);
+      least_in_range = value_test (least values) (least-in_range top values every);
+      greatest_in_range = value_test (greatest values) (greatest-in_range top values every);
       sum_within = sum-within (pm25_quarter office site quarter);
       no_sum = no-sum values;
     }
 
 -- ---- the year
-
-every-ranked_in : (v : ℤ) (zs : List ℤ) → InRange v → Every InRange zs → Every InRange (ranked_in v zs)
-every-ranked_in v [] h every = (h, tt)
-every-ranked_in v (z ∷ zs) h every =
-    elim (int_lt v z) as (λ b. Every InRange (cond b (z ∷ ranked_in v zs) (v ∷ z ∷ zs))) [ true ↦ (every.0, every-ranked_in v zs h every.1) | false ↦ (h, every) ]
-
-pub every-ranked : (values : List ℤ) → Every InRange values → Every InRange (ranked values)
-unfolding ranked
-every-ranked [] every = tt
-every-ranked (v ∷ vs) every = every-ranked_in v (ranked vs) every.0 (every-ranked vs every.1)
 
 pub every-take : (n : ℕ) (values : List ℤ) → Every InRange values → Every InRange (take n values)
 every-take zero values every = tt
@@ -318,16 +224,12 @@ every-take (suc n) (v ∷ vs) every = (every.0, every-take n vs every.1)
 
 all_in_range : (values : List ℤ) → Every InRange values → list_all (is_in_range Pm25) values ≡ true
 all_in_range [] every = refl
-all_in_range (v ∷ vs) every = let h = to_test v every.0 in rw h (all_in_range vs every.1)
-
-every-append : (xs ys : List ℤ) → Every InRange xs → Every InRange ys → Every InRange (xs ++ ys)
-every-append [] ys every more = more
-every-append (x ∷ xs) ys every more = (every.0, every-append xs ys every.1 more)
+all_in_range (v ∷ vs) every = let h = to_test top v every.0 in rw h (all_in_range vs every.1)
 
 year_values-in_range : (office : Office) (site : Site) (quarters : List ℕ) → IsOffice office → Every InRange (values_in (map (pm25_quarter office site) quarters))
 year_values-in_range office site [] valid = tt
 year_values-in_range office site (quarter ∷ quarters) valid =
-    every-append (quarter_values office site Pm25 quarter) (values_in (map (pm25_quarter office site) quarters)) (quarter_values-in_range office site quarter valid)
+    every-append InRange (quarter_values office site Pm25 quarter) (values_in (map (pm25_quarter office site) quarters)) (quarter_values-in_range office site quarter valid)
     (year_values-in_range office site quarters valid)
 
 -- the days of the four quarters of a year
@@ -376,7 +278,7 @@ pm25_year-keeps office site year valid holds =
           (All-cons KeepsPmQuarter (q 3) [] (keeps 3 (omega arith)) (All-nil KeepsPmQuarter))));
       scheduled = omega (arith, part_most office site year 0 (omega arith), part_most office site year 1 (omega arith), part_most office site year 2 (omega arith), part_most office site year 3 (omega arith));
       top_falls = top-falls (values_in quarters);
-      top_in_range = all_in_range (eight_greatest (values_in quarters)) (every-take 8 (ranked (values_in quarters)) (every-ranked (values_in quarters) every));
+      top_in_range = all_in_range (eight_greatest (values_in quarters)) (every-take 8 (ranked (values_in quarters)) (every-ranked top (values_in quarters) every));
       top_count = top-count quarters;
       top_greatest = top-greatest quarters;
     }

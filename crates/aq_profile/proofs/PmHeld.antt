@@ -5,6 +5,7 @@ use Rattle.std.specs.List.{filter_map, cons_option, flat_map, list_all, zip}
 use Rattle.std.specs.Option.{IfSome}
 use Rattle.std.proofs.lemmas.Int.{ints}
 use Rattle.std.proofs.lemmas.Bool.Decides.{nat_tests}
+use Rattle.std.proofs.lemmas.Bool.{and_parts}
 use Rattle.aq_base.specs.Site.{Site}
 use Rattle.aq_profile.specs.Lists.{least, greatest, ranked, all_of}
 use Rattle.aq_profile.specs.Office.Office.{Office, IsOffice}
@@ -15,9 +16,9 @@ use Rattle.aq_profile.specs.Particles.YearParts.{of_values}
 use Rattle.aq_profile.specs.Particles.Substitution.{Matched, minimum_for, maximum_for, same_part, matched}
 use Rattle.aq_profile.specs.Particles.AnnualVerdict.{annual_test, annual_value, filled_mean, filled_value, are_all}
 use Rattle.aq_profile.specs.Particles.DailyVerdict.{daily_test, daily_value_of, percentile_of, filled_percentile, value_of_three}
-use Rattle.aq_profile.proofs.Least.{both}
-use Rattle.aq_profile.proofs.Spans.{Every}
-use Rattle.aq_profile.proofs.Pm25Range.{least-in_range, greatest-in_range, every-ranked, quarter_values-in_range}
+use Rattle.aq_profile.proofs.Elements.{Every, every-append, every-map}
+use Rattle.aq_profile.proofs.Pm25Range.{quarter_values-in_range}
+use Rattle.aq_profile.proofs.ValueRange.{least-in_range, greatest-in_range, every-ranked}
 use Rattle.aq_profile.proofs.Held.{Held, IfHeld, Part, half_up-held, total-held, mean_of_means-held, all_of-every}
 
 -- ---- quarters of values in range
@@ -46,17 +47,9 @@ pub years-in : (office : Office) (site : Site) (years : List ℕ) → IsOffice o
 years-in office site [] valid = tt
 years-in office site (year ∷ years) valid = (year-in office site year valid, years-in office site years valid)
 
-pub every-join : {X : Type 0} (P : X → Type 0) (xs ys : List X) → Every P xs → Every P ys → Every P (xs ++ ys)
-every-join P [] ys every more = more
-every-join P (x ∷ xs) ys every more = (every.0, every-join P xs ys every.1 more)
-
-pub every-map : {X Y : Type 0} (P : X → Type 0) (Q : Y → Type 0) (f : X → Y) → ((x : X) → P x → Q (f x)) → (xs : List X) → Every P xs → Every Q (map f xs)
-every-map P Q f h [] every = tt
-every-map P Q f h (x ∷ xs) every = (h x every.0, every-map P Q f h xs every.1)
-
 every-flat : {X Y : Type 0} (P : X → Type 0) (Q : Y → Type 0) (f : X → List Y) → ((x : X) → P x → Every Q (f x)) → (xs : List X) → Every P xs → Every Q (flat_map f xs)
 every-flat P Q f h [] every = tt
-every-flat P Q f h (x ∷ xs) every = every-join Q (f x) (flat_map f xs) (h x every.0) (every-flat P Q f h xs every.1)
+every-flat P Q f h (x ∷ xs) every = every-append Q (f x) (flat_map f xs) (h x every.0) (every-flat P Q f h xs every.1)
 
 -- ---- means
 
@@ -67,7 +60,7 @@ MeanIn f = has_days f ≡ true → Part 999 99999 f
 parts-of : (fs : List Fraction) → Every MeanIn fs → list_all has_days fs ≡ true → Every (Part 999 99999) fs
 parts-of [] every days = tt
 parts-of (f ∷ fs) every days =
-    let d = both (has_days f) (list_all has_days fs) days in (every.0 d.0, parts-of fs every.1 d.1)
+    let d = and_parts (has_days f) (list_all has_days fs) days in (every.0 d.0, parts-of fs every.1 d.1)
 
 pub mean_of_means-in : (fs : List Fraction) → Every MeanIn fs → IfIn (mean_of_means fs)
 mean_of_means-in fs every = mean_of_means-held 999 99999 fs (parts-of fs every)
@@ -79,7 +72,7 @@ list-mean values every days =
     record { some = some; least = sum.0; most = sum.1 }
 
 mean_with-in : (copies : List ℤ) (q : QuarterDays) → Every In copies → QuarterIn q → MeanIn (of_values.mean_with copies q)
-mean_with-in copies q more every = list-mean (q.values ++ copies) (every-join In q.values copies every more)
+mean_with-in copies q more every = list-mean (q.values ++ copies) (every-append In q.values copies every more)
 
 pub annual_value-in : (years : List (List QuarterDays)) → Every YearIn years → IfIn (annual_value of_values years)
 annual_value-in years every =
@@ -98,7 +91,7 @@ pub percentile-in : (values : List ℤ) (counted : ℕ) → Every In values → 
 percentile-in values counted every =
     elim (counted == 0) as (λ b. IfIn (cond b None (slice_get (ranked values) (rank_of counted - 1)))) [
       | true ↦ tt
-      | false ↦ at-in (ranked values) (rank_of counted - 1) (every-ranked values every)
+      | false ↦ at-in (ranked values) (rank_of counted - 1) (every-ranked 99999 values every)
     ]
 
 pub values-in : (year : List QuarterDays) → YearIn year → Every In (values_in year)
@@ -106,7 +99,7 @@ values-in year every = every-flat QuarterIn In (λ (q : QuarterDays). q.values) 
 
 percentile_with-in : (copies : List ℤ) (year : List QuarterDays) → Every In copies → YearIn year → IfIn (of_values.percentile_with copies year)
 percentile_with-in copies year more every =
-    percentile-in (values_in year ++ copies) (counted_in year + length copies) (every-join In (values_in year) copies (values-in year every) more)
+    percentile-in (values_in year ++ copies) (counted_in year + length copies) (every-append In (values_in year) copies (values-in year every) more)
 
 of_three : (os : List (Option ℤ)) → Every IfIn os → IfIn (value_of_three os)
 of_three [] every = tt
@@ -159,12 +152,12 @@ kept-in f h (q ∷ qs) every = value-onto (f q) (filter_map f qs) (h q every.0) 
 minimum-in : CopiesIn (minimum_for of_values)
 minimum-in row h =
     by_tests _ _ (11 - row.0.counts.creditable) (least (filter_map of_values.least_value row.1))
-    (least-in_range (filter_map of_values.least_value row.1) (kept-in of_values.least_value (λ q k. least-in_range q.values k) row.1 h.1))
+    (least-in_range 99999 (filter_map of_values.least_value row.1) (kept-in of_values.least_value (λ q k. least-in_range 99999 q.values k) row.1 h.1))
 
 maximum-in : CopiesIn (maximum_for of_values)
 maximum-in row h =
     by_tests _ _ (row.0.counts.scheduled - row.0.counts.creditable) (greatest (filter_map of_values.greatest_value row.1))
-    (greatest-in_range (filter_map of_values.greatest_value row.1) (kept-in of_values.greatest_value (λ q k. greatest-in_range q.values k) row.1 h.1))
+    (greatest-in_range 99999 (filter_map of_values.greatest_value row.1) (kept-in of_values.greatest_value (λ q k. greatest-in_range 99999 q.values k) row.1 h.1))
 
 onto-in : (o : Option QuarterDays) (qs : List QuarterDays) → IfSome o QuarterIn → YearIn qs → YearIn (cons_option o qs)
 onto-in None qs h every = every

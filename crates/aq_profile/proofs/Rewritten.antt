@@ -6,6 +6,7 @@ use Rattle.std.specs.Ordering.{int_eq}
 use Rattle.std.specs.List.{list_all, filter_map, cons_option}
 use Rattle.std.proofs.lemmas.Bool.Decides.{nat_tests, Decides-int_eq}
 use Rattle.std.proofs.lemmas.Slice.Eq.{bytes_eq-Decides}
+use Rattle.std.proofs.lemmas.Bool.{and_parts, leb-true}
 use Rattle.aq_base.specs.declared.observation.ObsKey.{ObsKey}
 use Rattle.aq_base.specs.declared.observation.Observation.{Observation}
 use Rattle.aq_base.specs.declared.office.OfficeRecord.{OfficeRecord}
@@ -14,13 +15,10 @@ use Rattle.aq_profile.specs.Lines.Reading.{line_value}
 use Rattle.aq_profile.specs.Lines.Spellings.{◌>>=◌, qualifier_in}
 use Rattle.aq_profile.specs.Office.Office.{StoredLoad, IsOffice}
 use Rattle.aq_profile.specs.Kept.Rows.{whole, record_in, site_with, pollutant_with, words, each, null_of, listed_in, rest_in, Row, OfficeRow, ObsRow, LoadRow, OfOfficeRow, OfObsRow, OfLoadRow, office_row, obs_row, load_row, rows_of, only_if, is_office_row, is_obs_row, is_load_row, record_of_row, observation_of_row, load_of_row, record_in_row, observation_in_row, load_in_row, says_something, office_in, table_of, tables_follow, is_valid, are_office_rows, damage}
-use Rattle.aq_profile.proofs.Spans.{Every}
+use Rattle.aq_profile.proofs.Tests.{int_is}
+use Rattle.aq_profile.proofs.Elements.{Every}
 use Rattle.aq_profile.proofs.ValidOffice.{valid-is_office}
 use Rattle.aq_profile.proofs.Undamaged.{undamaged}
-
-both : (a b : Bool) → (a && b) ≡ true → (a ≡ true) × (b ≡ true)
-both true b h = (refl, h)
-both false b h = cc
 
 -- ---- a row is the row of what it says
 
@@ -45,34 +43,31 @@ through (Some a) next b P h go = go a h
 text-is : (a b : List ℕ) → bytes_eq a b ≡ true → a ≡ b
 text-is a b h = (bytes_eq-Decides a b).0 h
 
-number-is : (a b : ℤ) → int_eq a b ≡ true → a ≡ b
-number-is a b h = (Decides-int_eq a b).0 h
-
 value-is : (a b : Option ℤ) → option_eq int_eq a b ≡ true → a ≡ b
 value-is None None h = refl
 value-is None (Some y) h = cc
 value-is (Some x) None h = cc
-value-is (Some x) (Some y) h = ap (λ (z : ℤ). Some z) (number-is x y h)
+value-is (Some x) (Some y) h = ap (λ (z : ℤ). Some z) (int_is x y h)
 
 office_row-is : (a b : OfficeRow) → is_office_row a b ≡ true → a ≡ b
 office_row-is a b h =
-    let y = both _ (bytes_eq a.line b.line) h in
-    let x = both (int_eq a.kind b.kind) (bytes_eq a.key b.key) y.0 in
-    λ i. record { kind = number-is a.kind b.kind x.0 i; key = text-is a.key b.key x.1 i; line = text-is a.line b.line y.1 i }
+    let y = and_parts _ (bytes_eq a.line b.line) h in
+    let x = and_parts (int_eq a.kind b.kind) (bytes_eq a.key b.key) y.0 in
+    λ i. record { kind = int_is a.kind b.kind x.0 i; key = text-is a.key b.key x.1 i; line = text-is a.line b.line y.1 i }
 
 obs_row-is : (a b : ObsRow) → is_obs_row a b ≡ true → a ≡ b
 obs_row-is a b h =
-    let t = both _ (bytes_eq a.quals b.quals) h in
-    let s = both _ (bytes_eq a.null b.null) t.0 in
-    let r = both _ (option_eq int_eq a.value b.value) s.0 in
-    let q = both _ (int_eq a.hour b.hour) r.0 in
-    let p = both _ (int_eq a.poc b.poc) q.0 in
-    let o = both (int_eq a.site b.site) (int_eq a.pollutant b.pollutant) p.0 in
+    let t = and_parts _ (bytes_eq a.quals b.quals) h in
+    let s = and_parts _ (bytes_eq a.null b.null) t.0 in
+    let r = and_parts _ (option_eq int_eq a.value b.value) s.0 in
+    let q = and_parts _ (int_eq a.hour b.hour) r.0 in
+    let p = and_parts _ (int_eq a.poc b.poc) q.0 in
+    let o = and_parts (int_eq a.site b.site) (int_eq a.pollutant b.pollutant) p.0 in
     λ i. record {
-      site = number-is a.site b.site o.0 i;
-      pollutant = number-is a.pollutant b.pollutant o.1 i;
-      poc = number-is a.poc b.poc p.1 i;
-      hour = number-is a.hour b.hour q.1 i;
+      site = int_is a.site b.site o.0 i;
+      pollutant = int_is a.pollutant b.pollutant o.1 i;
+      poc = int_is a.poc b.poc p.1 i;
+      hour = int_is a.hour b.hour q.1 i;
       value = value-is a.value b.value r.1 i;
       null = text-is a.null b.null s.1 i;
       quals = text-is a.quals b.quals t.1 i;
@@ -80,16 +75,16 @@ obs_row-is a b h =
 
 load_row-is : (a b : LoadRow) → is_load_row a b ≡ true → a ≡ b
 load_row-is a b h =
-    let t = both _ (bytes_eq a.rest b.rest) h in
-    let s = both _ (bytes_eq a.listed b.listed) t.0 in
-    let r = both _ (int_eq a.accepted b.accepted) s.0 in
-    let q = both _ (int_eq a.lines b.lines) r.0 in
-    let p = both (int_eq a.number b.number) (bytes_eq a.digest b.digest) q.0 in
+    let t = and_parts _ (bytes_eq a.rest b.rest) h in
+    let s = and_parts _ (bytes_eq a.listed b.listed) t.0 in
+    let r = and_parts _ (int_eq a.accepted b.accepted) s.0 in
+    let q = and_parts _ (int_eq a.lines b.lines) r.0 in
+    let p = and_parts (int_eq a.number b.number) (bytes_eq a.digest b.digest) q.0 in
     λ i. record {
-      number = number-is a.number b.number p.0 i;
+      number = int_is a.number b.number p.0 i;
       digest = text-is a.digest b.digest p.1 i;
-      lines = number-is a.lines b.lines q.1 i;
-      accepted = number-is a.accepted b.accepted r.1 i;
+      lines = int_is a.lines b.lines q.1 i;
+      accepted = int_is a.accepted b.accepted r.1 i;
       listed = text-is a.listed b.listed s.1 i;
       rest = text-is a.rest b.rest t.1 i;
     }
@@ -138,22 +133,19 @@ L l = OfLoadRow (load_row l)
 abbrev From : ℕ → List Row → Type 0
 From t rows = Every (λ row. t ≤ table_of row) rows
 
-at_most : (a b : ℕ) → nat_le a b ≡ true → a ≤ b
-at_most a b h = grind (arith, nat_tests)
-
 from-more : (t n : ℕ) (rows : List Row) → t ≤ n → From n rows → From t rows
 from-more t n [] low from = tt
 from-more t n (row ∷ rows) low from = (omega (arith, low, from.0), from-more t n rows low from.1)
 
 rest-follow : (row : Row) (rows : List Row) → tables_follow (row ∷ rows) ≡ true → tables_follow rows ≡ true
 rest-follow row [] h = refl
-rest-follow row (next ∷ rows) h = (both (nat_le (table_of row) (table_of next)) (tables_follow (next ∷ rows)) h).1
+rest-follow row (next ∷ rows) h = (and_parts (nat_le (table_of row) (table_of next)) (tables_follow (next ∷ rows)) h).1
 
 from-follow : (row : Row) (rows : List Row) → tables_follow (row ∷ rows) ≡ true → From (table_of row) rows
 from-follow row [] h = tt
 from-follow row (next ∷ rows) h =
-    let parts = both (nat_le (table_of row) (table_of next)) (tables_follow (next ∷ rows)) h in
-    let low = at_most (table_of row) (table_of next) parts.0 in
+    let parts = and_parts (nat_le (table_of row) (table_of next)) (tables_follow (next ∷ rows)) h in
+    let low = leb-true (table_of row) (table_of next) parts.0 in
     (low, from-more (table_of row) (table_of next) rows low (from-follow next rows parts.1))
 
 no_records : (rows : List Row) → From 1 rows → filter_map record_in_row rows ≡ []
@@ -190,18 +182,18 @@ rewritten : (rows : List Row) → list_all says_something rows ≡ true → tabl
     → three (filter_map record_in_row rows) (filter_map observation_in_row rows) (filter_map load_in_row rows) ≡ rows
 rewritten [] said follow = refl
 rewritten (OfOfficeRow row ∷ rows) said follow =
-    let parts = both (is_some (record_of_row row)) (list_all says_something rows) said in
+    let parts = and_parts (is_some (record_of_row row)) (list_all says_something rows) said in
     let rest = rewritten rows parts.1 (rest-follow (OfOfficeRow row) rows follow) in
     first-record row (record_of_row row) (filter_map record_in_row rows) (filter_map observation_in_row rows) (filter_map load_in_row rows) rows refl parts.0 rest
 rewritten (OfObsRow row ∷ rows) said follow =
-    let parts = both (is_some (observation_of_row row)) (list_all says_something rows) said in
+    let parts = and_parts (is_some (observation_of_row row)) (list_all says_something rows) said in
     let rest = rewritten rows parts.1 (rest-follow (OfObsRow row) rows follow) in
     let none = no_records rows (from-follow (OfObsRow row) rows follow) in
     let P : List OfficeRecord → Type 0 = λ rs. three rs (filter_map observation_in_row rows) (filter_map load_in_row rows) ≡ rows in
     let Q : List OfficeRecord → Type 0 = λ rs. three rs (cons_option (observation_of_row row) (filter_map observation_in_row rows)) (filter_map load_in_row rows) ≡ OfObsRow row ∷ rows in
     subst Q (sym none) (first-observation row (observation_of_row row) (filter_map observation_in_row rows) (filter_map load_in_row rows) rows refl parts.0 (subst P none rest))
 rewritten (OfLoadRow row ∷ rows) said follow =
-    let parts = both (is_some (load_of_row row)) (list_all says_something rows) said in
+    let parts = and_parts (is_some (load_of_row row)) (list_all says_something rows) said in
     let rest = rewritten rows parts.1 (rest-follow (OfLoadRow row) rows follow) in
     let from = from-follow (OfLoadRow row) rows follow in
     let none = no_records rows (from-more 1 2 rows (omega arith) from) in
@@ -213,14 +205,14 @@ rewritten (OfLoadRow row ∷ rows) said follow =
 pub rows-rewritten : (rows : List Row) → are_office_rows rows ≡ true → rows_of (office_in rows) ≡ rows
 unfolding are_office_rows rows_of
 rows-rewritten rows h =
-    let b = both (list_all says_something rows && tables_follow rows) (is_valid (office_in rows)) h in
-    let a = both (list_all says_something rows) (tables_follow rows) b.0 in
+    let b = and_parts (list_all says_something rows && tables_follow rows) (is_valid (office_in rows)) h in
+    let a = and_parts (list_all says_something rows) (tables_follow rows) b.0 in
     rewritten rows a.0 a.1
 
 pub rows-valid : (rows : List Row) → are_office_rows rows ≡ true → IsOffice (office_in rows)
 unfolding are_office_rows
 rows-valid rows h =
-    valid-is_office (office_in rows) (both (list_all says_something rows && tables_follow rows) (is_valid (office_in rows)) h).1
+    valid-is_office (office_in rows) (and_parts (list_all says_something rows && tables_follow rows) (is_valid (office_in rows)) h).1
 
 pub no-damage : (rows : List Row) → are_office_rows rows ≡ true → damage rows ≡ None
 no-damage rows h = ap damage (sym (rows-rewritten rows h)) ∙ undamaged (office_in rows) (rows-valid rows h)

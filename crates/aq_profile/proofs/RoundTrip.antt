@@ -5,7 +5,7 @@ use Rattle.std.specs.List.{list_all}
 use Rattle.std.specs.Char.{digit_value, is_ascii_digit}
 use Rattle.std.specs.Str.Parse.{AllDigits, digits_value}
 use Rattle.std.proofs.lemmas.Fmt.{decimal_is_IsNumeral, first_decimal}
-use Rattle.std.proofs.lemmas.Bool.{false≢true}
+use Rattle.std.proofs.lemmas.Bool.{false≢true, and_from, and_parts}
 use Rattle.std.proofs.lemmas.Bool.Decides.{nat_tests}
 use Rattle.aq_base.specs.Calendar.{year_of, month_of, day_of_month, day_of_hour, hour_of_day, is_year}
 use Rattle.aq_base.specs.Decimal.{last_digits, are_digits}
@@ -29,9 +29,9 @@ use Rattle.aq_profile.specs.Lines.OfficeForms.{is_season, is_makeup, is_span, xm
 use Rattle.aq_profile.specs.Lines.Reading.{OfOffice, line_value, form_value}
 use Rattle.aq_profile.specs.Lines.Canonical.{is_office_line, parameter_text, duration_text, date_text, time_text, truth_text, code_text, joined, office_texts, canonical_office}
 use Rattle.aq_profile.specs.Office.Office.{is_site, is_poc, is_day}
-use Rattle.aq_profile.proofs.Least.{both}
+use Rattle.aq_profile.proofs.Digits.{digit_is, digits_are}
 use Rattle.aq_profile.proofs.KeyOrder.{at_most_day}
-use Rattle.aq_profile.proofs.JoinedFields.{is_clean, is_clean_byte, and_true, fields-some, plain-some}
+use Rattle.aq_profile.proofs.JoinedFields.{is_clean, is_clean_byte, fields-some, plain-some}
 use Rattle.aq_profile.proofs.Spelled.{bind-is, site_is, parameter_is, parameter_of-is, duration_is, truth_is, year_is, date_is, hour_is, poc_is, primary_is, interval_is}
 
 pub from_texts : (text : List ℕ) (texts : List (List ℕ)) → list_all is_clean (text ∷ texts) ≡ true
@@ -46,8 +46,8 @@ from_texts text texts clean =
 pub clean-append : (xs ys : List ℕ) → is_clean xs ≡ true → is_clean ys ≡ true → is_clean (xs ++ ys) ≡ true
 clean-append [] ys p q = q
 clean-append (x ∷ xs) ys p q =
-    let parts = both (is_clean_byte x) (is_clean xs) p in
-    and_true (is_clean_byte x) (is_clean (xs ++ ys)) parts.0 (clean-append xs ys parts.1 q)
+    let parts = and_parts (is_clean_byte x) (is_clean xs) p in
+    and_from (is_clean_byte x) (is_clean (xs ++ ys)) parts.0 (clean-append xs ys parts.1 q)
 
 clean_digit : (n : ℕ) → is_clean_byte (48 + n % 10) ≡ true
 clean_digit n = grind (arith, nat_tests)
@@ -56,14 +56,14 @@ pub clean-digits : (w n : ℕ) → is_clean (last_digits w n) ≡ true
 unfolding last_digits
 clean-digits zero n = refl
 clean-digits (suc w) n =
-    clean-append (last_digits w (n / 10)) ((48 + n % 10) ∷ []) (clean-digits w (n / 10)) (and_true _ _ (clean_digit n) refl)
+    clean-append (last_digits w (n / 10)) ((48 + n % 10) ∷ []) (clean-digits w (n / 10)) (and_from _ _ (clean_digit n) refl)
 
 clean_value : (c : ℕ) → digit_value c < 10 → is_clean_byte c ≡ true
 clean_value c h = grind (arith, nat_tests)
 
 clean-all : (ds : List ℕ) → AllDigits 10 ds → is_clean ds ≡ true
 clean-all [] h = refl
-clean-all (c ∷ ds) h = and_true (is_clean_byte c) (is_clean ds) (clean_value c h.0) (clean-all ds h.1)
+clean-all (c ∷ ds) h = and_from (is_clean_byte c) (is_clean ds) (clean_value c h.0) (clean-all ds h.1)
 
 pub clean-decimal : (n : ℕ) → n < 2 ^ 64 → is_clean (decimal n) ≡ true
 clean-decimal n h = clean-all (decimal n) (decimal_is_IsNumeral n h).0.1
@@ -126,7 +126,7 @@ abbrev series_with : Site → Pollutant → ℕ → List (List ℕ) → List (Li
 series_with s p d rest = site_with s (parameter_text p ∷ date_text d ∷ rest)
 
 pub also : (text : List ℕ) (texts : List (List ℕ)) → is_clean text ≡ true → list_all is_clean texts ≡ true → list_all is_clean (text ∷ texts) ≡ true
-also text texts p q = and_true (is_clean text) (list_all is_clean texts) p q
+also text texts p q = and_from (is_clean text) (list_all is_clean texts) p q
 
 pub clean-site : (s : Site) (rest : List (List ℕ)) → list_all is_clean rest ≡ true → list_all is_clean (site_with s rest) ≡ true
 clean-site s rest h =
@@ -289,7 +289,7 @@ read-xa_key s d h i =
 
 -- monitors
 pub poc_short : (p : ℕ) → is_poc p ≡ true → p < 2 ^ 64
-poc_short p h = small_poc p (both (nat_le 1 p) (nat_le p 99) h).1
+poc_short p h = small_poc p (and_parts (nat_le 1 p) (nat_le p 99) h).1
 
 pub monitor_read : (tag action : List ℕ) (s : Site) (p : Pollutant) (poc : ℕ) (rest : List (List ℕ)) → is_site s ≡ true → is_poc poc ≡ true
     → monitor_in Rd (tag ∷ action ∷ site_with s (parameter_text p ∷ decimal poc ∷ rest)) ≡ Some (record { site = s; pollutant = p; poc = poc })
@@ -334,17 +334,9 @@ read-xm_change id d eligible h i j =
     (codes "U" ∷ site_with id.site (parameter_text id.pollutant ∷ decimal id.poc ∷ duration_text d ∷ truth_text eligible ∷ [])) refl
     (clean-xm id d eligible i) (change_is _ _ (xm_read (codes "XM") (codes "U") id d eligible h i j))
 
--- events
-digit : (c : ℕ) → digit_value c < 10 → is_ascii_digit c ≡ true
-digit c h = grind (arith, nat_tests)
-
-digits-all : (ds : List ℕ) → AllDigits 10 ds → are_digits ds ≡ true
-digits-all [] h = refl
-digits-all (c ∷ ds) h = and_true (is_ascii_digit c) (are_digits ds) (digit c h.0) (digits-all ds h.1)
-
 number_short : (n : ℕ) → is_event_number n ≡ true → (0 < n) × (n < 2 ^ 64)
 number_short n h =
-    let parts = both (nat_le 1 n) (nat_le n 999999) h in
+    let parts = and_parts (nat_le 1 n) (nat_le n 999999) h in
     (grind (arith, nat_tests), grind (arith, nat_tests))
 
 at_least_one : (c : ℕ) → 48 < c → nat_le 49 c ≡ true
@@ -356,8 +348,8 @@ event_number_is n h =
     let short = number_short n h in
     let numeral = decimal_is_IsNumeral n short.1 in
     ap (λ b. if b then Some (digits_value 10 (decimal n)) else None)
-    (and_true (are_digits (decimal n) && nat_le 49 (get_or (decimal n) 0 0)) (is_event_number (digits_value 10 (decimal n)))
-    (and_true (are_digits (decimal n)) (nat_le 49 (get_or (decimal n) 0 0)) (digits-all (decimal n) numeral.0.1)
+    (and_from (are_digits (decimal n) && nat_le 49 (get_or (decimal n) 0 0)) (is_event_number (digits_value 10 (decimal n)))
+    (and_from (are_digits (decimal n)) (nat_le 49 (get_or (decimal n) 0 0)) (digits_are (decimal n) numeral.0.1)
     (at_least_one (get_or (decimal n) 0 0) (first_decimal n short.0 short.1)))
     (ap is_event_number numeral.1 ∙ h))
     ∙ ap Some numeral.1
@@ -383,14 +375,14 @@ unfolding event_code_in
 event_code_is c h =
     let bytes = event_bytes c h in
     ap (λ b. event_code_in (if b then c.first ∷ [] else c.first ∷ c.second ∷ [])) bytes.not_zero
-    ∙ bind-is _ (ap (λ b. if b then Some c else None) (and_true (is_code_byte c.first) (is_code_byte c.second) bytes.first bytes.second))
+    ∙ bind-is _ (ap (λ b. if b then Some c else None) (and_from (is_code_byte c.first) (is_code_byte c.second) bytes.first bytes.second))
     ∙ ap (λ b. if b then Some c else None) h
 
 clean-event_code : (c : Code) → is_event_code c ≡ true → is_clean (code_text c) ≡ true
 clean-event_code c h =
     let bytes = event_bytes c h in
     ap (λ b. is_clean (if b then c.first ∷ [] else c.first ∷ c.second ∷ [])) bytes.not_zero
-    ∙ and_true (is_clean_byte c.first) (is_clean_byte c.second && true) bytes.first_clean (and_true (is_clean_byte c.second) true bytes.second_clean refl)
+    ∙ and_from (is_clean_byte c.first) (is_clean_byte c.second && true) bytes.first_clean (and_from (is_clean_byte c.second) true bytes.second_clean refl)
 
 abbrev event_texts : Site → Pollutant → ℕ → ℕ → Code → List (List ℕ)
 event_texts s p first last code =
@@ -449,73 +441,73 @@ at_most_hour h p = grind (arith, nat_tests)
 
 span_first : (a b : ℕ) → is_span a b ≡ true → a ≤ b
 span_first a b h =
-    let parts = both (nat_le a b) (nat_lt b (a + 8784)) h in
+    let parts = and_parts (nat_le a b) (nat_lt b (a + 8784)) h in
     grind (arith, nat_tests)
 
 round-put : (r : OfficeRecord) → is_office_line (Put r) ≡ true → line_value (canonical_office (Put r)) ≡ Some (OfOffice (Put r))
 round-put (Monitor id d eligible) h =
-    let x = both (is_site id.site && is_poc id.poc) (has_duration id.pollutant d) h in
-    let y = both (is_site id.site) (is_poc id.poc) x.0 in
+    let x = and_parts (is_site id.site && is_poc id.poc) (has_duration id.pollutant d) h in
+    let y = and_parts (is_site id.site) (is_poc id.poc) x.0 in
     read-xm id d eligible y.0 y.1 x.1
 round-put (Primary s p d poc) h =
-    let x = both (is_site s && is_day d) (nat_le poc 99) h in
-    let y = both (is_site s) (is_day d) x.0 in
+    let x = and_parts (is_site s && is_day d) (nat_le poc 99) h in
+    let y = and_parts (is_site s) (is_day d) x.0 in
     read-xp s p d poc y.0 y.1 x.1
 round-put (Schedule s p d interval anchor) h =
-    let x = both (is_site s && has_parameter Xs p && is_day d) (is_interval interval && is_day anchor) h in
-    let y = both (is_site s && has_parameter Xs p) (is_day d) x.0 in
-    let z = both (is_site s) (has_parameter Xs p) y.0 in
-    let w = both (is_interval interval) (is_day anchor) x.1 in
+    let x = and_parts (is_site s && has_parameter Xs p && is_day d) (is_interval interval && is_day anchor) h in
+    let y = and_parts (is_site s && has_parameter Xs p) (is_day d) x.0 in
+    let z = and_parts (is_site s) (has_parameter Xs p) y.0 in
+    let w = and_parts (is_interval interval) (is_day anchor) x.1 in
     read-xs s p d interval anchor z.0 z.1 y.1 w.0 w.1
 round-put (Season s year first last) h =
-    let x = both (is_site s && is_year year) (is_day first && is_day last && is_season year first last) h in
-    let y = both (is_site s) (is_year year) x.0 in
-    let z = both (is_day first && is_day last) (is_season year first last) x.1 in
-    let w = both (is_day first) (is_day last) z.0 in
+    let x = and_parts (is_site s && is_year year) (is_day first && is_day last && is_season year first last) h in
+    let y = and_parts (is_site s) (is_year year) x.0 in
+    let z = and_parts (is_day first && is_day last) (is_season year first last) x.1 in
+    let w = and_parts (is_day first) (is_day last) z.0 in
     read-xo s year first last y.0 y.1 w.0 w.1 z.1
 round-put (Makeup s missed makeup) h =
-    let x = both (is_site s && is_day missed) (is_day makeup && is_makeup missed makeup) h in
-    let y = both (is_site s) (is_day missed) x.0 in
-    let z = both (is_day makeup) (is_makeup missed makeup) x.1 in
+    let x = and_parts (is_site s && is_day missed) (is_day makeup && is_makeup missed makeup) h in
+    let y = and_parts (is_site s) (is_day missed) x.0 in
+    let z = and_parts (is_day makeup) (is_makeup missed makeup) x.1 in
     read-xu s missed makeup y.0 y.1 z.0 z.1
 round-put (Event n s p first last code) h =
-    let x = both (is_event_number n) (is_site s && nat_le last 438311 && is_span first last && is_event_code code) h in
-    let y = both (is_site s && nat_le last 438311 && is_span first last) (is_event_code code) x.1 in
-    let z = both (is_site s && nat_le last 438311) (is_span first last) y.0 in
-    let w = both (is_site s) (nat_le last 438311) z.0 in
+    let x = and_parts (is_event_number n) (is_site s && nat_le last 438311 && is_span first last && is_event_code code) h in
+    let y = and_parts (is_site s && nat_le last 438311 && is_span first last) (is_event_code code) x.1 in
+    let z = and_parts (is_site s && nat_le last 438311) (is_span first last) y.0 in
+    let w = and_parts (is_site s) (nat_le last 438311) z.0 in
     let top = at_most_hour last w.1 in
     let low = span_first first last z.1 in
     read-xe n s p first last code x.0 w.0 (omega arith) top z.1 y.1
 round-put (Concurrence n agreed) h = absurd (false≢true h)
 round-put (Approved s d) h =
-    let x = both (is_site s && is_day d) true h in
-    let y = both (is_site s) (is_day d) x.0 in
+    let x = and_parts (is_site s && is_day d) true h in
+    let y = and_parts (is_site s) (is_day d) x.0 in
     read-xa s d y.0 y.1
 
 pub round-office : (line : OfficeLine) → is_office_line line ≡ true → line_value (canonical_office line) ≡ Some (OfOffice line)
 round-office (Put r) h = round-put r h
 round-office (Change (Monitor id d eligible)) h =
-    let x = both (is_site id.site && is_poc id.poc) (has_duration id.pollutant d) h in
-    let y = both (is_site id.site) (is_poc id.poc) x.0 in
+    let x = and_parts (is_site id.site && is_poc id.poc) (has_duration id.pollutant d) h in
+    let y = and_parts (is_site id.site) (is_poc id.poc) x.0 in
     read-xm_change id d eligible y.0 y.1 x.1
-round-office (Change (Concurrence n agreed)) h = read-xc n agreed (both (is_event_number n) true h).0
+round-office (Change (Concurrence n agreed)) h = read-xc n agreed (and_parts (is_event_number n) true h).0
 round-office (Change r) h = absurd (false≢true h)
 round-office (Drop (MonitorKey id)) h = absurd (false≢true h)
 round-office (Drop (PrimaryKey s p d)) h =
-    let x = both (is_site s) (is_day d) h in
+    let x = and_parts (is_site s) (is_day d) h in
     read-xp_key s p d x.0 x.1
 round-office (Drop (ScheduleKey s p d)) h =
-    let y = both (is_site s && has_parameter Xs p) (is_day d) h in
-    let z = both (is_site s) (has_parameter Xs p) y.0 in
+    let y = and_parts (is_site s && has_parameter Xs p) (is_day d) h in
+    let z = and_parts (is_site s) (has_parameter Xs p) y.0 in
     read-xs_key s p d z.0 z.1 y.1
 round-office (Drop (SeasonKey s year)) h =
-    let x = both (is_site s) (is_year year) h in
+    let x = and_parts (is_site s) (is_year year) h in
     read-xo_key s year x.0 x.1
 round-office (Drop (MakeupKey s missed)) h =
-    let x = both (is_site s) (is_day missed) h in
+    let x = and_parts (is_site s) (is_day missed) h in
     read-xu_key s missed x.0 x.1
 round-office (Drop (EventKey n)) h = read-xe_key n h
 round-office (Drop (ConcurrenceKey n)) h = absurd (false≢true h)
 round-office (Drop (ApprovedKey s d)) h =
-    let x = both (is_site s) (is_day d) h in
+    let x = and_parts (is_site s) (is_day d) h in
     read-xa_key s d x.0 x.1

@@ -3,6 +3,7 @@ use Rattle.std.proofs.Common.{◌≡◌, ℕ, Bool, true, false, cond, not, List
 use Rattle.std.specs.Prelude.{Option, Some, None, fold, filter_map, option_map, ◌==◌}
 use Rattle.std.specs.List.{cons_option}
 use Rattle.std.proofs.lemmas.List.Elements.{filter-append}
+use Rattle.std.proofs.lemmas.Bool.{and_parts}
 use Rattle.aq_base.specs.declared.observation.ObsKey.{ObsKey}
 use Rattle.aq_base.specs.declared.observation.Observation.{Observation}
 use Rattle.aq_base.specs.declared.office.OfficeRecord.{OfficeRecord}
@@ -12,9 +13,8 @@ use Rattle.aq_profile.specs.Office.Office.{Office, StoredLoad, IsOffice, is_same
 use Rattle.aq_profile.specs.Office.Load.{OfficeChange, PutRecord, DropRecord, PutObservation, DropObservation, PutLoad, with_change, is_same_record, is_same_content, record_change, observation_change, record_changes, observation_changes, keys_of_either, load_change, batch, stored, load, after_all}
 use Rattle.aq_profile.specs.Kept.Rows.{Row, OfOfficeRow, OfObsRow, OfLoadRow, office_row, obs_row, load_row, rows_of}
 use Rattle.aq_profile.specs.Kept.RowChanges.{RowKey, row_key, key_before, is_same_row_key, office_row_key, obs_row_key, put_row, drop_row, with_row_change, with_row_changes, row_change, row_batch}
-use Rattle.aq_profile.proofs.Least.{both}
-use Rattle.aq_profile.proofs.Spans.{Every}
-use Rattle.aq_profile.proofs.OfficeBack.{IsSpelled, every-to}
+use Rattle.aq_profile.proofs.Elements.{Every, every-append, every-map, every-to}
+use Rattle.aq_profile.proofs.OfficeBack.{IsSpelled}
 use Rattle.aq_profile.proofs.SpelledOffice.{AllSpelled, valid-spelled, spelled-after_all, every-with, every-without}
 use Rattle.aq_profile.proofs.RowOrder.{Agree, office-agree, obs-agree, load-agree}
 use Rattle.aq_profile.proofs.BatchDone.{HasKey, found-key, one_place, batch-done}
@@ -84,10 +84,6 @@ pub each : {X : Type 0} (P : Row → Type 0) (write : X → Row) → ((x : X) �
 each P write h [] = tt
 each P write h (x ∷ xs) = (h x, each P write h xs)
 
-pub every-append : {X : Type 0} (P : X → Type 0) (xs ys : List X) → Every P xs → Every P ys → Every P (xs ++ ys)
-every-append P [] ys h k = k
-every-append P (x ∷ xs) ys h k = (h.0, every-append P xs ys h.1 k)
-
 drop-three : (key : RowKey) (a b c : List Row) → drop_row key (a ++ b ++ c) ≡ drop_row key a ++ drop_row key b ++ drop_row key c
 drop-three key a b c =
     filter-append (λ row. not (is_same_row_key (row_key row) key)) (a ++ b) c
@@ -113,7 +109,7 @@ IsSpelledChange (DropObservation key) = is_site key.monitor.site ≡ true
 IsSpelledChange (PutLoad kept) = Unit {0}
 
 pub record-key : (r : OfficeRecord) → is_record r ≡ true → is_key (key_of r) ≡ true
-record-key r is = (both (is_key (key_of r)) (is_content_of r) is).0
+record-key r is = (and_parts (is_key (key_of r)) (is_content_of r) is).0
 
 module _ (office : Office) (all : AllSpelled office) where
   abbrev A : List Row
@@ -242,22 +238,18 @@ observation-spelled key (Some old) (Some new) is has = by_test (is_same_content 
     by_test true = tt
     by_test false = has
 
-every-mapped : {X Y : Type 0} (P : X → Type 0) (Q : Y → Type 0) (f : X → Y) → ((x : X) → P x → Q (f x)) → (xs : List X) → Every P xs → Every Q (map f xs)
-every-mapped P Q f h [] every = tt
-every-mapped P Q f h (x ∷ xs) every = (h x every.0, every-mapped P Q f h xs every.1)
-
 module _ (before now : Office) (was : AllSpelled before) (is : AllSpelled now) where
   pub record-keys : Every (λ k. is_key k ≡ true) (keys_of_either key_numbers (map key_of before.records) (map key_of now.records))
   record-keys =
       either-every (λ k. is_key k ≡ true) key_numbers (map key_of before.records) (map key_of now.records)
-      (every-mapped (λ r. is_record r ≡ true) (λ k. is_key k ≡ true) key_of record-key before.records was.records)
-      (every-mapped (λ r. is_record r ≡ true) (λ k. is_key k ≡ true) key_of record-key now.records is.records)
+      (every-map (λ r. is_record r ≡ true) (λ k. is_key k ≡ true) key_of record-key before.records was.records)
+      (every-map (λ r. is_record r ≡ true) (λ k. is_key k ≡ true) key_of record-key now.records is.records)
 
   pub observation-keys : Every (λ (k : ObsKey). is_site k.monitor.site ≡ true) (keys_of_either observation_numbers (map observation_key before.observations) (map observation_key now.observations))
   observation-keys =
       either-every (λ (k : ObsKey). is_site k.monitor.site ≡ true) observation_numbers (map observation_key before.observations) (map observation_key now.observations)
-      (every-mapped IsSpelled (λ (k : ObsKey). is_site k.monitor.site ≡ true) observation_key (λ o h. h.site) before.observations was.observations)
-      (every-mapped IsSpelled (λ (k : ObsKey). is_site k.monitor.site ≡ true) observation_key (λ o h. h.site) now.observations is.observations)
+      (every-map IsSpelled (λ (k : ObsKey). is_site k.monitor.site ≡ true) observation_key (λ o h. h.site) before.observations was.observations)
+      (every-map IsSpelled (λ (k : ObsKey). is_site k.monitor.site ≡ true) observation_key (λ o h. h.site) now.observations is.observations)
 
   records-spelled : Every IsSpelledChange (record_changes before now)
   records-spelled =

@@ -2,7 +2,7 @@
 use Rattle.std.proofs.Common.{◌≡◌, ℕ, ◌+◌, ◌*◌, ◌<◌, ◌≤◌, ◌⊎◌, Bool, true, false, ◌&&◌, ◌||◌, List, [], ◌∷◌, map, refl, sym, ap, ◌∙◌, arith, inl, inr}
 use Rattle.std.specs.Prelude.{pos, nat_lt, nat_le, ◌==◌}
 use Rattle.std.specs.Ordering.{int_eq}
-use Rattle.std.proofs.lemmas.Bool.{false≢true}
+use Rattle.std.proofs.lemmas.Bool.{false≢true, and_parts, cases_Bool, eq-eqb, eqb-true, le-ltb, lt-ltb}
 use Rattle.std.proofs.lemmas.Bool.Decides.{nat_tests, Decides-int_eq}
 use lib.Pointwise.{pointwise}
 use Rattle.aq_base.specs.Site.{Site}
@@ -12,8 +12,7 @@ use Rattle.aq_profile.specs.Lines.Canonical.{printed_key}
 use Rattle.aq_profile.specs.Office.Office.{is_same, comes_before, kind_of, key_numbers, is_key, is_site, pollutant_number, observation_numbers}
 use Rattle.aq_profile.specs.Kept.Rows.{site_key}
 use Rattle.aq_profile.specs.Kept.RowChanges.{RowKey, LoadRowKey, columns_before, key_before, is_same_row_key, office_row_key, obs_row_key}
-use Rattle.aq_profile.proofs.Least.{both, true_or_false}
-use Rattle.aq_profile.proofs.Rising.{before-total}
+use Rattle.aq_profile.specs.Office.RowOrder.{before-total}
 use Rattle.aq_profile.proofs.KeyOrder.{printed_order}
 use Rattle.aq_profile.proofs.Lookups.{same-is, before-other, before-other_way}
 
@@ -22,28 +21,16 @@ one_answer true q f g = sym (f refl)
 one_answer false true f g = g refl
 one_answer false false f g = refl
 
-less : (x y : ℕ) → x < y → nat_lt x y ≡ true
-less x y h = grind (arith, nat_tests)
-
-not-less : (x y : ℕ) → y ≤ x → nat_lt x y ≡ false
-not-less x y h = grind (arith, nat_tests)
-
-equal : (x y : ℕ) → x ≡ y → (x == y) ≡ true
-equal x y h = grind (arith, nat_tests)
-
-is-equal : (x y : ℕ) → (x == y) ≡ true → x ≡ y
-is-equal x y h = grind (arith, nat_tests)
-
 differs : (x y : ℕ) → (x ≡ y → ⊥) → (x == y) ≡ false
-differs x y h = elim (true_or_false (x == y)) [ inl e ↦ absurd (h (is-equal x y e)) | inr e ↦ e ]
+differs x y h = elim (cases_Bool (x == y)) [ inl e ↦ absurd (h (eqb-true x y e)) | inr e ↦ e ]
 
 -- ---- columns that are whole numbers
 
 lift-equal : (x y : ℕ) → int_eq (pos x) (pos y) ≡ (x == y)
 lift-equal x y =
     one_answer (int_eq (pos x) (pos y)) (x == y)
-    (λ h. let e : pos x ≡ pos y = (Decides-int_eq (pos x) (pos y)).0 h in let f : x ≡ y = cc in equal x y f)
-    (λ h. (Decides-int_eq (pos x) (pos y)).1 (ap pos (is-equal x y h)))
+    (λ h. let e : pos x ≡ pos y = (Decides-int_eq (pos x) (pos y)).0 h in let f : x ≡ y = cc in eq-eqb x y f)
+    (λ h. (Decides-int_eq (pos x) (pos y)).1 (ap pos (eqb-true x y h)))
 
 pub lift-before : (xs ys : List ℕ) → columns_before (map pos xs) (map pos ys) ≡ comes_before xs ys
 lift-before xs [] = no_columns xs
@@ -64,12 +51,12 @@ lift-same (x ∷ xs) (y ∷ ys) = λ i. lift-equal x y i && lift-same xs ys i
 
 tie : (a b c d : List ℕ) → comes_before a b ≡ comes_before c d → comes_before b a ≡ comes_before d c → is_same a b ≡ true → is_same c d ≡ true
 tie a b c d there back same =
-    elim (true_or_false (is_same c d)) [
+    elim (cases_Bool (is_same c d)) [
       | inl is ↦ is
       | inr other ↦
           let equal = same-is a b same in
           let not_there : comes_before c d ≡ false =
-          elim (true_or_false (comes_before c d)) [ inl h ↦ absurd (false≢true (sym (before-other a b (there ∙ h)) ∙ same)) | inr h ↦ h ]
+          elim (cases_Bool (comes_before c d)) [ inl h ↦ absurd (false≢true (sym (before-other a b (there ∙ h)) ∙ same)) | inr h ↦ h ]
           in
           let after = before-total c d not_there other in
           absurd (false≢true (sym (before-other_way b a (back ∙ after)) ∙ same))
@@ -98,9 +85,9 @@ office-agree a b p q =
 
 three : (x y : ℕ) → (x < y) ⊎ ((x ≡ y) ⊎ (y < x))
 three x y =
-    elim (true_or_false (nat_lt x y)) [
+    elim (cases_Bool (nat_lt x y)) [
       | inl l ↦ inl (grind (arith, nat_tests))
-      | inr g ↦ inr (elim (true_or_false (x == y)) [ inl e ↦ inl (is-equal x y e) | inr d ↦ inr (grind (arith, nat_tests)) ])
+      | inr g ↦ inr (elim (cases_Bool (x == y)) [ inl e ↦ inl (eqb-true x y e) | inr d ↦ inr (grind (arith, nat_tests)) ])
     ]
 
 -- pairs of numbers in the order of the numbers m and n that they make
@@ -109,14 +96,14 @@ module _ (a b c d m n : ℕ) (rest : Bool) where
       → (nat_lt a c || ((a == c) && (nat_lt b d || ((b == d) && rest)))) ≡ (nat_lt m n || ((m == n) && rest))
   paired low high same_low same_high same =
       elim (three a c) [
-        | inl l ↦ rw (less a c l, less m n (low l)) refl
+        | inl l ↦ rw (lt-ltb a c l, lt-ltb m n (low l)) refl
         | inr h ↦ elim h [
-          | inr g ↦ rw (not-less a c (omega arith), differs a c (λ e. omega arith), not-less m n (let k = high g in omega arith), differs m n (λ e. let k = high g in omega arith)) refl
-          | inl e ↦ rw (not-less a c (omega arith), equal a c e) (elim (three b d) [
-            | inl l ↦ rw (less b d l, less m n (same_low e l)) refl
+          | inr g ↦ rw (le-ltb a c (omega arith), differs a c (λ e. omega arith), le-ltb m n (let k = high g in omega arith), differs m n (λ e. let k = high g in omega arith)) refl
+          | inl e ↦ rw (le-ltb a c (omega arith), eq-eqb a c e) (elim (three b d) [
+            | inl l ↦ rw (lt-ltb b d l, lt-ltb m n (same_low e l)) refl
             | inr i ↦ elim i [
-              | inr g ↦ rw (not-less b d (omega arith), differs b d (λ f. omega arith), not-less m n (let k = same_high e g in omega arith), differs m n (λ f. let k = same_high e g in omega arith)) refl
-              | inl f ↦ rw (not-less b d (omega arith), equal b d f, not-less m n (let k = same e f in omega arith), equal m n (same e f)) refl
+              | inr g ↦ rw (le-ltb b d (omega arith), differs b d (λ f. omega arith), le-ltb m n (let k = same_high e g in omega arith), differs m n (λ f. let k = same_high e g in omega arith)) refl
+              | inl f ↦ rw (le-ltb b d (omega arith), eq-eqb b d f, le-ltb m n (let k = same e f in omega arith), eq-eqb m n (same e f)) refl
             ]
           ])
         ]
@@ -129,10 +116,10 @@ site-before : (s t : Site) (rest : Bool) → is_site s ≡ true → is_site t �
     → (nat_lt s.state t.state || ((s.state == t.state) && (nat_lt s.county t.county || ((s.county == t.county) && (nat_lt s.number t.number || ((s.number == t.number) && rest))))))
     ≡ (nat_lt (site_key s) (site_key t) || ((site_key s == site_key t) && rest))
 site-before s t rest p q =
-    let sp = both (nat_le s.state 99 && nat_le s.county 999) (nat_le s.number 9999) p in
-    let tp = both (nat_le t.state 99 && nat_le t.county 999) (nat_le t.number 9999) q in
-    let sc = under s.county 999 1000 (both (nat_le s.state 99) (nat_le s.county 999) sp.0).1 (omega arith) in
-    let tc = under t.county 999 1000 (both (nat_le t.state 99) (nat_le t.county 999) tp.0).1 (omega arith) in
+    let sp = and_parts (nat_le s.state 99 && nat_le s.county 999) (nat_le s.number 9999) p in
+    let tp = and_parts (nat_le t.state 99 && nat_le t.county 999) (nat_le t.number 9999) q in
+    let sc = under s.county 999 1000 (and_parts (nat_le s.state 99) (nat_le s.county 999) sp.0).1 (omega arith) in
+    let tc = under t.county 999 1000 (and_parts (nat_le t.state 99) (nat_le t.county 999) tp.0).1 (omega arith) in
     let sn = under s.number 9999 10000 sp.1 (omega arith) in
     let tn = under t.number 9999 10000 tp.1 (omega arith) in
     paired s.state s.county t.state t.county (s.state * 1000 + s.county) (t.state * 1000 + t.county) (nat_lt s.number t.number || ((s.number == t.number) && rest))

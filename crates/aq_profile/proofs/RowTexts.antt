@@ -6,6 +6,7 @@ use Rattle.std.specs.Char.{digit_value, is_ascii_digit}
 use Rattle.std.specs.Str.Parse.{AllDigits}
 use Rattle.std.proofs.lemmas.Fmt.{decimal_is_IsNumeral}
 use Rattle.std.proofs.lemmas.Bool.Decides.{nat_tests}
+use Rattle.std.proofs.lemmas.Bool.{and_from, and_parts}
 use Rattle.aq_base.specs.Decimal.{are_digits}
 use Rattle.aq_base.specs.Rule.{rule_number}
 use Rattle.aq_base.specs.declared.code.Code.{Code}
@@ -19,15 +20,8 @@ use Rattle.aq_profile.specs.Lines.Canonical.{code_text}
 use Rattle.aq_profile.specs.Office.Office.{is_null_code, is_qualifier}
 use Rattle.aq_profile.specs.Shown.Export.{codes_text}
 use Rattle.aq_profile.specs.Kept.Rows.{pair_text, words, each, null_of, number_in, is_colon, rule_with, listed_in, rest_in}
-use Rattle.aq_profile.proofs.Spans.{Every}
-
-both : (a b : Bool) → (a && b) ≡ true → (a ≡ true) × (b ≡ true)
-both true b h = (refl, h)
-both false b h = cc
-
-joined : (a b : Bool) → a ≡ true → b ≡ true → (a && b) ≡ true
-joined true b h k = k
-joined false b h k = cc
+use Rattle.aq_profile.proofs.Digits.{digit_is, digits_are}
+use Rattle.aq_profile.proofs.Elements.{Every}
 
 -- ---- words between spaces
 
@@ -41,7 +35,7 @@ IsWord text = (is_empty text ≡ false) × (unspaced text ≡ true)
 split-space : (text rest : List ℕ) → unspaced text ≡ true → slice_split is_space (text ++ 32 ∷ rest) ≡ text ∷ slice_split is_space rest
 split-space [] rest h = refl
 split-space (b ∷ text) rest h =
-    let parts = both (not (is_space b)) (unspaced text) h in
+    let parts = and_parts (not (is_space b)) (unspaced text) h in
     let plain : is_space b ≡ false = not_true (is_space b) parts.0 in
     ap (λ s. cond s ([] ∷ slice_split is_space (text ++ 32 ∷ rest)) (onto_first b (slice_split is_space (text ++ 32 ∷ rest)))) plain
     ∙ ap (onto_first b) (split-space text rest parts.1)
@@ -53,7 +47,7 @@ split-space (b ∷ text) rest h =
 split-end : (text : List ℕ) → unspaced text ≡ true → slice_split is_space text ≡ text ∷ []
 split-end [] h = refl
 split-end (b ∷ text) h =
-    let parts = both (not (is_space b)) (unspaced text) h in
+    let parts = and_parts (not (is_space b)) (unspaced text) h in
     let plain : is_space b ≡ false = not_true (is_space b) parts.0 in
     ap (λ s. cond s ([] ∷ slice_split is_space text) (onto_first b (slice_split is_space text))) plain ∙ ap (onto_first b) (split-end text parts.1)
   where
@@ -102,17 +96,17 @@ code_plain b h = by_test (is_space b) refl
 
 pub qualifier-word : (code : Code) → is_qualifier code ≡ true → IsWord (code_text code)
 qualifier-word code h =
-    let parts = both (is_code_byte code.first) ((code.second == 0) || is_code_byte code.second) h in
+    let parts = and_parts (is_code_byte code.first) ((code.second == 0) || is_code_byte code.second) h in
     by_test (code.second == 0) refl (code_plain code.first parts.0) parts.1
   where
     by_test : (a : Bool) → (code.second == 0) ≡ a → not (is_space code.first) ≡ true → (a || is_code_byte code.second) ≡ true
         → IsWord (cond a (code.first ∷ []) (code.first ∷ code.second ∷ []))
-    by_test true e first second = (refl, joined (not (is_space code.first)) true first refl)
-    by_test false e first second = (refl, joined (not (is_space code.first)) (not (is_space code.second) && true) first (joined (not (is_space code.second)) true (code_plain code.second second) refl))
+    by_test true e first second = (refl, and_from (not (is_space code.first)) true first refl)
+    by_test false e first second = (refl, and_from (not (is_space code.first)) (not (is_space code.second) && true) first (and_from (not (is_space code.second)) true (code_plain code.second second) refl))
 
 pub qualifier-read : (code : Code) → is_qualifier code ≡ true → qualifier_in (code_text code) ≡ Some code
 qualifier-read code h =
-    let parts = both (is_code_byte code.first) ((code.second == 0) || is_code_byte code.second) h in
+    let parts = and_parts (is_code_byte code.first) ((code.second == 0) || is_code_byte code.second) h in
     by_test (code.second == 0) refl parts.0 parts.1
   where
     by_test : (a : Bool) → (code.second == 0) ≡ a → is_code_byte code.first ≡ true → (a || is_code_byte code.second) ≡ true
@@ -124,8 +118,8 @@ qualifier-read code h =
 
 null-qualifier : (code : Code) → is_null_code code ≡ true → is_qualifier code ≡ true
 null-qualifier code h =
-    let parts = both (is_code_byte code.first) (is_code_byte code.second) h in
-    joined (is_code_byte code.first) ((code.second == 0) || is_code_byte code.second) parts.0 (or_second (code.second == 0) (is_code_byte code.second) parts.1)
+    let parts = and_parts (is_code_byte code.first) (is_code_byte code.second) h in
+    and_from (is_code_byte code.first) ((code.second == 0) || is_code_byte code.second) parts.0 (or_second (code.second == 0) (is_code_byte code.second) parts.1)
   where
     or_second : (a b : Bool) → b ≡ true → (a || b) ≡ true
     or_second true b h = refl
@@ -140,7 +134,7 @@ null-read code h =
 every-qualifier : (P : Code → Type 0) → ((code : Code) → is_qualifier code ≡ true → P code) → (qualifiers : List Code) → list_all is_qualifier qualifiers ≡ true → Every P qualifiers
 every-qualifier P h [] all = tt
 every-qualifier P h (code ∷ qualifiers) all =
-    let parts = both (is_qualifier code) (list_all is_qualifier qualifiers) all in (h code parts.0, every-qualifier P h qualifiers parts.1)
+    let parts = and_parts (is_qualifier code) (list_all is_qualifier qualifiers) all in (h code parts.0, every-qualifier P h qualifiers parts.1)
 
 pub qualifiers-read : (qualifiers : List Code) → list_all is_qualifier qualifiers ≡ true → each qualifier_in (words (codes_text qualifiers)) ≡ Some qualifiers
 qualifiers-read qualifiers all =
@@ -148,13 +142,6 @@ qualifiers-read qualifiers all =
     ∙ each-read code_text qualifier_in qualifiers (every-qualifier (λ code. qualifier_in (code_text code) ≡ Some code) qualifier-read qualifiers all)
 
 -- ---- numbers
-
-digit_is : (c : ℕ) → digit_value c < 10 → is_ascii_digit c ≡ true
-digit_is c h = grind (arith, nat_tests)
-
-digits_are : (ds : List ℕ) → AllDigits 10 ds → are_digits ds ≡ true
-digits_are [] h = refl
-digits_are (c ∷ ds) h = joined (is_ascii_digit c) (are_digits ds) (digit_is c h.0) (digits_are ds h.1)
 
 some_text : (ds : List ℕ) → 0 < length ds → is_empty ds ≡ false
 some_text [] h = absurd (omega arith)
@@ -176,18 +163,18 @@ digit_no_colon c h = grind (arith, nat_tests)
 digits_unspaced : (ds : List ℕ) → are_digits ds ≡ true → unspaced ds ≡ true
 digits_unspaced [] h = refl
 digits_unspaced (c ∷ ds) h =
-    let parts = both (is_ascii_digit c) (are_digits ds) h in joined (not (is_space c)) (unspaced ds) (digit_plain c parts.0) (digits_unspaced ds parts.1)
+    let parts = and_parts (is_ascii_digit c) (are_digits ds) h in and_from (not (is_space c)) (unspaced ds) (digit_plain c parts.0) (digits_unspaced ds parts.1)
 
 unspaced-append : (xs ys : List ℕ) → unspaced xs ≡ true → unspaced ys ≡ true → unspaced (xs ++ ys) ≡ true
 unspaced-append [] ys h k = k
 unspaced-append (x ∷ xs) ys h k =
-    let parts = both (not (is_space x)) (unspaced xs) h in joined (not (is_space x)) (unspaced (xs ++ ys)) parts.0 (unspaced-append xs ys parts.1 k)
+    let parts = and_parts (not (is_space x)) (unspaced xs) h in and_from (not (is_space x)) (unspaced (xs ++ ys)) parts.0 (unspaced-append xs ys parts.1 k)
 
 -- the part before a colon and the part behind it
 colon-before : (ds rest : List ℕ) → are_digits ds ≡ true → before_first is_colon (ds ++ 58 ∷ rest) ≡ ds
 colon-before [] rest h = refl
 colon-before (c ∷ ds) rest h =
-    let parts = both (is_ascii_digit c) (are_digits ds) h in
+    let parts = and_parts (is_ascii_digit c) (are_digits ds) h in
     let plain = digit_no_colon c parts.0 in
     let more : prefix_len (λ b. not (is_colon b)) ((c ∷ ds) ++ 58 ∷ rest) ≡ suc (prefix_len (λ b. not (is_colon b)) (ds ++ 58 ∷ rest)) = rw plain (omega arith) in
     rw more (ap (λ (l : List ℕ). c ∷ l) (colon-before ds rest parts.1))
@@ -195,7 +182,7 @@ colon-before (c ∷ ds) rest h =
 colon-after : (ds rest : List ℕ) → are_digits ds ≡ true → after_first is_colon (ds ++ 58 ∷ rest) ≡ rest
 colon-after [] rest h = refl
 colon-after (c ∷ ds) rest h =
-    let parts = both (is_ascii_digit c) (are_digits ds) h in
+    let parts = and_parts (is_ascii_digit c) (are_digits ds) h in
     let plain = digit_no_colon c parts.0 in
     let more : prefix_len (λ b. not (is_colon b)) ((c ∷ ds) ++ 58 ∷ rest) + 1 ≡ suc (prefix_len (λ b. not (is_colon b)) (ds ++ 58 ∷ rest) + 1) = rw plain (omega arith) in
     rw more (colon-after ds rest parts.1)

@@ -6,6 +6,7 @@ use Rattle.std.specs.Ordering.{int_eq}
 use Rattle.std.proofs.lemmas.List.Sums.{sum_by-cons}
 use Rattle.std.proofs.lemmas.Bool.Decides.{nat_tests, Decides-int_eq}
 use Rattle.std.proofs.lemmas.Slice.Eq.{bytes_eq-Decides}
+use Rattle.std.proofs.lemmas.Bool.{and_from, and_parts, eqb-true, leb-true}
 use Rattle.aq_base.specs.Rule.{rule_number}
 use Rattle.aq_base.specs.declared.office.OfficeRecord.{OfficeRecord}
 use Rattle.aq_base.specs.declared.office.OfficeRecord.TheVariants.{Monitor, Primary, Schedule, Season, Makeup, Event, Concurrence, Approved}
@@ -17,23 +18,13 @@ use Rattle.aq_profile.specs.Lines.Reading.{LineValue, OfOffice}
 use Rattle.aq_profile.specs.Lines.Canonical.{record_line, is_office_line}
 use Rattle.aq_profile.specs.Office.Office.{StoredLoad, is_record, is_reply, is_load, is_listed, is_rest, listed_rank, rest_rank, rises}
 use Rattle.aq_profile.specs.Kept.Rows.{OfficeRow, LoadRow, office_row, load_row, listed_text, rest_text, record_in, only_if, is_office_row, is_load_row, record_of_row, load_of_row, words, each, listed_in, rest_in}
+use Rattle.aq_profile.proofs.Tests.{int_itself}
+use Rattle.aq_profile.proofs.Elements.{Every, every-to}
 use Rattle.aq_profile.proofs.RoundTrip.{round-office}
-use Rattle.aq_profile.proofs.Spans.{Every}
 use Rattle.aq_profile.proofs.RowTexts.{IsWord, words-joined, each-read, every-map, listed_write, rest_write, listed-read, rest-read, listed-word, rest-word}
-
-both : (a b : Bool) → (a && b) ≡ true → (a ≡ true) × (b ≡ true)
-both true b h = (refl, h)
-both false b h = cc
-
-joined : (a b : Bool) → a ≡ true → b ≡ true → (a && b) ≡ true
-joined true b h k = k
-joined false b h k = cc
 
 bytes-itself : (text : List ℕ) → bytes_eq text text ≡ true
 bytes-itself text = (bytes_eq-Decides text text).1 refl
-
-int-itself : (z : ℤ) → int_eq z z ≡ true
-int-itself z = (Decides-int_eq z z).1 refl
 
 -- ---- records
 
@@ -59,8 +50,8 @@ record-of_line (Approved site day) = refl
 
 office_row-itself : (row : OfficeRow) → is_office_row row row ≡ true
 office_row-itself row =
-    joined (int_eq row.kind row.kind && bytes_eq row.key row.key) (bytes_eq row.line row.line)
-    (joined (int_eq row.kind row.kind) (bytes_eq row.key row.key) (int-itself row.kind) (bytes-itself row.key)) (bytes-itself row.line)
+    and_from (int_eq row.kind row.kind && bytes_eq row.key row.key) (bytes_eq row.line row.line)
+    (and_from (int_eq row.kind row.kind) (bytes_eq row.key row.key) (int_itself row.kind) (bytes-itself row.key)) (bytes-itself row.line)
 
 pub record-back : (r : OfficeRecord) → is_record r ≡ true → record_of_row (office_row r) ≡ Some r
 unfolding record_of_row
@@ -74,19 +65,13 @@ record-back r h =
 
 load_row-itself : (row : LoadRow) → is_load_row row row ≡ true
 load_row-itself row =
-    joined _ (bytes_eq row.rest row.rest)
-    (joined _ (bytes_eq row.listed row.listed)
-    (joined _ (int_eq row.accepted row.accepted)
-    (joined _ (int_eq row.lines row.lines) (joined (int_eq row.number row.number) (bytes_eq row.digest row.digest) (int-itself row.number) (bytes-itself row.digest)) (int-itself row.lines))
-    (int-itself row.accepted))
+    and_from _ (bytes_eq row.rest row.rest)
+    (and_from _ (bytes_eq row.listed row.listed)
+    (and_from _ (int_eq row.accepted row.accepted)
+    (and_from _ (int_eq row.lines row.lines) (and_from (int_eq row.number row.number) (bytes_eq row.digest row.digest) (int_itself row.number) (bytes-itself row.digest)) (int_itself row.lines))
+    (int_itself row.accepted))
     (bytes-itself row.listed))
     (bytes-itself row.rest)
-
-within : (a b : ℕ) → nat_le a b ≡ true → a ≤ b
-within a b h = grind (arith, nat_tests)
-
-same : (a b : ℕ) → (a == b) ≡ true → a ≡ b
-same a b h = grind (arith, nat_tests)
 
 -- a listed line, and a rule of the rest, that have a text
 abbrev KnownLine : ListedLine → Type 0
@@ -95,24 +80,20 @@ KnownLine l = (l.line < 2 ^ 64) × (nat_le (rule_number l.rule) 34 ≡ true)
 abbrev KnownRest : RestRule → Type 0
 KnownRest r = (r.count < 2 ^ 64) × (nat_le (rule_number r.rule) 34 ≡ true)
 
-every-to : {X : Type 0} (P Q : X → Type 0) → ((x : X) → P x → Q x) → (xs : List X) → Every P xs → Every Q xs
-every-to P Q h [] every = tt
-every-to P Q h (x ∷ xs) every = (h x every.0, every-to P Q h xs every.1)
-
 listed-known : (lines : ℕ) (listed : List ListedLine) → lines ≤ 120000 → list_all (is_listed lines) listed ≡ true → Every KnownLine listed
 listed-known lines [] few all = tt
 listed-known lines (l ∷ listed) few all =
-    let parts = both (is_listed lines l) (list_all (is_listed lines) listed) all in
-    let c = both (nat_le 1 l.line && nat_le l.line lines) (nat_le (rule_number l.rule) 34) parts.0 in
-    let b = both (nat_le 1 l.line) (nat_le l.line lines) c.0 in
-    let low = within l.line lines b.1 in
+    let parts = and_parts (is_listed lines l) (list_all (is_listed lines) listed) all in
+    let c = and_parts (nat_le 1 l.line && nat_le l.line lines) (nat_le (rule_number l.rule) 34) parts.0 in
+    let b = and_parts (nat_le 1 l.line) (nat_le l.line lines) c.0 in
+    let low = leb-true l.line lines b.1 in
     ((omega arith, c.1), listed-known lines listed few parts.1)
 
 rest-known : (rest : List RestRule) → sum_by (λ (r : RestRule). r.count) rest ≤ 120000 → list_all is_rest rest ≡ true → Every KnownRest rest
 rest-known [] few all = tt
 rest-known (r ∷ rest) few all =
-    let parts = both (is_rest r) (list_all is_rest rest) all in
-    let c = both (nat_le (rule_number r.rule) 34) (nat_le 1 r.count) parts.0 in
+    let parts = and_parts (is_rest r) (list_all is_rest rest) all in
+    let c = and_parts (nat_le (rule_number r.rule) 34) (nat_le 1 r.count) parts.0 in
     let sum = sum_by-cons (λ (o : RestRule). o.count) r rest in
     ((omega (arith, sum), c.0), rest-known rest (omega (arith, sum)) parts.1)
 
@@ -139,20 +120,20 @@ pub load-back : (load : StoredLoad) → is_load load ≡ true → load_of_row (l
 unfolding load_of_row
 load-back load h =
     let reply = load.reply in
-    let p = both _ (is_reply reply) h in
-    let q = both _ (list_all (λ byte. nat_lt byte 256) load.digest) p.0 in
-    let r = both _ (length load.digest == 32) q.0 in
-    let number : reply.number ≡ load.number = same reply.number load.number (both _ (reply.number == load.number) r.0).1 in
-    let i = both _ (nat_le (reply.accepted + reply.refused) reply.lines) p.1 in
-    let g = both _ (reply.refused == length reply.listed + sum_by (λ (o : RestRule). o.count) reply.rest) i.0 in
-    let refused : reply.refused ≡ length reply.listed + sum_by (λ (o : RestRule). o.count) reply.rest = same reply.refused _ g.1 in
-    let e = both _ (list_all is_rest reply.rest) g.0 in
-    let d = both _ (rises rest_rank reply.rest) e.0 in
-    let c = both _ ((length reply.rest == 0) || (length reply.listed == MOST_LISTED)) d.0 in
-    let b = both _ (nat_le (length reply.listed) MOST_LISTED) c.0 in
-    let a = both _ (list_all (is_listed reply.lines) reply.listed) b.0 in
-    let lines = within reply.lines MOST_LINES (both (nat_le reply.lines MOST_LINES) (rises listed_rank reply.listed) a.0).0 in
-    let most = within (reply.accepted + reply.refused) reply.lines i.1 in
+    let p = and_parts _ (is_reply reply) h in
+    let q = and_parts _ (list_all (λ byte. nat_lt byte 256) load.digest) p.0 in
+    let r = and_parts _ (length load.digest == 32) q.0 in
+    let number : reply.number ≡ load.number = eqb-true reply.number load.number (and_parts _ (reply.number == load.number) r.0).1 in
+    let i = and_parts _ (nat_le (reply.accepted + reply.refused) reply.lines) p.1 in
+    let g = and_parts _ (reply.refused == length reply.listed + sum_by (λ (o : RestRule). o.count) reply.rest) i.0 in
+    let refused : reply.refused ≡ length reply.listed + sum_by (λ (o : RestRule). o.count) reply.rest = eqb-true reply.refused _ g.1 in
+    let e = and_parts _ (list_all is_rest reply.rest) g.0 in
+    let d = and_parts _ (rises rest_rank reply.rest) e.0 in
+    let c = and_parts _ ((length reply.rest == 0) || (length reply.listed == MOST_LISTED)) d.0 in
+    let b = and_parts _ (nat_le (length reply.listed) MOST_LISTED) c.0 in
+    let a = and_parts _ (list_all (is_listed reply.lines) reply.listed) b.0 in
+    let lines = leb-true reply.lines MOST_LINES (and_parts (nat_le reply.lines MOST_LINES) (rises listed_rank reply.listed) a.0).0 in
+    let most = leb-true (reply.accepted + reply.refused) reply.lines i.1 in
     let listed = listed-back reply.listed (listed-known reply.lines reply.listed lines a.1) in
     let rest = rest-back reply.rest (rest-known reply.rest (omega (arith, refused, most, lines)) e.1) in
     let whole : load_with load.number load.digest reply.lines reply.accepted reply.listed reply.rest ≡ load =

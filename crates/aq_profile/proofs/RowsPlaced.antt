@@ -2,15 +2,13 @@
 use Rattle.std.proofs.Common.{◌≡◌, ℕ, ◌+◌, ◌≤◌, Bool, true, false, cond, ◌&&◌, ◌||◌, List, [], ◌∷◌, ◌++◌, length, Some, None, Option, refl, sym, ap, ◌∙◌, arith, inl, inr, subst}
 use Rattle.std.specs.Prelude.{find, filter, count_by, is_some, nat_lt, ◌==◌}
 use Rattle.std.specs.List.{list_all, list_any}
-use Rattle.std.proofs.lemmas.Bool.{false≢true}
+use Rattle.std.proofs.lemmas.Bool.{false≢true, and_from, and_parts, cases_Bool}
 use Rattle.std.proofs.lemmas.Bool.Decides.{nat_tests}
 use Rattle.std.proofs.lemmas.List.Sums.{sum_by-cons}
 use Rattle.std.proofs.lemmas.Slice.Eq.{bytes_eq-Decides}
 use Rattle.aq_profile.specs.Lines.Spellings.{◌>>=◌}
 use Rattle.aq_profile.specs.Office.Office.{is_same, comes_before, rises_from, rises, row_at, with_row}
-use Rattle.aq_profile.proofs.Least.{both, true_or_false}
-use Rattle.aq_profile.proofs.JoinedFields.{and_true}
-use Rattle.aq_profile.proofs.Rising.{before-trans}
+use Rattle.aq_profile.specs.Office.RowOrder.{before-trans}
 
 -- ---- ranks
 
@@ -33,7 +31,7 @@ before_itself (x ∷ a) h = before_itself a (tie x (comes_before a a) h)
 
 before_other : (a b : List ℕ) → comes_before a b ≡ true → is_same b a ≡ false
 before_other a b h =
-    elim (true_or_false (is_same b a)) [
+    elim (cases_Bool (is_same b a)) [
       | inl same ↦ absurd (before_itself a (subst (λ c. comes_before a c ≡ true) (same_is b a same) h))
       | inr other ↦ other
     ]
@@ -42,32 +40,32 @@ before_other a b h =
 
 module _ {X : Type 0} where
   pub all_joined : (p : X → Bool) (front back : List X) (x : X) → p x ≡ true → list_all p (front ++ back) ≡ true → list_all p (front ++ x ∷ back) ≡ true
-  all_joined p [] back x h k = and_true (p x) (list_all p back) h k
+  all_joined p [] back x h k = and_from (p x) (list_all p back) h k
   all_joined p (y ∷ front) back x h k =
-      let parts = both (p y) (list_all p (front ++ back)) k in
-      and_true (p y) (list_all p (front ++ x ∷ back)) parts.0 (all_joined p front back x h parts.1)
+      let parts = and_parts (p y) (list_all p (front ++ back)) k in
+      and_from (p y) (list_all p (front ++ x ∷ back)) parts.0 (all_joined p front back x h parts.1)
 
   pub all_at : (p : X → Bool) (front back : List X) (x : X) → list_all p (front ++ x ∷ back) ≡ true → p x ≡ true
-  all_at p [] back x h = (both (p x) (list_all p back) h).0
-  all_at p (y ∷ front) back x h = all_at p front back x (both (p y) (list_all p (front ++ x ∷ back)) h).1
+  all_at p [] back x h = (and_parts (p x) (list_all p back) h).0
+  all_at p (y ∷ front) back x h = all_at p front back x (and_parts (p y) (list_all p (front ++ x ∷ back)) h).1
 
   pub all_rest : (p : X → Bool) (front back : List X) (x : X) → list_all p (front ++ x ∷ back) ≡ true → list_all p (front ++ back) ≡ true
-  all_rest p [] back x h = (both (p x) (list_all p back) h).1
+  all_rest p [] back x h = (and_parts (p x) (list_all p back) h).1
   all_rest p (y ∷ front) back x h =
-      let parts = both (p y) (list_all p (front ++ x ∷ back)) h in
-      and_true (p y) (list_all p (front ++ back)) parts.0 (all_rest p front back x parts.1)
+      let parts = and_parts (p y) (list_all p (front ++ x ∷ back)) h in
+      and_from (p y) (list_all p (front ++ back)) parts.0 (all_rest p front back x parts.1)
 
   pub all_weaker : (p q : X → Bool) (xs : List X) → ((x : X) → p x ≡ true → q x ≡ true) → list_all p xs ≡ true → list_all q xs ≡ true
   all_weaker p q [] go h = refl
   all_weaker p q (x ∷ xs) go h =
-      let parts = both (p x) (list_all p xs) h in
-      and_true (q x) (list_all q xs) (go x parts.0) (all_weaker p q xs go parts.1)
+      let parts = and_parts (p x) (list_all p xs) h in
+      and_from (q x) (list_all q xs) (go x parts.0) (all_weaker p q xs go parts.1)
 
   -- a test that each item passes where it stands
   pub all_standing : (p : X → Bool) (xs : List X) → ((x : X) (front back : List X) → xs ≡ front ++ x ∷ back → p x ≡ true) → list_all p xs ≡ true
   all_standing p [] h = refl
   all_standing p (x ∷ xs) h =
-      and_true (p x) (list_all p xs) (h x [] xs refl)
+      and_from (p x) (list_all p xs) (h x [] xs refl)
       (all_standing p xs (λ z front back e. h z (x ∷ front) back (ap (λ l. x ∷ l) e)))
 
   pub any_joined : (p : X → Bool) (front back : List X) (x : X) → list_any p (front ++ back) ≡ true → list_any p (front ++ x ∷ back) ≡ true
@@ -157,11 +155,11 @@ module _ {X : Type 0} where
   pub filter_all : (p keep : X → Bool) (xs : List X) → list_all p xs ≡ true → list_all p (filter keep xs) ≡ true
   filter_all p keep [] h = refl
   filter_all p keep (x ∷ xs) h =
-      let parts = both (p x) (list_all p xs) h in
+      let parts = and_parts (p x) (list_all p xs) h in
       choose (keep x) parts.0 (filter_all p keep xs parts.1)
     where
       choose : (b : Bool) → p x ≡ true → list_all p (filter keep xs) ≡ true → list_all p (cond b (x ∷ filter keep xs) (filter keep xs)) ≡ true
-      choose true h k = and_true (p x) _ h k
+      choose true h k = and_from (p x) _ h k
       choose false h k = k
 
   pub filter_keeps : (keep : X → Bool) (xs : List X) → list_all keep (filter keep xs) ≡ true
@@ -169,7 +167,7 @@ module _ {X : Type 0} where
   filter_keeps keep (x ∷ xs) = choose (keep x) refl (filter_keeps keep xs)
     where
       choose : (b : Bool) → keep x ≡ b → list_all keep (filter keep xs) ≡ true → list_all keep (cond b (x ∷ filter keep xs) (filter keep xs)) ≡ true
-      choose true h rest = and_true (keep x) _ h rest
+      choose true h rest = and_from (keep x) _ h rest
       choose false h rest = rest
 
   pub filter_twice : (keep keeps : X → Bool) (xs : List X) → filter keeps (filter keep xs) ≡ filter (λ x. keep x && keeps x) xs
@@ -222,16 +220,16 @@ pub record Replaced {X : Type 0} (old row : X) (rows now : List X) : Type 0 wher
 
 module _ {X : Type 0} (rank : X → List ℕ) where
   pub with_row-all : (p : X → Bool) (row : X) (rows : List X) → p row ≡ true → list_all p rows ≡ true → list_all p (with_row rank row rows) ≡ true
-  with_row-all p row [] h k = and_true (p row) true h refl
+  with_row-all p row [] h k = and_from (p row) true h refl
   with_row-all p row (first ∷ rows) h k =
-      let parts = both (p first) (list_all p rows) k in
+      let parts = and_parts (p first) (list_all p rows) k in
       choose (comes_before (rank row) (rank first)) (is_same (rank row) (rank first)) parts.0 parts.1 (with_row-all p row rows h parts.1)
     where
       choose : (a b : Bool) → p first ≡ true → list_all p rows ≡ true → list_all p (with_row rank row rows) ≡ true
           → list_all p (cond a (row ∷ first ∷ rows) (cond b (row ∷ rows) (first ∷ with_row rank row rows))) ≡ true
-      choose true b f r later = and_true (p row) _ h (and_true (p first) _ f r)
-      choose false true f r later = and_true (p row) _ h r
-      choose false false f r later = and_true (p first) _ f later
+      choose true b f r later = and_from (p row) _ h (and_from (p first) _ f r)
+      choose false true f r later = and_from (p row) _ h r
+      choose false false f r later = and_from (p first) _ f later
 
   pub length-with_row : (row : X) (rows : List X) → length (with_row rank row rows) ≤ length rows + 1
   length-with_row row [] = omega arith
@@ -263,13 +261,13 @@ module _ {X : Type 0} (rank : X → List ℕ) where
       → row_at rank key (first ∷ rows) ≡ None
   none_behind key first [] less rise = ap (λ b. cond b (Some first) None) (before_other key (rank first) less)
   none_behind key first (next ∷ rows) less rise =
-      let parts = both (comes_before (rank first) (rank next)) (rises_from rank next rows) rise in
+      let parts = and_parts (comes_before (rank first) (rank next)) (rises_from rank next rows) rise in
       ap (λ b. cond b (Some first) (row_at rank key (next ∷ rows))) (before_other key (rank first) less)
       ∙ none_behind key next rows (before-trans key (rank first) (rank next) less parts.0) parts.1
 
   later_rises : (first : X) (rows : List X) → rises rank (first ∷ rows) ≡ true → rises rank rows ≡ true
   later_rises first [] rise = refl
-  later_rises first (next ∷ rows) rise = (both (comes_before (rank first) (rank next)) (rises_from rank next rows) rise).1
+  later_rises first (next ∷ rows) rise = (and_parts (comes_before (rank first) (rank next)) (rises_from rank next rows) rise).1
 
   -- a row whose rank is there takes the place of the one with its rank
   pub with_row-old : (old row : X) (rows : List X) → rises rank rows ≡ true → row_at rank (rank row) rows ≡ Some old → Replaced old row rows (with_row rank row rows)
@@ -289,7 +287,7 @@ module _ {X : Type 0} (rank : X → List ℕ) where
           let same : first ≡ old = cc in
           record { front = []; back = rows; before = ap (λ x. x ∷ rows) same; after = refl }
       choose false false s t h =
-          elim (true_or_false (is_same (rank first) (rank row))) [
+          elim (cases_Bool (is_same (rank first) (rank row))) [
             | inl here ↦ absurd (false≢true (sym t ∙ same_turned (rank first) (rank row) here))
             | inr there ↦
                 let rest = h (sym (ap (λ c. cond c (Some first) (row_at rank (rank row) rows)) there) ∙ is) in
@@ -301,7 +299,7 @@ module _ {X : Type 0} (rank : X → List ℕ) where
       → row_at rank key (with_row rank row rows) ≡ Some found
   row_at-inserted row rows key found none is =
       let placed = with_row-new row rows none in
-      elim (true_or_false (is_same (rank row) key)) [
+      elim (cases_Bool (is_same (rank row) key)) [
         | inl same ↦
             let none_there : None ≡ Some found = sym none ∙ ap (λ k. row_at rank k rows) (same_is (rank row) key same) ∙ is in
             cc

@@ -2,7 +2,7 @@
 use Rattle.std.proofs.Common.{◌≡◌, ℕ, suc, zero, ◌<◌, ◌≤◌, Bool, true, false, not, ◌&&◌, ◌||◌, List, [], ◌∷◌, ◌++◌, length, take, drop, Some, None, Option, refl, sym, ap, ◌∙◌, arith, inl, inr, subst}
 use Rattle.std.specs.Prelude.{nat_lt, nat_le, ◌==◌, codes, decimal, if◌then◌else◌, ℤ, map}
 use Rattle.std.specs.List.{list_all, list_any}
-use Rattle.std.proofs.lemmas.Bool.{false≢true}
+use Rattle.std.proofs.lemmas.Bool.{false≢true, and_from, and_parts, cases_Bool, not-true, or_parts}
 use Rattle.std.proofs.lemmas.Bool.Decides.{nat_tests}
 use Rattle.aq_base.specs.Calendar.{day_of_hour}
 use Rattle.aq_base.specs.Decimal.{last_digits}
@@ -19,10 +19,9 @@ use Rattle.aq_profile.specs.Lines.RdForm.{RdValue, Put, Delete, start_in, conten
 use Rattle.aq_profile.specs.Lines.Reading.{OfRd, line_value, has_wrong_count}
 use Rattle.aq_profile.specs.Lines.Canonical.{parameter_text, duration_text, unit_text, value_places, value_text, date_text, time_text, code_text, texts_behind, rd_texts, canonical_rd, is_rd_value, joined}
 use Rattle.aq_profile.specs.Office.Office.{is_site, is_poc, is_qualifier, is_null_code, is_measured, is_content}
-use Rattle.aq_profile.proofs.Least.{both, true_or_false}
 use Rattle.aq_profile.proofs.Digits.{digits_three}
 use Rattle.aq_profile.proofs.KeyOrder.{less_or}
-use Rattle.aq_profile.proofs.JoinedFields.{is_clean, is_clean_byte, and_true}
+use Rattle.aq_profile.proofs.JoinedFields.{is_clean, is_clean_byte}
 use Rattle.aq_profile.proofs.Spelled.{bind-is, duration_is, hour_is}
 use Rattle.aq_profile.proofs.Values.{ValueText, value_text_is}
 use Rattle.aq_profile.proofs.RoundTrip.{from_texts, also, one, site_with, clean-site, clean-parameter, clean-decimal, clean-duration, clean-digits, clean-date, clean-time, poc_short, monitor_read, at_most_hour}
@@ -42,8 +41,8 @@ short a b = record { first = a; second = b }
 onto_step : (before : List Code) (c : Code) (texts : List (List ℕ)) → is_qualifier c ≡ true
     → qualifiers_onto before (code_text c ∷ texts) ≡ qualifiers_onto (with_code before c) texts
 onto_step before c texts h =
-    let parts = both (is_code_byte c.first) ((c.second == 0) || is_code_byte c.second) h in
-    elim (true_or_false (c.second == 0)) [
+    let parts = and_parts (is_code_byte c.first) ((c.second == 0) || is_code_byte c.second) h in
+    elim (cases_Bool (c.second == 0)) [
       | inl none ↦
           ap (λ b. qualifiers_onto before ((if b then c.first ∷ [] else c.first ∷ c.second ∷ []) ∷ texts)) none
           ∙ bind-is (λ code. qualifiers_onto (with_code before code) texts)
@@ -57,14 +56,6 @@ onto_step before c texts h =
 same_code_comm : (a b : Code) → is_same_code a b ≡ is_same_code b a
 same_code_comm a b = grind (arith, nat_tests)
 
-or_parts : (a b : Bool) → (a || b) ≡ false → (a ≡ false) × (b ≡ false)
-or_parts true b h = absurd (false≢true (sym h))
-or_parts false b h = (refl, h)
-
-not_parts : (a : Bool) → not a ≡ true → a ≡ false
-not_parts true h = absurd (false≢true h)
-not_parts false h = refl
-
 or_both : (a b : Bool) → a ≡ false → b ≡ false → (a || b) ≡ false
 or_both true b p q = absurd (false≢true (sym p))
 or_both false b p q = q
@@ -76,9 +67,9 @@ none_of p (c ∷ before) q rest h = none_of p before q rest (or_parts (p c) (lis
 absent : (before : List Code) (q : Code) (rest : List Code) → all_distinct (before ++ q ∷ rest) ≡ true → has_code q before ≡ false
 absent [] q rest h = refl
 absent (c ∷ before) q rest h =
-    let parts = both (not (has_code c (before ++ q ∷ rest))) (all_distinct (before ++ q ∷ rest)) h in
+    let parts = and_parts (not (has_code c (before ++ q ∷ rest))) (all_distinct (before ++ q ∷ rest)) h in
     or_both (is_same_code c q) (has_code q before)
-    (same_code_comm c q ∙ none_of (λ other. is_same_code other c) before q rest (not_parts (has_code c (before ++ q ∷ rest)) parts.0))
+    (same_code_comm c q ∙ none_of (λ other. is_same_code other c) before q rest (not-true (has_code c (before ++ q ∷ rest)) parts.0))
     (absent before q rest parts.1)
 
 append_none : (xs : List Code) → xs ≡ xs ++ []
@@ -93,7 +84,7 @@ onto_all : (before qs : List Code) → list_all is_qualifier qs ≡ true → all
     → qualifiers_onto before (map code_text qs) ≡ Some (before ++ qs)
 onto_all before [] h d = ap Some (append_none before)
 onto_all before (q ∷ qs) h d =
-    let parts = both (is_qualifier q) (list_all is_qualifier qs) h in
+    let parts = and_parts (is_qualifier q) (list_all is_qualifier qs) h in
     onto_step before q (map code_text qs) parts.0
     ∙ ap (λ b. qualifiers_onto (if b then before else before ++ q ∷ []) (map code_text qs)) (absent before q qs d)
     ∙ onto_all (before ++ q ∷ []) qs parts.1 (subst (λ l. all_distinct l ≡ true) (sym (shift before q qs)) d)
@@ -129,28 +120,28 @@ code_byte b h = grind (arith, nat_tests)
 
 clean-code : (c : Code) → is_qualifier c ≡ true → is_clean (code_text c) ≡ true
 clean-code c h =
-    let parts = both (is_code_byte c.first) ((c.second == 0) || is_code_byte c.second) h in
-    elim (true_or_false (c.second == 0)) [
+    let parts = and_parts (is_code_byte c.first) ((c.second == 0) || is_code_byte c.second) h in
+    elim (cases_Bool (c.second == 0)) [
       | inl none ↦
           ap (λ b. is_clean (if b then c.first ∷ [] else c.first ∷ c.second ∷ [])) none
-          ∙ and_true (is_clean_byte c.first) true (code_byte c.first parts.0) refl
+          ∙ and_from (is_clean_byte c.first) true (code_byte c.first parts.0) refl
       | inr some_second ↦
-          let second = both (is_code_byte c.first) (is_code_byte c.second) (second_cases (is_code_byte c.first) (c.second == 0) (is_code_byte c.second) h some_second) in
+          let second = and_parts (is_code_byte c.first) (is_code_byte c.second) (second_cases (is_code_byte c.first) (c.second == 0) (is_code_byte c.second) h some_second) in
           ap (λ b. is_clean (if b then c.first ∷ [] else c.first ∷ c.second ∷ [])) some_second
-          ∙ and_true (is_clean_byte c.first) (is_clean_byte c.second && true) (code_byte c.first parts.0)
-          (and_true (is_clean_byte c.second) true (code_byte c.second second.1) refl)
+          ∙ and_from (is_clean_byte c.first) (is_clean_byte c.second && true) (code_byte c.first parts.0)
+          (and_from (is_clean_byte c.second) true (code_byte c.second second.1) refl)
     ]
 
 clean-codes : (qs : List Code) → list_all is_qualifier qs ≡ true → list_all is_clean (map code_text qs) ≡ true
 clean-codes [] h = refl
 clean-codes (q ∷ qs) h =
-    let parts = both (is_qualifier q) (list_all is_qualifier qs) h in
+    let parts = and_parts (is_qualifier q) (list_all is_qualifier qs) h in
     also (code_text q) (map code_text qs) (clean-code q parts.0) (clean-codes qs parts.1)
 
 -- a null code has two characters
 null_second : (c : Code) → is_null_code c ≡ true → (c.second == 0) ≡ false
 null_second c h =
-    let parts = both (is_code_byte c.first) (is_code_byte c.second) h in
+    let parts = and_parts (is_code_byte c.first) (is_code_byte c.second) h in
     above (c.second) parts.1
   where
     above : (b : ℕ) → is_code_byte b ≡ true → (b == 0) ≡ false
@@ -324,14 +315,14 @@ at_most_ten n h = grind (arith, nat_tests)
 
 pub round-rd : (value : RdValue) → is_rd_value value ≡ true → line_value (canonical_rd value) ≡ Some (OfRd value)
 round-rd (Put update id d method hour content) h =
-    let a = both (is_site id.site && is_poc id.poc && has_duration id.pollutant d && nat_le method 999 && nat_le hour 438311) (is_content id.pollutant content) h in
-    let b = both (is_site id.site && is_poc id.poc && has_duration id.pollutant d && nat_le method 999) (nat_le hour 438311) a.0 in
-    let c = both (is_site id.site && is_poc id.poc && has_duration id.pollutant d) (nat_le method 999) b.0 in
-    let e = both (is_site id.site && is_poc id.poc) (has_duration id.pollutant d) c.0 in
-    let f = both (is_site id.site) (is_poc id.poc) e.0 in
-    let x = both (is_measured id.pollutant content.value content.null && list_all is_qualifier content.quals && all_distinct content.quals) (nat_le (length content.quals) 10) a.1 in
-    let y = both (is_measured id.pollutant content.value content.null && list_all is_qualifier content.quals) (all_distinct content.quals) x.0 in
-    let z = both (is_measured id.pollutant content.value content.null) (list_all is_qualifier content.quals) y.0 in
+    let a = and_parts (is_site id.site && is_poc id.poc && has_duration id.pollutant d && nat_le method 999 && nat_le hour 438311) (is_content id.pollutant content) h in
+    let b = and_parts (is_site id.site && is_poc id.poc && has_duration id.pollutant d && nat_le method 999) (nat_le hour 438311) a.0 in
+    let c = and_parts (is_site id.site && is_poc id.poc && has_duration id.pollutant d) (nat_le method 999) b.0 in
+    let e = and_parts (is_site id.site && is_poc id.poc) (has_duration id.pollutant d) c.0 in
+    let f = and_parts (is_site id.site) (is_poc id.poc) e.0 in
+    let x = and_parts (is_measured id.pollutant content.value content.null && list_all is_qualifier content.quals && all_distinct content.quals) (nat_le (length content.quals) 10) a.1 in
+    let y = and_parts (is_measured id.pollutant content.value content.null && list_all is_qualifier content.quals) (all_distinct content.quals) x.0 in
+    let z = and_parts (is_measured id.pollutant content.value content.null) (list_all is_qualifier content.quals) y.0 in
     round_content update id d method hour content.value content.null content.quals
     (record {
       site_ok = f.0;
@@ -342,6 +333,6 @@ round-rd (Put update id d method hour content) h =
     })
     z.0 z.1 y.1 (at_most_ten (length content.quals) x.1)
 round-rd (Delete id hour) h =
-    let a = both (is_site id.site && is_poc id.poc) (nat_le hour 438311) h in
-    let b = both (is_site id.site) (is_poc id.poc) a.0 in
+    let a = and_parts (is_site id.site && is_poc id.poc) (nat_le hour 438311) h in
+    let b = and_parts (is_site id.site) (is_poc id.poc) a.0 in
     round_delete id hour b.0 b.1 (at_most_hour hour a.1)

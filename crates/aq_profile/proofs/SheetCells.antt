@@ -4,6 +4,7 @@ use Rattle.std.specs.Prelude.{ℤ, pos, negsuc, neg_ℤ, ◌+ℤ◌, ◌≤ℤ�
 use Rattle.std.specs.List.{list_all, zip, enumerate_from}
 use Rattle.std.proofs.lemmas.Int.{ints}
 use Rattle.std.proofs.lemmas.Bool.Decides.{nat_tests}
+use Rattle.std.proofs.lemmas.Bool.{and_from, and_parts}
 use Rattle.aq_base.specs.Calendar.{year_of, month_of, day_of_month}
 use Rattle.aq_base.specs.Decimal.{half_up, last_digits}
 use Rattle.aq_base.specs.Rule.{rule_name}
@@ -20,9 +21,7 @@ use Rattle.aq_profile.specs.Shown.Sheet.SheetCell.{Fixed}
 use Rattle.aq_profile.specs.Shown.Sheets.{verdict_name}
 use Rattle.aq_profile.specs.Shown.OtherSheets.{digest_text, hex_digit}
 use Rattle.aq_profile.specs.Shown.WellFormed.{is_word_byte, is_word, is_whole, is_cell, is_head, is_row}
-use Rattle.aq_profile.proofs.JoinedFields.{and_true}
-use Rattle.aq_profile.proofs.Least.{both}
-use Rattle.aq_profile.proofs.Spans.{Every}
+use Rattle.aq_profile.proofs.Elements.{Every}
 use Rattle.aq_profile.proofs.Held.{Held, IfHeld, half_up-held}
 
 -- ---- words
@@ -33,13 +32,13 @@ digit-byte n = let few : n % 10 < 10 = omega arith in grind (arith, nat_tests)
 bytes-join : (a b : List ℕ) → list_all is_word_byte a ≡ true → list_all is_word_byte b ≡ true → list_all is_word_byte (a ++ b) ≡ true
 bytes-join [] b h k = k
 bytes-join (x ∷ a) b h k =
-    let parts = both (is_word_byte x) (list_all is_word_byte a) h in and_true (is_word_byte x) (list_all is_word_byte (a ++ b)) parts.0 (bytes-join a b parts.1 k)
+    let parts = and_parts (is_word_byte x) (list_all is_word_byte a) h in and_from (is_word_byte x) (list_all is_word_byte (a ++ b)) parts.0 (bytes-join a b parts.1 k)
 
 digits-bytes : (count n : ℕ) → list_all is_word_byte (last_digits count n) ≡ true
 unfolding last_digits
 digits-bytes zero n = refl
 digits-bytes (suc count) n =
-    bytes-join (last_digits count (n / 10)) ((48 + n % 10) ∷ []) (digits-bytes count (n / 10)) (and_true (is_word_byte (48 + n % 10)) true (digit-byte n) refl)
+    bytes-join (last_digits count (n / 10)) ((48 + n % 10) ∷ []) (digits-bytes count (n / 10)) (and_from (is_word_byte (48 + n % 10)) true (digit-byte n) refl)
 
 pub site-word : (site : Site) → is_word (site_text site) ≡ true
 unfolding site_text last_digits
@@ -125,15 +124,15 @@ hex-byte n few = by_test (nat_lt n 10) refl
 digest-bytes : (digest : List ℕ) → list_all (λ byte. nat_lt byte 256) digest ≡ true → list_all is_word_byte (digest_text digest) ≡ true
 digest-bytes [] h = refl
 digest-bytes (byte ∷ digest) h =
-    let parts = both (nat_lt byte 256) (list_all (λ b. nat_lt b 256) digest) h in
+    let parts = and_parts (nat_lt byte 256) (list_all (λ b. nat_lt b 256) digest) h in
     let small : byte < 256 = grind (arith, nat_tests, parts.0) in
-    and_true (is_word_byte (hex_digit (byte / 16))) _ (hex-byte (byte / 16) (omega arith))
-    (and_true (is_word_byte (hex_digit (byte % 16))) (list_all is_word_byte (digest_text digest)) (hex-byte (byte % 16) (omega arith)) (digest-bytes digest parts.1))
+    and_from (is_word_byte (hex_digit (byte / 16))) _ (hex-byte (byte / 16) (omega arith))
+    (and_from (is_word_byte (hex_digit (byte % 16))) (list_all is_word_byte (digest_text digest)) (hex-byte (byte % 16) (omega arith)) (digest-bytes digest parts.1))
 
 pub digest-word : (digest : List ℕ) → length digest ≡ 32 → list_all (λ byte. nat_lt byte 256) digest ≡ true → is_word (digest_text digest) ≡ true
 digest-word [] long h = absurd (omega (arith, long))
 digest-word (byte ∷ digest) long h =
-    and_true (nat_lt 0 (length (digest_text (byte ∷ digest)))) (list_all is_word_byte (digest_text (byte ∷ digest))) (some (suc (length (digest_text digest)))) (digest-bytes (byte ∷ digest) h)
+    and_from (nat_lt 0 (length (digest_text (byte ∷ digest)))) (list_all is_word_byte (digest_text (byte ∷ digest))) (some (suc (length (digest_text digest)))) (digest-bytes (byte ∷ digest) h)
   where
     some : (n : ℕ) → nat_lt 0 (suc n) ≡ true
     some n = grind (arith, nat_tests)
@@ -153,7 +152,7 @@ pub held-whole : (low high : ℕ) (v : ℤ) → low ≤ 2 ^ 63 → high < 2 ^ 63
 held-whole low high v l h held = whole v (omega (arith, ints, held.0)) (omega (arith, ints, held.1))
 
 pub fixed : (low high places : ℕ) (v : ℤ) → low ≤ 2 ^ 63 → high < 2 ^ 63 → nat_le places 6 ≡ true → Held low high v → is_cell (Fixed v places) ≡ true
-fixed low high places v l h p held = and_true (is_whole v) (nat_le places 6) (held-whole low high v l h held) p
+fixed low high places v l h p held = and_from (is_whole v) (nat_le places 6) (held-whole low high v l h held) p
 
 pub if_fixed : (low high places : ℕ) (o : Option ℤ) → low ≤ 2 ^ 63 → high < 2 ^ 63 → nat_le places 6 ≡ true → IfHeld low high o → is_cell (fixed_cell places o) ≡ true
 if_fixed low high places None l h p held = refl
@@ -183,28 +182,28 @@ CellsAre cells = Every (λ cell. is_cell cell ≡ true) cells
 
 cells-all : (cells : List SheetCell) → CellsAre cells → list_all is_cell cells ≡ true
 cells-all [] are = refl
-cells-all (cell ∷ cells) are = and_true (is_cell cell) (list_all is_cell cells) are.0 (cells-all cells are.1)
+cells-all (cell ∷ cells) are = and_from (is_cell cell) (list_all is_cell cells) are.0 (cells-all cells are.1)
 
 pub row-of : (columns : List (List ℕ)) (cells : List SheetCell) → (length cells == length columns) ≡ true → CellsAre cells → is_row columns cells ≡ true
-row-of columns cells even are = and_true (length cells == length columns) (list_all is_cell cells) even (cells-all cells are)
+row-of columns cells even are = and_from (length cells == length columns) (list_all is_cell cells) even (cells-all cells are)
 
 pub heads-of : (heads : List Head) → Every (λ head. is_head head ≡ true) heads → list_all is_head heads ≡ true
 heads-of [] are = refl
-heads-of (head ∷ heads) are = and_true (is_head head) (list_all is_head heads) are.0 (heads-of heads are.1)
+heads-of (head ∷ heads) are = and_from (is_head head) (list_all is_head heads) are.0 (heads-of heads are.1)
 
 module _ {X : Type 0} (columns : List (List ℕ)) (P : X → Type 0) where
   pub rows-of : (cells : X → List SheetCell) → ((x : X) → P x → is_row columns (cells x) ≡ true)
       → (xs : List X) → Every P xs → list_all (is_row columns) (map cells xs) ≡ true
   rows-of cells row [] every = refl
   rows-of cells row (x ∷ xs) every =
-      and_true (is_row columns (cells x)) (list_all (is_row columns) (map cells xs)) (row x every.0) (rows-of cells row xs every.1)
+      and_from (is_row columns (cells x)) (list_all (is_row columns) (map cells xs)) (row x every.0) (rows-of cells row xs every.1)
 
   -- rows that begin with a number
   pub numbered-rows : (most : ℕ) (cells : ℕ × X → List SheetCell) → ((i : ℕ) (x : X) → i < most → P x → is_row columns (cells (i, x)) ≡ true)
       → (n : ℕ) (xs : List X) → n + length xs ≤ most → Every P xs → list_all (is_row columns) (map cells (enumerate_from n xs)) ≡ true
   numbered-rows most cells row n [] few every = refl
   numbered-rows most cells row n (x ∷ xs) few every =
-      and_true (is_row columns (cells (n, x))) (list_all (is_row columns) (map cells (enumerate_from (n + 1) xs))) (row n x (omega arith) every.0)
+      and_from (is_row columns (cells (n, x))) (list_all (is_row columns) (map cells (enumerate_from (n + 1) xs))) (row n x (omega arith) every.0)
       (numbered-rows most cells row (n + 1) xs (omega arith) every.1)
 
 pub zip-every : {X Y : Type 0} (P : X → Type 0) (xs : List X) (ys : List Y) → Every P xs → Every (λ (p : X × Y). P p.0) (zip xs ys)

@@ -9,6 +9,7 @@ use Rattle.aq_base.specs.declared.monitor.MonitorId.{MonitorId}
 use Rattle.aq_base.specs.declared.office.OfficeRecord.{OfficeRecord}
 use Rattle.aq_base.specs.declared.office.OfficeRecord.TheVariants.{Monitor}
 use Rattle.aq_profile.specs.Office.Office.{is_same, site_numbers, with_site, sites_of}
+use Rattle.aq_profile.proofs.Tests.{or_turns}
 use Rattle.aq_profile.proofs.RowsPlaced.{same_is, same_turned}
 
 -- whether a site is listed
@@ -60,12 +61,6 @@ SameSites-with_site new xs ys same = record {
       listed_with site new xs ∙ ap (λ b. is_same (site_numbers new) (site_numbers site) || b) (same.listed site) ∙ sym (listed_with site new ys);
 }
 
-turned : (a b c : Bool) → (a || (b || c)) ≡ (b || (a || c))
-turned true true c = refl
-turned true false c = refl
-turned false true c = refl
-turned false false c = refl
-
 SameSites-turned : (s t : Site) (xs : List Site) → SameSites (with_site s (with_site t xs)) (with_site t (with_site s xs))
 SameSites-turned s t xs = record {
   len =
@@ -80,7 +75,7 @@ SameSites-turned s t xs = record {
   listed = λ site.
       listed_with site s (with_site t xs)
       ∙ ap (λ b. is_same (site_numbers s) (site_numbers site) || b) (listed_with site t xs)
-      ∙ turned (is_same (site_numbers s) (site_numbers site)) (is_same (site_numbers t) (site_numbers site)) (lists site xs)
+      ∙ or_turns (is_same (site_numbers s) (site_numbers site)) (is_same (site_numbers t) (site_numbers site)) (lists site xs)
       ∙ ap (λ b. is_same (site_numbers t) (site_numbers site) || b) (sym (listed_with site s xs))
       ∙ sym (listed_with site t (with_site s xs));
 }

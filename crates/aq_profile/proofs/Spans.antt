@@ -5,14 +5,12 @@ use Rattle.std.specs.List.{sum_by, count_by, range_with_len}
 use Rattle.std.proofs.lemmas.List.Sums.{sum_by-cons, sum_by-le-sum_by}
 use Rattle.std.proofs.lemmas.Bool.Decides.{nat_tests}
 use Rattle.std.proofs.lemmas.Slice.Eq.{bytes_eq-Decides}
-use Rattle.aq_profile.proofs.Rising.{before-trans}
+use Rattle.std.proofs.lemmas.Bool.{and_parts}
+use Rattle.aq_profile.proofs.Elements.{Every}
+use Rattle.aq_profile.specs.Office.RowOrder.{before-trans}
 use Rattle.aq_profile.specs.Office.Office.{is_same, comes_before, rises_from, rises}
 
 -- ---- the order of ranks
-
-both : (a b : Bool) → (a && b) ≡ true → (a ≡ true) × (b ≡ true)
-both true b h = (refl, h)
-both false b h = cc
 
 pub before-itself : (xs : List ℕ) → comes_before xs xs ≡ true → ⊥
 before-itself [] h = cc
@@ -20,7 +18,7 @@ before-itself (x ∷ xs) h = by_tests (nat_lt x x) (x == x) (comes_before xs xs)
   where
     by_tests : (a b c : Bool) → (a || (b && c)) ≡ true → (a ≡ true → ⊥) → (c ≡ true → ⊥) → ⊥
     by_tests true b c h p q = p refl
-    by_tests false b c h p q = q (both b c h).1
+    by_tests false b c h p q = q (and_parts b c h).1
 
 module _ {X : Type 0} (rank : X → List ℕ) where
   abbrev pub with_rank : List ℕ → List X → ℕ
@@ -42,18 +40,18 @@ module _ {X : Type 0} (rank : X → List ℕ) where
   none_above : (key : List ℕ) (row : X) (rows : List X) → comes_before key (rank row) ≡ true → rises_from rank row rows ≡ true → with_rank key (row ∷ rows) ≡ 0
   none_above key row [] before rising = count-cons key row [] ∙ rw (not_same key row before) refl
   none_above key row (next ∷ rows) before rising =
-      let parts = both (comes_before (rank row) (rank next)) (rises_from rank next rows) rising in
+      let parts = and_parts (comes_before (rank row) (rank next)) (rises_from rank next rows) rising in
       let rest = none_above key next rows (before-trans key (rank row) (rank next) before parts.0) parts.1 in
       count-cons key row (next ∷ rows) ∙ rw (not_same key row before) (rw rest refl)
 
   rises-rest : (row : X) (rows : List X) → rises_from rank row rows ≡ true → rises rank rows ≡ true
   rises-rest row [] rising = refl
-  rises-rest row (next ∷ rows) rising = (both (comes_before (rank row) (rank next)) (rises_from rank next rows) rising).1
+  rises-rest row (next ∷ rows) rising = (and_parts (comes_before (rank row) (rank next)) (rises_from rank next rows) rising).1
 
   none_behind : (key : List ℕ) (row : X) (rows : List X) → rank row ≡ key → rises_from rank row rows ≡ true → with_rank key rows ≡ 0
   none_behind key row [] same rising = refl
   none_behind key row (next ∷ rows) same rising =
-      let parts = both (comes_before (rank row) (rank next)) (rises_from rank next rows) rising in
+      let parts = and_parts (comes_before (rank row) (rank next)) (rises_from rank next rows) rising in
       let P : List ℕ → Type 0 = λ l. comes_before l (rank next) ≡ true in
       none_above key next rows (subst P same parts.0) parts.1
 
@@ -72,11 +70,6 @@ module _ {X : Type 0} (rank : X → List ℕ) where
           omega (arith, first, rest)
 
 -- ---- things that are put on days of a span
-
--- P of each
-abbrev pub Every : {X : Type 0} → (X → Type 0) → List X → Type 0
-Every P [] = ⊤
-Every P (x ∷ xs) = P x × Every P xs
 
 module _ {X : Type 0} (day : X → ℕ) where
   abbrev pub on : ℕ → List X → ℕ

@@ -3,7 +3,7 @@ use Rattle.std.proofs.Common.{◌≡◌, ℕ, ◌+◌, ◌-◌, ◌<◌, ◌≤�
 use Rattle.std.specs.Prelude.{nat_le, codes, decimal, if◌then◌else◌}
 use Rattle.std.specs.Fmt.{digits}
 use Rattle.std.specs.List.{range_with_len, list_all}
-use Rattle.std.proofs.lemmas.Bool.{false≢true}
+use Rattle.std.proofs.lemmas.Bool.{false≢true, and_parts}
 use Rattle.std.proofs.lemmas.Bool.Decides.{nat_tests}
 use Rattle.aq_base.specs.Calendar.{day_of_date, year_of, month_of, day_of_month, day_of_hour, hour_of_day, is_year}
 use Rattle.aq_base.specs.Decimal.{last_digits}
@@ -16,7 +16,6 @@ use Rattle.aq_profile.specs.Lines.Spellings.{◌>>=◌, site_in, parameter_in, p
 use Rattle.aq_profile.specs.Lines.OfficeForms.{hour_in}
 use Rattle.aq_profile.specs.Lines.Canonical.{parameter_text, duration_text, date_text, time_text, truth_text}
 use Rattle.aq_profile.specs.Office.Office.{is_site, is_poc}
-use Rattle.aq_profile.proofs.Least.{both}
 use Rattle.aq_profile.proofs.Digits.{in_range, from_none, is_number, number_is, digits_two, digits_three, digits_four}
 use Rattle.aq_profile.proofs.KeyOrder.{site_bounds, less_or, month_short}
 use Rattle.aq_profile.proofs.Days.{IsDate, date_of, day_of_date-date}
@@ -54,7 +53,7 @@ truth_is false = refl
 pub year_is : (y : ℕ) → is_year y ≡ true → year_in (last_digits 4 y) ≡ Some y
 unfolding year_in
 year_is y h =
-    let k = both (nat_le 2000 y) (nat_le y 2049) h in
+    let k = and_parts (nat_le 2000 y) (nat_le y 2049) h in
     bind-is _ (digits_four y (less_or y 2049 10000 k.1 (omega arith))) ∙ ap (λ b. if b then Some y else None) h
 
 date_in-texts : (y m d : ℕ) → y < 10000 → m < 100 → d < 100
@@ -94,7 +93,7 @@ all_pocs = refl
 
 pub poc_is : (p : ℕ) → is_poc p ≡ true → poc_in (decimal p) ≡ Some p
 poc_is p h =
-    let k = both (nat_le 1 p) (nat_le p 99) h in
+    let k = and_parts (nat_le 1 p) (nat_le p 99) h in
     let low : 1 ≤ p = grind (arith, nat_tests) in
     let high : p ≤ 99 = grind (arith, nat_tests) in
     number_is p _ (subst (λ n. is_number n (poc_in (decimal n)) ≡ true) {x = 1 + (p - 1)} (omega arith)

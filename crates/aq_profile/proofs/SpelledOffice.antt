@@ -1,6 +1,7 @@
 -- The rows of an office that lines left are rows that lines can spell.
 use Rattle.std.proofs.Common.{◌≡◌, ℕ, Bool, true, false, cond, not, List, [], ◌∷◌, refl}
 use Rattle.std.specs.Prelude.{Option, Some, None, is_some, filter}
+use Rattle.std.proofs.lemmas.Bool.{and_parts}
 use Rattle.aq_base.specs.declared.office.OfficeRecord.{OfficeRecord}
 use Rattle.aq_base.specs.declared.office.OfficeRecord.TheVariants.{Monitor, Primary, Schedule, Season, Makeup, Event, Concurrence, Approved}
 use Rattle.aq_base.specs.declared.office.OfficeKey.{OfficeKey}
@@ -13,8 +14,7 @@ use Rattle.aq_profile.specs.Lines.Canonical.{is_line_value, is_office_line}
 use Rattle.aq_profile.specs.Office.Office.{Office, IsOffice, comes_before, is_same, record_rank, observation_rank, key_numbers, observation_numbers, is_site, is_content, is_record, fits_records, fits_monitors, with_row, without_row}
 use Rattle.aq_profile.specs.Office.Refusal.{kept_key}
 use Rattle.aq_profile.specs.Office.Load.{with_record, without_record, without_key, changed, changed_by, refusal, after, after_all}
-use Rattle.aq_profile.proofs.Least.{both}
-use Rattle.aq_profile.proofs.Spans.{Every}
+use Rattle.aq_profile.proofs.Elements.{Every}
 use Rattle.aq_profile.proofs.ValidLines.{line_valid}
 use Rattle.aq_profile.proofs.OfficeBack.{IsSpelled, fitting-is_spelled, is_record-of, every-from}
 
@@ -86,11 +86,11 @@ changed-record r h = cc
 
 spelled-changed : (office : Office) (value : LineValue) → is_line_value value ≡ true → AllSpelled office → AllSpelled (changed office value)
 spelled-changed office (OfRd (PutSample update monitor duration method hour content)) is all =
-    let e = both _ (is_content monitor.pollutant content) is in
-    let d = both _ _ e.0 in
-    let c = both _ _ d.0 in
-    let b = both _ _ c.0 in
-    let a = both (is_site monitor.site) _ b.0 in
+    let e = and_parts _ (is_content monitor.pollutant content) is in
+    let d = and_parts _ _ e.0 in
+    let c = and_parts _ _ d.0 in
+    let b = and_parts _ _ c.0 in
+    let a = and_parts (is_site monitor.site) _ b.0 in
     record {
       records = all.records;
       observations = every-with IsSpelled observation_rank (kept_key office monitor hour, content) office.observations (record { site = a.0; content = e.1 }) all.observations;

@@ -5,6 +5,7 @@ use Rattle.std.specs.Char.{digit_value, is_ascii_digit}
 use Rattle.std.specs.Str.Parse.{AllDigits, digits_value}
 use Rattle.std.proofs.lemmas.Int.Digits.{digits_value-lt}
 use Rattle.std.proofs.lemmas.Bool.Decides.{nat_tests}
+use Rattle.std.proofs.lemmas.Bool.{and_from, and_parts, eqb-true, leb-true}
 use Rattle.aq_base.specs.Calendar.{days_of_years, days_of_months, days_in_year, days_in_month, day_number, is_date, is_year, hour_number}
 use Rattle.aq_base.specs.Decimal.{are_digits}
 use Rattle.aq_base.specs.Site.{Site}
@@ -14,8 +15,6 @@ use Rattle.aq_base.specs.declared.monitor.Duration.TheVariants.{Hour, Day}
 use Rattle.aq_profile.specs.Lines.Spellings.{◌>>=◌, Tag, digits_in, site_in, poc_in, primary_in, parameter_in, parameter_of, has_parameter, duration_in, has_duration, date_in, year_in, time_in, interval_in, is_interval, event_number_in, is_event_number, event_code_in, is_event_code, null_in}
 use Rattle.aq_profile.specs.Lines.OfficeForms.{hour_in}
 use Rattle.aq_profile.specs.Office.Office.{is_site, is_poc, is_day}
-use Rattle.aq_profile.proofs.Least.{both}
-use Rattle.aq_profile.proofs.JoinedFields.{and_true}
 use Rattle.aq_profile.proofs.Days.{years_next, months_next, twelve_months}
 use Rattle.aq_profile.proofs.KeyOrder.{years_in_order, months_in_order}
 
@@ -35,18 +34,15 @@ digit c h = grind (arith, nat_tests)
 digits : (text : List ℕ) → are_digits text ≡ true → AllDigits 10 text
 digits [] h = tt
 digits (c ∷ text) h =
-    let parts = both (is_ascii_digit c) (are_digits text) h in
+    let parts = and_parts (is_ascii_digit c) (are_digits text) h in
     (digit c parts.0, digits text parts.1)
-
-same_length : (n m : ℕ) → (n == m) ≡ true → n ≡ m
-same_length n m h = grind (arith, nat_tests)
 
 pub digits_valid : (width : ℕ) (text : List ℕ) → IfSome (digits_in width text) (λ n. n < 10 ^ width)
 digits_valid width text =
     valid_if (λ n. n < 10 ^ width) ((length text == width) && are_digits text) (digits_value 10 text)
     (λ h.
-    let parts = both (length text == width) (are_digits text) h in
-    subst (λ w. digits_value 10 text < 10 ^ w) (same_length (length text) width parts.0) (digits_value-lt 10 text (digits text parts.1)))
+    let parts = and_parts (length text == width) (are_digits text) h in
+    subst (λ w. digits_value 10 text < 10 ^ w) (eqb-true (length text) width parts.0) (digits_value-lt 10 text (digits text parts.1)))
 
 pub at_most : (n m : ℕ) → n < m + 1 → nat_le n m ≡ true
 at_most n m h = grind (arith, nat_tests)
@@ -57,7 +53,7 @@ site_valid a b c =
     valid (λ n. n < 100) (λ (s : Site). is_site s ≡ true) (digits_in 2 a) _ (digits_valid 2 a) λ x p.
     valid (λ n. n < 1000) (λ (s : Site). is_site s ≡ true) (digits_in 3 b) _ (digits_valid 3 b) λ y q.
     valid (λ n. n < 10000) (λ (s : Site). is_site s ≡ true) (digits_in 4 c) _ (digits_valid 4 c) λ z r.
-    and_true (nat_le x 99 && nat_le y 999) (nat_le z 9999) (and_true (nat_le x 99) (nat_le y 999) (at_most x 99 p) (at_most y 999 q)) (at_most z 9999 r)
+    and_from (nat_le x 99 && nat_le y 999) (nat_le z 9999) (and_from (nat_le x 99) (nat_le y 999) (at_most x 99 p) (at_most y 999 q)) (at_most z 9999 r)
 
 pub anything : {A : Type 0} (part : Option A) → IfSome part (λ x. x ≡ x)
 anything None = tt
@@ -79,11 +75,11 @@ pub poc_valid : (text : List ℕ) → IfSome (poc_in text) (λ p. is_poc p ≡ t
 poc_valid text =
     valid_if (λ p. is_poc p ≡ true) (nat_le (length text) 2 && are_digits text && nat_le 1 (digits_value 10 text)) (digits_value 10 text)
     (λ h.
-    let x = both (nat_le (length text) 2 && are_digits text) (nat_le 1 (digits_value 10 text)) h in
-    let y = both (nat_le (length text) 2) (are_digits text) x.0 in
+    let x = and_parts (nat_le (length text) 2 && are_digits text) (nat_le 1 (digits_value 10 text)) h in
+    let y = and_parts (nat_le (length text) 2) (are_digits text) x.0 in
     let small = digits_value-lt 10 text (digits text y.1) in
     let power = power_small (length text) y.0 in
-    and_true (nat_le 1 (digits_value 10 text)) (nat_le (digits_value 10 text) 99) x.1 (at_most (digits_value 10 text) 99 (omega arith)))
+    and_from (nat_le 1 (digits_value 10 text)) (nat_le (digits_value 10 text) 99) x.1 (at_most (digits_value 10 text) 99 (omega arith)))
 
 pub year_valid : (text : List ℕ) → IfSome (year_in text) (λ y. is_year y ≡ true)
 unfolding year_in
@@ -113,21 +109,18 @@ in_profile y m d k j a b p q one r =
     sums : (f m d w n t y z g e : ℕ) → 1 ≤ d → d ≤ w → n ≡ m + w → n ≤ t → t ≡ y → y ≡ z → g ≡ f + z → g ≤ e → e ≡ 18263 → f + m + (d - 1) < 18263
     sums f m d w n t y z g e h1 h2 h3 h4 h5 h6 h7 h8 h9 = omega arith
 
-is_at_most : (a b : ℕ) → nat_le a b ≡ true → a ≤ b
-is_at_most a b h = grind (arith, nat_tests)
-
 date_number : (y m d : ℕ) → is_date y m d ≡ true → day_number y m d < 18263
 date_number y m d h =
-    let a = both (is_year y && nat_le 1 m && nat_le m 12 && nat_le 1 d) (nat_le d (days_in_month y m)) h in
-    let b = both (is_year y && nat_le 1 m && nat_le m 12) (nat_le 1 d) a.0 in
-    let c = both (is_year y && nat_le 1 m) (nat_le m 12) b.0 in
-    let e = both (is_year y) (nat_le 1 m) c.0 in
-    let f = both (nat_le 2000 y) (nat_le y 2049) e.0 in
-    let low = is_at_most 2000 y f.0 in
-    let high = is_at_most y 2049 f.1 in
-    let one = is_at_most 1 m e.1 in
-    let twelve = is_at_most m 12 c.1 in
-    in_profile y m d (y - 2000) (m - 1) (omega arith) (omega arith) (omega arith) (omega arith) (is_at_most 1 d b.1) (is_at_most d (days_in_month y m) a.1)
+    let a = and_parts (is_year y && nat_le 1 m && nat_le m 12 && nat_le 1 d) (nat_le d (days_in_month y m)) h in
+    let b = and_parts (is_year y && nat_le 1 m && nat_le m 12) (nat_le 1 d) a.0 in
+    let c = and_parts (is_year y && nat_le 1 m) (nat_le m 12) b.0 in
+    let e = and_parts (is_year y) (nat_le 1 m) c.0 in
+    let f = and_parts (nat_le 2000 y) (nat_le y 2049) e.0 in
+    let low = leb-true 2000 y f.0 in
+    let high = leb-true y 2049 f.1 in
+    let one = leb-true 1 m e.1 in
+    let twelve = leb-true m 12 c.1 in
+    in_profile y m d (y - 2000) (m - 1) (omega arith) (omega arith) (omega arith) (omega arith) (leb-true 1 d b.1) (leb-true d (days_in_month y m) a.1)
 
 pub date_valid : (text : List ℕ) → IfSome (date_in text) (λ d. is_day d ≡ true)
 unfolding date_in
@@ -142,13 +135,13 @@ unfolding time_in
 time_valid text =
     valid (λ n. n ≡ n) (λ h. h ≤ 23) (digits_in 2 (take 2 text)) _ (anything (digits_in 2 (take 2 text))) λ h p.
     valid_if (λ h. h ≤ 23) (bytes_eq (drop 2 text) (codes ":00") && nat_le h 23) h
-    (λ t. is_at_most h 23 (both (bytes_eq (drop 2 text) (codes ":00")) (nat_le h 23) t).1)
+    (λ t. leb-true h 23 (and_parts (bytes_eq (drop 2 text) (codes ":00")) (nat_le h 23) t).1)
 
 pub hour_valid : (date time : List ℕ) → IfSome (hour_in date time) (λ h. nat_le h 438311 ≡ true)
 hour_valid date time =
     valid (λ d. is_day d ≡ true) (λ h. nat_le h 438311 ≡ true) (date_in date) _ (date_valid date) λ d p.
     valid (λ h. h ≤ 23) (λ h. nat_le h 438311 ≡ true) (time_in time) _ (time_valid time) λ h q.
-    let day = is_at_most d 18262 p in
+    let day = leb-true d 18262 p in
     at_most (hour_number d h) 438311 (omega arith)
 
 pub duration_valid : (p : Pollutant) (text : List ℕ) → IfSome (duration_in p text) (λ d. has_duration p d ≡ true)
@@ -177,7 +170,7 @@ primary_valid text = choice (bytes_eq text (codes "0")) (poc_in text) (poc_valid
     choice : (a : Bool) (part : Option ℕ) → IfSome part (λ p. is_poc p ≡ true) → IfSome (if a then Some 0 else part) (λ p. nat_le p 99 ≡ true)
     choice true part h = refl
     choice false None h = tt
-    choice false (Some p) h = (both (nat_le 1 p) (nat_le p 99) h).1
+    choice false (Some p) h = (and_parts (nat_le 1 p) (nat_le p 99) h).1
 
 pub interval_valid : (text : List ℕ) → IfSome (interval_in text) (λ d. is_interval d ≡ true)
 unfolding interval_in
@@ -189,7 +182,7 @@ pub number_valid : (text : List ℕ) → IfSome (event_number_in text) (λ n. is
 unfolding event_number_in
 number_valid text =
     valid_if (λ n. is_event_number n ≡ true) (are_digits text && nat_le 49 (slice_index text 0) && is_event_number (digits_value 10 text)) (digits_value 10 text)
-    (λ h. (both (are_digits text && nat_le 49 (slice_index text 0)) (is_event_number (digits_value 10 text)) h).1)
+    (λ h. (and_parts (are_digits text && nat_le 49 (slice_index text 0)) (is_event_number (digits_value 10 text)) h).1)
 
 pub code_valid : (text : List ℕ) → IfSome (event_code_in text) (λ c. is_event_code c ≡ true)
 unfolding event_code_in

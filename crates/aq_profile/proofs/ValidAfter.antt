@@ -3,7 +3,7 @@ use Rattle.std.proofs.Common.{◌≡◌, ℕ, ◌+◌, ◌*◌, ◌/◌, ◌%◌
 use Rattle.std.specs.Prelude.{find, filter, count_by, is_some, is_none, nat_le, ◌==◌, bytes_eq}
 use Rattle.std.specs.List.{list_all}
 use Rattle.std.specs.Option.{option_or, option_map}
-use Rattle.std.proofs.lemmas.Bool.{false≢true}
+use Rattle.std.proofs.lemmas.Bool.{false≢true, and_from, and_parts, eq-eqb, le-leb, leb-true, or_parts}
 use Rattle.std.proofs.lemmas.Bool.Decides.{nat_tests}
 use Rattle.std.proofs.lemmas.List.Sums.{length-filter, count_by-le-length}
 use Rattle.aq_base.specs.Calendar.{quarter_of, hour_of_day, day_of_hour, hour_number}
@@ -32,20 +32,14 @@ use Rattle.aq_profile.specs.Lines.Canonical.{is_line_value}
 use Rattle.aq_profile.specs.Office.Office.{Office, IsOffice, KeysRise, is_same, key_of, key_numbers, record_rank, observation_rank, observation_numbers, series_numbers, parameter_number, row_at, with_row, without_row, record_at, duration_at, monitor_duration, has_its_monitor, has_its_event, event_stands, group_of, group_size, most_in_group, sites_of, is_record, is_kept_hour, is_content, fits_monitors, content_of, site_numbers, kind_of, part_numbers, with_site}
 use Rattle.aq_profile.specs.Office.Refusal.{broken, breaks_office, kept_key, kept_at, is_other_duration, is_taken, key_stands}
 use Rattle.aq_profile.specs.Office.Load.{with_record, without_record, without_key, changed, changed_by, broken_by, after, after_all}
-use Rattle.aq_profile.proofs.Least.{both}
-use Rattle.aq_profile.proofs.JoinedFields.{and_true}
 use Rattle.aq_profile.proofs.Loads.{KeysRise-changed}
-use Rattle.aq_profile.proofs.Rising.{without_row-rises}
+use Rattle.aq_profile.specs.Office.RowOrder.{without_row-rises}
 use Rattle.aq_profile.proofs.RowsPlaced.{same_is, find_none-first, count_none, filter_all, filter_twice, with_row-all, length-with_row, length-replaced}
 use Rattle.aq_profile.proofs.SitesCounted.{lists, sites_with, length-with_site}
 use Rattle.aq_profile.proofs.ValidLines.{line_valid}
-use Rattle.aq_profile.proofs.ValidRecords.{is_most, most_is, is_number, site_is, joined, Alike, replaced, KeepsItsOwn, kept}
+use Rattle.aq_profile.proofs.ValidRecords.{site_is, joined, Alike, replaced, KeepsItsOwn, kept}
 
 -- ---- tests
-
-neither : (a b : Bool) → (a || b) ≡ false → (a ≡ false) × (b ≡ false)
-neither true b h = absurd (false≢true (sym h))
-neither false b h = (refl, h)
 
 untrue : (b : Bool) → not b ≡ false → b ≡ true
 untrue true h = refl
@@ -109,7 +103,7 @@ group_alone office r kind parts a b c d e group rank none =
 
 kept_hour : (duration : Duration) (hour : ℕ) → is_kept_hour (Some duration) (kept_at (Some duration) hour) ≡ true
 kept_hour Hour hour = refl
-kept_hour Day hour = is_number (hour_of_day (hour_number (day_of_hour hour) 0)) 0 (whole (day_of_hour hour))
+kept_hour Day hour = eq-eqb (hour_of_day (hour_number (day_of_hour hour) 0)) 0 (whole (day_of_hour hour))
   where
     whole : (day : ℕ) → (24 * day + 0) % 24 ≡ 0
     whole day = omega arith
@@ -117,7 +111,7 @@ kept_hour Day hour = is_number (hour_of_day (hour_number (day_of_hour hour) 0)) 
 kept_low : (o : Option Duration) (hour : ℕ) → nat_le hour LAST_HOUR ≡ true → nat_le (kept_at o hour) LAST_HOUR ≡ true
 kept_low None hour h = h
 kept_low (Some Hour) hour h = h
-kept_low (Some Day) hour h = let low = is_most hour LAST_HOUR h in most_is (hour_number (day_of_hour hour) 0) LAST_HOUR (lower hour LAST_HOUR low)
+kept_low (Some Day) hour h = let low = leb-true hour LAST_HOUR h in le-leb (hour_number (day_of_hour hour) 0) LAST_HOUR (lower hour LAST_HOUR low)
   where
     lower : (hour last : ℕ) → hour ≤ last → 24 * (hour / 24) + 0 ≤ last
     lower hour last h = omega arith
@@ -126,8 +120,8 @@ sample_fits : (office : Office) (monitor : MonitorId) (hour : ℕ) (content : Ob
     → nat_le hour LAST_HOUR ≡ true → is_content monitor.pollutant content ≡ true → fits_monitors office (kept_key office monitor hour, content) ≡ true
 sample_fits office monitor hour content there low good =
     let duration = found (duration_at office monitor) there in
-    and_true _ _
-    (and_true _ _ (kept_low (duration_at office monitor) hour low)
+    and_from _ _
+    (and_from _ _ (kept_low (duration_at office monitor) hour low)
     (subst (λ o. is_kept_hour o (kept_at o hour) ≡ true) (sym duration.is) (kept_hour duration.value hour)))
     good
 
@@ -151,8 +145,8 @@ put_sample : (office : Office) (update : Bool) (monitor : MonitorId) (duration :
     → length (with_row observation_rank (kept_key office monitor hour, content) office.observations) ≤ MOST_OBSERVATIONS
     → IsOffice (changed office (OfRd (PutSample update monitor duration method hour content)))
 put_sample office update monitor duration method hour content is spelled known few =
-    let parts = both _ (is_content monitor.pollutant content) spelled in
-    let low = both _ (nat_le hour LAST_HOUR) parts.0 in
+    let parts = and_parts _ (is_content monitor.pollutant content) spelled in
+    let low = and_parts _ (nat_le hour LAST_HOUR) parts.0 in
     with_observations office (with_row observation_rank (kept_key office monitor hour, content) office.observations) is
     (KeysRise-changed office (OfRd (PutSample update monitor duration method hour content)) is.keys_rise)
     (with_row-all observation_rank (fits_monitors office) (kept_key office monitor hour, content) office.observations
@@ -192,7 +186,7 @@ put_new : (office : Office) (r : OfficeRecord) → IsOffice office → is_record
     → (key_stands office (key_of r) || is_taken office r) ≡ false → (record_at office (key_of r) ≡ None → group_size office r < most_in_group r)
     → length (sites_with r (sites_of office.records)) ≤ MOST_SITES → IsOffice (with_record r office)
 put_new office r is spelled monitor event there room sites =
-    let parts = neither (key_stands office (key_of r)) (is_taken office r) there in
+    let parts = or_parts (key_stands office (key_of r)) (is_taken office r) there in
     let none = is_absent (record_at office (key_of r)) parts.0 in
     joined office r (record { new = none; spelled = spelled; monitor = monitor; event = event; room = room none; free = parts.1; sites = sites }) is
 
@@ -366,7 +360,7 @@ drops_event number = record {
   monitors = λ id duration eligible. refl;
   events = λ other agreed x kept is.
       ap (λ rank. not (is_same rank (6 ∷ number ∷ [])) && not (is_same rank (7 ∷ number ∷ []))) (same_is (record_rank x) (6 ∷ other ∷ []) is)
-      ∙ and_true _ _ kept refl;
+      ∙ and_from _ _ kept refl;
 }
 
 drop_key : (office : Office) (key : OfficeKey) → (1 == kind_of key) ≡ false → (6 == kind_of key) ≡ false → IsOffice office → IsOffice (without_record key office)

@@ -2,7 +2,7 @@
 use Rattle.std.proofs.Common.{◌≡◌, ℕ, suc, ◌+◌, ◌<◌, ◌≤◌, Bool, true, false, ◌&&◌, List, [], ◌∷◌, ◌++◌, length, take, drop, Some, None, Option, refl, sym, arith, inl, inr, subst, length-append, length-take}
 use Rattle.std.specs.Prelude.{nat_le, IfSome, if◌then◌else◌, ℤ}
 use Rattle.std.specs.List.{list_all}
-use Rattle.std.proofs.lemmas.Bool.{false≢true}
+use Rattle.std.proofs.lemmas.Bool.{false≢true, and_from, and_parts, cases_Bool}
 use Rattle.aq_base.specs.Calendar.{is_year}
 use Rattle.aq_base.specs.Decimal.{is_decimal, cut}
 use Rattle.aq_base.specs.Quals.{with_code, has_code, all_distinct}
@@ -22,8 +22,6 @@ use Rattle.aq_profile.specs.Lines.OfficeForms.{hour_in, is_season, is_makeup, is
 use Rattle.aq_profile.specs.Lines.Reading.{LineValue, OfRd, OfOffice, line_value, value_for, form_value, action_for, has_wrong_count, is_deletion, is_plain, tag_of}
 use Rattle.aq_profile.specs.Lines.Canonical.{is_rd_value, is_office_line, is_line_value}
 use Rattle.aq_profile.specs.Office.Office.{is_site, is_poc, is_day, is_qualifier, is_null_code, is_measured, is_content}
-use Rattle.aq_profile.proofs.Least.{both, true_or_false}
-use Rattle.aq_profile.proofs.JoinedFields.{and_true}
 use Rattle.aq_profile.proofs.Samples.{null_qualifies}
 use Rattle.aq_profile.proofs.Valid.{valid, valid_if, anything, site_valid, parameter_valid, poc_valid, primary_valid, duration_valid, digits_valid, date_valid, year_valid, hour_valid, interval_valid, number_valid, code_valid, at_most}
 
@@ -36,7 +34,7 @@ monitor_parts state county number parameter poc =
     valid (λ s. is_site s ≡ true) (λ (id : MonitorId). (is_site id.site && is_poc id.poc) ≡ true) (site_in state county number) _ (site_valid state county number) λ s h.
     valid (λ p. p ≡ p) (λ (id : MonitorId). (is_site id.site && is_poc id.poc) ≡ true) (parameter_in parameter) _ (anything (parameter_in parameter)) λ p e.
     valid (λ p. is_poc p ≡ true) (λ (id : MonitorId). (is_site id.site && is_poc id.poc) ≡ true) (poc_in poc) _ (poc_valid poc) λ c i.
-    and_true (is_site s) (is_poc c) h i
+    and_from (is_site s) (is_poc c) h i
 
 monitor_valid : (tag : Tag) (texts : List (List ℕ)) → IfSome (monitor_in tag texts) (λ id. (is_site id.site && is_poc id.poc) ≡ true)
 unfolding monitor_in
@@ -55,7 +53,7 @@ weaken P Q (Some x) h go = go x h
 
 qualifier_valid : (text : List ℕ) → IfSome (qualifier_in text) (λ c. is_qualifier c ≡ true)
 qualifier_valid [] = tt
-qualifier_valid (a ∷ []) = valid_if (λ (c : Code). is_qualifier c ≡ true) (is_code_byte a) _ (λ h. and_true (is_code_byte a) true h refl)
+qualifier_valid (a ∷ []) = valid_if (λ (c : Code). is_qualifier c ≡ true) (is_code_byte a) _ (λ h. and_from (is_code_byte a) true h refl)
 qualifier_valid (a ∷ b ∷ text) =
     weaken (λ c. is_null_code c ≡ true) (λ c. is_qualifier c ≡ true) (null_in (a ∷ b ∷ text)) (null_valid (a ∷ b ∷ text)) null_qualifies
 
@@ -65,15 +63,15 @@ record GoodCodes (most : ℕ) (qs : List Code) : Type 0 where
   few : length qs ≤ most
 
 all_append : (qs : List Code) (c : Code) → list_all is_qualifier qs ≡ true → is_qualifier c ≡ true → list_all is_qualifier (qs ++ c ∷ []) ≡ true
-all_append [] c h i = and_true (is_qualifier c) true i refl
+all_append [] c h i = and_from (is_qualifier c) true i refl
 all_append (q ∷ qs) c h i =
-    let parts = both (is_qualifier q) (list_all is_qualifier qs) h in
-    and_true (is_qualifier q) (list_all is_qualifier (qs ++ c ∷ [])) parts.0 (all_append qs c parts.1 i)
+    let parts = and_parts (is_qualifier q) (list_all is_qualifier qs) h in
+    and_from (is_qualifier q) (list_all is_qualifier (qs ++ c ∷ [])) parts.0 (all_append qs c parts.1 i)
 
 with_good : (most : ℕ) (before : List Code) (c : Code) → GoodCodes most before → is_qualifier c ≡ true → GoodCodes (most + 1) (with_code before c)
 with_good most before c good h =
     let few = good.few in
-    elim (true_or_false (has_code c before)) [
+    elim (cases_Bool (has_code c before)) [
       | inl there ↦ subst (λ b. GoodCodes (most + 1) (if b then before else before ++ c ∷ [])) (sym there)
           (record { spelled = good.spelled; distinct = good.distinct; few = omega arith })
       | inr absent ↦ subst (λ b. GoodCodes (most + 1) (if b then before else before ++ c ∷ [])) (sym absent)
@@ -118,14 +116,14 @@ value_valid : (p : Pollutant) (places : ℕ) (text : List ℕ) → IfSome (value
 unfolding value_in
 value_valid p places text =
     valid_if (λ v. is_in_range p v ≡ true) (is_decimal text && is_in_range p (cut text places)) (cut text places)
-    (λ h. (both (is_decimal text) (is_in_range p (cut text places)) h).1)
+    (λ h. (and_parts (is_decimal text) (is_in_range p (cut text places)) h).1)
 
 good_content : (p : Pollutant) (value : Option ℤ) (null : Option Code) (qs : List Code) → is_measured p value null ≡ true → GoodCodes 10 qs
     → is_content p (record { value = value; null = null; quals = qs }) ≡ true
 good_content p value null qs m good =
     let few = good.few in
-    and_true (is_measured p value null && list_all is_qualifier qs && all_distinct qs) (nat_le (length qs) 10)
-    (and_true (is_measured p value null && list_all is_qualifier qs) (all_distinct qs) (and_true (is_measured p value null) (list_all is_qualifier qs) m good.spelled) good.distinct)
+    and_from (is_measured p value null && list_all is_qualifier qs && all_distinct qs) (nat_le (length qs) 10)
+    (and_from (is_measured p value null && list_all is_qualifier qs) (all_distinct qs) (and_from (is_measured p value null) (list_all is_qualifier qs) m good.spelled) good.distinct)
     (at_most (length qs) 10 (omega arith))
 
 content_valid : (p : Pollutant) (places : ℕ) (texts : List (List ℕ)) → IfSome (content_in p places texts) (λ c. is_content p c ≡ true)
@@ -148,17 +146,17 @@ put_valid update texts =
     valid (λ n. n < 1000) (λ v. is_rd_value v ≡ true) (method_in (field 10 texts)) _ (digits_valid 3 (field 10 texts)) λ m j.
     valid (λ h. nat_le h 438311 ≡ true) (λ v. is_rd_value v ≡ true) (hour_in (field 11 texts) (field 12 texts)) _ (hour_valid (field 11 texts) (field 12 texts)) λ hour k.
     valid (λ c. is_content id.pollutant c ≡ true) (λ v. is_rd_value v ≡ true) (content_in id.pollutant places texts) _ (content_valid id.pollutant places texts) λ c l.
-    and_true (is_site id.site && is_poc id.poc && has_duration id.pollutant d && nat_le m 999 && nat_le hour 438311) (is_content id.pollutant c)
-    (and_true (is_site id.site && is_poc id.poc && has_duration id.pollutant d && nat_le m 999) (nat_le hour 438311)
-    (and_true (is_site id.site && is_poc id.poc && has_duration id.pollutant d) (nat_le m 999)
-    (and_true (is_site id.site && is_poc id.poc) (has_duration id.pollutant d) h i) (at_most m 999 j)) k) l
+    and_from (is_site id.site && is_poc id.poc && has_duration id.pollutant d && nat_le m 999 && nat_le hour 438311) (is_content id.pollutant c)
+    (and_from (is_site id.site && is_poc id.poc && has_duration id.pollutant d && nat_le m 999) (nat_le hour 438311)
+    (and_from (is_site id.site && is_poc id.poc && has_duration id.pollutant d) (nat_le m 999)
+    (and_from (is_site id.site && is_poc id.poc) (has_duration id.pollutant d) h i) (at_most m 999 j)) k) l
 
 delete_valid : (texts : List (List ℕ)) → IfSome (delete_in texts) (λ v. is_rd_value v ≡ true)
 unfolding delete_in start_in
 delete_valid texts =
     valid (λ (id : MonitorId). (is_site id.site && is_poc id.poc) ≡ true) (λ v. is_rd_value v ≡ true) (monitor_in Rd texts) _ (monitor_valid Rd texts) λ id h.
     valid (λ h. nat_le h 438311 ≡ true) (λ v. is_rd_value v ≡ true) (hour_in (field 11 texts) (field 12 texts)) _ (hour_valid (field 11 texts) (field 12 texts)) λ hour k.
-    and_true (is_site id.site && is_poc id.poc) (nat_le hour 438311) h k
+    and_from (is_site id.site && is_poc id.poc) (nat_le hour 438311) h k
 
 -- ---- office lines
 
@@ -168,7 +166,7 @@ xm_record-valid texts =
     valid (λ (id : MonitorId). (is_site id.site && is_poc id.poc) ≡ true) (λ (r : OfficeRecord). is_office_line (Put r) ≡ true) (monitor_in Xm texts) _ (monitor_valid Xm texts) λ id h.
     valid (λ d. has_duration id.pollutant d ≡ true) (λ (r : OfficeRecord). is_office_line (Put r) ≡ true) (duration_in id.pollutant (field 8 texts)) _ (duration_valid id.pollutant (field 8 texts)) λ d i.
     valid (λ b. b ≡ b) (λ (r : OfficeRecord). is_office_line (Put r) ≡ true) (truth_in (field 9 texts)) _ (anything (truth_in (field 9 texts))) λ b j.
-    and_true (is_site id.site && is_poc id.poc) (has_duration id.pollutant d) h i
+    and_from (is_site id.site && is_poc id.poc) (has_duration id.pollutant d) h i
 
 xm_record-change : (texts : List (List ℕ)) → IfSome (xm_record texts) (λ (r : OfficeRecord). is_office_line (Change r) ≡ true)
 unfolding xm_record
@@ -176,7 +174,7 @@ xm_record-change texts =
     valid (λ (id : MonitorId). (is_site id.site && is_poc id.poc) ≡ true) (λ (r : OfficeRecord). is_office_line (Change r) ≡ true) (monitor_in Xm texts) _ (monitor_valid Xm texts) λ id h.
     valid (λ d. has_duration id.pollutant d ≡ true) (λ (r : OfficeRecord). is_office_line (Change r) ≡ true) (duration_in id.pollutant (field 8 texts)) _ (duration_valid id.pollutant (field 8 texts)) λ d i.
     valid (λ b. b ≡ b) (λ (r : OfficeRecord). is_office_line (Change r) ≡ true) (truth_in (field 9 texts)) _ (anything (truth_in (field 9 texts))) λ b j.
-    and_true (is_site id.site && is_poc id.poc) (has_duration id.pollutant d) h i
+    and_from (is_site id.site && is_poc id.poc) (has_duration id.pollutant d) h i
 
 xp_record-valid : (texts : List (List ℕ)) → IfSome (xp_record texts) (λ (r : OfficeRecord). is_office_line (Put r) ≡ true)
 unfolding xp_record
@@ -185,7 +183,7 @@ xp_record-valid texts =
     valid (λ p. has_parameter Xp p ≡ true) (λ (r : OfficeRecord). is_office_line (Put r) ≡ true) (parameter_of Xp (field 6 texts)) _ (parameter_valid Xp (field 6 texts)) λ p e.
     valid (λ c. nat_le c 99 ≡ true) (λ (r : OfficeRecord). is_office_line (Put r) ≡ true) (primary_in (field 8 texts)) _ (primary_valid (field 8 texts)) λ c i.
     valid (λ d. is_day d ≡ true) (λ (r : OfficeRecord). is_office_line (Put r) ≡ true) (date_in (field 7 texts)) _ (date_valid (field 7 texts)) λ d j.
-    and_true (is_site s && is_day d) (nat_le c 99) (and_true (is_site s) (is_day d) h j) i
+    and_from (is_site s && is_day d) (nat_le c 99) (and_from (is_site s) (is_day d) h j) i
 
 xp_key-valid : (texts : List (List ℕ)) → IfSome (xp_key texts) (λ (k : OfficeKey). is_office_line (Drop k) ≡ true)
 unfolding xp_key
@@ -193,7 +191,7 @@ xp_key-valid texts =
     valid (λ s. is_site s ≡ true) (λ (k : OfficeKey). is_office_line (Drop k) ≡ true) (site_in (field 3 texts) (field 4 texts) (field 5 texts)) _ (site_valid (field 3 texts) (field 4 texts) (field 5 texts)) λ s h.
     valid (λ p. has_parameter Xp p ≡ true) (λ (k : OfficeKey). is_office_line (Drop k) ≡ true) (parameter_of Xp (field 6 texts)) _ (parameter_valid Xp (field 6 texts)) λ p e.
     valid (λ d. is_day d ≡ true) (λ (k : OfficeKey). is_office_line (Drop k) ≡ true) (date_in (field 7 texts)) _ (date_valid (field 7 texts)) λ d j.
-    and_true (is_site s) (is_day d) h j
+    and_from (is_site s) (is_day d) h j
 
 xs_record-valid : (texts : List (List ℕ)) → IfSome (xs_record texts) (λ (r : OfficeRecord). is_office_line (Put r) ≡ true)
 unfolding xs_record
@@ -203,7 +201,7 @@ xs_record-valid texts =
     valid (λ d. is_day d ≡ true) (λ (r : OfficeRecord). is_office_line (Put r) ≡ true) (date_in (field 7 texts)) _ (date_valid (field 7 texts)) λ d j.
     valid (λ d. is_day d ≡ true) (λ (r : OfficeRecord). is_office_line (Put r) ≡ true) (date_in (field 9 texts)) _ (date_valid (field 9 texts)) λ a k.
     valid (λ n. is_interval n ≡ true) (λ (r : OfficeRecord). is_office_line (Put r) ≡ true) (interval_in (field 8 texts)) _ (interval_valid (field 8 texts)) λ n l.
-    and_true (is_site s && has_parameter Xs p && is_day d) (is_interval n && is_day a) (and_true (is_site s && has_parameter Xs p) (is_day d) (and_true (is_site s) (has_parameter Xs p) h e) j) (and_true (is_interval n) (is_day a) l k)
+    and_from (is_site s && has_parameter Xs p && is_day d) (is_interval n && is_day a) (and_from (is_site s && has_parameter Xs p) (is_day d) (and_from (is_site s) (has_parameter Xs p) h e) j) (and_from (is_interval n) (is_day a) l k)
 
 xs_key-valid : (texts : List (List ℕ)) → IfSome (xs_key texts) (λ (k : OfficeKey). is_office_line (Drop k) ≡ true)
 unfolding xs_key
@@ -211,7 +209,7 @@ xs_key-valid texts =
     valid (λ s. is_site s ≡ true) (λ (k : OfficeKey). is_office_line (Drop k) ≡ true) (site_in (field 3 texts) (field 4 texts) (field 5 texts)) _ (site_valid (field 3 texts) (field 4 texts) (field 5 texts)) λ s h.
     valid (λ p. has_parameter Xs p ≡ true) (λ (k : OfficeKey). is_office_line (Drop k) ≡ true) (parameter_of Xs (field 6 texts)) _ (parameter_valid Xs (field 6 texts)) λ p e.
     valid (λ d. is_day d ≡ true) (λ (k : OfficeKey). is_office_line (Drop k) ≡ true) (date_in (field 7 texts)) _ (date_valid (field 7 texts)) λ d j.
-    and_true (is_site s && has_parameter Xs p) (is_day d) (and_true (is_site s) (has_parameter Xs p) h e) j
+    and_from (is_site s && has_parameter Xs p) (is_day d) (and_from (is_site s) (has_parameter Xs p) h e) j
 
 xo_record-valid : (texts : List (List ℕ)) → IfSome (xo_record texts) (λ (r : OfficeRecord). is_office_line (Put r) ≡ true)
 unfolding xo_record
@@ -221,14 +219,14 @@ xo_record-valid texts =
     valid (λ d. is_day d ≡ true) (λ (r : OfficeRecord). is_office_line (Put r) ≡ true) (date_in (field 7 texts)) _ (date_valid (field 7 texts)) λ a j.
     valid (λ d. is_day d ≡ true) (λ (r : OfficeRecord). is_office_line (Put r) ≡ true) (date_in (field 8 texts)) _ (date_valid (field 8 texts)) λ b k.
     valid_if (λ (r : OfficeRecord). is_office_line (Put r) ≡ true) (is_season y a b) (Season s y a b)
-    (λ l. and_true (is_site s && is_year y) (is_day a && is_day b && is_season y a b) (and_true (is_site s) (is_year y) h i) (and_true (is_day a && is_day b) (is_season y a b) (and_true (is_day a) (is_day b) j k) l))
+    (λ l. and_from (is_site s && is_year y) (is_day a && is_day b && is_season y a b) (and_from (is_site s) (is_year y) h i) (and_from (is_day a && is_day b) (is_season y a b) (and_from (is_day a) (is_day b) j k) l))
 
 xo_key-valid : (texts : List (List ℕ)) → IfSome (xo_key texts) (λ (k : OfficeKey). is_office_line (Drop k) ≡ true)
 unfolding xo_key
 xo_key-valid texts =
     valid (λ s. is_site s ≡ true) (λ (k : OfficeKey). is_office_line (Drop k) ≡ true) (site_in (field 3 texts) (field 4 texts) (field 5 texts)) _ (site_valid (field 3 texts) (field 4 texts) (field 5 texts)) λ s h.
     valid (λ y. is_year y ≡ true) (λ (k : OfficeKey). is_office_line (Drop k) ≡ true) (year_in (field 6 texts)) _ (year_valid (field 6 texts)) λ y i.
-    and_true (is_site s) (is_year y) h i
+    and_from (is_site s) (is_year y) h i
 
 xu_record-valid : (texts : List (List ℕ)) → IfSome (xu_record texts) (λ (r : OfficeRecord). is_office_line (Put r) ≡ true)
 unfolding xu_record
@@ -238,7 +236,7 @@ xu_record-valid texts =
     valid (λ d. is_day d ≡ true) (λ (r : OfficeRecord). is_office_line (Put r) ≡ true) (date_in (field 7 texts)) _ (date_valid (field 7 texts)) λ a j.
     valid (λ d. is_day d ≡ true) (λ (r : OfficeRecord). is_office_line (Put r) ≡ true) (date_in (field 8 texts)) _ (date_valid (field 8 texts)) λ b k.
     valid_if (λ (r : OfficeRecord). is_office_line (Put r) ≡ true) (is_makeup a b) (Makeup s a b)
-    (λ l. and_true (is_site s && is_day a) (is_day b && is_makeup a b) (and_true (is_site s) (is_day a) h j) (and_true (is_day b) (is_makeup a b) k l))
+    (λ l. and_from (is_site s && is_day a) (is_day b && is_makeup a b) (and_from (is_site s) (is_day a) h j) (and_from (is_day b) (is_makeup a b) k l))
 
 xu_key-valid : (texts : List (List ℕ)) → IfSome (xu_key texts) (λ (k : OfficeKey). is_office_line (Drop k) ≡ true)
 unfolding xu_key
@@ -246,7 +244,7 @@ xu_key-valid texts =
     valid (λ s. is_site s ≡ true) (λ (k : OfficeKey). is_office_line (Drop k) ≡ true) (site_in (field 3 texts) (field 4 texts) (field 5 texts)) _ (site_valid (field 3 texts) (field 4 texts) (field 5 texts)) λ s h.
     valid (λ p. has_parameter Xu p ≡ true) (λ (k : OfficeKey). is_office_line (Drop k) ≡ true) (parameter_of Xu (field 6 texts)) _ (parameter_valid Xu (field 6 texts)) λ p e.
     valid (λ d. is_day d ≡ true) (λ (k : OfficeKey). is_office_line (Drop k) ≡ true) (date_in (field 7 texts)) _ (date_valid (field 7 texts)) λ a j.
-    and_true (is_site s) (is_day a) h j
+    and_from (is_site s) (is_day a) h j
 
 xe_record-valid : (texts : List (List ℕ)) → IfSome (xe_record texts) (λ (r : OfficeRecord). is_office_line (Put r) ≡ true)
 unfolding xe_record
@@ -258,7 +256,7 @@ xe_record-valid texts =
     valid (λ n. is_event_number n ≡ true) (λ (r : OfficeRecord). is_office_line (Put r) ≡ true) (event_number_in (field 3 texts)) _ (number_valid (field 3 texts)) λ n g.
     valid (λ c. is_event_code c ≡ true) (λ (r : OfficeRecord). is_office_line (Put r) ≡ true) (event_code_in (field 12 texts)) _ (code_valid (field 12 texts)) λ c l.
     valid_if (λ (r : OfficeRecord). is_office_line (Put r) ≡ true) (is_span a b) (Event n s p a b c)
-    (λ m. and_true (is_event_number n) (is_site s && nat_le b 438311 && is_span a b && is_event_code c) g (and_true (is_site s && nat_le b 438311 && is_span a b) (is_event_code c) (and_true (is_site s && nat_le b 438311) (is_span a b) (and_true (is_site s) (nat_le b 438311) h k) m) l))
+    (λ m. and_from (is_event_number n) (is_site s && nat_le b 438311 && is_span a b && is_event_code c) g (and_from (is_site s && nat_le b 438311 && is_span a b) (is_event_code c) (and_from (is_site s && nat_le b 438311) (is_span a b) (and_from (is_site s) (nat_le b 438311) h k) m) l))
 
 xe_key-valid : (texts : List (List ℕ)) → IfSome (xe_key texts) (λ (k : OfficeKey). is_office_line (Drop k) ≡ true)
 unfolding xe_key
@@ -271,21 +269,21 @@ unfolding xc_record
 xc_record-valid texts =
     valid (λ n. is_event_number n ≡ true) (λ (r : OfficeRecord). is_office_line (Change r) ≡ true) (event_number_in (field 3 texts)) _ (number_valid (field 3 texts)) λ n g.
     valid (λ b. b ≡ b) (λ (r : OfficeRecord). is_office_line (Change r) ≡ true) (truth_in (field 4 texts)) _ (anything (truth_in (field 4 texts))) λ b j.
-    and_true (is_event_number n) true g refl
+    and_from (is_event_number n) true g refl
 
 xa_record-valid : (texts : List (List ℕ)) → IfSome (xa_record texts) (λ (r : OfficeRecord). is_office_line (Put r) ≡ true)
 unfolding xa_record
 xa_record-valid texts =
     valid (λ s. is_site s ≡ true) (λ (r : OfficeRecord). is_office_line (Put r) ≡ true) (site_in (field 3 texts) (field 4 texts) (field 5 texts)) _ (site_valid (field 3 texts) (field 4 texts) (field 5 texts)) λ s h.
     valid (λ d. is_day d ≡ true) (λ (r : OfficeRecord). is_office_line (Put r) ≡ true) (date_in (field 6 texts)) _ (date_valid (field 6 texts)) λ d j.
-    and_true (is_site s && is_day d) true (and_true (is_site s) (is_day d) h j) refl
+    and_from (is_site s && is_day d) true (and_from (is_site s) (is_day d) h j) refl
 
 xa_key-valid : (texts : List (List ℕ)) → IfSome (xa_key texts) (λ (k : OfficeKey). is_office_line (Drop k) ≡ true)
 unfolding xa_key
 xa_key-valid texts =
     valid (λ s. is_site s ≡ true) (λ (k : OfficeKey). is_office_line (Drop k) ≡ true) (site_in (field 3 texts) (field 4 texts) (field 5 texts)) _ (site_valid (field 3 texts) (field 4 texts) (field 5 texts)) λ s h.
     valid (λ d. is_day d ≡ true) (λ (k : OfficeKey). is_office_line (Drop k) ≡ true) (date_in (field 6 texts)) _ (date_valid (field 6 texts)) λ d j.
-    and_true (is_site s) (is_day d) h j
+    and_from (is_site s) (is_day d) h j
 
 -- ---- the whole line
 

@@ -10,11 +10,9 @@ use Rattle.aq_profile.specs.Lines.RdForm.{Put as PutSample, Delete as DeleteSamp
 use Rattle.aq_profile.specs.Lines.Reading.{LineValue, OfRd, OfOffice, line_value}
 use Rattle.aq_profile.specs.Office.Office.{Office, IsOffice, StoredLoad, load_rank, with_row, load_at, is_load}
 use Rattle.aq_profile.specs.Office.Load.{Decision, Repeat, Conflict, Full, New, changed, changed_by, refusal, after, after_all, with_load, reply, load, decide, decide_known, stored, TooManyLines, Repeated, Differing, NoRoom, Taken, posted_beside, office_after, post}
-use Rattle.std.proofs.lemmas.Bool.{ltb-false}
-use Rattle.aq_profile.proofs.JoinedFields.{and_true}
-use Rattle.aq_profile.proofs.Rising.{with_row-rises}
+use Rattle.std.proofs.lemmas.Bool.{ltb-false, and_from, eq-eqb, le-leb}
+use Rattle.aq_profile.specs.Office.RowOrder.{with_row-rises}
 use Rattle.aq_profile.proofs.RowsPlaced.{with_row-all, length-with_row}
-use Rattle.aq_profile.proofs.ValidRecords.{most_is, is_number}
 use Rattle.aq_profile.proofs.ValidAfter.{less, lines_leave_valid}
 use Rattle.aq_profile.proofs.ValidReplies.{reply-is}
 
@@ -82,11 +80,11 @@ load-fits office number digest body is low high len bytes few full =
     let room = less (length office.loads) MOST_LOADS full in
     with_load-valid (after_all office (body_lines body)) (record { number = number; digest = digest; reply = reply office number body })
     (lines_leave_valid office (body_lines body) is)
-    (and_true _ _
-    (and_true _ _
-    (and_true _ _
-    (and_true _ _ (and_true _ _ (most_is 1 number low) (most_is number LAST_LOAD_NUMBER high)) (is_number number number refl))
-    (is_number (length digest) 32 len))
+    (and_from _ _
+    (and_from _ _
+    (and_from _ _
+    (and_from _ _ (and_from _ _ (le-leb 1 number low) (le-leb number LAST_LOAD_NUMBER high)) (eq-eqb number number refl))
+    (eq-eqb (length digest) 32 len))
     bytes)
     (reply-is office number body few))
     (subst (λ rows. length rows < MOST_LOADS) (sym loads) room)

@@ -2,7 +2,7 @@
 use Rattle.std.proofs.Common.{◌≡◌, ℕ, ◌+◌, ◌<◌, ◌≤◌, Bool, true, false, cond, ◌&&◌, ◌||◌, List, [], ◌∷◌, ◌++◌, length, Some, None, Option, refl, sym, ap, ◌∙◌, arith, subst}
 use Rattle.std.specs.Prelude.{find, filter, count_by, is_some, nat_le, nat_lt, ◌==◌, if◌then◌else◌}
 use Rattle.std.specs.List.{list_all, list_any}
-use Rattle.std.proofs.lemmas.Bool.{false≢true}
+use Rattle.std.proofs.lemmas.Bool.{false≢true, and_from, and_parts, eq-eqb, eqb-true, le-leb, leb-true}
 use Rattle.std.proofs.lemmas.Bool.Decides.{nat_tests}
 use Rattle.aq_base.specs.Site.{Site}
 use Rattle.aq_base.specs.declared.monitor.Duration.{Duration}
@@ -20,25 +20,11 @@ use Rattle.aq_profile.specs.Lines.Spellings.{◌>>=◌}
 use Rattle.aq_profile.specs.Office.Office.{Office, IsOffice, KeysRise, is_same, key_of, key_numbers, record_rank, with_row, record_at, duration_at, monitor_duration, registers, has_monitor, site_numbers, sites_of, group_of, most_in_group, group_size, makes_up_on, makeups_on, has_its_monitor, has_its_event, is_record, fits_records, has_own_makeup_day, is_kept_hour, is_content, fits_monitors}
 use Rattle.aq_profile.specs.Office.Refusal.{is_taken}
 use Rattle.aq_profile.specs.Office.Load.{with_record}
-use Rattle.aq_profile.proofs.Least.{both}
-use Rattle.aq_profile.proofs.JoinedFields.{and_true}
 use Rattle.aq_profile.proofs.RowsPlaced.{Inserted, Replaced, same_is, is_same-refl, all_joined, all_at, all_rest, all_weaker, all_standing, any_joined, any_alike, is_some-find, find_alike, count_joined, count_alike, counted_once, filter_all, filter_keeps, find-filter, any-filter, count-filter, with_row-new, with_row-old, row_at-inserted}
 use Rattle.aq_profile.proofs.SitesCounted.{sites_with, sites_joined, sites_alike, sites-filter}
-use Rattle.aq_profile.proofs.Rising.{with_row-rises}
+use Rattle.aq_profile.specs.Office.RowOrder.{with_row-rises}
 
 -- ---- numbers and tests
-
-pub is_most : (n m : ℕ) → nat_le n m ≡ true → n ≤ m
-is_most n m h = grind (arith, nat_tests)
-
-pub most_is : (n m : ℕ) → n ≤ m → nat_le n m ≡ true
-most_is n m h = grind (arith, nat_tests)
-
-pub number_is : (n m : ℕ) → (n == m) ≡ true → n ≡ m
-number_is n m h = grind (arith, nat_tests)
-
-pub is_number : (n m : ℕ) → n ≡ m → (n == m) ≡ true
-is_number n m h = grind (arith, nat_tests)
 
 none_above : (n : ℕ) → nat_lt 0 n ≡ false → n ≡ 0
 none_above n h = grind (arith, nat_tests)
@@ -81,10 +67,10 @@ monitor-keeps before now keeps (Approved site day) h = keeps.monitors site Ozone
 
 observation-keeps : (before now : Office) → Keeps before now → (row : ObsKey × Observation) → fits_monitors before row ≡ true → fits_monitors now row ≡ true
 observation-keeps before now keeps row h =
-    let parts = both _ (is_content row.0.monitor.pollutant row.1) h in
-    let hours = both _ (is_kept_hour (duration_at before row.0.monitor) row.0.hour) parts.0 in
-    and_true _ _
-    (and_true _ _ hours.0 (kept (duration_at before row.0.monitor) (duration_at now row.0.monitor) row.0.hour (keeps.durations row.0.monitor) hours.1))
+    let parts = and_parts _ (is_content row.0.monitor.pollutant row.1) h in
+    let hours = and_parts _ (is_kept_hour (duration_at before row.0.monitor) row.0.hour) parts.0 in
+    and_from _ _
+    (and_from _ _ hours.0 (kept (duration_at before row.0.monitor) (duration_at now row.0.monitor) row.0.hour (keeps.durations row.0.monitor) hours.1))
     parts.1
   where
     kept : (a b : Option Duration) (hour : ℕ) → ((duration : Duration) → a ≡ Some duration → b ≡ Some duration)
@@ -107,15 +93,15 @@ record Fits (office : Office) (r : OfficeRecord) : Type 0 where
 
 fits_parts : (office : Office) (r : OfficeRecord) → fits_records office r ≡ true → Fits office r
 fits_parts office r h =
-    let few = both _ (nat_le (group_size office r) (most_in_group r)) h in
-    let event = both _ (has_its_event office r) few.0 in
-    let monitor = both (is_record r) (has_its_monitor office r) event.0 in
-    record { spelled = monitor.0; monitor = monitor.1; event = event.1; few = is_most (group_size office r) (most_in_group r) few.1 }
+    let few = and_parts _ (nat_le (group_size office r) (most_in_group r)) h in
+    let event = and_parts _ (has_its_event office r) few.0 in
+    let monitor = and_parts (is_record r) (has_its_monitor office r) event.0 in
+    record { spelled = monitor.0; monitor = monitor.1; event = event.1; few = leb-true (group_size office r) (most_in_group r) few.1 }
 
 parts_fit : (office : Office) (r : OfficeRecord) → Fits office r → fits_records office r ≡ true
 parts_fit office r fits =
-    and_true _ _ (and_true _ _ (and_true (is_record r) (has_its_monitor office r) fits.spelled fits.monitor) fits.event)
-    (most_is (group_size office r) (most_in_group r) fits.few)
+    and_from _ _ (and_from _ _ (and_from (is_record r) (has_its_monitor office r) fits.spelled fits.monitor) fits.event)
+    (le-leb (group_size office r) (most_in_group r) fits.few)
 
 -- the limit of a group, by its first number
 most_for : List ℕ → ℕ
@@ -243,7 +229,7 @@ module _ (office : Office) (r : OfficeRecord) (may : MayJoin office r) where
       choose : (a b : Bool) → is_same (site_numbers place) (site_numbers site) ≡ a → (day == makeup) ≡ b → (a && b) ≡ false
       choose true true h k =
           let here : site_numbers place ≡ site_numbers site = same_is (site_numbers place) (site_numbers site) h in
-          let at : day ≡ makeup = number_is day makeup k in
+          let at : day ≡ makeup = eqb-true day makeup k in
           let none : makeups_on office place day ≡ 0 = none_above (makeups_on office place day) free in
           let same : makeups_on office place day ≡ makeups_on office site makeup = cc (site_is place site here) in
           absurd (omega arith)
@@ -261,10 +247,10 @@ module _ (office : Office) (r : OfficeRecord) (may : MayJoin office r) where
     where
       other : (x : OfficeRecord) → has_own_makeup_day office x ≡ true → has_own_makeup_day (with_record r office) x ≡ true
       other (Makeup site missed makeup) h =
-          let one = number_is (makeups_on office site makeup) 1 h in
+          let one = eqb-true (makeups_on office site makeup) 1 h in
           let beside : cond {A = ℕ} (makes_up_on site makeup r) 1 0 ≡ 0 = ap (λ b. cond {A = ℕ} b 1 0) (free_day site makeup one r may.free) in
           let count = counted (makes_up_on site makeup) in
-          is_number (makeups_on (with_record r office) site makeup) 1 (omega arith)
+          eq-eqb (makeups_on (with_record r office) site makeup) 1 (omega arith)
       other x h = refl
 
       own : (x : OfficeRecord) → x ≡ r → has_own_makeup_day (with_record r office) x ≡ true
@@ -273,10 +259,10 @@ module _ (office : Office) (r : OfficeRecord) (may : MayJoin office r) where
           let none = none_above (makeups_on office site makeup) free in
           let itself : makes_up_on site makeup r ≡ true =
           ap (makes_up_on site makeup) (sym is)
-          ∙ and_true _ _ (is_same-refl (site_numbers site) (site_numbers site) refl) (is_number makeup makeup refl) in
+          ∙ and_from _ _ (is_same-refl (site_numbers site) (site_numbers site) refl) (eq-eqb makeup makeup refl) in
           let once : cond {A = ℕ} (makes_up_on site makeup r) 1 0 ≡ 1 = ap (λ b. cond {A = ℕ} b 1 0) itself in
           let count = counted (makes_up_on site makeup) in
-          is_number (makeups_on (with_record r office) site makeup) 1 (omega arith)
+          eq-eqb (makeups_on (with_record r office) site makeup) 1 (omega arith)
       own x is = refl
 
   joined-sites : length (sites_of (with_record r office).records) ≤ MOST_SITES
@@ -465,11 +451,11 @@ module _ (office : Office) (keep : OfficeRecord → Bool) (own : KeepsItsOwn kee
   kept-makeup : (x : OfficeRecord) (front back : List OfficeRecord) → filter keep office.records ≡ front ++ x ∷ back
       → has_own_makeup_day office x ≡ true → has_own_makeup_day (keeping keep office) x ≡ true
   kept-makeup (Makeup site missed makeup) front back stands h =
-      let one = number_is (makeups_on office site makeup) 1 h in
+      let one = eqb-true (makeups_on office site makeup) 1 h in
       let fewer = count-filter (makes_up_on site makeup) keep office.records in
       let itself = once (makes_up_on site makeup) (Makeup site missed makeup) front back (filter keep office.records) stands
-      (and_true _ _ (is_same-refl (site_numbers site) (site_numbers site) refl) (is_number makeup makeup refl)) in
-      is_number (makeups_on (keeping keep office) site makeup) 1 (omega arith)
+      (and_from _ _ (is_same-refl (site_numbers site) (site_numbers site) refl) (eq-eqb makeup makeup refl)) in
+      eq-eqb (makeups_on (keeping keep office) site makeup) 1 (omega arith)
   kept-makeup x front back stands h = refl
 
   pub kept : KeysRise (keeping keep office) → IsOffice office → IsOffice (keeping keep office)

@@ -4,7 +4,7 @@ use Rattle.std.specs.Prelude.{find, filter, count_by, sum_by, nat_le, nat_lt, �
 use Rattle.std.specs.List.{list_all, filter_map, cons_option}
 use Rattle.std.specs.Option.{option_or}
 use Rattle.std.proofs.Math.ListN.{drop_of_length-le}
-use Rattle.std.proofs.lemmas.Bool.{false≢true, cases_lt}
+use Rattle.std.proofs.lemmas.Bool.{false≢true, cases_lt, and_from, and_parts, eq-eqb, le-leb, leb-true}
 use Rattle.std.proofs.lemmas.Bool.Decides.{nat_tests}
 use Rattle.std.proofs.lemmas.List.{length-take, length-take-le, length-drop}
 use Rattle.std.proofs.lemmas.List.Sums.{sum_by-cons, length-filter, count_by-le-length}
@@ -25,10 +25,7 @@ use Rattle.aq_profile.specs.Lines.Reading.{LineValue, OfRd, OfOffice, breaks, ru
 use Rattle.aq_profile.specs.Office.Office.{Office, rises, rises_from, is_rest, is_reply}
 use Rattle.aq_profile.specs.Office.Refusal.{breaks_office, office_rules}
 use Rattle.aq_profile.specs.Office.Load.{broken_by, refusal, after, listed_for, refusals, all_rules, refused_under, rest_for, rest_of, reply_for, reply}
-use Rattle.aq_profile.proofs.Least.{both}
-use Rattle.aq_profile.proofs.JoinedFields.{and_true}
 use Rattle.aq_profile.proofs.RowsPlaced.{count-cons}
-use Rattle.aq_profile.proofs.ValidRecords.{is_most, most_is, is_number}
 
 -- ---- numbers that rise
 
@@ -66,13 +63,13 @@ module _ {X : Type 0} (number : X → ℕ) where
       behind x [] first less up = refl
       behind x (y ∷ ys) first less up =
           let low = up.0 in
-          and_true _ _ (above (number x) (number y) (omega arith)) (behind y ys (number y + 1) (omega arith) up.2)
+          and_from _ _ (above (number x) (number y) (omega arith)) (behind y ys (number y + 1) (omega arith) up.2)
 
   Up-within : (first last : ℕ) (xs : List X) → Up number first last xs → list_all (λ x. nat_le first (number x) && nat_le (number x) last) xs ≡ true
   Up-within first last [] up = refl
   Up-within first last (x ∷ xs) up =
       let low = up.0 in
-      and_true _ _ (and_true _ _ (most_is first (number x) up.0) (most_is (number x) last up.1))
+      and_from _ _ (and_from _ _ (le-leb first (number x) up.0) (le-leb (number x) last up.1))
       (Up-within first last xs (Up-earlier first (number x + 1) last xs (omega arith) up.2))
 
   Up-filter_map : {Y : Type 0} (h : Y → Option X) (other : Y → ℕ) (first last : ℕ) (ys : List Y)
@@ -94,37 +91,37 @@ module _ {X : Type 0} where
   all_both : (p q : X → Bool) (xs : List X) → list_all p xs ≡ true → list_all q xs ≡ true → list_all (λ x. p x && q x) xs ≡ true
   all_both p q [] h k = refl
   all_both p q (x ∷ xs) h k =
-      let left = both (p x) (list_all p xs) h in
-      let right = both (q x) (list_all q xs) k in
-      and_true _ _ (and_true (p x) (q x) left.0 right.0) (all_both p q xs left.1 right.1)
+      let left = and_parts (p x) (list_all p xs) h in
+      let right = and_parts (q x) (list_all q xs) k in
+      and_from _ _ (and_from (p x) (q x) left.0 right.0) (all_both p q xs left.1 right.1)
 
   all-take : (p : X → Bool) (n : ℕ) (xs : List X) → list_all p xs ≡ true → list_all p (take n xs) ≡ true
   all-take p zero xs h = refl
   all-take p (suc n) [] h = refl
   all-take p (suc n) (x ∷ xs) h =
-      let parts = both (p x) (list_all p xs) h in
-      and_true (p x) _ parts.0 (all-take p n xs parts.1)
+      let parts = and_parts (p x) (list_all p xs) h in
+      and_from (p x) _ parts.0 (all-take p n xs parts.1)
 
   all-drop : (p : X → Bool) (n : ℕ) (xs : List X) → list_all p xs ≡ true → list_all p (drop n xs) ≡ true
   all-drop p zero xs h = h
   all-drop p (suc n) [] h = refl
-  all-drop p (suc n) (x ∷ xs) h = all-drop p n xs (both (p x) (list_all p xs) h).1
+  all-drop p (suc n) (x ∷ xs) h = all-drop p n xs (and_parts (p x) (list_all p xs) h).1
 
   all-filter_map : {Y : Type 0} (p : Y → Bool) (q : X → Bool) (h : Y → Option X) (ys : List Y)
       → ((y : Y) (x : X) → p y ≡ true → h y ≡ Some x → q x ≡ true) → list_all p ys ≡ true → list_all q (filter_map h ys) ≡ true
   all-filter_map p q h [] go all = refl
   all-filter_map p q h (y ∷ ys) go all =
-      let parts = both (p y) (list_all p ys) all in
+      let parts = and_parts (p y) (list_all p ys) all in
       choose (h y) (λ x. go y x parts.0) (all-filter_map p q h ys go parts.1)
     where
       choose : (o : Option X) → ((x : X) → o ≡ Some x → q x ≡ true) → list_all q (filter_map h ys) ≡ true → list_all q (cons_option o (filter_map h ys)) ≡ true
       choose None is rest = rest
-      choose (Some x) is rest = and_true (q x) _ (is x refl) rest
+      choose (Some x) is rest = and_from (q x) _ (is x refl) rest
 
   found_passes : (p q : X → Bool) (xs : List X) (x : X) → list_all q xs ≡ true → find p xs ≡ Some x → q x ≡ true
   found_passes p q [] x all is = cc
   found_passes p q (y ∷ ys) x all is =
-      let parts = both (q y) (list_all q ys) all in
+      let parts = and_parts (q y) (list_all q ys) all in
       choose (p y) parts.0 is (found_passes p q ys x parts.1)
     where
       choose : (b : Bool) → q y ≡ true → cond b (Some y) (find p ys) ≡ Some x → (find p ys ≡ Some x → q x ≡ true) → q x ≡ true
@@ -224,7 +221,7 @@ refusals-built office (line ∷ lines) =
         → list_all (λ listed. is_built listed.rule) (refusals (after office line.text) lines) ≡ true
         → list_all (λ listed. is_built listed.rule) (listed_for line.number o ++ refusals (after office line.text) lines) ≡ true
     choose None is rest = rest
-    choose (Some rule) is rest = and_true _ _ (is rule refl) rest
+    choose (Some rule) is rest = and_from _ _ (is rule refl) rest
 
 length-refusals : (office : Office) (lines : List NumberedLine) → length (refusals office lines) ≤ length lines
 length-refusals office [] = omega arith
@@ -268,7 +265,7 @@ all_under : (refused : List ListedLine) → list_all (λ listed. is_built listed
     → sum_by (λ rule. refused_under rule refused) all_rules ≡ length refused
 all_under [] h = nothing_under all_rules
 all_under (listed ∷ refused) h =
-    let parts = both (is_built listed.rule) (list_all (λ listed. is_built listed.rule) refused) h in
+    let parts = and_parts (is_built listed.rule) (list_all (λ listed. is_built listed.rule) refused) h in
     let sums : sum_by (λ rule. refused_under rule (listed ∷ refused)) all_rules
     ≡ count_by (λ other. rule_number listed.rule == rule_number other) all_rules + sum_by (λ rule. refused_under rule refused) all_rules =
     sums_joined (λ rule. refused_under rule (listed ∷ refused)) (λ rule. cond {A = ℕ} (rule_number listed.rule == rule_number rule) 1 0)
@@ -316,9 +313,9 @@ rules_up-from : (first : ℕ) (rules : List Rule) → rules_rise first rules ≡
 unfolding rules_rise
 rules_up-from first [] h = tt
 rules_up-from first (rule ∷ rules) h =
-    let rest = both _ (rules_rise (rule_number rule + 1) rules) h in
-    let here = both (nat_le first (rule_number rule)) (nat_le (rule_number rule) 34) rest.0 in
-    (is_most first (rule_number rule) here.0, is_most (rule_number rule) 34 here.1, rules_up-from (rule_number rule + 1) rules rest.1)
+    let rest = and_parts _ (rules_rise (rule_number rule + 1) rules) h in
+    let here = and_parts (nat_le first (rule_number rule)) (nat_le (rule_number rule) 34) rest.0 in
+    (leb-true first (rule_number rule) here.0, leb-true (rule_number rule) 34 here.1, rules_up-from (rule_number rule + 1) rules rest.1)
 
 rules_up : Up rule_number 1 34 all_rules
 unfolding rules_rise
@@ -343,7 +340,7 @@ rest_is refused rule rest built is = choose (refused_under rule refused == 0) re
     choose false some_here is =
         let count : refused_under rule refused ≡ rest.count = cc in
         let same : rule ≡ rest.rule = cc in
-        and_true _ _ (subst (λ r. is_built r ≡ true) same built)
+        and_from _ _ (subst (λ r. is_built r ≡ true) same built)
         (subst (λ n. nat_le 1 n ≡ true) count (some_nonzero (refused_under rule refused) some_here))
 
 listed_or_none : (refused : List ListedLine)
@@ -358,29 +355,29 @@ listed_or_none refused = elim (cases_lt (length refused) MOST_LISTED) [ inl few 
     none few = ap (λ rest. (length (rest_of rest) == 0) || (length (take MOST_LISTED refused) == MOST_LISTED)) (drop_of_length-le refused few)
 
     all : MOST_LISTED ≤ length refused → ((length (rest_of (drop MOST_LISTED refused)) == 0) || (length (take MOST_LISTED refused) == MOST_LISTED)) ≡ true
-    all many = either _ _ (is_number (length (take MOST_LISTED refused)) MOST_LISTED (length-take-le MOST_LISTED refused many))
+    all many = either _ _ (eq-eqb (length (take MOST_LISTED refused)) MOST_LISTED (length-take-le MOST_LISTED refused many))
 
 reply-in_order : (number lines taken : ℕ) (refused : List ListedLine) → lines ≤ MOST_LINES → taken ≤ lines → length refused ≤ taken
     → Up (λ (listed : ListedLine). listed.line) 1 lines refused → list_all (λ listed. is_built listed.rule) refused ≡ true
     → is_reply (reply_for number lines taken refused) ≡ true
 reply-in_order number lines taken refused few within fewer up built =
-    and_true _ _
-    (and_true _ _
-    (and_true _ _
-    (and_true _ _
-    (and_true _ _
-    (and_true _ _
-    (and_true _ _
-    (and_true _ _ (most_is lines MOST_LINES few) (Up-rises (λ listed. listed.line) 1 lines (take MOST_LISTED refused) listed_up))
+    and_from _ _
+    (and_from _ _
+    (and_from _ _
+    (and_from _ _
+    (and_from _ _
+    (and_from _ _
+    (and_from _ _
+    (and_from _ _ (le-leb lines MOST_LINES few) (Up-rises (λ listed. listed.line) 1 lines (take MOST_LISTED refused) listed_up))
     (all_both (λ (listed : ListedLine). nat_le 1 listed.line && nat_le listed.line lines) (λ listed. is_built listed.rule) (take MOST_LISTED refused)
     (Up-within (λ listed. listed.line) 1 lines (take MOST_LISTED refused) listed_up)
     (all-take (λ listed. is_built listed.rule) MOST_LISTED refused built)))
-    (most_is (length (take MOST_LISTED refused)) MOST_LISTED (omega (arith, length-take MOST_LISTED refused))))
+    (le-leb (length (take MOST_LISTED refused)) MOST_LISTED (omega (arith, length-take MOST_LISTED refused))))
     (listed_or_none refused))
     (Up-rises (λ (rest : RestRule). rule_number rest.rule) 1 34 (rest_of (drop MOST_LISTED refused)) rest_up))
     (all-filter_map is_built is_rest (rest_for (drop MOST_LISTED refused)) all_rules (rest_is (drop MOST_LISTED refused)) refl))
-    (is_number (length refused) _ (omega (arith, length-take MOST_LISTED refused, length-drop MOST_LISTED refused, counts))))
-    (most_is (taken - length refused + length refused) lines (omega arith))
+    (eq-eqb (length refused) _ (omega (arith, length-take MOST_LISTED refused, length-drop MOST_LISTED refused, counts))))
+    (le-leb (taken - length refused + length refused) lines (omega arith))
   where
     listed_up : Up (λ (listed : ListedLine). listed.line) 1 lines (take MOST_LISTED refused)
     listed_up = Up-take (λ listed. listed.line) MOST_LISTED 1 lines refused up

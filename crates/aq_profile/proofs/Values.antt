@@ -8,12 +8,13 @@ use Rattle.std.proofs.lemmas.Fmt.{decimal_is_IsNumeral}
 use Rattle.std.proofs.Math.Seq.{take-append_seam}
 use Rattle.std.proofs.Math.Nat.{mul-div_cancel}
 use Rattle.std.proofs.lemmas.Bool.Decides.{nat_tests}
+use Rattle.std.proofs.lemmas.Bool.{and_from, and_parts}
 use Rattle.aq_base.specs.Decimal.{last_digits, are_digits, is_point, is_minus, cut, fixed, unsigned_part, whole_part, fraction_part, is_decimal, cut_magnitude}
 use Rattle.aq_base.specs.declared.monitor.Pollutant.{Pollutant}
 use Rattle.aq_base.specs.declared.monitor.Pollutant.TheVariants.{Ozone, Pm25, Pm10}
 use Rattle.aq_profile.specs.Lines.Spellings.{value_in, is_in_range}
-use Rattle.aq_profile.proofs.Least.{both}
-use Rattle.aq_profile.proofs.JoinedFields.{and_true, is_clean}
+use Rattle.aq_profile.proofs.Digits.{digit_is, digits_are}
+use Rattle.aq_profile.proofs.JoinedFields.{is_clean}
 use Rattle.aq_profile.proofs.RoundTrip.{clean-append, clean-decimal, clean-digits}
 use Rattle.aq_profile.specs.Lines.Fields.{is_empty}
 use Rattle.aq_profile.specs.Lines.Canonical.{value_text, value_places}
@@ -84,19 +85,12 @@ magnitude_is text whole frac places k p =
 positive : (n : ℕ) → 0 < n → nat_lt 0 n ≡ true
 positive n h = grind (arith, nat_tests)
 
-digit : (c : ℕ) → digit_value c < 10 → is_ascii_digit c ≡ true
-digit c h = grind (arith, nat_tests)
-
-digits-all : (ds : List ℕ) → AllDigits 10 ds → are_digits ds ≡ true
-digits-all [] h = refl
-digits-all (c ∷ ds) h = and_true (is_ascii_digit c) (are_digits ds) (digit c h.0) (digits-all ds h.1)
-
 decimal_text : (text whole frac : List ℕ) (places k : ℕ) → Parts text whole frac places k → is_decimal text ≡ true
 decimal_text text whole frac places k p =
     ap (λ w. are_digits w && are_digits (fraction_part text) && nat_lt 0 (length (w ++ fraction_part text))) (whole_is text whole frac places k p)
     ∙ ap (λ f. are_digits whole && are_digits f && nat_lt 0 (length (whole ++ f))) (frac_is text whole frac places k p)
-    ∙ and_true (are_digits whole && are_digits frac) (nat_lt 0 (length (whole ++ frac)))
-    (and_true (are_digits whole) (are_digits frac) (digits-all whole p.whole_digits) p.frac_digits)
+    ∙ and_from (are_digits whole && are_digits frac) (nat_lt 0 (length (whole ++ frac)))
+    (and_from (are_digits whole) (are_digits frac) (digits_are whole p.whole_digits) p.frac_digits)
     (positive (length (whole ++ frac)) p.some_digit)
 
 signless : (c : ℕ) → digit_value c < 10 → ((c == 43) || (c == 45)) ≡ false
@@ -116,8 +110,8 @@ not_minus (d ∷ ds) rest h l = no_minus d h.0
 digits-append : (xs ys : List ℕ) → are_digits xs ≡ true → are_digits ys ≡ true → are_digits (xs ++ ys) ≡ true
 digits-append [] ys p q = q
 digits-append (x ∷ xs) ys p q =
-    let parts = both (is_ascii_digit x) (are_digits xs) p in
-    and_true (is_ascii_digit x) (are_digits (xs ++ ys)) parts.0 (digits-append xs ys parts.1 q)
+    let parts = and_parts (is_ascii_digit x) (are_digits xs) p in
+    and_from (is_ascii_digit x) (are_digits (xs ++ ys)) parts.0 (digits-append xs ys parts.1 q)
 
 ascii : (k : ℕ) → is_ascii_digit (48 + k % 10) ≡ true
 ascii k = grind (arith, nat_tests)
@@ -126,7 +120,7 @@ are_digits-last : (w k : ℕ) → are_digits (last_digits w k) ≡ true
 unfolding last_digits
 are_digits-last zero k = refl
 are_digits-last (suc w) k =
-    digits-append (last_digits w (k / 10)) ((48 + k % 10) ∷ []) (are_digits-last w (k / 10)) (and_true (is_ascii_digit (48 + k % 10)) true (ascii k) refl)
+    digits-append (last_digits w (k / 10)) ((48 + k % 10) ∷ []) (are_digits-last w (k / 10)) (and_from (is_ascii_digit (48 + k % 10)) true (ascii k) refl)
 
 longer : (xs ys : List ℕ) → 0 < length xs → 0 < length (xs ++ ys)
 longer xs ys h = omega (arith, length-append xs ys)
@@ -212,7 +206,7 @@ value_known : (p : Pollutant) (places : ℕ) (text : List ℕ) (v : ℤ) → is_
 unfolding value_in
 value_known p places text v dec is range =
     ap (λ c. if is_decimal text && is_in_range p c then Some c else None) is
-    ∙ ap (λ b. if b then Some v else None) (and_true (is_decimal text) (is_in_range p v) dec range)
+    ∙ ap (λ b. if b then Some v else None) (and_from (is_decimal text) (is_in_range p v) dec range)
 
 some_text : (ds rest : List ℕ) → 0 < length ds → is_empty (ds ++ rest) ≡ false
 some_text [] rest h = absurd (omega arith)

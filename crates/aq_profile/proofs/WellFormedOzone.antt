@@ -20,9 +20,10 @@ use Rattle.aq_profile.specs.Ozone.OzoneYear.{days_of, ozone_days, ozone_year}
 use Rattle.aq_profile.specs.Kept.Summaries.{KeepsOzoneYear, is_value}
 use Rattle.aq_profile.specs.Shown.Sheets.{window_cells, windows_sheet, windows_answer, day_cells, days_sheet, days_answer}
 use Rattle.aq_profile.specs.Shown.WellFormed.{is_row, IsWellFormed}
-use Rattle.aq_profile.proofs.Spans.{Every}
+use Rattle.aq_profile.proofs.Elements.{Every}
 use Rattle.aq_profile.proofs.Pm10Facts.{length-kept, length-filter-le}
-use Rattle.aq_profile.proofs.OzoneFacts.{InRange, CellIn, total-between, average-in_range, hours-in_range, window-in_range, day-in_range, from_test, ozone_year-keeps}
+use Rattle.aq_profile.proofs.OzoneFacts.{InRange, CellIn, average-in_range, hours-in_range, window-in_range, day-in_range, ozone_year-keeps}
+use Rattle.aq_profile.proofs.ValueRange.{total-between, from_test}
 use Rattle.aq_profile.proofs.Quarters.{year-holds}
 use Rattle.aq_profile.proofs.Held.{IfHeld}
 use Rattle.aq_profile.proofs.SheetCells.{site-word, day-word, hour-word, truth-word, count, if_ppm, row-of, heads-of, numbered-rows, zip-every}
@@ -53,7 +54,7 @@ window-in office site start valid =
     record {
       net = window-in_range office site start valid;
       net_hours = omega (arith, length-map (filter (λ (c : Cell). not c.excluded) cells) (λ (c : Cell). c.value), length-filter-le (λ (c : Cell). not c.excluded) cells, few);
-      full = average-in_range (length values) (total values) (total-between values (full-in cells every));
+      full = average-in_range (length values) (total values) (total-between 9999 values (full-in cells every));
       full_hours = omega (arith, length-map cells (λ (c : Cell). c.value), few);
     }
 
@@ -110,7 +111,7 @@ day-row most day row few is =
 
 pub if_in : (o : Option ℤ) → is_value Ozone o ≡ true → IfHeld 999 9999 o
 if_in None h = tt
-if_in (Some v) h = from_test v h
+if_in (Some v) h = from_test 9999 v h
 
 pub year_keeps : (office : Office) (site : Site) (year : ℕ) → IsOffice office → KeepsOzoneYear (ozone_year office site year)
 year_keeps office site year valid = ozone_year-keeps office site year valid (year-holds year)

@@ -19,12 +19,13 @@ use Rattle.aq_profile.specs.Shown.Sheet.{count_cell}
 use Rattle.aq_profile.specs.Shown.Sheet.SheetCell.{Missing}
 use Rattle.aq_profile.specs.Shown.ParticleSheets.{pm25_cells, rank_cell, pm25_sheet, pm25_answer, pm10_cells, pm10_sheet, pm10_answer}
 use Rattle.aq_profile.specs.Shown.WellFormed.{is_cell, is_row, IsWellFormed}
-use Rattle.aq_profile.proofs.Spans.{Every}
-use Rattle.aq_profile.proofs.Pm25Range.{pm25_quarter-keeps, quarter_values-in_range, least-in_range, greatest-in_range, every-take, every-ranked}
+use Rattle.aq_profile.proofs.Elements.{Every, every-append, every-map}
+use Rattle.aq_profile.proofs.Pm25Range.{pm25_quarter-keeps, quarter_values-in_range, every-take}
+use Rattle.aq_profile.proofs.ValueRange.{least-in_range, greatest-in_range, every-ranked}
 use Rattle.aq_profile.proofs.Pm10Facts.{pm10_year-keeps}
 use Rattle.aq_profile.proofs.Quarters.{quarter-holds}
 use Rattle.aq_profile.proofs.Held.{Held, held-wider, total-held}
-use Rattle.aq_profile.proofs.PmHeld.{In, IfIn, MeanIn, year-in, values-in, mean_of_means-in, percentile-in, every-join, every-map}
+use Rattle.aq_profile.proofs.PmHeld.{In, IfIn, MeanIn, year-in, values-in, mean_of_means-in, percentile-in}
 use Rattle.aq_profile.proofs.Pm10Held.{estimate-held, lower-held, year_estimate-held}
 use Rattle.aq_profile.proofs.SheetCells.{site-word, count, fixed, if_fixed, percent-few, row-of, heads-of, numbered-rows}
 use Rattle.aq_profile.proofs.WellFormedOzone.{of_profile}
@@ -57,8 +58,8 @@ quarter-held office site quarter valid =
       counted = omega arith;
       days = few;
       sum = sum;
-      least = least-in_range values every;
-      greatest = greatest-in_range values every;
+      least = least-in_range 99999 values every;
+      greatest = greatest-in_range 99999 values every;
     }
 
 pub capture-few : (counts : QuarterCounts) → counts.creditable ≤ counts.scheduled → capture counts ≤ 100
@@ -137,7 +138,7 @@ year-held office site year valid =
       four = refl;
       quarters = each;
       counted = counted-few (pm25_summary office site year).quarters each;
-      percentile = percentile-in (eight_greatest (values_in days) ++ []) (kept_counted (pm25_summary office site year).quarters + 0) (every-join In (eight_greatest (values_in days)) [] (every-take 8 (ranked (values_in days)) (every-ranked (values_in days) (values-in days all))) tt);
+      percentile = percentile-in (eight_greatest (values_in days) ++ []) (kept_counted (pm25_summary office site year).quarters + 0) (every-append In (eight_greatest (values_in days)) [] (every-take 8 (ranked (values_in days)) (every-ranked 99999 (values_in days) (values-in days all))) tt);
       mean = mean-held (pm25_summary office site year).quarters each;
     }
 

@@ -5,6 +5,7 @@ use Rattle.std.specs.List.{list_all, zip}
 use Rattle.std.proofs.lemmas.Int.{ints}
 use Rattle.std.proofs.lemmas.Bool.Decides.{nat_tests}
 use Rattle.std.proofs.lemmas.List.{length-map}
+use Rattle.std.proofs.lemmas.Bool.{eq-eqb}
 use Rattle.aq_base.specs.Site.{Site}
 use Rattle.aq_base.specs.declared.standard.Standard.{Standard}
 use Rattle.aq_base.specs.declared.standard.Standard.TheVariants.{Ozone2015, Annual2012, AnnualSecondary, Daily2006, Pm10Of1987}
@@ -30,8 +31,8 @@ use Rattle.aq_profile.specs.Shown.ParticleSheets.{annual_cells, annual_value_she
 use Rattle.aq_profile.specs.Shown.OtherSheets.{Judged, judged, judged_cells, report_answer, report_sheet, sites_with, value_answer, value_sheet}
 use Rattle.aq_profile.specs.Shown.Answer.{is_design_year}
 use Rattle.aq_profile.specs.Shown.WellFormed.{is_cell, is_head, is_row, IsWellFormed}
-use Rattle.aq_profile.proofs.Spans.{Every}
-use Rattle.aq_profile.proofs.OzoneFacts.{trunc-in_range}
+use Rattle.aq_profile.proofs.Elements.{Every}
+use Rattle.aq_profile.proofs.ValueRange.{trunc-in_range}
 use Rattle.aq_profile.proofs.Pm10Facts.{pm10_year-keeps}
 use Rattle.aq_profile.proofs.Held.{IfHeld, if_held-wider}
 use Rattle.aq_profile.proofs.PmHeld.{IfIn, YearIn, years-in, annual_value-in, minimum_value-in, maximum_value-in, annual_test-in, daily_value-in, maximum_daily-in, daily_test-in}
@@ -84,7 +85,7 @@ ozone_sheet site year years design few three keeps value = record {
 
 third : (a b c : Option ℤ) → IfHeld 999 9999 a → IfHeld 999 9999 b → IfHeld 999 9999 c → IfHeld 999 9999 (design_value_of a b c)
 third (Some a) (Some b) (Some c) h k l =
-    trunc-in_range (a +ℤ b +ℤ c) 3 (omega arith) (omega (arith, ints, h.0, k.0, l.0), omega (arith, ints, h.1, k.1, l.1))
+    trunc-in_range 9999 (a +ℤ b +ℤ c) 3 (omega arith) (omega (arith, ints, h.0, k.0, l.0), omega (arith, ints, h.1, k.1, l.1))
 third None b c h k l = tt
 third (Some a) None c h k l = tt
 third (Some a) (Some b) None h k l = tt
@@ -98,9 +99,6 @@ capture-cells (q ∷ qs) valid every =
     let share = capture-few (counts_of q) every.0.creditable in
     (count (capture (counts_of q)) (omega (arith, share)), capture-cells qs valid every.1)
 
-same-number : (n m : ℕ) → n ≡ m → (n == m) ≡ true
-same-number n m h = grind (arith, nat_tests)
-
 captures-long : (quarters : List PmQuarter) (valid : Bool) → length quarters ≡ 4 → length (map (λ q. count_cell (capture (counts_of q))) quarters ++ Text (truth_text valid) ∷ []) ≡ 5
 captures-long quarters valid four =
     omega (arith, length-append (map (λ q. count_cell (capture (counts_of q))) quarters) (Text (truth_text valid) ∷ []), length-map quarters (λ q. count_cell (capture (counts_of q))), four)
@@ -112,7 +110,7 @@ annual-row : (year : ℕ) (row : PmYear × Bool) → year < 2053 → YearHeld ro
 unfolding annual_columns
 annual-row year row few held =
     let long = captures-long row.0.quarters row.1 held.four in
-    row-of annual_columns (annual_cells (year, row)) (same-number (length (annual_cells (year, row))) 7 (omega (arith, long)))
+    row-of annual_columns (annual_cells (year, row)) (eq-eqb (length (annual_cells (year, row))) 7 (omega (arith, long)))
     (count year (omega arith), (if_fixed 999 99999 1 (mean_of_sums row.0.quarters) (omega arith) (omega arith) refl held.mean, capture-cells row.0.quarters row.1 held.quarters))
 
 annual_sheet : (standard : Standard) (site : Site) (year : ℕ) (years : List PmYear) (design : ParticleDv) → year ≤ 2049 → length years ≤ 3 → Every YearHeld years
@@ -136,7 +134,7 @@ unfolding daily_columns
 daily-row year row few held =
     let long = captures-long row.0.quarters row.1 held.four in
     let counted = held.counted in
-    row-of daily_columns (daily_cells (year, row)) (same-number (length (daily_cells (year, row))) 8 (omega (arith, long)))
+    row-of daily_columns (daily_cells (year, row)) (eq-eqb (length (daily_cells (year, row))) 8 (omega (arith, long)))
     (count year (omega arith), (if_fixed 999 99999 1 (kept_percentile row.0) (omega arith) (omega arith) refl held.percentile, (count (kept_counted row.0.quarters) (omega arith), capture-cells row.0.quarters row.1 held.quarters)))
 
 daily_sheet : (site : Site) (year : ℕ) (years : List PmYear) (design : ParticleDv) → year ≤ 2049 → length years ≤ 3 → Every YearHeld years

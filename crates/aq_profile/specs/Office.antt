@@ -11,3 +11,6 @@ pub mod Exclusion
 pub mod Refusal
 pub mod Load
 pub mod OfficeExamples
+pub mod RowOrder
+pub mod Sameness
+pub mod Unagreed

@@ -5,3 +5,4 @@ pub mod OzoneDay
 pub mod OzoneYear
 pub mod OzoneVerdict
 pub mod OzoneExamples
+pub mod Unexcluded

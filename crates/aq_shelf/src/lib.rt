@@ -11,7 +11,7 @@ mod stretch;
 
 pub use fault::{NotThere, ShelfFault};
 pub use rows::Rows;
-pub use shelf::{MOST_OBSERVATIONS, Shelf};
+pub use shelf::Shelf;
 pub use span::Span;
 
 #[cfg(test)]

@@ -11,7 +11,7 @@ use crate::hours::Hours;
 use crate::rows::Rows;
 use crate::span::Span;
 use crate::stretch::{STRETCH_HOURS, Stretch};
-use aq_base::{Hour, MonitorId, ObsKey, Observation, Steps};
+use aq_base::{Hour, MOST_OBSERVATIONS, MonitorId, ObsKey, Observation, Steps};
 use std::alloc::Global;
 use std::cmp::Reverse;
 use std::collections::BTreeMap;
@@ -19,9 +19,6 @@ use std::collections::btree_map::Range;
 use std::marker::Model;
 use std::ops::Bound;
 use std::sync::ledger::Ledger;
-
-/// As many observations may stand (own).
-pub const MOST_OBSERVATIONS: u32 = 4_000_000;
 
 /// The observations that stand, one for each key. Contracts see the list of them as the book of rules
 /// has it in an office: in rising order of keys, by state, county, site number, pollutant, POC and

@@ -1,4 +1,4 @@
-use Rattle.aq_profile.proofs.Sameness.{same_site, same_pollutant, same_key, key_itself}
+use Rattle.aq_profile.specs.Office.Sameness.{same_site, same_pollutant, same_key, key_itself}
 use Rattle.aq_profile.proofs.office.monitors.sameness_is_equality.Goals as goal
 
 pub returns-clause-sites : goal.returns-clause-sites

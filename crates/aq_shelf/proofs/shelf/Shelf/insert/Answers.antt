@@ -3,7 +3,7 @@ use Rattle.std.proofs.lemmas.Bool.Decides.{nat_tests}
 use Rattle.std.proofs.lemmas.Result.{err_from_is_err_and}
 use Rattle.aq_base.specs.declared.observation.ObsKey.{ObsKey}
 use Rattle.aq_base.specs.declared.observation.Observation.{Observation}
-use Rattle.aq_shelf.specs.declared.shelf.TheConstants.{MOST_OBSERVATIONS}
+use Rattle.aq_base.specs.declared.limits.TheConstants.{MOST_OBSERVATIONS}
 use Rattle.aq_shelf.specs.Standing.{ChangesOnly, IsInsertFault}
 use Rattle.aq_shelf.specs.Stretches.{joined}
 use Rattle.aq_shelf.proofs.ShelfLemmas.{IsShelf-put, length-put, ChangesOnly-put, IsInsertFault-put}

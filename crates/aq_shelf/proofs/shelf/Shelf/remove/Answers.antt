@@ -1,7 +1,7 @@
 use Rattle.std.proofs.Common.{◌≤◌, ap, sym, subst, None, List, length, arith}
 use Rattle.aq_base.specs.declared.observation.ObsKey.{ObsKey}
 use Rattle.aq_base.specs.declared.observation.Observation.{Observation}
-use Rattle.aq_shelf.specs.declared.shelf.TheConstants.{MOST_OBSERVATIONS}
+use Rattle.aq_base.specs.declared.limits.TheConstants.{MOST_OBSERVATIONS}
 use Rattle.aq_shelf.specs.Standing.{ChangesOnly}
 use Rattle.aq_shelf.specs.Stretches.{joined}
 use Rattle.aq_shelf.proofs.ShelfLemmas.{IsShelf-drop, length-drop, ChangesOnly-drop, HasValueInRange-found}

@@ -2,7 +2,7 @@ use Rattle.std.proofs.Common.{◌∙◌, ◌≤◌, ℕ, sym, subst, List, lengt
 use Rattle.std.specs.List.{AllByRecursion}
 use Rattle.aq_base.specs.Values.{HasValueInRange}
 use Rattle.aq_base.specs.declared.observation.Observation.{Observation}
-use Rattle.aq_shelf.specs.declared.shelf.TheConstants.{MOST_OBSERVATIONS}
+use Rattle.aq_base.specs.declared.limits.TheConstants.{MOST_OBSERVATIONS}
 use Rattle.aq_shelf.specs.Stretches.{joined}
 use Rattle.aq_shelf.proofs.ShelfLemmas.{all-observations_in, few-observations_in}
 use Rattle.aq_shelf.proofs.shelf.Shelf.span.Goals as goal

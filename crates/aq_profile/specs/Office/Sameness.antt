@@ -1,7 +1,7 @@
 -- The tests of sameness hold of equal things alone.
-use Rattle.std.proofs.Common.{◌≡◌, ℕ, Bool, true, false, ◌&&◌, refl, arith}
+use Rattle.std.proofs.Common.{◌≡◌, ℕ, Bool, true, false, ◌&&◌, refl}
 use Rattle.std.specs.Prelude.{◌==◌}
-use Rattle.std.proofs.lemmas.Bool.Decides.{nat_tests}
+use Rattle.std.proofs.lemmas.Bool.{and_parts, eqb-true, eq-eqb}
 use Rattle.aq_base.specs.Site.{Site}
 use Rattle.aq_base.specs.declared.monitor.Pollutant.{Pollutant}
 use Rattle.aq_base.specs.declared.monitor.Pollutant.TheVariants.{Ozone, Pm25, Pm10}
@@ -9,23 +9,13 @@ use Rattle.aq_base.specs.declared.monitor.MonitorId.{MonitorId}
 use Rattle.aq_base.specs.declared.observation.ObsKey.{ObsKey}
 use Rattle.aq_profile.specs.Office.Monitors.{is_same_site, is_same_pollutant, is_same_monitor, is_same_key}
 
-left : (a b : Bool) → (a && b) ≡ true → a ≡ true
-left true b h = refl
-left false b h = h
-
-right : (a b : Bool) → (a && b) ≡ true → b ≡ true
-right true b h = h
-right false b h = cc
-
-numbers : (a b : ℕ) → (a == b) ≡ true → a ≡ b
-numbers a b h = grind (arith, nat_tests)
-
 pub same_site : (a b : Site) → is_same_site a b ≡ true → a ≡ b
 same_site a b h =
-    let first = left ((a.state == b.state) && (a.county == b.county)) (a.number == b.number) h in
-    let state = numbers a.state b.state (left (a.state == b.state) (a.county == b.county) first) in
-    let county = numbers a.county b.county (right (a.state == b.state) (a.county == b.county) first) in
-    let number = numbers a.number b.number (right ((a.state == b.state) && (a.county == b.county)) (a.number == b.number) h) in
+    let whole = and_parts ((a.state == b.state) && (a.county == b.county)) (a.number == b.number) h in
+    let first = and_parts (a.state == b.state) (a.county == b.county) whole.0 in
+    let state = eqb-true a.state b.state first.0 in
+    let county = eqb-true a.county b.county first.1 in
+    let number = eqb-true a.number b.number whole.1 in
     λ i. record { state = state i; county = county i; number = number i }
 
 pub same_pollutant : (a b : Pollutant) → is_same_pollutant a b ≡ true → a ≡ b
@@ -41,20 +31,22 @@ same_pollutant Pm10 Pm10 h = refl
 
 pub same_monitor : (a b : MonitorId) → is_same_monitor a b ≡ true → a ≡ b
 same_monitor a b h =
-    let first = left (is_same_site a.site b.site && is_same_pollutant a.pollutant b.pollutant) (a.poc == b.poc) h in
-    let site = same_site a.site b.site (left (is_same_site a.site b.site) (is_same_pollutant a.pollutant b.pollutant) first) in
-    let pollutant = same_pollutant a.pollutant b.pollutant (right (is_same_site a.site b.site) (is_same_pollutant a.pollutant b.pollutant) first) in
-    let poc = numbers a.poc b.poc (right (is_same_site a.site b.site && is_same_pollutant a.pollutant b.pollutant) (a.poc == b.poc) h) in
+    let whole = and_parts (is_same_site a.site b.site && is_same_pollutant a.pollutant b.pollutant) (a.poc == b.poc) h in
+    let first = and_parts (is_same_site a.site b.site) (is_same_pollutant a.pollutant b.pollutant) whole.0 in
+    let site = same_site a.site b.site first.0 in
+    let pollutant = same_pollutant a.pollutant b.pollutant first.1 in
+    let poc = eqb-true a.poc b.poc whole.1 in
     λ i. record { site = site i; pollutant = pollutant i; poc = poc i }
 
 pub same_key : (a b : ObsKey) → is_same_key a b ≡ true → a ≡ b
 same_key a b h =
-    let monitor = same_monitor a.monitor b.monitor (left (is_same_monitor a.monitor b.monitor) (a.hour == b.hour) h) in
-    let hour = numbers a.hour b.hour (right (is_same_monitor a.monitor b.monitor) (a.hour == b.hour) h) in
+    let parts = and_parts (is_same_monitor a.monitor b.monitor) (a.hour == b.hour) h in
+    let monitor = same_monitor a.monitor b.monitor parts.0 in
+    let hour = eqb-true a.hour b.hour parts.1 in
     λ i. record { monitor = monitor i; hour = hour i }
 
-number_itself : (n : ℕ) → (n == n) ≡ true
-number_itself n = grind (arith, nat_tests)
+pub number_itself : (n : ℕ) → (n == n) ≡ true
+number_itself n = eq-eqb n n refl
 
 pub site_itself : (site : Site) → is_same_site site site ≡ true
 site_itself site = rw (number_itself site.state, number_itself site.county, number_itself site.number) refl

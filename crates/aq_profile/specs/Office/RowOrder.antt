@@ -1,15 +1,14 @@
 -- A row put into a list in rising order, or dropped from it, leaves the order.
 use Rattle.std.proofs.Common.{◌≡◌, ℕ, ◌<◌, ◌⊎◌, Bool, true, false, cond, not, ◌&&◌, ◌||◌, List, [], ◌∷◌, refl, sym, ap, ◌∙◌, arith, inl, inr, subst}
 use Rattle.std.specs.Prelude.{nat_lt, ◌==◌, bytes_eq, filter}
-use Rattle.std.proofs.lemmas.Bool.{false≢true}
+use Rattle.std.proofs.lemmas.Bool.{false≢true, and_from, and_parts, cases_Bool}
 use Rattle.std.proofs.lemmas.Bool.Decides.{nat_tests}
 use Rattle.std.proofs.lemmas.Slice.Eq.{bytes_eq-Decides}
-use Rattle.aq_profile.proofs.Least.{both, true_or_false}
 use Rattle.aq_profile.specs.Office.Office.{is_same, comes_before, rises_from, rises, with_row, without_row}
 
 -- the cases of a first number that decides, or a tie
 first_decides : (x y : ℕ) (b : Bool) → (nat_lt x y || ((x == y) && b)) ≡ true → (x < y) ⊎ ((x ≡ y) × (b ≡ true))
-first_decides x y true h = elim (true_or_false (nat_lt x y)) [ inl l ↦ inl (grind (arith, nat_tests)) | inr g ↦ inr (grind (arith, nat_tests), refl) ]
+first_decides x y true h = elim (cases_Bool (nat_lt x y)) [ inl l ↦ inl (grind (arith, nat_tests)) | inr g ↦ inr (grind (arith, nat_tests), refl) ]
 first_decides x y false h = inl (grind (arith, nat_tests))
 
 decided_less : (x y : ℕ) (b : Bool) → x < y → (nat_lt x y || ((x == y) && b)) ≡ true
@@ -50,43 +49,39 @@ module _ {X : Type 0} (rank : X → List ℕ) where
   same_rank x y [] same = refl
   same_rank x y (next ∷ rows) same = ap (λ r. comes_before r (rank next) && rises_from rank next rows) same
 
-  and_true : (a b : Bool) → a ≡ true → b ≡ true → (a && b) ≡ true
-  and_true true b p q = q
-  and_true false b p q = absurd (false≢true p)
-
   with_row-from : (x row : X) (rows : List X) → comes_before (rank x) (rank row) ≡ true → rises_from rank x rows ≡ true
       → rises_from rank x (with_row rank row rows) ≡ true
-  with_row-from x row [] p q = and_true _ _ p refl
+  with_row-from x row [] p q = and_from _ _ p refl
   with_row-from x row (first ∷ rows) p q =
-      let parts = both (comes_before (rank x) (rank first)) (rises_from rank first rows) q in
-      elim (true_or_false (comes_before (rank row) (rank first))) [
+      let parts = and_parts (comes_before (rank x) (rank first)) (rises_from rank first rows) q in
+      elim (cases_Bool (comes_before (rank row) (rank first))) [
         | inl here ↦
             subst (λ b. rises_from rank x (cond b (row ∷ first ∷ rows) (cond (is_same (rank row) (rank first)) (row ∷ rows) (first ∷ with_row rank row rows))) ≡ true)
-            (sym here) (and_true _ _ p (and_true _ _ here parts.1))
+            (sym here) (and_from _ _ p (and_from _ _ here parts.1))
         | inr behind ↦
             subst (λ b. rises_from rank x (cond b (row ∷ first ∷ rows) (cond (is_same (rank row) (rank first)) (row ∷ rows) (first ∷ with_row rank row rows))) ≡ true)
             (sym behind)
-            (elim (true_or_false (is_same (rank row) (rank first))) [
+            (elim (cases_Bool (is_same (rank row) (rank first))) [
               | inl same ↦
                   subst (λ b. rises_from rank x (cond b (row ∷ rows) (first ∷ with_row rank row rows)) ≡ true) (sym same)
-                  (and_true _ _ p (same_rank row first rows ((bytes_eq-Decides (rank row) (rank first)).0 same) ∙ parts.1))
+                  (and_from _ _ p (same_rank row first rows ((bytes_eq-Decides (rank row) (rank first)).0 same) ∙ parts.1))
               | inr other ↦
                   subst (λ b. rises_from rank x (cond b (row ∷ rows) (first ∷ with_row rank row rows)) ≡ true) (sym other)
-                  (and_true _ _ parts.0 (with_row-from first row rows (before-total (rank row) (rank first) behind other) parts.1))
+                  (and_from _ _ parts.0 (with_row-from first row rows (before-total (rank row) (rank first) behind other) parts.1))
             ])
       ]
 
   pub with_row-rises : (row : X) (rows : List X) → rises rank rows ≡ true → rises rank (with_row rank row rows) ≡ true
   with_row-rises row [] p = refl
   with_row-rises row (first ∷ rows) p =
-      elim (true_or_false (comes_before (rank row) (rank first))) [
+      elim (cases_Bool (comes_before (rank row) (rank first))) [
         | inl here ↦
             subst (λ b. rises rank (cond b (row ∷ first ∷ rows) (cond (is_same (rank row) (rank first)) (row ∷ rows) (first ∷ with_row rank row rows))) ≡ true)
-            (sym here) (and_true _ _ here p)
+            (sym here) (and_from _ _ here p)
         | inr behind ↦
             subst (λ b. rises rank (cond b (row ∷ first ∷ rows) (cond (is_same (rank row) (rank first)) (row ∷ rows) (first ∷ with_row rank row rows))) ≡ true)
             (sym behind)
-            (elim (true_or_false (is_same (rank row) (rank first))) [
+            (elim (cases_Bool (is_same (rank row) (rank first))) [
               | inl same ↦
                   subst (λ b. rises rank (cond b (row ∷ rows) (first ∷ with_row rank row rows)) ≡ true) (sym same)
                   (same_rank row first rows ((bytes_eq-Decides (rank row) (rank first)).0 same) ∙ p)
@@ -99,28 +94,28 @@ module _ {X : Type 0} (rank : X → List ℕ) where
   from_earlier : (x y : X) (rows : List X) → comes_before (rank x) (rank y) ≡ true → rises_from rank y rows ≡ true → rises_from rank x rows ≡ true
   from_earlier x y [] p q = refl
   from_earlier x y (next ∷ rows) p q =
-      let parts = both (comes_before (rank y) (rank next)) (rises_from rank next rows) q in
-      and_true _ _ (before-trans (rank x) (rank y) (rank next) p parts.0) parts.1
+      let parts = and_parts (comes_before (rank y) (rank next)) (rises_from rank next rows) q in
+      and_from _ _ (before-trans (rank x) (rank y) (rank next) p parts.0) parts.1
 
   filter-from : (keep : X → Bool) (x : X) (rows : List X) → rises_from rank x rows ≡ true → rises_from rank x (filter keep rows) ≡ true
   filter-from keep x [] p = refl
   filter-from keep x (first ∷ rows) p =
-      let parts = both (comes_before (rank x) (rank first)) (rises_from rank first rows) p in
-      elim (true_or_false (keep first)) [
+      let parts = and_parts (comes_before (rank x) (rank first)) (rises_from rank first rows) p in
+      elim (cases_Bool (keep first)) [
         | inl keeps ↦ subst (λ b. rises_from rank x (cond b (first ∷ filter keep rows) (filter keep rows)) ≡ true) (sym keeps)
-            (and_true _ _ parts.0 (filter-from keep first rows parts.1))
+            (and_from _ _ parts.0 (filter-from keep first rows parts.1))
         | inr drops ↦ subst (λ b. rises_from rank x (cond b (first ∷ filter keep rows) (filter keep rows)) ≡ true) (sym drops)
             (filter-from keep x rows (from_earlier x first rows parts.0 parts.1))
       ]
 
   rises_rest : (first : X) (rows : List X) → rises_from rank first rows ≡ true → rises rank rows ≡ true
   rises_rest first [] p = refl
-  rises_rest first (next ∷ rows) p = (both (comes_before (rank first) (rank next)) (rises_from rank next rows) p).1
+  rises_rest first (next ∷ rows) p = (and_parts (comes_before (rank first) (rank next)) (rises_from rank next rows) p).1
 
   filter-rises : (keep : X → Bool) (rows : List X) → rises rank rows ≡ true → rises rank (filter keep rows) ≡ true
   filter-rises keep [] p = refl
   filter-rises keep (first ∷ rows) p =
-      elim (true_or_false (keep first)) [
+      elim (cases_Bool (keep first)) [
         | inl keeps ↦ subst (λ b. rises rank (cond b (first ∷ filter keep rows) (filter keep rows)) ≡ true) (sym keeps) (filter-from keep first rows p)
         | inr drops ↦ subst (λ b. rises rank (cond b (first ∷ filter keep rows) (filter keep rows)) ≡ true) (sym drops) (filter-rises keep rows (rises_rest first rows p))
       ]

@@ -1,4 +1,4 @@
--- What an exclusion needs, and what follows where there is none.
+-- Where no concurrence is on record nothing is excluded.
 use Rattle.std.proofs.Common.{◌≡◌, ℕ, Bool, true, false, cond, not, ◌&&◌, ◌||◌, List, [], ◌∷◌, refl, ap}
 use Rattle.std.specs.List.{list_any, filter}
 use Rattle.std.specs.Prelude.{ℤ}
@@ -7,8 +7,6 @@ use Rattle.aq_base.specs.declared.observation.ObsKey.{ObsKey}
 use Rattle.aq_base.specs.declared.office.OfficeRecord.{OfficeRecord}
 use Rattle.aq_base.specs.declared.office.OfficeRecord.TheVariants.{Monitor, Primary, Schedule, Season, Makeup, Event, Concurrence, Approved}
 use Rattle.aq_profile.specs.Office.Exclusion.{excluded, takes_out, agrees_to}
-use Rattle.aq_profile.specs.Ozone.SiteHour.{Cell}
-use Rattle.aq_profile.specs.Ozone.EightHour.{row_of, net_values, full_values}
 
 none_of : {X : Type 0} (test : X → Bool) (xs : List X) → ((x : X) → test x ≡ false) → list_any test xs ≡ false
 none_of test [] none = refl
@@ -32,18 +30,3 @@ excluded-unagreed records key codes none = none_of (takes_out records key codes)
     each none (Event number site pollutant first last code) = and_none _ (list_any (agrees_to number) records) (none number)
     each none (Concurrence number agreed) = refl
     each none (Approved site day) = refl
-
--- where no cell is excluded the net values are the full ones
-net_values-all : (cells : List Cell) → list_any (λ (c : Cell). c.excluded) cells ≡ false → net_values cells ≡ full_values cells
-net_values-all [] none = refl
-net_values-all (cell ∷ cells) none = by_flag cell.excluded cells none (net_values-all cells)
-  where
-    by_flag : (flag : Bool) (rest : List Cell) → (flag || list_any (λ (c : Cell). c.excluded) rest) ≡ false
-        → (list_any (λ (c : Cell). c.excluded) rest ≡ false → net_values rest ≡ full_values rest)
-        → full_values (cond (not flag) (cell ∷ filter (λ (c : Cell). not c.excluded) rest) (filter (λ (c : Cell). not c.excluded) rest)) ≡ full_values (cell ∷ rest)
-    by_flag true rest none before = cc
-    by_flag false rest none before = ap (λ (l : List ℤ). cell.value ∷ l) (before none)
-
-pub row-unexcluded : (cells : List Cell) → list_any (λ (c : Cell). c.excluded) cells ≡ false
-    → row_of cells ≡ record { net = (row_of cells).full; net_hours = (row_of cells).full_hours; full = (row_of cells).full; full_hours = (row_of cells).full_hours }
-row-unexcluded cells none = rw (net_values-all cells none) refl
