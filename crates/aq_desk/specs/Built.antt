@@ -1,5 +1,6 @@
 -- What a load's lines make of an office, as far as the forms of lines are built: RD lines whole, and of the office's own lines the plain one of an ozone monitor, once (own).
 use Rattle.std.specs.Prelude.{◌≡◌, ℕ, ◌<◌, true, ◌==◌, count_by, slice_index, if◌then◌else◌, Option, Some, None, List, [], ◌∷◌, ◌++◌, ◌-◌, length, take, drop, filter_map, codes}
+use Rattle.aq_base.specs.Rule.{all_rules}
 use Rattle.aq_base.specs.declared.monitor.MonitorId.{MonitorId}
 use Rattle.aq_base.specs.declared.monitor.Duration.TheVariants.{Hour}
 use Rattle.aq_base.specs.declared.office.OfficeRecord.{OfficeRecord}
@@ -12,7 +13,7 @@ use Rattle.aq_base.specs.declared.rule.Rule.TheVariants.{NotBuilt}
 use Rattle.aq_base.specs.declared.reply.RestRule.{RestRule}
 use Rattle.aq_profile.specs.Limits.{MOST_LISTED}
 use Rattle.aq_profile.specs.Lines.Lines.{NumberedLine, line_count, body_lines}
-use Rattle.aq_profile.specs.Office.Load.{after, all_rules, listed_for, refusal, rest_for}
+use Rattle.aq_profile.specs.Office.Load.{after, listed_for, refusal, rest_for}
 use Rattle.aq_profile.specs.Office.Office.{Office}
 use Rattle.aq_rd.specs.PlainForm.{plain_monitor}
 use Rattle.aq_rd.specs.Tags.{has_office_tag}

@@ -1,6 +1,6 @@
 -- What is kept of an ozone year keeps its facts.
-use Rattle.std.proofs.Common.{◌≡◌, ℕ, zero, suc, ◌+◌, ◌*◌, ◌/◌, ◌%◌, ◌<◌, ◌≤◌, Bool, true, false, not, ◌&&◌, cond, List, [], ◌∷◌, length, map, refl, subst, ◌∙◌, arith}
-use Rattle.std.specs.Prelude.{ℤ, pos, negsuc, neg_ℤ, ◌≤ℤ◌, int_le, int_lt, Option, Some, None, is_some, option_map, IsTrue, ⊤, ◌==◌, slice_get, nat_le, unwrap_or}
+use Rattle.std.proofs.Common.{◌≡◌, ℕ, ◌+◌, ◌/◌, ◌%◌, ◌<◌, ◌≤◌, Bool, true, false, not, ◌&&◌, cond, List, [], ◌∷◌, length, map, refl, subst, ◌∙◌, arith}
+use Rattle.std.specs.Prelude.{ℤ, pos, negsuc, ◌≤ℤ◌, int_le, Option, Some, None, is_some, option_map, IsTrue, ⊤, ◌==◌, slice_get, nat_le, unwrap_or}
 use Rattle.std.specs.List.{filter, filter_map, cons_option, find, list_all, count_by, range_with_len}
 use Rattle.std.proofs.lemmas.Int.{ints}
 use Rattle.std.proofs.lemmas.List.{length-map}
@@ -23,19 +23,18 @@ use Rattle.aq_base.specs.declared.office.OfficeRecord.TheVariants.{Monitor, Prim
 use Rattle.aq_profile.specs.Lines.Spellings.{is_in_range}
 use Rattle.aq_profile.specs.Lines.OfficeForms.{is_season}
 use Rattle.aq_profile.specs.Office.Office.{Office, IsOffice, is_site, is_day, is_record, fits_records, is_measured, fits_monitors}
-use Rattle.aq_profile.specs.Lists.{total, greatest, ranked, ranked_in}
+use Rattle.aq_profile.specs.Lists.{total, ranked}
 use Rattle.aq_profile.specs.Office.Monitors.{is_same_site, is_same_pollutant, is_eligible}
 use Rattle.aq_profile.specs.Office.Exclusion.{excluded}
 use Rattle.aq_profile.specs.Office.Designation.{primary_on}
 use Rattle.aq_profile.specs.Office.Season.{Season, season_by, whole_year, season_of, is_in_season}
-use Rattle.aq_profile.specs.Ozone.SiteHour.{Cell, Sample, sample_of, samples_at, mean_of, chosen, is_of_poc, site_hour}
+use Rattle.aq_profile.specs.Ozone.SiteHour.{Cell, Sample, sample_of, samples_at, is_of_poc, site_hour}
 use Rattle.aq_profile.specs.Ozone.EightHour.{average, eight_hours, cells_from, full_values, net_values, window}
 use Rattle.aq_profile.specs.Ozone.OzoneDay.{OzoneDay, starts_of, windows, net_averages, ozone_day}
 use Rattle.aq_profile.specs.Ozone.OzoneYear.{days_of, ozone_days, ranked_maximum, is_season_day, counts_as_valid, ozone_year}
 use Rattle.aq_profile.specs.Kept.Summaries.{is_value, KeepsOzoneYear}
 use Rattle.aq_profile.proofs.Elements.{Every}
 use Rattle.aq_profile.specs.Office.Sameness.{same_pollutant}
-use Rattle.aq_profile.proofs.Sums.{total-cons, greater_of, greatest-some}
 use Rattle.aq_profile.proofs.Descent.{length-ranked}
 use Rattle.aq_profile.proofs.Spans.{in_span}
 use Rattle.aq_profile.proofs.Pm10Facts.{count-implied, length-kept}

@@ -1,6 +1,6 @@
 -- The PM2.5 values of a site in a valid office are in range, and what is kept of its quarters and years keeps its facts.
-use Rattle.std.proofs.Common.{◌≡◌, ℕ, zero, suc, ◌+◌, ◌*◌, ◌/◌, ◌%◌, ◌<◌, ◌≤◌, Bool, true, false, ◌&&◌, cond, List, [], ◌∷◌, ◌++◌, length, map, take, refl, sym, ap, subst, ◌∙◌, arith}
-use Rattle.std.specs.Prelude.{ℤ, pos, negsuc, neg_ℤ, ◌≤ℤ◌, int_le, int_lt, Option, Some, None, option_map, option_and_then, IsTrue, ⊤, ◌==◌, slice_get, nat_le, sum}
+use Rattle.std.proofs.Common.{◌≡◌, ℕ, zero, suc, ◌+◌, ◌*◌, ◌/◌, ◌%◌, ◌<◌, ◌≤◌, Bool, true, false, ◌&&◌, cond, List, [], ◌∷◌, length, map, take, refl, sym, subst, ◌∙◌, arith}
+use Rattle.std.specs.Prelude.{ℤ, pos, negsuc, ◌≤ℤ◌, int_le, Option, Some, None, option_map, option_and_then, IsTrue, ◌==◌, slice_get, nat_le, sum}
 use Rattle.std.specs.List.{filter_map, cons_option, find, list_all, list_any, range_with_len}
 use Rattle.std.proofs.lemmas.List.Elements.{All-cons, All-nil}
 use Rattle.aq_base.specs.Calendar.{quarter_number, quarter_year, days_in_month, days_in_quarter}
@@ -21,17 +21,16 @@ use Rattle.aq_base.specs.declared.observation.ObsKey.{ObsKey}
 use Rattle.aq_base.specs.declared.observation.Observation.{Observation}
 use Rattle.aq_profile.specs.Lines.Spellings.{is_in_range}
 use Rattle.aq_profile.specs.Office.Office.{Office, IsOffice, duration_at, is_measured, is_content, fits_monitors}
-use Rattle.aq_profile.specs.Lists.{least, total, greatest, ranked, ranked_in}
+use Rattle.aq_profile.specs.Lists.{least, total, greatest, ranked}
 use Rattle.aq_profile.specs.Office.Monitors.{is_same_site, is_same_pollutant, is_same_monitor, is_eligible}
 use Rattle.aq_profile.specs.Office.Exclusion.{excluded}
 use Rattle.aq_profile.specs.Office.Designation.{primary_on}
-use Rattle.aq_profile.specs.Ozone.SiteHour.{Cell, Sample, mean_of, chosen, is_of_poc}
+use Rattle.aq_profile.specs.Ozone.SiteHour.{Cell, Sample, is_of_poc}
 use Rattle.aq_profile.specs.Particles.ParticleDay.{starts_on, cell_of, mean_or_high_sum, day_value, day_cell, day_of_samples, monitor_day, sample_on, samples_on, eligible_pocs, site_day, net_day, unless_excluded}
 use Rattle.aq_profile.specs.Particles.QuarterCounts.{days_of_quarter, quarter_counts, pm25_quarter, quarter_values, quarters_of, pm25_year, values_in}
 use Rattle.aq_profile.specs.Kept.Summaries.{is_value, PmQuarter, KeepsPmQuarter, KeepsPmYear, eight_greatest, summary_of_quarter, pm25_summary}
 use Rattle.aq_profile.proofs.Elements.{Every, every-append}
 use Rattle.aq_profile.specs.Office.Sameness.{same_pollutant}
-use Rattle.aq_profile.proofs.Sums.{total-cons, lesser_of, greater_of, least-some, greatest-some}
 use Rattle.aq_profile.proofs.Pm25Facts.{least-there, greatest-there, sum-within, no-sum, top-falls, top-count, top-greatest}
 use Rattle.aq_profile.proofs.Pm10Facts.{length-days, length-filter-le}
 use Rattle.aq_profile.proofs.Pm25Counts.{HoldsDays, counts-keep}

@@ -4,7 +4,6 @@ use Rattle.std.specs.Prelude.{ℤ, Option, Some, None, is_some, nat_le, bytes_eq
 use Rattle.std.specs.Option.{option_eq}
 use Rattle.std.specs.Ordering.{int_eq}
 use Rattle.std.specs.List.{list_all, filter_map, cons_option}
-use Rattle.std.proofs.lemmas.Bool.Decides.{nat_tests, Decides-int_eq}
 use Rattle.std.proofs.lemmas.Slice.Eq.{bytes_eq-Decides}
 use Rattle.std.proofs.lemmas.Bool.{and_parts, leb-true}
 use Rattle.aq_base.specs.declared.observation.ObsKey.{ObsKey}

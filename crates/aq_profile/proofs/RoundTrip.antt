@@ -2,7 +2,7 @@
 use Rattle.std.proofs.Common.{◌≡◌, ℕ, suc, zero, ◌+◌, ◌/◌, ◌%◌, ◌^◌, ◌<◌, ◌≤◌, Bool, true, false, ◌&&◌, List, [], ◌∷◌, ◌++◌, Some, None, Option, refl, ap, ◌∙◌, arith, get_or}
 use Rattle.std.specs.Prelude.{nat_lt, nat_le, ◌==◌, codes, decimal, if◌then◌else◌}
 use Rattle.std.specs.List.{list_all}
-use Rattle.std.specs.Char.{digit_value, is_ascii_digit}
+use Rattle.std.specs.Char.{digit_value}
 use Rattle.std.specs.Str.Parse.{AllDigits, digits_value}
 use Rattle.std.proofs.lemmas.Fmt.{decimal_is_IsNumeral, first_decimal}
 use Rattle.std.proofs.lemmas.Bool.{false≢true, and_from, and_parts}
@@ -29,7 +29,7 @@ use Rattle.aq_profile.specs.Lines.OfficeForms.{is_season, is_makeup, is_span, xm
 use Rattle.aq_profile.specs.Lines.Reading.{OfOffice, line_value, form_value}
 use Rattle.aq_profile.specs.Lines.Canonical.{is_office_line, parameter_text, duration_text, date_text, time_text, truth_text, code_text, joined, office_texts, canonical_office}
 use Rattle.aq_profile.specs.Office.Office.{is_site, is_poc, is_day}
-use Rattle.aq_profile.proofs.Digits.{digit_is, digits_are}
+use Rattle.aq_profile.proofs.Digits.{digits_are}
 use Rattle.aq_profile.proofs.KeyOrder.{at_most_day}
 use Rattle.aq_profile.proofs.JoinedFields.{is_clean, is_clean_byte, fields-some, plain-some}
 use Rattle.aq_profile.proofs.Spelled.{bind-is, site_is, parameter_is, parameter_of-is, duration_is, truth_is, year_is, date_is, hour_is, poc_is, primary_is, interval_is}

@@ -2,8 +2,7 @@
 use Rattle.std.proofs.Common.{◌≡◌, ℕ, suc, ◌+◌, ◌^◌, ◌<◌, ◌≤◌, Bool, true, false, not, ◌&&◌, ◌||◌, cond, List, [], ◌∷◌, ◌++◌, length, map, refl, ap, subst, ◌∙◌, arith, append_assoc}
 use Rattle.std.specs.Prelude.{Option, Some, None, option_map, ◌==◌, nat_le, decimal, codes}
 use Rattle.std.specs.List.{list_all, slice_split, onto_first, join_with_byte, before_first, after_first, prefix_len}
-use Rattle.std.specs.Char.{digit_value, is_ascii_digit}
-use Rattle.std.specs.Str.Parse.{AllDigits}
+use Rattle.std.specs.Char.{is_ascii_digit}
 use Rattle.std.proofs.lemmas.Fmt.{decimal_is_IsNumeral}
 use Rattle.std.proofs.lemmas.Bool.Decides.{nat_tests}
 use Rattle.std.proofs.lemmas.Bool.{and_from, and_parts}
@@ -20,7 +19,7 @@ use Rattle.aq_profile.specs.Lines.Canonical.{code_text}
 use Rattle.aq_profile.specs.Office.Office.{is_null_code, is_qualifier}
 use Rattle.aq_profile.specs.Shown.Export.{codes_text}
 use Rattle.aq_profile.specs.Kept.Rows.{pair_text, words, each, null_of, number_in, is_colon, rule_with, listed_in, rest_in}
-use Rattle.aq_profile.proofs.Digits.{digit_is, digits_are}
+use Rattle.aq_profile.proofs.Digits.{digits_are}
 use Rattle.aq_profile.proofs.Elements.{Every}
 
 -- ---- words between spaces

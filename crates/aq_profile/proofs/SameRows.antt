@@ -1,12 +1,11 @@
 -- The tests of whether two records, or two observations, are the same hold of equal ones alone.
-use Rattle.std.proofs.Common.{◌≡◌, ℕ, Bool, true, ◌&&◌, refl, subst, arith}
-use Rattle.std.specs.Prelude.{ℤ, Option, Some, None, ◌==◌}
+use Rattle.std.proofs.Common.{◌≡◌, Bool, true, ◌&&◌, refl, subst}
+use Rattle.std.specs.Prelude.{Option, Some, None, ◌==◌}
 use Rattle.std.specs.Bool.{beq}
 use Rattle.std.specs.Cmp.{booleans_Decides}
 use Rattle.std.specs.Option.{option_eq}
 use Rattle.std.specs.Ordering.{int_eq}
 use Rattle.std.proofs.lemmas.Bool.{false≢true, and_parts, eqb-true}
-use Rattle.std.proofs.lemmas.Bool.Decides.{nat_tests, Decides-int_eq}
 use lib.Pointwise.{pointwise, pointwise_decides}
 use Rattle.aq_base.specs.Quals.{is_same_code}
 use Rattle.aq_base.specs.declared.code.Code.{Code}

@@ -9,7 +9,7 @@ use Rattle.aq_profile.specs.Lines.Lines.{NumberedLine, line_count, body_lines}
 use Rattle.aq_profile.specs.Lines.RdForm.{Put as PutSample, Delete as DeleteSample}
 use Rattle.aq_profile.specs.Lines.Reading.{LineValue, OfRd, OfOffice, line_value}
 use Rattle.aq_profile.specs.Office.Office.{Office, IsOffice, StoredLoad, load_rank, with_row, load_at, is_load}
-use Rattle.aq_profile.specs.Office.Load.{Decision, Repeat, Conflict, Full, New, changed, changed_by, refusal, after, after_all, with_load, reply, load, decide, decide_known, stored, TooManyLines, Repeated, Differing, NoRoom, Taken, posted_beside, office_after, post}
+use Rattle.aq_profile.specs.Office.Load.{Repeat, Conflict, New, changed, changed_by, refusal, after, after_all, with_load, reply, load, decide, decide_known, stored, TooManyLines, Repeated, Differing, NoRoom, Taken, posted_beside, office_after, post}
 use Rattle.std.proofs.lemmas.Bool.{ltb-false, and_from, eq-eqb, le-leb}
 use Rattle.aq_profile.specs.Office.RowOrder.{with_row-rises}
 use Rattle.aq_profile.proofs.RowsPlaced.{with_row-all, length-with_row}

@@ -8,7 +8,7 @@ use Rattle.std.proofs.lemmas.Bool.{false≢true, cases_lt, and_from, and_parts, 
 use Rattle.std.proofs.lemmas.Bool.Decides.{nat_tests}
 use Rattle.std.proofs.lemmas.List.{length-take, length-take-le, length-drop}
 use Rattle.std.proofs.lemmas.List.Sums.{sum_by-cons, length-filter, count_by-le-length}
-use Rattle.aq_base.specs.Rule.{rule_number}
+use Rattle.aq_base.specs.Rule.{rule_number, all_rules}
 use Rattle.aq_base.specs.declared.office.OfficeKey.TheVariants.{Monitor as MonitorKey, Event as EventKey}
 use Rattle.aq_base.specs.declared.office.OfficeRecord.TheVariants.{Monitor, Primary, Schedule, Season, Makeup, Event, Concurrence}
 use Rattle.aq_base.specs.declared.office.OfficeLine.TheVariants.{Put, Change, Drop}
@@ -24,7 +24,7 @@ use Rattle.aq_profile.specs.Lines.RdForm.{Put as PutSample, Delete as DeleteSamp
 use Rattle.aq_profile.specs.Lines.Reading.{LineValue, OfRd, OfOffice, breaks, rules_of, rules_for, reading_rules, reading_rule, line_value, tag_of, is_deletion}
 use Rattle.aq_profile.specs.Office.Office.{Office, rises, rises_from, is_rest, is_reply}
 use Rattle.aq_profile.specs.Office.Refusal.{breaks_office, office_rules}
-use Rattle.aq_profile.specs.Office.Load.{broken_by, refusal, after, listed_for, refusals, all_rules, refused_under, rest_for, rest_of, reply_for, reply}
+use Rattle.aq_profile.specs.Office.Load.{broken_by, refusal, after, listed_for, refusals, refused_under, rest_for, rest_of, reply_for, reply}
 use Rattle.aq_profile.proofs.RowsPlaced.{count-cons}
 
 -- ---- numbers that rise

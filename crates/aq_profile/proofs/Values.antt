@@ -13,7 +13,7 @@ use Rattle.aq_base.specs.Decimal.{last_digits, are_digits, is_point, is_minus, c
 use Rattle.aq_base.specs.declared.monitor.Pollutant.{Pollutant}
 use Rattle.aq_base.specs.declared.monitor.Pollutant.TheVariants.{Ozone, Pm25, Pm10}
 use Rattle.aq_profile.specs.Lines.Spellings.{value_in, is_in_range}
-use Rattle.aq_profile.proofs.Digits.{digit_is, digits_are}
+use Rattle.aq_profile.proofs.Digits.{digits_are}
 use Rattle.aq_profile.proofs.JoinedFields.{is_clean}
 use Rattle.aq_profile.proofs.RoundTrip.{clean-append, clean-decimal, clean-digits}
 use Rattle.aq_profile.specs.Lines.Fields.{is_empty}

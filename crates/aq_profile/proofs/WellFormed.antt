@@ -1,11 +1,10 @@
 -- Each sheet is well formed, from its cells up.
-use Rattle.std.proofs.Common.{◌≡◌, ℕ, ◌+◌, ◌^◌, ◌<◌, ◌≤◌, Bool, true, false, cond, ◌&&◌, List, [], ◌∷◌, ◌++◌, length, map, refl, arith, subst}
+use Rattle.std.proofs.Common.{◌≡◌, ℕ, ◌+◌, ◌^◌, ◌<◌, ◌≤◌, Bool, true, false, cond, ◌&&◌, List, [], ◌∷◌, length, map, refl, arith, subst}
 use Rattle.std.specs.Prelude.{Some, nat_le, nat_lt, ◌==◌, codes, sum_by, IsTrue, All, ◌||◌, find}
 use Rattle.std.specs.List.{list_all}
-use Rattle.std.proofs.lemmas.Bool.Decides.{nat_tests}
 use Rattle.std.proofs.lemmas.List.Elements.{All-from_recursion}
 use Rattle.std.proofs.lemmas.List.Sums.{sum_by-cons}
-use Rattle.std.proofs.lemmas.Bool.{and_from, and_parts, eqb-true, leb-true}
+use Rattle.std.proofs.lemmas.Bool.{and_parts, eqb-true, leb-true}
 use Rattle.aq_base.specs.Rule.{rule_number}
 use Rattle.aq_base.specs.declared.reply.ListedLine.{ListedLine}
 use Rattle.aq_base.specs.declared.reply.RestRule.{RestRule}

@@ -1,6 +1,6 @@
 -- The sheets of design values and reports are well formed.
 use Rattle.std.proofs.Common.{◌≡◌, ℕ, ◌-◌, ◌<◌, ◌≤◌, Bool, true, List, [], ◌∷◌, ◌++◌, length, map, refl, arith, length-append}
-use Rattle.std.specs.Prelude.{ℤ, ◌+ℤ◌, Option, Some, None, ◌==◌, codes}
+use Rattle.std.specs.Prelude.{ℤ, ◌+ℤ◌, Option, Some, None, codes}
 use Rattle.std.specs.List.{list_all, zip}
 use Rattle.std.proofs.lemmas.Int.{ints}
 use Rattle.std.proofs.lemmas.Bool.Decides.{nat_tests}

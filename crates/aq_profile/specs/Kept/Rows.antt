@@ -5,7 +5,7 @@ use Rattle.std.specs.Option.{option_eq}
 use Rattle.std.specs.Ordering.{int_eq}
 use Rattle.std.specs.Str.Parse.{digits_value}
 use Rattle.aq_base.specs.Decimal.{are_digits}
-use Rattle.aq_base.specs.Rule.{rule_number}
+use Rattle.aq_base.specs.Rule.{rule_number, all_rules}
 use Rattle.aq_base.specs.Site.{Site}
 use Rattle.aq_base.specs.declared.code.Code.{Code}
 use Rattle.aq_base.specs.declared.monitor.Pollutant.{Pollutant}
@@ -24,7 +24,6 @@ use Rattle.aq_profile.specs.Lines.Fields.{is_empty, is_space}
 use Rattle.aq_profile.specs.Lines.Reading.{LineValue, OfOffice, line_value}
 use Rattle.aq_profile.specs.Lines.Canonical.{canonical_office, record_line, printed_key}
 use Rattle.aq_profile.specs.Office.Office.{Office, StoredLoad, kind_of, key_of, pollutant_number, record_rank, observation_rank, load_rank, rises, fits_records, has_own_makeup_day, sites_of, fits_monitors, is_load}
-use Rattle.aq_profile.specs.Office.Load.{all_rules}
 use Rattle.aq_profile.specs.Shown.Export.{null_text, codes_text}
 
 -- ---- rows; a keeper may hand out any

@@ -5,7 +5,7 @@ use Rattle.std.specs.Option.{option_or, option_eq}
 use Rattle.std.specs.Ordering.{int_eq}
 use lib.Pointwise.{pointwise}
 use Rattle.aq_base.specs.Quals.{is_same_code}
-use Rattle.aq_base.specs.Rule.{rule_number}
+use Rattle.aq_base.specs.Rule.{rule_number, all_rules}
 use Rattle.aq_base.specs.declared.observation.ObsKey.{ObsKey}
 use Rattle.aq_base.specs.declared.observation.Observation.{Observation}
 use Rattle.aq_base.specs.declared.monitor.Duration.{Duration}
@@ -19,7 +19,6 @@ use Rattle.aq_base.specs.declared.reply.LoadReply.{LoadReply}
 use Rattle.aq_base.specs.declared.reply.ListedLine.{ListedLine}
 use Rattle.aq_base.specs.declared.reply.RestRule.{RestRule}
 use Rattle.aq_base.specs.declared.rule.Rule.{Rule}
-use Rattle.aq_base.specs.declared.rule.Rule.TheVariants.{BadBytes, BadTag, FieldCount, BadAction, BadSite, ParameterOutOfProfile, BadPoc, BadDuration, BadUnit, BadMethod, BadDate, BadTime, ValueAndNull, NeitherValueNorNull, BadValue, ValueOutOfRange, BadNull, BadQualifier, UnknownMonitor, WrongDuration, AlreadyThere, NotThere, ObservationsFull, SitesFull, MonitorsFull, BadSpan, BadInterval, BadSeason, BadMakeup, MakeupsFull, UnknownEvent, EventsFull, BadCode, ListFull}
 use Rattle.aq_profile.specs.Limits.{MOST_LINES, MOST_LISTED, MOST_LOADS}
 use Rattle.aq_profile.specs.Lines.Lines.{NumberedLine, line_count, body_lines}
 use Rattle.aq_profile.specs.Lines.RdForm.{Put as PutSample, Delete as DeleteSample}
@@ -83,14 +82,6 @@ refusals office (line ∷ lines) =
     listed_for line.number (refusal office line.text) ++ refusals (after office line.text) lines
 
 -- ---- the reply
-
--- all rules, in rising number
-abbrev pub all_rules : List Rule
-all_rules =
-    BadBytes ∷ BadTag ∷ FieldCount ∷ BadAction ∷ BadSite ∷ ParameterOutOfProfile ∷ BadPoc ∷ BadDuration ∷ BadUnit ∷ BadMethod
-    ∷ BadDate ∷ BadTime ∷ ValueAndNull ∷ NeitherValueNorNull ∷ BadValue ∷ ValueOutOfRange ∷ BadNull ∷ BadQualifier
-    ∷ UnknownMonitor ∷ WrongDuration ∷ AlreadyThere ∷ NotThere ∷ ObservationsFull ∷ SitesFull ∷ MonitorsFull
-    ∷ BadSpan ∷ BadInterval ∷ BadSeason ∷ BadMakeup ∷ MakeupsFull ∷ UnknownEvent ∷ EventsFull ∷ BadCode ∷ ListFull ∷ []
 
 abbrev pub refused_under : Rule → List ListedLine → ℕ
 refused_under rule refused = count_by (λ listed. rule_number listed.rule == rule_number rule) refused

@@ -1,5 +1,5 @@
 -- Where no cell is excluded the net values of eight hours are the full ones.
-use Rattle.std.proofs.Common.{◌≡◌, ℕ, Bool, true, false, cond, not, ◌&&◌, ◌||◌, List, [], ◌∷◌, refl, ap}
+use Rattle.std.proofs.Common.{◌≡◌, Bool, true, false, cond, not, ◌||◌, List, [], ◌∷◌, refl, ap}
 use Rattle.std.specs.List.{list_any, filter}
 use Rattle.std.specs.Prelude.{ℤ}
 use Rattle.aq_profile.specs.Ozone.SiteHour.{Cell}
