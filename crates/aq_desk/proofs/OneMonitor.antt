@@ -19,7 +19,7 @@ use Rattle.aq_base.specs.declared.observation.Observation.{Observation}
 use Rattle.aq_profile.specs.Office.Designation.{primary_on}
 use Rattle.aq_profile.specs.Office.Exclusion.{excluded}
 use Rattle.aq_profile.specs.Lists.{total}
-use Rattle.aq_profile.specs.Office.Monitors.{is_same_site, is_same_pollutant, is_same_monitor, is_eligible}
+use Rattle.aq_profile.specs.Office.Monitors.{is_same_pollutant, is_same_monitor, is_eligible}
 use Rattle.aq_profile.specs.Office.Office.{Office, comes_before, content_of, has_monitor, is_same, observation_numbers, observation_rank, pollutant_number, rises, rises_from, row_at, series_numbers}
 use Rattle.aq_profile.specs.Office.Sameness.{number_itself, pollutant_itself, site_itself}
 use Rattle.aq_profile.specs.Ozone.SiteHour.{Sample, chosen, is_of_poc, sample_of, site_hour}
