@@ -1,2 +1,4 @@
--- The lines of a load's body, as contracts see them.
+-- The lines of a load's body, and office lines, as contracts see them.
 pub mod BodyLines
+pub mod OfficeReading
+pub mod Actions

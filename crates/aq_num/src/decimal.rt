@@ -80,9 +80,7 @@ fn read_magnitude(digits: &[u8], places: u8) -> Option<u64>
     let mut is_behind = false;
     let mut has_digit = false;
     for &byte in digits {
-        if byte == b'.' && !is_behind {
-            is_behind = true;
-        } else if byte.is_ascii_digit() {
+        if byte.is_ascii_digit() {
             has_digit = true;
             if !is_behind {
                 magnitude = with_digit(magnitude, byte);
@@ -90,6 +88,8 @@ fn read_magnitude(digits: &[u8], places: u8) -> Option<u64>
                 magnitude = with_digit(magnitude, byte);
                 missing -= 1;
             }
+        } else if byte == b'.' && !is_behind {
+            is_behind = true;
         } else {
             return None;
         }

@@ -56,7 +56,6 @@ impl<'a> Fields<'a> {
     }
 
     /// The fields of a line, of which it is known whether it may have spaces.
-    #[inline(never)]
     pub(crate) fn cut(line: &'a [u8], has_spaces: bool) -> Fields<'a>
         requires { HasSpaces has_spaces line.now }
         ensures { result ≡ fields line.now }

@@ -1,6 +1,7 @@
 //! Reading RD lines.
 ghost use Rattle.std.specs.Prelude.{◌≡◌, ◌≤◌, true, false, IfOk, IfErr, IsTrue, OnOk, OnErr, Some, None};
 ghost use Rattle.aq_profile.specs.Lines.Canonical.{is_rd_value};
+ghost use Rattle.aq_profile.specs.Lines.Fields.{field};
 ghost use Rattle.aq_profile.specs.Lines.Reading.{reading_rule, line_value, has_wrong_count, is_deletion, OfRd};
 ghost use Rattle.aq_profile.specs.Lines.Spellings.{Rd};
 ghost use Rattle.aq_rd.specs.Ranges.{HasLineRange};
@@ -53,10 +54,11 @@ fn read_line(line: &[u8]) -> Result<RdLine, Rule>
 fn read_form(texts: &Fields<'_>) -> Result<RdLine, Rule>
     ensures { result ≡ form_reading texts.now }
 {
-    if has_wrong_count(texts) {
+    let action = texts.field(2);
+    if has_wrong_count(action, texts) {
         return Err(Rule::FieldCount);
     }
-    match texts.field(2) {
+    match action {
         b"I" => read_put(false, texts),
         b"U" => read_put(true, texts),
         b"D" => read_delete(texts),
@@ -65,14 +67,11 @@ fn read_form(texts: &Fields<'_>) -> Result<RdLine, Rule>
 }
 
 // A deletion needs the fields up to the time, and another line those up to the value.
-fn has_wrong_count(texts: &Fields<'_>) -> bool
+fn has_wrong_count(action: &[u8], texts: &Fields<'_>) -> bool
+    requires { action.now ≡ field 2 texts.now }
     ensures { result ≡ has_wrong_count Rd (is_deletion texts.now) texts.now }
 {
-    let fewest = if texts.field(2) == b"D".as_slice() {
-        12
-    } else {
-        13
-    };
+    let fewest = if action == b"D".as_slice() { 12 } else { 13 };
     texts.count() < fewest || texts.has_text_behind(MOST_FIELDS)
 }
 
@@ -135,22 +134,30 @@ fn read_content(pollutant: Pollutant, places: u8, texts: &Fields<'_>) -> Result<
     requires { places ≤ 6 }
     ensures { result ≡ content_reading pollutant places texts.now }
 {
-    let has_value = !texts.field(13).is_empty();
-    let has_null = !texts.field(14).is_empty();
+    let value = texts.field(13);
+    let null = texts.field(14);
+    let has_value = !value.is_empty();
+    let has_null = !null.is_empty();
     match (has_value, has_null) {
         (true, true) => Err(Rule::ValueAndNull),
         (false, false) => Err(Rule::NeitherValueNorNull),
-        (true, false) => read_valued(pollutant, places, texts),
-        (false, true) => read_null(texts),
+        (true, false) => read_valued(pollutant, places, value, texts),
+        (false, true) => read_null(null, texts),
     }
 }
 
 #[tactic(auto, unfolding(crate::specs::RdReading::valued_reading))]
-fn read_valued(pollutant: Pollutant, places: u8, texts: &Fields<'_>) -> Result<Observation, Rule>
-    requires { places ≤ 6 }
+fn read_valued(
+    pollutant: Pollutant,
+    places: u8,
+    text: &[u8],
+    texts: &Fields<'_>,
+) -> Result<Observation, Rule>
+    requires places { places ≤ 6 }
+    requires text { text.now ≡ field 13 texts.now }
     ensures { result ≡ valued_reading pollutant places texts.now }
 {
-    let value = value(pollutant, places, texts.field(13))?;
+    let value = value(pollutant, places, text)?;
     let quals = qualifiers(texts).ok_or(Rule::BadQualifier)?;
     Ok(Observation {
         value: Some(value),
@@ -160,10 +167,11 @@ fn read_valued(pollutant: Pollutant, places: u8, texts: &Fields<'_>) -> Result<O
 }
 
 #[tactic(auto, unfolding(crate::specs::RdReading::null_reading))]
-fn read_null(texts: &Fields<'_>) -> Result<Observation, Rule>
+fn read_null(text: &[u8], texts: &Fields<'_>) -> Result<Observation, Rule>
+    requires { text.now ≡ field 14 texts.now }
     ensures { result ≡ null_reading texts.now }
 {
-    let null = null_in(texts.field(14)).ok_or(Rule::BadNull)?;
+    let null = null_in(text).ok_or(Rule::BadNull)?;
     let quals = qualifiers(texts).ok_or(Rule::BadQualifier)?;
     Ok(Observation {
         value: None,

@@ -3,8 +3,8 @@ use Rattle.std.proofs.lemmas.Grind.{common_steps}
 use Rattle.aq_num.proofs.Scan.{scan-is, scan-none}
 use Rattle.aq_num.proofs.decimal.read_magnitude.Goals as goal
 
-pub returns-else-is_ascii_digit : goal.returns-else-is_ascii_digit
-returns-else-is_ascii_digit c =
+pub returns-else-byte-eq46 : goal.returns-else-byte-eq46
+returns-else-byte-eq46 c =
     grind (arith, common_steps, scan-is, scan-none)
 
 pub returns-then-has_digit : goal.returns-then-has_digit
