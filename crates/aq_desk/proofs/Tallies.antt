@@ -1,17 +1,16 @@
 -- The hours of an average, one by one.
-use Rattle.std.proofs.Common.{◌≡◌, ℕ, zero, suc, ◌+◌, ◌-◌, ◌*◌, ◌<◌, ◌≤◌, map, get_or, None, List, [], ◌∷◌, ◌++◌, length, refl, sym, ap, subst, ◌∙◌, arith}
+use Rattle.std.proofs.Common.{◌≡◌, ℕ, zero, suc, ◌+◌, ◌-◌, ◌*◌, ◌<◌, ◌≤◌, Bool, true, false, cond, not, ◌||◌, map, get_or, None, List, [], ◌∷◌, ◌++◌, length, refl, sym, ap, subst, ◌∙◌, arith}
 use Rattle.std.specs.Prelude.{Option, ℤ, nat_le}
-use Rattle.std.specs.List.{filter, filter_map, range_with_len}
+use Rattle.std.specs.List.{filter, filter_map, list_any, range_with_len}
 use Rattle.std.proofs.lemmas.List.{length-map, get_or-map}
 use Rattle.std.proofs.lemmas.List.FromFn.{fill_by_all}
 use Rattle.std.proofs.lemmas.List.Elements.{filter_map-append, filter-append}
 use Rattle.aq_base.specs.Site.{Site}
 use Rattle.aq_base.specs.declared.day.TheConstants.{LAST_HOUR}
-use Rattle.aq_profile.specs.Ozone.EightHour.{WindowRow, average_of, average, eight_hours, full_values, row_of, window}
+use Rattle.aq_profile.specs.Ozone.EightHour.{WindowRow, average_of, average, eight_hours, full_values, net_values, row_of, window}
 use Rattle.aq_profile.specs.Office.Office.{Office}
 use Rattle.aq_profile.specs.Ozone.OzoneDay.{windows, starts_of}
 use Rattle.aq_profile.specs.Ozone.SiteHour.{Cell, site_hour}
-use Rattle.aq_profile.specs.Ozone.Unexcluded.{row-unexcluded}
 use Rattle.aq_desk.specs.WindowView.{IsTally, cells_at, cells_of, row_view}
 use Rattle.aq_desk.specs.declared.windows.Tally.{Tally}
 use Rattle.aq_desk.specs.declared.windows.WindowRow.{WindowRow as Row}
@@ -51,15 +50,22 @@ tally_none office site start tally none =
     let n : 0 ≡ start - start = omega arith in
     subst (λ (k : ℕ). IsTally (cells_at office site (range_with_len start k)) tally) n none
 
+-- where no hour is excluded the net values are the full ones
+net_is_full : (cells : List Cell) → list_any (λ (c : Cell). c.excluded) cells ≡ false → net_values cells ≡ full_values cells
+net_is_full [] none = refl
+net_is_full (cell ∷ cells) none = by_flag cell.excluded none (net_is_full cells)
+  where
+    by_flag : (flag : Bool) → (flag || list_any (λ (c : Cell). c.excluded) cells) ≡ false → (list_any (λ (c : Cell). c.excluded) cells ≡ false → net_values cells ≡ full_values cells)
+        → full_values (cond (not flag) (cell ∷ filter (λ (c : Cell). not c.excluded) cells) (filter (λ (c : Cell). not c.excluded) cells)) ≡ full_values (cell ∷ cells)
+    by_flag true none rest = cc
+    by_flag false none rest = ap (λ (l : List ℤ). cell.value ∷ l) (rest none)
+
 row_by : (cells : List Cell) (tally : Tally) (value : Option ℤ) → IsTally cells tally → value ≡ average tally.hours tally.sum
     → record { net = value; net_hours = tally.hours; full = value; full_hours = tally.hours } ≡ row_of cells
 row_by cells tally value all is =
     let hours : tally.hours ≡ length (full_values cells) = all.hours ∙ sym (length-map cells (λ (c : Cell). c.value)) in
     let full : value ≡ average_of (full_values cells) = is ∙ (λ i. average (hours i) (all.sum i)) in
-    let row : record { net = value; net_hours = tally.hours; full = value; full_hours = tally.hours } ≡ record { net = (row_of cells).full; net_hours = (row_of cells).full_hours; full = (row_of cells).full; full_hours = (row_of cells).full_hours } =
-    λ i. record { net = full i; net_hours = hours i; full = full i; full_hours = hours i }
-    in
-    row ∙ sym (row-unexcluded cells all.none_excluded)
+    rw (net_is_full cells all.none_excluded) (λ i. record { net = full i; net_hours = hours i; full = full i; full_hours = hours i })
 
 window_by : (office : Office) (site : Site) (start : ℕ) → row_of (cells_at office site (range_with_len start 8)) ≡ window office site start
 unfolding window eight_hours

@@ -1,3 +1,0 @@
--- Lemmas on the numbers of this crate and on short lists.
-mod Numbers
-mod Lists

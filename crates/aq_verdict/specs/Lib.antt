@@ -1,1 +1,0 @@
--- What the calls of this crate promise, over the definitions of aq_profile.
