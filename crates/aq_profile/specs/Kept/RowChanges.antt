@@ -6,8 +6,8 @@ use Rattle.aq_base.specs.declared.observation.ObsKey.{ObsKey}
 use Rattle.aq_base.specs.declared.office.OfficeKey.{OfficeKey}
 use Rattle.aq_profile.specs.Lines.Canonical.{printed_key}
 use Rattle.aq_profile.specs.Office.Office.{Office, kind_of, pollutant_number}
-use Rattle.aq_profile.specs.Office.Load.{OfficeChange, PutRecord, DropRecord, PutObservation, DropObservation, PutLoad, batch}
-use Rattle.aq_profile.specs.Kept.Rows.{Row, OfOfficeRow, OfObsRow, OfLoadRow, office_row, obs_row, load_row, site_key}
+use Rattle.aq_profile.specs.Office.Load.{OfficeChange, PutRecord, DropRecord, PutObservation, DropObservation, PutLoad, batch, load}
+use Rattle.aq_profile.specs.Kept.Rows.{Row, OfOfficeRow, OfObsRow, OfLoadRow, office_row, obs_row, load_row, rows_of, site_key}
 
 -- the tables' names, by number from 0
 abbrev pub table_names : List (List ℕ)
@@ -113,3 +113,8 @@ row_change (PutLoad load) = PutRow (OfLoadRow (load_row load))
 -- the batch of a load, as its keeper takes it
 unfoldable pub row_batch : Office → ℕ → List ℕ → List ℕ → List RowChange
 row_batch office number digest body = map row_change (batch office number digest body)
+
+-- the batch, done to the rows of the office, gives the rows of the office after the load
+unfoldable pub GivesRowsAfter : Office → ℕ → List ℕ → List ℕ → Type 0
+GivesRowsAfter office number digest body =
+    with_row_changes (rows_of office) (row_batch office number digest body) ≡ rows_of (load office number digest body)

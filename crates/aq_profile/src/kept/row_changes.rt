@@ -5,9 +5,8 @@ ghost use Rattle.std.specs.Prelude.{◌≡◌, ℕ, IsTrue, All, List, ◌∷◌
 ghost use Rattle.aq_profile.specs.Lines.LineExamples.{agreed_event, digest_a, one_monitor, three_lines};
 ghost use Rattle.aq_profile.specs.Particles.ParticleExamples.{empty_load, first_sampler, sample_at};
 ghost use Rattle.aq_profile.specs.Office.Office.{IsOffice, Office, load_at};
-ghost use Rattle.aq_profile.specs.Office.Load.{load};
 ghost use Rattle.aq_profile.specs.Kept.Rows.{OfLoadRow, OfObsRow, Row, rows_of};
-ghost use Rattle.aq_profile.specs.Kept.RowChanges.{Alters, DropRow, LoadRowKey, OfficeRowKey, ObsRowKey, PutRow, RowChange, changed_key, key_before, keys_rise, row_batch, row_key, table_name, with_row_change, with_row_changes};
+ghost use Rattle.aq_profile.specs.Kept.RowChanges.{Alters, DropRow, GivesRowsAfter, LoadRowKey, OfficeRowKey, ObsRowKey, PutRow, RowChange, changed_key, key_before, keys_rise, row_batch, row_key, table_name, with_row_change};
 
 /// The tables by their numbers.
 pub fn tables_have_names()
@@ -48,7 +47,7 @@ pub fn batches_of_loads()
 
 /// The batch of a load, done to the rows of the office, gives the rows of the office after it.
 pub fn batch_gives_the_rows_after()
-    ensures { (office : Office) (number : ℕ) (digest body : List ℕ) → IsOffice office → with_row_changes (rows_of office) (row_batch office number digest body) ≡ rows_of (load office number digest body) }
+    ensures { (office : Office) (number : ℕ) (digest body : List ℕ) → IsOffice office → GivesRowsAfter office number digest body }
 {}
 
 /// The changes of a batch are in the order of tables and keys, none at one key.

@@ -14,19 +14,12 @@ ghost use Rattle.aq_profile.specs.Ozone.OzoneDay.{OzoneDay, ozone_day};
 ghost use Rattle.aq_profile.specs.Lists.{ranked};
 ghost use Rattle.aq_profile.specs.Ozone.OzoneYear.{OzoneYear, fourth_of, ozone_year, ranked_maxima};
 
-/// Equal values are counted each.
-pub fn fourth_highest_counts_ties()
-    ensures { fourth_of (ranked (pos 60 ∷ pos 71 ∷ pos 71 ∷ pos 75 ∷ pos 71 ∷ [])) ≡ Some (pos 71) }
-{}
-
-/// Three values have no fourth.
-pub fn three_values_have_no_fourth()
-    ensures { fourth_of (ranked (pos 60 ∷ pos 71 ∷ pos 75 ∷ [])) ≡ None }
-{}
-
-/// Days that are not valid, and valid days without a maximum, are not ranked.
-pub fn valid_maxima_are_ranked()
-    ensures { ranked_maxima
+/// Equal values are counted each, and three values have no fourth. Days that are not valid, and valid
+/// days without a maximum, are not ranked.
+pub fn ranked_values_and_their_fourth()
+    ensures fourth_highest_counts_ties { fourth_of (ranked (pos 60 ∷ pos 71 ∷ pos 71 ∷ pos 75 ∷ pos 71 ∷ [])) ≡ Some (pos 71) }
+    ensures three_values_have_no_fourth { fourth_of (ranked (pos 60 ∷ pos 71 ∷ pos 75 ∷ [])) ≡ None }
+    ensures valid_maxima_are_ranked { ranked_maxima
         (record { averages = 13; valid = true; maximum = Some (pos 50) }
         ∷ record { averages = 12; valid = false; maximum = Some (pos 70) }
         ∷ record { averages = 17; valid = true; maximum = None }

@@ -9,15 +9,11 @@ ghost use Rattle.aq_profile.specs.Shown.Sheet.{text_of};
 ghost use Rattle.aq_profile.specs.Shown.Sheets.{load_sheet, windows_answer};
 ghost use Rattle.aq_profile.specs.Ozone.OzoneExamples.{site, summer_day, old_years_day, new_years_day, afternoon, nine_lines, one_hour, empty_row, single_row, smoky};
 
-/// The reply to a monitor and eight hours of values.
-pub fn load_of_nine_lines()
-    ensures { text_of (load_sheet nine_lines)
+/// A load of nine lines, and the windows of its eight hours.
+pub fn windows_of_a_load()
+    ensures load_of_nine_lines { text_of (load_sheet nine_lines)
         ≡ codes "load 0\nlines 9\naccepted 9\nrefused 0\nline rule name count\n" }
-{}
-
-/// Eight hours of 0.071 ppm from 10:00: the averages that read six of them or more are there.
-pub fn windows_of_eight_hours()
-    ensures { text_of (windows_answer afternoon site summer_day)
+    ensures windows_of_eight_hours { text_of (windows_answer afternoon site summer_day)
         ≡ codes "site 06-037-1103\nday 2024-07-01\nhour average hours full full_hours\n"
         ++ codes "07:00 - 5 - 5\n08:00 0.071 6 0.071 6\n09:00 0.071 7 0.071 7\n"
         ++ codes "10:00 0.071 8 0.071 8\n11:00 0.071 7 0.071 7\n12:00 0.071 6 0.071 6\n"
@@ -26,18 +22,13 @@ pub fn windows_of_eight_hours()
         ++ codes "23:00 - 0 - 0\n" }
 {}
 
-/// An hour at 06:00 is read by the average of 23:00 on the day before, and by no average of its own
-/// day.
-pub fn six_o_clock_counts_for_the_day_before()
+/// The average of 06:00 counts for the day before, and that of 07:00 for its day.
+pub fn days_begin_at_seven()
     ensures before { windows (one_hour (hour_number new_years_day 6)) site old_years_day
         ≡ replicate 16 empty_row ++ single_row ∷ [] }
     ensures same_day { windows (one_hour (hour_number new_years_day 6)) site new_years_day ≡ replicate 17 empty_row }
-{}
-
-/// An hour at 07:00 is read by the average of that hour, and by no average of the day before.
-pub fn seven_o_clock_counts_for_its_day()
-    ensures before { windows (one_hour (hour_number new_years_day 7)) site old_years_day ≡ replicate 17 empty_row }
-    ensures same_day { windows (one_hour (hour_number new_years_day 7)) site new_years_day
+    ensures seven_o_clock_counts_for_its_day_before { windows (one_hour (hour_number new_years_day 7)) site old_years_day ≡ replicate 17 empty_row }
+    ensures seven_o_clock_counts_for_its_day_same_day { windows (one_hour (hour_number new_years_day 7)) site new_years_day
         ≡ single_row ∷ replicate 16 empty_row }
 {}
 

@@ -6,27 +6,21 @@ ghost use Rattle.aq_base.specs.declared.standard.Verdict.TheVariants.{Met, NotMe
 ghost use Rattle.aq_profile.specs.Particles.DailyVerdict.{daily_dv, is_daily_year};
 ghost use Rattle.aq_profile.specs.Particles.ParticleExamples.{no_sample, one_sample, year_of_percentile, year_of_two_ranks, year_with_first};
 
-/// Percentiles of 35.4, 35.5 and 35.6 have a mean of 35.5, which rounds to 36.
-pub fn mean_of_percentiles_is_rounded_once()
-    ensures { daily_dv (year_of_percentile 354 ∷ year_of_percentile 355 ∷ year_of_percentile 356 ∷ [])
+/// The mean of three percentiles is rounded once; 35 µg/m3 meets the standard. Copies join the list, and
+/// count as samples.
+pub fn percentiles_of_three_years()
+    ensures mean_of_percentiles_is_rounded_once { daily_dv (year_of_percentile 354 ∷ year_of_percentile 355 ∷ year_of_percentile 356 ∷ [])
         ≡ record { value = Some (pos 36); test = None; valid = true ∷ true ∷ true ∷ []; verdict = NotMet } }
-{}
-
-/// Twelve copies of 10.0 for a quarter with a capture of 60 leave the percentile; with a capture of 49
-/// there is no test.
-pub fn copies_join_the_list()
     ensures passes { daily_dv (year_of_percentile 340 ∷ year_of_percentile 340 ∷ year_with_first 30 18 ∷ [])
         ≡ record { value = Some (pos 34); test = Some (pos 34); valid = true ∷ true ∷ false ∷ []; verdict = Met } }
     ensures too_few { daily_dv (year_of_percentile 340 ∷ year_of_percentile 340 ∷ year_with_first 90 44 ∷ [])
         ≡ record { value = Some (pos 34); test = None; valid = true ∷ true ∷ false ∷ []; verdict = Incomplete } }
-{}
-
-/// 35 meets the standard.
-pub fn thirty_five_meets_the_standard()
     ensures at { daily_dv (replicate 3 (year_of_percentile 350))
         ≡ record { value = Some (pos 35); test = None; valid = true ∷ true ∷ true ∷ []; verdict = Met } }
     ensures above { daily_dv (replicate 3 (year_of_percentile 360))
         ≡ record { value = Some (pos 36); test = None; valid = true ∷ true ∷ true ∷ []; verdict = NotMet } }
+    ensures copies_count_as_samples { daily_dv (year_of_percentile 351 ∷ year_of_percentile 351 ∷ year_of_two_ranks ∷ [])
+        ≡ record { value = Some (pos 35); test = Some (pos 34); valid = true ∷ true ∷ false ∷ []; verdict = Met } }
 {}
 
 /// One creditable sample is enough for a year whose percentile, rounded, or whose design value is above
@@ -37,11 +31,4 @@ pub fn one_sample_is_enough_above_the_level()
     ensures at { is_daily_year (Some (pos 35)) (Some (pos 354)) one_sample ≡ false }
     ensures none { is_daily_year None None one_sample ≡ false }
     ensures no_sample { is_daily_year (Some (pos 36)) (Some (pos 360)) no_sample ≡ false }
-{}
-
-/// The copies count as samples: with 11 of them 100 counted samples are 111, and the percentile is the
-/// third of the values and no more the second.
-pub fn copies_count_as_samples()
-    ensures { daily_dv (year_of_percentile 351 ∷ year_of_percentile 351 ∷ year_of_two_ranks ∷ [])
-        ≡ record { value = Some (pos 35); test = Some (pos 34); valid = true ∷ true ∷ false ∷ []; verdict = Met } }
 {}

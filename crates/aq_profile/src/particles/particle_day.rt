@@ -16,13 +16,28 @@ ghost use Rattle.aq_profile.specs.Particles.Pm10Estimate.{pm10_year};
 ghost use Rattle.aq_profile.specs.Ozone.OzoneExamples.{office_of, site};
 ghost use Rattle.aq_profile.specs.Particles.ParticleExamples.{hourly, particle_id, particle_sample, primary_of, smoky_evening, three_samplers, winter_day, with_ineligible};
 
-/// Seventeen hours of PM2.5 with a sum of 852.0 make a day of 35.5, and with 851.9 they make none.
-/// Of PM10 they make none at all, and eighteen hours make the day of their mean.
-pub fn seventeen_hours_need_a_high_sum()
+/// Seventeen hours need a high sum. One excluded hour excludes the day. A monitor that is not registered
+/// or not eligible has no day, and its duration decides. The primary stands for the site, and one monitor
+/// counts for PM10.
+pub fn days_of_monitors_and_sites()
     ensures high { site_day (hourly Pm25 504 16) site Pm25 winter_day ≡ Some (record { value = pos 355; excluded = false }) }
     ensures lower { site_day (hourly Pm25 503 16) site Pm25 winter_day ≡ None }
     ensures coarse { site_day (hourly Pm10 504 16) site Pm10 winter_day ≡ None }
     ensures eighteen { site_day (hourly Pm10 504 17) site Pm10 winter_day ≡ Some (record { value = pos 501; excluded = false }) }
+    ensures fine { site_day (smoky_evening Pm25) site Pm25 winter_day ≡ Some (record { value = pos 105; excluded = true }) }
+    ensures one_excluded_hour_excludes_the_day_coarse { site_day (smoky_evening Pm10) site Pm10 winter_day ≡ Some (record { value = pos 105; excluded = true }) }
+    ensures eligible { monitor_day (with_ineligible Pm25) (particle_id Pm25 3) winter_day ≡ Some (record { value = pos 123; excluded = false }) }
+    ensures not_eligible { monitor_day (with_ineligible Pm25) (particle_id Pm25 2) winter_day ≡ None }
+    ensures not_registered { monitor_day (office_of [] (particle_sample Pm25 2 120 winter_day ∷ [])) (particle_id Pm25 2) winter_day ≡ None }
+    ensures other_monitors_have_no_day_fine { site_day (with_ineligible Pm25) site Pm25 winter_day ≡ Some (record { value = pos 123; excluded = false }) }
+    ensures other_monitors_have_no_day_coarse { site_day (with_ineligible Pm10) site Pm10 winter_day ≡ Some (record { value = pos 123; excluded = false }) }
+    ensures hours { monitor_day (hourly Pm25 504 17) (particle_id Pm25 1) winter_day ≡ Some (record { value = pos 501; excluded = false }) }
+    ensures day { monitor_day (three_samplers Pm25 []) (particle_id Pm25 2) winter_day ≡ Some (record { value = pos 120; excluded = false }) }
+    ensures primary { site_day (three_samplers Pm25 (primary_of Pm25 3 ∷ [])) site Pm25 winter_day ≡ Some (record { value = pos 123; excluded = false }) }
+    ensures others { site_day (three_samplers Pm25 (primary_of Pm25 1 ∷ [])) site Pm25 winter_day ≡ Some (record { value = pos 121; excluded = false }) }
+    ensures one_monitor_counts_for_pm10_primary { site_day (three_samplers Pm10 (primary_of Pm10 3 ∷ [])) site Pm10 winter_day ≡ Some (record { value = pos 123; excluded = false }) }
+    ensures primary_without { site_day (three_samplers Pm10 (primary_of Pm10 1 ∷ [])) site Pm10 winter_day ≡ None }
+    ensures lowest { site_day (three_samplers Pm10 []) site Pm10 winter_day ≡ None }
 {}
 
 /// Eighteen hours make a day of PM2.5 of their own mean, whatever their sum.
@@ -31,41 +46,6 @@ pub fn eighteen_hours_need_no_high_sum()
     ensures high { mean_or_high_sum 18 (pos 8520) ≡ Some (pos 473) }
     ensures too_few { mean_or_high_sum 17 (pos 1800) ≡ None }
     ensures few_but_high { mean_or_high_sum 17 (pos 8520) ≡ Some (pos 355) }
-{}
-
-/// One excluded hour of eighteen makes the day an excluded one.
-pub fn one_excluded_hour_excludes_the_day()
-    ensures fine { site_day (smoky_evening Pm25) site Pm25 winter_day ≡ Some (record { value = pos 105; excluded = true }) }
-    ensures coarse { site_day (smoky_evening Pm10) site Pm10 winter_day ≡ Some (record { value = pos 105; excluded = true }) }
-{}
-
-/// A monitor that is not eligible has no day, and neither has one that is not registered.
-pub fn other_monitors_have_no_day()
-    ensures eligible { monitor_day (with_ineligible Pm25) (particle_id Pm25 3) winter_day ≡ Some (record { value = pos 123; excluded = false }) }
-    ensures not_eligible { monitor_day (with_ineligible Pm25) (particle_id Pm25 2) winter_day ≡ None }
-    ensures not_registered { monitor_day (office_of [] (particle_sample Pm25 2 120 winter_day ∷ [])) (particle_id Pm25 2) winter_day ≡ None }
-    ensures fine { site_day (with_ineligible Pm25) site Pm25 winter_day ≡ Some (record { value = pos 123; excluded = false }) }
-    ensures coarse { site_day (with_ineligible Pm10) site Pm10 winter_day ≡ Some (record { value = pos 123; excluded = false }) }
-{}
-
-/// A monitor's own duration decides: of hours its day is their mean, of 24 hours its sample at 00:00.
-pub fn durations_decide()
-    ensures hours { monitor_day (hourly Pm25 504 17) (particle_id Pm25 1) winter_day ≡ Some (record { value = pos 501; excluded = false }) }
-    ensures day { monitor_day (three_samplers Pm25 []) (particle_id Pm25 2) winter_day ≡ Some (record { value = pos 120; excluded = false }) }
-{}
-
-/// Of PM2.5 the primary's sample counts, and where it has none the truncated mean of the others'.
-pub fn primary_stands_for_the_site()
-    ensures primary { site_day (three_samplers Pm25 (primary_of Pm25 3 ∷ [])) site Pm25 winter_day ≡ Some (record { value = pos 123; excluded = false }) }
-    ensures others { site_day (three_samplers Pm25 (primary_of Pm25 1 ∷ [])) site Pm25 winter_day ≡ Some (record { value = pos 121; excluded = false }) }
-{}
-
-/// Of PM10 the primary alone counts, and without one the lowest POC alone, whether or not it has a
-/// sample.
-pub fn one_monitor_counts_for_pm10()
-    ensures primary { site_day (three_samplers Pm10 (primary_of Pm10 3 ∷ [])) site Pm10 winter_day ≡ Some (record { value = pos 123; excluded = false }) }
-    ensures primary_without { site_day (three_samplers Pm10 (primary_of Pm10 1 ∷ [])) site Pm10 winter_day ≡ None }
-    ensures lowest { site_day (three_samplers Pm10 []) site Pm10 winter_day ≡ None }
 {}
 
 /// The order of the monitors does not matter to their mean.

@@ -8,8 +8,8 @@ ghost use Rattle.aq_profile.specs.Ozone.OzoneExamples.{afternoon, site};
 ghost use Rattle.aq_profile.specs.Particles.ParticleExamples.{exported};
 ghost use Rattle.aq_profile.specs.Shown.ShownExamples.{other_site, two_sites};
 
-/// Eight hours of ozone, one record each; another year has the header alone.
-pub fn export_has_a_record_for_each_hour()
+/// An export has a record for each hour of one site and pollutant, with its codes.
+pub fn exports_print()
     ensures year { export_answer afternoon site Ozone 2024
         ≡ codes "site,parameter,poc,date,hour,value,null,qualifiers,excluded\n"
         ++ codes "06-037-1103,44201,1,2024-07-01,10,0.071,,,N\n06-037-1103,44201,1,2024-07-01,11,0.071,,,N\n"
@@ -18,19 +18,9 @@ pub fn export_has_a_record_for_each_hour()
         ++ codes "06-037-1103,44201,1,2024-07-01,16,0.071,,,N\n06-037-1103,44201,1,2024-07-01,17,0.071,,,N\n" }
     ensures other_year { export_answer afternoon site Ozone 2023
         ≡ codes "site,parameter,poc,date,hour,value,null,qualifiers,excluded\n" }
-{}
-
-/// A value with two qualifiers, and a null code. A null observation is shown as excluded like any
-/// other.
-pub fn export_shows_codes()
-    ensures { export_answer exported site Pm25 2024
+    ensures export_shows_codes { export_answer exported site Pm25 2024
         ≡ codes "site,parameter,poc,date,hour,value,null,qualifiers,excluded\n"
         ++ codes "06-037-1103,88101,1,2024-01-07,00,12.0,,V RT,Y\n06-037-1103,88101,1,2024-01-10,00,,AN,RT,Y\n" }
-{}
-
-/// Of an office of two sites and two pollutants, an export has the asked site and pollutant alone, in
-/// order of POC and then of the hour, and each pollutant with its places.
-pub fn export_has_one_site_and_pollutant()
     ensures ozone { export_answer two_sites site Ozone 2024
         ≡ codes "site,parameter,poc,date,hour,value,null,qualifiers,excluded\n"
         ++ codes "06-037-1103,44201,1,2024-07-01,10,0.071,,,N\n06-037-1103,44201,12,2024-07-01,09,0.064,,,N\n" }

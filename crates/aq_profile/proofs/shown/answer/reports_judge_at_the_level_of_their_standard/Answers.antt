@@ -18,10 +18,6 @@ use Rattle.aq_profile.specs.Shown.Sheet.{text_of}
 use Rattle.aq_base.specs.Text.{site_text}
 use Rattle.aq_profile.proofs.shown.answer.reports_judge_at_the_level_of_their_standard.Goals as goal
 
-pub returns-clause-primary : goal.returns-clause-primary
+pub returns : goal.returns
 unfolding digits days_of_years days_of_months year_of month_of last_digits ranked primary_on excluded is_eligible is_scheduled eligible_pocs monitor_day site_day days_of_quarter credits quarter_counts quarter_values pm25_year pm25_summary text_of site_text answer design_value annual_design judged report_answer report_sheet sites_with
-returns-clause-primary c = refl
-
-pub returns-clause-secondary : goal.returns-clause-secondary
-unfolding digits days_of_years days_of_months year_of month_of last_digits ranked primary_on excluded is_eligible is_scheduled eligible_pocs monitor_day site_day days_of_quarter credits quarter_counts quarter_values pm25_year pm25_summary text_of site_text answer design_value annual_design judged report_answer report_sheet sites_with
-returns-clause-secondary c = refl
+returns c = refl

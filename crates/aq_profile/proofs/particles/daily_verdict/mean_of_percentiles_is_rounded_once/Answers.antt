@@ -1,7 +1,0 @@
-use Rattle.std.proofs.Common.{refl}
-use Rattle.aq_profile.specs.Lists.{ranked}
-use Rattle.aq_profile.proofs.particles.daily_verdict.mean_of_percentiles_is_rounded_once.Goals as goal
-
-pub returns : goal.returns
-unfolding ranked
-returns c = refl
