@@ -24,7 +24,7 @@ use Rattle.aq_desk.specs.Scan.{answer_of, reply_to, scan_answer, scan_outcome, s
 use Rattle.aq_desk.specs.Stop.{Obeys, ending_of, status_of}
 use Rattle.aq_desk.specs.Writing.{WritesFront}
 use Rattle.aq_desk.specs.declared.stop.Stop.{Stop}
-use Rattle.aq_desk.specs.declared.stop.Stop.TheVariants.{InputFailed, Memory, TooManyBytes, TooManyLines, NoSite}
+use Rattle.aq_desk.specs.declared.stop.Stop.TheVariants.{InputFailed, Memory, TooManyBytes}
 
 -- ---- texts and their fronts
 
@@ -84,9 +84,6 @@ writes_nothing ending answer written is = record {
 pub is_within-few : (body : List ℕ) → length body ≤ MOST_BYTES → line_count body ≤ MOST_LINES → is_within body ≡ true
 is_within-few body bytes lines = grind (arith, nat_tests)
 
-pub is_within-lines : (body : List ℕ) → MOST_LINES < line_count body → is_within body ≡ false
-is_within-lines body many = grind (arith, nat_tests)
-
 pub is_within-bytes : (body : List ℕ) → MOST_BYTES < length body → is_within body ≡ false
 is_within-bytes body many = grind (arith, nat_tests)
 
@@ -101,23 +98,11 @@ beyond site day body answer written is ending =
     let P = λ (few : Bool). Obeys (if few then scan_answer site day body else unwritten (excess body)) answer written written in
     subst P (sym is) (writes_nothing (excess body) answer written ending)
 
-few_bytes : (body : List ℕ) → length body ≤ MOST_BYTES → nat_le (length body) MOST_BYTES ≡ true
-few_bytes body few = grind (arith, nat_tests)
-
 many_bytes : (body : List ℕ) → MOST_BYTES < length body → nat_le (length body) MOST_BYTES ≡ false
 many_bytes body many = grind (arith, nat_tests)
 
-excess-lines : (body : List ℕ) → length body ≤ MOST_BYTES → excess body ≡ too_many_lines (line_count body)
-excess-lines body few = ap (λ (b : Bool). if b then too_many_lines (line_count body) else too_many_bytes) (few_bytes body few)
-
 excess-bytes : (body : List ℕ) → MOST_BYTES < length body → excess body ≡ too_many_bytes
 excess-bytes body many = ap (λ (b : Bool). if b then too_many_lines (line_count body) else too_many_bytes) (many_bytes body many)
-
-pub beyond_lines : (site : Site) (day : ℕ) (body : List ℕ) (lines : ℕ) (written : Option (List ℕ)) → length body ≤ MOST_BYTES → lines ≡ line_count body → MOST_LINES < lines → Obeys (scan_outcome site day body) (Err (TooManyLines lines)) written written
-beyond_lines site day body lines written bytes count many =
-    beyond site day body (Err (TooManyLines lines)) written
-    (is_within-lines body (omega (arith, count, many)))
-    (ap too_many_lines count ∙ sym (excess-lines body bytes))
 
 pub beyond_bytes : (site : Site) (day : ℕ) (body : List ℕ) (written : Option (List ℕ)) → MOST_BYTES < length body → Obeys (scan_outcome site day body) (Err TooManyBytes) written written
 beyond_bytes site day body written many =
@@ -132,11 +117,6 @@ registered_answer office site day rows sheet answer before after registered same
     let P = λ (s : Sheet). Obeys (printed (text_of s)) answer before after in
     let Q = λ (there : Bool). Obeys (if there then printed (text_of (windows_answer office site day)) else unwritten (no_site site)) answer before after in
     subst Q (sym registered) (subst P (same_sheet ∙ ap (windows_sheet site day) same_rows) obeys)
-
-pub unregistered : (office : Office) (site : Site) (day : ℕ) (written : Option (List ℕ)) → has_monitor office site Ozone ≡ false → Obeys (windows_outcome office site day) (Err (NoSite site)) written written
-unregistered office site day written none =
-    let P = λ (there : Bool). Obeys (if there then printed (text_of (windows_answer office site day)) else unwritten (no_site site)) (Err (NoSite site)) written written in
-    subst P (sym none) (writes_nothing (no_site site) (Err (NoSite site)) written refl)
 
 -- a text that was printed whole, and then what follows it
 obeys_behind : (text : List ℕ) (outcome : Outcome) (answer : Result Unit Stop) (before between after : Option (List ℕ)) → between ≡ option_map (λ bytes. bytes ++ text) before → Obeys outcome answer between after → Obeys (after_text text outcome) answer before after
