@@ -28,9 +28,6 @@ rises_at status before after risen = record { rises = λ _. risen; stays = λ ot
 pub stays_at : (wanted status count : ℕ) → (status ≡ wanted → ⊥) → RisesAt wanted status count count
 stays_at wanted status count other = record { rises = λ same. absurd (other same); stays = λ _. refl }
 
-pub rises_since : (wanted status before between after : ℕ) → between ≡ before → RisesAt wanted status between after → RisesAt wanted status before after
-rises_since wanted status before between after same rises = let P = λ (n : ℕ). RisesAt wanted status n after in subst P same rises
-
 -- what stopped a command, as `?` answers it
 pub stopped_by : (answer : Result Unit Stop) (stop : Stop) → IsErrAnd answer (λ why. why ≡ stop) → answer ≡ Err stop
 stopped_by (Ok nothing) stop why = absurd why

@@ -3,7 +3,6 @@ pub mod LineLemmas
 pub mod BuiltLaws
 pub mod OneMonitor
 pub mod Tallies
-pub mod SheetTexts
 pub mod Outcomes
 pub mod Messages
 pub mod Causes

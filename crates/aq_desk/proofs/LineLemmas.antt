@@ -15,7 +15,7 @@ use Rattle.aq_base.specs.declared.monitor.MonitorId.{MonitorId}
 use Rattle.aq_base.specs.declared.observation.ObsKey.{ObsKey}
 use Rattle.aq_base.specs.declared.observation.Observation.{Observation}
 use Rattle.aq_base.specs.declared.office.OfficeKey.TheVariants.{Monitor as MonitorKey}
-use Rattle.aq_base.specs.declared.rule.Rule.TheVariants.{UnknownMonitor, WrongDuration, AlreadyThere, NotThere, ObservationsFull}
+use Rattle.aq_base.specs.declared.rule.Rule.TheVariants.{AlreadyThere, NotThere, ObservationsFull}
 use Rattle.aq_profile.specs.Limits.{MOST_OBSERVATIONS}
 use Rattle.aq_profile.specs.Office.Load.{changed}
 use Rattle.aq_profile.specs.Office.Office.{Office, comes_before, duration_at, is_same, key_numbers, monitor_duration, parameter_number, observation_numbers, observation_rank, with_row, without_row, observation_at}
@@ -66,21 +66,6 @@ monitor_from_duration (Some id) rows other h = at (is_same (key_numbers (Monitor
     at : (t : Bool) → is_same (key_numbers (MonitorKey id)) (key_numbers (MonitorKey other)) ≡ t → (cond t (Some (registered id)) None >>= monitor_duration) ≡ Some Hour → Some id ≡ Some other
     at true same known = ap (λ (m : MonitorId). Some m) (monitor_from_same id other same)
     at false _ none = cc
-
--- ---- the rules that a line breaks
-
-pub unknown-put : (office : Office) (update : Bool) (monitor : MonitorId) (duration : Duration) (method hour : ℕ) (content : Observation) → duration_at office monitor ≡ None → broken office (OfRd (PutSample update monitor duration method hour content)) ≡ Some UnknownMonitor
-unknown-put office false monitor duration method hour content none = cond-true _ _ _ (ap is_none none)
-unknown-put office true monitor duration method hour content none = cond-true _ _ _ (ap is_none none)
-
-pub unknown-delete : (office : Office) (monitor : MonitorId) (hour : ℕ) → duration_at office monitor ≡ None → broken office (OfRd (DeleteSample monitor hour)) ≡ Some UnknownMonitor
-unknown-delete office monitor hour none = cond-true _ _ _ (ap is_none none)
-
-pub wrong_duration-put : (office : Office) (update : Bool) (monitor : MonitorId) (method hour : ℕ) (content : Observation) → duration_at office monitor ≡ Some Hour → broken office (OfRd (PutSample update monitor Day method hour content)) ≡ Some WrongDuration
-wrong_duration-put office false monitor method hour content known =
-    cond-false _ _ _ (ap is_none known) ∙ cond-true _ _ _ (ap (λ d. is_other_duration d Day) known)
-wrong_duration-put office true monitor method hour content known =
-    cond-false _ _ _ (ap is_none known) ∙ cond-true _ _ _ (ap (λ d. is_other_duration d Day) known)
 
 abbrev pub key_at : MonitorId → ℕ → ObsKey
 key_at monitor hour = record { monitor = monitor; hour = hour }

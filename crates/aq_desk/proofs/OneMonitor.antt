@@ -3,23 +3,25 @@ use Rattle.std.proofs.Common.{◌≡◌, ℕ, ◌≤◌, Bool, true, false, cond
 use Rattle.std.specs.Prelude.{◌==◌, nat_lt, ℤ, pos, Option, Some, None, IsTrue}
 use Rattle.std.specs.Option.{option_map}
 use Rattle.std.specs.List.{AllByRecursion, filter_map, cons_option, find}
+use Rattle.std.proofs.Math.Bool.{and-true}
+use Rattle.std.proofs.lemmas.Bool.{and_parts}
 use Rattle.std.proofs.lemmas.Bool.Decides.{nat_tests}
 use Rattle.std.proofs.lemmas.Int.{ints, quot-rem, rem_below}
 use Rattle.std.proofs.lemmas.Slice.Eq.{bytes_eq-Decides}
 use Rattle.aq_base.specs.Calendar.{day_of_hour}
 use Rattle.aq_base.specs.Decimal.{truncated}
 use Rattle.aq_base.specs.Site.{Site}
-use Rattle.aq_base.specs.declared.code.Code.{Code}
 use Rattle.aq_base.specs.declared.monitor.MonitorId.{MonitorId}
 use Rattle.aq_base.specs.declared.monitor.Pollutant.{Pollutant}
-use Rattle.aq_base.specs.declared.monitor.Pollutant.TheVariants.{Ozone, Pm25, Pm10}
+use Rattle.aq_base.specs.declared.monitor.Pollutant.TheVariants.{Ozone}
 use Rattle.aq_base.specs.declared.observation.ObsKey.{ObsKey}
 use Rattle.aq_base.specs.declared.observation.Observation.{Observation}
 use Rattle.aq_profile.specs.Office.Designation.{primary_on}
-use Rattle.aq_profile.specs.Office.Exclusion.{excluded}
 use Rattle.aq_profile.specs.Lists.{total}
-use Rattle.aq_profile.specs.Office.Monitors.{is_same_site, is_same_pollutant, is_same_monitor, is_eligible}
+use Rattle.aq_profile.specs.Office.Monitors.{is_same_pollutant, is_same_monitor, is_eligible}
 use Rattle.aq_profile.specs.Office.Office.{Office, comes_before, content_of, has_monitor, is_same, observation_numbers, observation_rank, pollutant_number, rises, rises_from, row_at, series_numbers}
+use Rattle.aq_profile.specs.Office.Sameness.{number_itself, pollutant_itself, site_itself}
+use Rattle.aq_profile.specs.Office.Unagreed.{excluded-unagreed}
 use Rattle.aq_profile.specs.Ozone.SiteHour.{Sample, chosen, is_of_poc, sample_of, site_hour}
 use Rattle.aq_shelf.specs.Standing.{content_at}
 use Rattle.aq_desk.specs.Built.{registered}
@@ -40,19 +42,8 @@ plain_sample id value = record { poc = id.poc; cell = plain_cell value }
 
 -- ---- the tests at the registered monitor
 
-number_itself : (n : ℕ) → (n == n) ≡ true
-number_itself n = grind (arith, nat_tests)
-
 not_before_itself : (n : ℕ) → nat_lt n n ≡ false
 not_before_itself n = grind (arith, nat_tests)
-
-site_itself : (site : Site) → is_same_site site site ≡ true
-site_itself site = rw (number_itself site.state, number_itself site.county, number_itself site.number) refl
-
-pollutant_itself : (p : Pollutant) → is_same_pollutant p p ≡ true
-pollutant_itself Ozone = refl
-pollutant_itself Pm25 = refl
-pollutant_itself Pm10 = refl
 
 monitor_itself : (id : MonitorId) → is_same_monitor id id ≡ true
 monitor_itself id = rw (site_itself id.site, pollutant_itself id.pollutant, number_itself id.poc) refl
@@ -61,19 +52,11 @@ eligible_itself : (id : MonitorId) → is_eligible (registered id ∷ []) id ≡
 unfolding is_eligible
 eligible_itself id = rw (monitor_itself id) refl
 
-not_excluded : (id : MonitorId) (key : ObsKey) (codes : List Code) → excluded (registered id ∷ []) key codes ≡ false
-unfolding excluded
-not_excluded id key codes = refl
-
 no_primary : (id : MonitorId) (site : Site) (day : ℕ) → primary_on (registered id ∷ []) site Ozone day ≡ None
 unfolding primary_on
 no_primary id site day = refl
 
 -- ---- the monitor's keys, by their hours
-
-and_true : (b : Bool) → (b && true) ≡ b
-and_true true = refl
-and_true false = refl
 
 hour_before : (x y : ℕ) → (nat_lt x y || ((x == y) && false)) ≡ nat_lt x y
 hour_before x y = grind (arith, nat_tests)
@@ -81,7 +64,7 @@ hour_before x y = grind (arith, nat_tests)
 same_hour : (id : MonitorId) (x y : ℕ) → is_same (observation_numbers (at_hour id x)) (observation_numbers (at_hour id y)) ≡ (x == y)
 same_hour id x y =
     rw (number_itself id.site.state, number_itself id.site.county, number_itself id.site.number, number_itself (pollutant_number id.pollutant), number_itself id.poc)
-    (and_true (x == y))
+    (and-true (x == y))
 
 earlier_hour : (id : MonitorId) (x y : ℕ) → comes_before (observation_numbers (at_hour id x)) (observation_numbers (at_hour id y)) ≡ nat_lt x y
 earlier_hour id x y =
@@ -100,17 +83,13 @@ own_sample id rows hour entry ozone own =
 
     sampled : sample_of (office_of (Some id) rows) id.site hour (at_hour id entry.0.hour, entry.1) ≡ cond (entry.0.hour == hour) (option_map (plain_sample id) entry.1.value) None
     sampled =
-        rw (pollutant, site_itself id.site, eligible_itself id, not_excluded id (at_hour id entry.0.hour) entry.1.quals, and_true (entry.0.hour == hour)) refl
+        rw (pollutant, site_itself id.site, eligible_itself id, excluded-unagreed (registered id ∷ []) (at_hour id entry.0.hour) entry.1.quals (λ number. refl), and-true (entry.0.hour == hour)) refl
 
 -- ---- at most one entry stands at the hour
 
-both : (a b : Bool) → (a && b) ≡ true → (a ≡ true) × (b ≡ true)
-both true b h = (refl, h)
-both false b h = cc
-
 rises_rest : (first : Entry) (es : List Entry) → rises_from observation_rank first es ≡ true → rises observation_rank es ≡ true
 rises_rest first [] rising = refl
-rises_rest first (next ∷ es) rising = (both (comes_before (observation_rank first) (observation_rank next)) (rises_from observation_rank next es) rising).1
+rises_rest first (next ∷ es) rising = (and_parts (comes_before (observation_rank first) (observation_rank next)) (rises_from observation_rank next es) rising).1
 
 its_hour : (id : MonitorId) (entry : Entry) (hour : ℕ) → entry.0.monitor ≡ id → is_same (observation_rank entry) (observation_numbers (at_hour id hour)) ≡ (entry.0.hour == hour)
 its_hour id entry hour own =
@@ -126,7 +105,7 @@ none_behind : (id : MonitorId) (hour : ℕ) (first : Entry) (es : List Entry) �
     → row_at observation_rank (observation_numbers (at_hour id hour)) es ≡ None
 none_behind id hour first [] past own all rising = refl
 none_behind id hour first (next ∷ es) past own all rising =
-    let parts = both (comes_before (observation_rank first) (observation_rank next)) (rises_from observation_rank next es) rising in
+    let parts = and_parts (comes_before (observation_rank first) (observation_rank next)) (rises_from observation_rank next es) rising in
     let later : nat_lt first.0.hour next.0.hour ≡ true = sym (in_order id first next own all.0) ∙ parts.0 in
     let other : (next.0.hour == hour) ≡ false = grind (arith, nat_tests) in
     let still : hour ≤ next.0.hour = grind (arith, nat_tests) in

@@ -1,6 +1,6 @@
 -- What a run does of a command's outcome, step by step.
-use Rattle.std.proofs.Common.{◌≡◌, ℕ, ◌+◌, ◌<◌, ◌≤◌, Bool, true, false, List, [], ◌++◌, length, take, Option, Some, None, refl, sym, ap, subst, ◌∙◌, append_assoc, arith}
-use Rattle.std.specs.Prelude.{Result, Ok, Err, IfErr, OnOk, if◌then◌else◌, nat_le}
+use Rattle.std.proofs.Common.{◌≡◌, ℕ, ◌+◌, ◌<◌, ◌≤◌, Bool, true, false, List, [], ◌++◌, length, take, Option, Some, None, refl, sym, ap, subst, ◌∙◌, inl, append_assoc, arith}
+use Rattle.std.specs.Prelude.{Result, Ok, Err, if◌then◌else◌, nat_le}
 use Rattle.std.specs.Option.{option_map}
 use Rattle.std.proofs.lemmas.Bool.Decides.{nat_tests}
 use Rattle.std.proofs.lemmas.List.{length-append, take-append-le}
@@ -11,19 +11,20 @@ use Rattle.aq_base.specs.Site.{Site}
 use Rattle.aq_profile.specs.Limits.{MOST_BYTES, MOST_LINES}
 use Rattle.aq_profile.specs.Lines.Lines.{body_lines, line_count}
 use Rattle.aq_profile.specs.Office.Office.{Office, has_monitor, nothing}
+use Rattle.aq_profile.specs.Ozone.EightHour.{WindowRow}
 use Rattle.aq_profile.specs.Ozone.OzoneDay.{windows}
-use Rattle.aq_profile.specs.Shown.Sheet.{text_of}
+use Rattle.aq_profile.specs.Shown.Sheet.{Sheet, text_of}
 use Rattle.aq_profile.specs.Shown.Sheets.{load_sheet, windows_answer, windows_sheet}
 use Rattle.aq_desk.proofs.Fronts.{behind_nothing}
 use Rattle.aq_desk.specs.Body.{excess, is_within}
 use Rattle.aq_desk.specs.Built.{built_after_all, built_reply}
-use Rattle.aq_desk.specs.Command.{IsWhole, Outcome, after_text, unwritten}
-use Rattle.aq_desk.specs.Ending.{Ending, done, no_site, too_many_bytes, too_many_lines}
-use Rattle.aq_desk.specs.Scan.{reply_text, scan_answer, scan_outcome, scanned, windows_outcome}
+use Rattle.aq_desk.specs.Command.{IsWhole, Outcome, after_text, printed, unwritten}
+use Rattle.aq_desk.specs.Ending.{Ending, no_site, too_many_bytes, too_many_lines}
+use Rattle.aq_desk.specs.Scan.{answer_of, reply_to, scan_answer, scan_outcome, scanned, windows_outcome}
 use Rattle.aq_desk.specs.Stop.{Obeys, ending_of, status_of}
 use Rattle.aq_desk.specs.Writing.{WritesFront}
 use Rattle.aq_desk.specs.declared.stop.Stop.{Stop}
-use Rattle.aq_desk.specs.declared.stop.Stop.TheVariants.{InputFailed, OutputFailed, Memory, TooManyBytes, TooManyLines, NoSite}
+use Rattle.aq_desk.specs.declared.stop.Stop.TheVariants.{InputFailed, Memory, TooManyBytes}
 
 -- ---- texts and their fronts
 
@@ -71,11 +72,6 @@ without_memory outcome stop written is =
 pub without_input : (outcome : Outcome) (written : Option (List ℕ)) → Obeys outcome (Err InputFailed) written written
 without_input outcome written = cut_short outcome InputFailed written written (λ whole. omega arith) (nothing_written written outcome.output)
 
-pub without_output : (outcome : Outcome) (stop : Stop) (before after : Option (List ℕ)) → stop ≡ OutputFailed → WritesFront before after outcome.output → Obeys outcome (Err stop) before after
-without_output outcome stop before after is front =
-    let P = λ (s : Stop). Obeys outcome (Err s) before after in
-    subst P (sym is) (cut_short outcome OutputFailed before after (λ whole. omega arith) front)
-
 writes_nothing : (ending : Ending) (answer : Result Unit Stop) (written : Option (List ℕ)) → ending_of answer ≡ ending → Obeys (unwritten ending) answer written written
 writes_nothing ending answer written is = record {
   ending = λ _. is;
@@ -87,9 +83,6 @@ writes_nothing ending answer written is = record {
 
 pub is_within-few : (body : List ℕ) → length body ≤ MOST_BYTES → line_count body ≤ MOST_LINES → is_within body ≡ true
 is_within-few body bytes lines = grind (arith, nat_tests)
-
-pub is_within-lines : (body : List ℕ) → MOST_LINES < line_count body → is_within body ≡ false
-is_within-lines body many = grind (arith, nat_tests)
 
 pub is_within-bytes : (body : List ℕ) → MOST_BYTES < length body → is_within body ≡ false
 is_within-bytes body many = grind (arith, nat_tests)
@@ -105,23 +98,11 @@ beyond site day body answer written is ending =
     let P = λ (few : Bool). Obeys (if few then scan_answer site day body else unwritten (excess body)) answer written written in
     subst P (sym is) (writes_nothing (excess body) answer written ending)
 
-few_bytes : (body : List ℕ) → length body ≤ MOST_BYTES → nat_le (length body) MOST_BYTES ≡ true
-few_bytes body few = grind (arith, nat_tests)
-
 many_bytes : (body : List ℕ) → MOST_BYTES < length body → nat_le (length body) MOST_BYTES ≡ false
 many_bytes body many = grind (arith, nat_tests)
 
-excess-lines : (body : List ℕ) → length body ≤ MOST_BYTES → excess body ≡ too_many_lines (line_count body)
-excess-lines body few = ap (λ (b : Bool). if b then too_many_lines (line_count body) else too_many_bytes) (few_bytes body few)
-
 excess-bytes : (body : List ℕ) → MOST_BYTES < length body → excess body ≡ too_many_bytes
 excess-bytes body many = ap (λ (b : Bool). if b then too_many_lines (line_count body) else too_many_bytes) (many_bytes body many)
-
-pub beyond_lines : (site : Site) (day : ℕ) (body : List ℕ) (lines : ℕ) (written : Option (List ℕ)) → length body ≤ MOST_BYTES → lines ≡ line_count body → MOST_LINES < lines → Obeys (scan_outcome site day body) (Err (TooManyLines lines)) written written
-beyond_lines site day body lines written bytes count many =
-    beyond site day body (Err (TooManyLines lines)) written
-    (is_within-lines body (omega (arith, count, many)))
-    (ap too_many_lines count ∙ sym (excess-lines body bytes))
 
 pub beyond_bytes : (site : Site) (day : ℕ) (body : List ℕ) (written : Option (List ℕ)) → MOST_BYTES < length body → Obeys (scan_outcome site day body) (Err TooManyBytes) written written
 beyond_bytes site day body written many =
@@ -129,27 +110,15 @@ beyond_bytes site day body written many =
 
 -- ---- the answer to a body
 
--- a text that was printed whole or in front
-pub prints : (outcome : Outcome) (text : List ℕ) (answer : Result Unit Stop) (before after : Option (List ℕ)) → outcome ≡ record { ending = done; output = text }
-    → OnOk answer (after ≡ option_map (λ bytes. bytes ++ text) before) → WritesFront before after text → IfErr answer (λ stop. stop ≡ OutputFailed) → Obeys outcome answer before after
-prints outcome text (Ok nothing) before after same whole front fault =
-    let P = λ (o : Outcome). Obeys o (Ok nothing) before after in
-    let plain : P (record { ending = done; output = text }) = record { ending = λ _. refl; whole = λ _. whole; front = front } in
-    subst P (sym same) plain
-prints outcome text (Err stop) before after same whole front fault =
-    without_output outcome stop before after fault
-    (let P = λ (o : Outcome). WritesFront before after o.output in subst P (sym same) front)
-
-pub registered_outcome : (office : Office) (site : Site) (day : ℕ) (text : List ℕ) → has_monitor office site Ozone ≡ true → text ≡ text_of (windows_sheet site day (windows office site day)) → windows_outcome office site day ≡ record { ending = done; output = text }
+pub registered_answer : (office : Office) (site : Site) (day : ℕ) (rows : List WindowRow) (sheet : Sheet) (answer : Result Unit Stop) (before after : Option (List ℕ)) → has_monitor office site Ozone ≡ true → rows ≡ windows office site day → sheet ≡ windows_sheet site day rows
+    → Obeys (printed (text_of sheet)) answer before after → Obeys (windows_outcome office site day) answer before after
 unfolding windows_answer
-registered_outcome office site day text registered same = rw (registered, same) refl
+registered_answer office site day rows sheet answer before after registered same_rows same_sheet obeys =
+    let P = λ (s : Sheet). Obeys (printed (text_of s)) answer before after in
+    let Q = λ (there : Bool). Obeys (if there then printed (text_of (windows_answer office site day)) else unwritten (no_site site)) answer before after in
+    subst Q (sym registered) (subst P (same_sheet ∙ ap (windows_sheet site day) same_rows) obeys)
 
-pub unregistered : (office : Office) (site : Site) (day : ℕ) (written : Option (List ℕ)) → has_monitor office site Ozone ≡ false → Obeys (windows_outcome office site day) (Err (NoSite site)) written written
-unregistered office site day written none =
-    let P = λ (there : Bool). Obeys (if there then record { ending = done; output = text_of (windows_answer office site day) } else unwritten (no_site site)) (Err (NoSite site)) written written in
-    subst P (sym none) (writes_nothing (no_site site) (Err (NoSite site)) written refl)
-
--- a text, and then what follows it
+-- a text that was printed whole, and then what follows it
 obeys_behind : (text : List ℕ) (outcome : Outcome) (answer : Result Unit Stop) (before between after : Option (List ℕ)) → between ≡ option_map (λ bytes. bytes ++ text) before → Obeys outcome answer between after → Obeys (after_text text outcome) answer before after
 obeys_behind text outcome answer before between after written obeys = record {
   ending = obeys.ending;
@@ -157,29 +126,25 @@ obeys_behind text outcome answer before between after written obeys = record {
   front = front_behind before between after text outcome.output written obeys.front;
 }
 
--- the reply's text and the office are those of the body
-reply_text-is : (body : List ℕ) (reply : LoadReply) → reply ≡ built_reply nothing 0 body → text_of (load_sheet reply) ≡ reply_text body
-unfolding reply_text
-reply_text-is body reply same = ap (λ r. text_of (load_sheet r)) same
+pub taken_behind : (reply : LoadReply) (sheet : Sheet) (office : Office) (site : Site) (day : ℕ) (first : Unit) (answer : Result Unit Stop) (before between after : Option (List ℕ)) → sheet ≡ load_sheet reply
+    → Obeys (printed (text_of sheet)) (Ok first) before between → Obeys (windows_outcome office site day) answer between after → Obeys (answer_of reply office site day) answer before after
+taken_behind reply sheet office site day first answer before between after same printed_first obeys =
+    let P = λ (s : Sheet). Obeys (after_text (text_of s) (windows_outcome office site day)) answer before after in
+    subst P same (obeys_behind (text_of sheet) (windows_outcome office site day) answer before between after (printed_first.whole (inl refl)) obeys)
+
+-- the reply and the office are those of the body
+reply_to-is : (body : List ℕ) (reply : LoadReply) → reply ≡ built_reply nothing 0 body → reply ≡ reply_to body
+unfolding reply_to
+reply_to-is body reply same = same
 
 scanned-is : (body : List ℕ) (office : Office) → office ≡ built_after_all nothing (body_lines body) → office ≡ scanned body
 unfolding scanned
 scanned-is body office same = same
 
--- the answer to a body, whose reply was printed whole
-pub answers : (site : Site) (day : ℕ) (body : List ℕ) (reply : LoadReply) (office : Office) (text : List ℕ) (answer : Result Unit Stop) (before between after : Option (List ℕ)) → is_within body ≡ true → reply ≡ built_reply nothing 0 body → office ≡ built_after_all nothing (body_lines body)
-    → text ≡ text_of (load_sheet reply) → between ≡ option_map (λ bytes. bytes ++ text) before → Obeys (windows_outcome office site day) answer between after → Obeys (scan_outcome site day body) answer before after
-answers site day body reply office text answer before between after few same_reply same_office same_text written obeys =
-    let behind = obeys_behind text (windows_outcome office site day) answer before between after written obeys in
-    let P = λ (t : List ℕ). Obeys (after_text t (windows_outcome office site day)) answer before after in
-    let Q = λ (o : Office). Obeys (after_text (reply_text body) (windows_outcome o site day)) answer before after in
+pub answers : (site : Site) (day : ℕ) (body : List ℕ) (reply : LoadReply) (office : Office) (answer : Result Unit Stop) (before after : Option (List ℕ)) → is_within body ≡ true → reply ≡ built_reply nothing 0 body → office ≡ built_after_all nothing (body_lines body)
+    → Obeys (answer_of reply office site day) answer before after → Obeys (scan_outcome site day body) answer before after
+answers site day body reply office answer before after few same_reply same_office obeys =
+    let P = λ (r : LoadReply). Obeys (answer_of r office site day) answer before after in
+    let Q = λ (o : Office). Obeys (answer_of (reply_to body) o site day) answer before after in
     within site day body answer before after few
-    (subst Q (scanned-is body office same_office) (subst P (same_text ∙ reply_text-is body reply same_reply) behind))
-
--- and one whose reply was not
-pub answers_front : (site : Site) (day : ℕ) (body : List ℕ) (reply : LoadReply) (text : List ℕ) (stop : Stop) (before after : Option (List ℕ)) → is_within body ≡ true → reply ≡ built_reply nothing 0 body → text ≡ text_of (load_sheet reply) → stop ≡ OutputFailed → WritesFront before after text → Obeys (scan_outcome site day body) (Err stop) before after
-answers_front site day body reply text stop before after few same_reply same_text failed front =
-    let P = λ (t : List ℕ). WritesFront before after t in
-    within site day body (Err stop) before after few
-    (without_output (scan_answer site day body) stop before after failed
-    (front_of_more before after (reply_text body) (windows_outcome (scanned body) site day).output (subst P (same_text ∙ reply_text-is body reply same_reply) front)))
+    (subst Q (scanned-is body office same_office) (subst P (reply_to-is body reply same_reply) obeys))

@@ -1,19 +1,19 @@
 -- The hours of an average, one by one.
-use Rattle.std.proofs.Common.{◌≡◌, ℕ, zero, suc, ◌+◌, ◌-◌, ◌*◌, ◌<◌, ◌≤◌, Bool, true, false, cond, not, ◌||◌, map, get_or, None, List, [], ◌∷◌, ◌++◌, length, refl, sym, ap, subst, ◌∙◌, arith}
+use Rattle.std.proofs.Common.{◌≡◌, ℕ, zero, suc, ◌+◌, ◌-◌, ◌*◌, ◌<◌, ◌≤◌, get_or, List, [], ◌∷◌, ◌++◌, length, sym, ap, subst, ◌∙◌, arith}
 use Rattle.std.specs.Prelude.{Option, ℤ, nat_le}
-use Rattle.std.specs.List.{filter, filter_map, list_any, range_with_len}
-use Rattle.std.proofs.lemmas.List.{length-map, get_or-map}
-use Rattle.std.proofs.lemmas.List.FromFn.{fill_by_all}
+use Rattle.std.specs.List.{filter, filter_map, range_with_len}
+use Rattle.std.proofs.lemmas.List.{ext_get_or, length-map}
+use Rattle.std.proofs.lemmas.List.FromFn.{get_or-map-range_with_len, length-map-range_with_len}
 use Rattle.std.proofs.lemmas.List.Elements.{filter_map-append, filter-append}
 use Rattle.aq_base.specs.Site.{Site}
 use Rattle.aq_base.specs.declared.day.TheConstants.{LAST_HOUR}
-use Rattle.aq_profile.specs.Ozone.EightHour.{WindowRow, average_of, average, eight_hours, full_values, net_values, row_of, window}
+use Rattle.aq_profile.specs.Ozone.EightHour.{WindowRow, average_of, average, eight_hours, full_values, row_of, window}
 use Rattle.aq_profile.specs.Office.Office.{Office}
 use Rattle.aq_profile.specs.Ozone.OzoneDay.{windows, starts_of}
 use Rattle.aq_profile.specs.Ozone.SiteHour.{Cell, site_hour}
-use Rattle.aq_desk.specs.WindowView.{IsTally, cells_at, cells_of, row_view}
+use Rattle.aq_profile.specs.Ozone.Unexcluded.{row-unexcluded}
+use Rattle.aq_desk.specs.WindowView.{IsTally, cells_at, cells_of}
 use Rattle.aq_desk.specs.declared.windows.Tally.{Tally}
-use Rattle.aq_desk.specs.declared.windows.WindowRow.{WindowRow as Row}
 
 -- one hour more behind n
 range_more : (start n : ℕ) → range_with_len start (suc n) ≡ range_with_len start n ++ (start + n) ∷ []
@@ -50,56 +50,26 @@ tally_none office site start tally none =
     let n : 0 ≡ start - start = omega arith in
     subst (λ (k : ℕ). IsTally (cells_at office site (range_with_len start k)) tally) n none
 
--- where no hour is excluded the net values are the full ones
-net_is_full : (cells : List Cell) → list_any (λ (c : Cell). c.excluded) cells ≡ false → net_values cells ≡ full_values cells
-net_is_full [] none = refl
-net_is_full (cell ∷ cells) none = by_flag cell.excluded none (net_is_full cells)
-  where
-    by_flag : (flag : Bool) → (flag || list_any (λ (c : Cell). c.excluded) cells) ≡ false → (list_any (λ (c : Cell). c.excluded) cells ≡ false → net_values cells ≡ full_values cells)
-        → full_values (cond (not flag) (cell ∷ filter (λ (c : Cell). not c.excluded) cells) (filter (λ (c : Cell). not c.excluded) cells)) ≡ full_values (cell ∷ cells)
-    by_flag true none rest = cc
-    by_flag false none rest = ap (λ (l : List ℤ). cell.value ∷ l) (rest none)
-
 row_by : (cells : List Cell) (tally : Tally) (value : Option ℤ) → IsTally cells tally → value ≡ average tally.hours tally.sum
     → record { net = value; net_hours = tally.hours; full = value; full_hours = tally.hours } ≡ row_of cells
 row_by cells tally value all is =
     let hours : tally.hours ≡ length (full_values cells) = all.hours ∙ sym (length-map cells (λ (c : Cell). c.value)) in
     let full : value ≡ average_of (full_values cells) = is ∙ (λ i. average (hours i) (all.sum i)) in
-    rw (net_is_full cells all.none_excluded) (λ i. record { net = full i; net_hours = hours i; full = full i; full_hours = hours i })
-
-window_by : (office : Office) (site : Site) (start : ℕ) → row_of (cells_at office site (range_with_len start 8)) ≡ window office site start
-unfolding window eight_hours
-window_by office site start = refl
+    (λ i. record { net = full i; net_hours = hours i; full = full i; full_hours = hours i }) ∙ sym (row-unexcluded cells all.none_excluded)
 
 pub row_is : (office : Office) (site : Site) (start n : ℕ) (tally : Tally) (value : Option ℤ)
     → IsTally (cells_at office site (range_with_len start n)) tally → n ≡ 8 → value ≡ average tally.hours tally.sum
     → record { net = value; net_hours = tally.hours; full = value; full_hours = tally.hours } ≡ window office site start
+unfolding window eight_hours
 row_is office site start n tally value all eight is =
     row_by (cells_at office site (range_with_len start n)) tally value all is
     ∙ ap (λ (k : ℕ). row_of (cells_at office site (range_with_len start k))) eight
-    ∙ window_by office site start
 
--- ---- the averages of a day
-
-shifted : {Y : Type 0} (f : ℕ → Y) (a b n : ℕ) → map (λ k. f (a + k)) (range_with_len b n) ≡ map f (range_with_len (a + b) n)
-shifted f a b zero = refl
-shifted {Y} f a b (suc n) =
-    let e : a + (b + 1) ≡ a + b + 1 = omega arith in
-    ap (λ (l : List Y). f (a + b) ∷ l) (shifted f a (b + 1) n ∙ ap (λ (k : ℕ). map f (range_with_len k n)) e)
-
-rows_by : (f : ℕ → WindowRow) (rows : List Row) (first n : ℕ) → length rows ≡ n → ((d : Row) (k : ℕ) → k < n → row_view (get_or rows k d) ≡ f (first + k))
-    → map row_view rows ≡ map f (range_with_len first n)
-rows_by f rows first n many each =
-    let d : Row = record { net = None; net_hours = 0; full = None; full_hours = 0 } in
-    let e : first + 0 ≡ first = omega arith in
-    fill_by_all (λ k. f (first + k)) (map row_view rows) n (row_view d) (length-map rows row_view ∙ many)
-    (λ k within. get_or-map row_view rows k d (row_view d) (let e : k < length rows = omega (arith, within, many) in e) ∙ each d k within)
-    ∙ shifted f first 0 n
-    ∙ ap (λ (k : ℕ). map f (range_with_len k n)) e
-
-pub rows_are : (office : Office) (site : Site) (day : ℕ) (rows : List Row) (first n : ℕ) → length rows ≡ 17 → n ≡ 17 → first ≡ 24 * day + 7
-    → ((d : Row) (k : ℕ) → k < n → row_view (get_or rows k d) ≡ window office site (first + k)) → map row_view rows ≡ windows office site day
+pub rows_are : (office : Office) (site : Site) (day : ℕ) (rows : List WindowRow) (first n : ℕ) → length rows ≡ 17 → n ≡ 17 → first ≡ 24 * day + 7
+    → ((d : WindowRow) (k : ℕ) → k < n → get_or rows k d ≡ window office site (first + k)) → rows ≡ windows office site day
 unfolding windows starts_of
 rows_are office site day rows first n many all from each =
-    rows_by (window office site) rows first n (many ∙ sym all) each
-    ∙ (λ i. map (window office site) (range_with_len (from i) (all i)))
+    let d : WindowRow = window office site 0 in
+    ext_get_or d rows (windows office site day) (many ∙ sym (length-map-range_with_len (window office site) (24 * day + 7) 17))
+    (λ k within. each d k (omega (arith, within, many, all))
+    ∙ sym (get_or-map-range_with_len (window office site) (24 * day + 7) 17 k (first + k) d (omega (arith, within, many)) (omega (arith, from))))

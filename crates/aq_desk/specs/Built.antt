@@ -1,5 +1,5 @@
 -- What a load's lines make of an office, as far as the forms of lines are built: RD lines whole, and of the office's own lines the plain one of an ozone monitor, once (own).
-use Rattle.std.specs.Prelude.{◌≡◌, ℕ, ◌<◌, true, ◌==◌, count_by, slice_index, if◌then◌else◌, Option, Some, None, List, [], ◌∷◌, ◌++◌, ◌-◌, length, take, drop, filter_map, codes}
+use Rattle.std.specs.Prelude.{◌≡◌, ℕ, ◌<◌, true, ◌==◌, count_by, slice_index, if◌then◌else◌, Option, Some, None, List, [], ◌∷◌, ◌++◌, ◌-◌, length, take, drop, filter_map}
 use Rattle.aq_base.specs.Rule.{all_rules}
 use Rattle.aq_base.specs.declared.monitor.MonitorId.{MonitorId}
 use Rattle.aq_base.specs.declared.monitor.Duration.TheVariants.{Hour}

@@ -1,7 +1,7 @@
 -- What a command is: how it ends and what it writes, over its words and its input; and what a run may do with it (own).
 use Rattle.std.specs.Prelude.{◌≡◌, ℕ, ◌⊎◌, ◌==◌, if◌then◌else◌, List, [], ◌++◌, Option}
 use Rattle.std.specs.Option.{option_map}
-use Rattle.aq_desk.specs.Ending.{Ending, input_failed, output_failed, no_memory}
+use Rattle.aq_desk.specs.Ending.{Ending, done, input_failed, output_failed, no_memory}
 use Rattle.aq_desk.specs.Outside.{HasRisen}
 use Rattle.aq_desk.specs.Writing.{WritesFront}
 
@@ -13,6 +13,10 @@ pub record Outcome : Type 0 where
 -- a command that writes nothing
 abbrev pub unwritten : Ending → Outcome
 unwritten ending = record { ending = ending; output = [] }
+
+-- one that prints a text, and has then done all
+abbrev pub printed : List ℕ → Outcome
+printed text = record { ending = done; output = text }
 
 -- a text, and then what else a command gives
 abbrev pub after_text : List ℕ → Outcome → Outcome

@@ -41,6 +41,10 @@ pub record Obeys (outcome : Outcome) (answer : Result Unit Stop) (before after :
 abbrev pub IsTaken : ℕ → Type 0
 IsTaken status = (status ≡ 0) ⊎ (status ≡ 4) ⊎ (status ≡ 7) ⊎ (status ≡ 12)
 
+-- cut short while it printed: the output failed, or memory ran out
+abbrev pub IsCutShort : Stop → Type 0
+IsCutShort stop = ((ending_at stop).status ≡ 4) ⊎ ((ending_at stop).status ≡ 7)
+
 -- why it ended so: a count of faults rose, or the input is beyond the limits or within them
 pub record HasCauses (left : Option (List ℕ)) (status input_before input_after output_before output_after : ℕ) : Type 0 where
   pub input : RisesAt 3 status input_before input_after

@@ -1,18 +1,14 @@
--- The desk's averages as those of the book of rules, and the hours of an average as they are read one by one.
+-- The hours of an average as they are read one by one.
 use Rattle.std.specs.Prelude.{◌≡◌, ℕ, ◌≤◌, ◌*◌, false, nat_le, Option, Some, None, List, [], ◌∷◌, length, filter, filter_map, ℤ, unsigned_abs}
 use Rattle.std.specs.List.{list_any}
 use Rattle.aq_base.specs.Site.{Site}
 use Rattle.aq_base.specs.declared.day.TheConstants.{LAST_HOUR}
-use Rattle.aq_profile.specs.Ozone.EightHour.{WindowRow, full_values}
+use Rattle.aq_profile.specs.Ozone.EightHour.{full_values}
 use Rattle.aq_profile.specs.Lists.{total}
 use Rattle.aq_profile.specs.Office.Office.{Office}
 use Rattle.aq_profile.specs.Ozone.SiteHour.{Cell, site_hour}
 use Rattle.aq_desk.specs.OfficeView.{plain_cell}
 use Rattle.aq_desk.specs.declared.windows.Tally.{Tally}
-use Rattle.aq_desk.specs.declared.windows.WindowRow.{WindowRow as Row}
-
-abbrev pub row_view : Row → WindowRow
-row_view row = record { net = row.net; net_hours = row.net_hours; full = row.full; full_hours = row.full_hours }
 
 -- what the site has in these hours, as far as the profile goes
 abbrev pub cells_at : Office → Site → List ℕ → List Cell

@@ -4,12 +4,11 @@ ghost use Rattle.aq_base.specs.declared.monitor.Pollutant.TheVariants.{Ozone};
 ghost use Rattle.aq_base.specs.Values.{HasValueInRange};
 ghost use Rattle.aq_rd.specs.Ranges.{HasLineRange};
 
-use aq_base::{Duration, Hour, MonitorId, ObsKey, Observation, Rule, SiteId, Steps};
+use aq_base::{Duration, Hour, MonitorId, ObsKey, Observation, Rule, SiteId};
 use aq_rd::{RdLine, has_office_tag, plain_monitor, read_rd};
 use aq_shelf::{Shelf, ShelfFault};
 use std::alloc::Global;
 use std::marker::Model;
-use std::sync::ledger::Ledger;
 
 /// The office as far as it is built.
 #[derive(Drop)]
@@ -242,12 +241,7 @@ impl Office {
     }
 
     /// The value of a registered site for an hour, in thousandths of a ppm. No hour is excluded yet.
-    pub(crate) fn value_at<L: Ledger>(
-        &self,
-        site: SiteId,
-        hour: Hour,
-        steps: &mut Steps<L>,
-    ) -> Option<i32>
+    pub(crate) fn value_at(&self, site: SiteId, hour: Hour) -> Option<i32>
         requires { IsTrue (has_monitor self.now site Ozone) }
         ensures value { site_hour self.now site hour ≡ option_map plain_cell result }
         ensures range { IfSome result IsOzone }
@@ -259,6 +253,6 @@ impl Office {
             monitor: *monitor,
             hour,
         };
-        self.shelf.at(key, steps)?.value
+        self.shelf.get(&key)?.value
     }
 }

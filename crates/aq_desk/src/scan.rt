@@ -1,28 +1,22 @@
 //! The command `scan`.
-ghost use Rattle.std.specs.Prelude.{◌≡◌, ◌<◌, ◌≤◌, true, false, length, IsTrue, map};
-ghost use Rattle.aq_base.specs.declared.monitor.Pollutant.TheVariants.{Ozone};
-ghost use Rattle.aq_profile.specs.Office.Office.{has_monitor};
-ghost use Rattle.aq_profile.specs.Ozone.OzoneDay.{windows};
+ghost use Rattle.std.specs.Prelude.{◌≡◌, ◌≤◌, true, false, length};
+ghost use Rattle.aq_profile.specs.Limits.{MOST_BYTES};
 ghost use Rattle.aq_desk.specs.Body.{Over, is_within};
 ghost use Rattle.aq_desk.specs.Command.{ReadsWhole, RisesAt, WritesNothing};
-ghost use Rattle.aq_desk.specs.Scan.{scan_outcome, windows_outcome};
+ghost use Rattle.aq_desk.specs.Scan.{answer_of, scan_outcome, windows_outcome};
 ghost use Rattle.aq_desk.specs.Stop.{HasCauses, IsTaken, Obeys, status_of};
-ghost use Rattle.aq_desk.specs.WindowView.{row_view};
-ghost use Rattle.aq_profile.specs.Limits.{MOST_BYTES};
 
 use crate::body::read_body;
-use crate::load::take_load;
+use crate::load::{Taken, take_load};
 use crate::office::Office;
 use crate::outside::{Sink, Source};
-use crate::sheets::{load_text, windows_text};
 use crate::stop::Stop;
-use crate::windows::{WINDOWS, WindowRow, day_windows};
-use crate::writing::print;
-use aq_base::{Day, MOST_LINES, SiteId, Steps};
+use crate::windows::day_windows;
+use crate::writing::print_sheet;
+use aq_base::{Day, MOST_LINES, SiteId};
 use aq_forms::count_lines;
+use aq_reports::{load_sheet, windows_sheet};
 use std::alloc::Global;
-use std::marker::Brand;
-use std::sync::ledger::{Blank, Ledger};
 
 /// Takes the input as a load over an office of which nothing stands, and prints the reply and then the
 /// day's windows.
@@ -62,8 +56,23 @@ fn answer<O: Sink>(
         return Err(Stop::TooManyLines(lines));
     }
     let taken = take_load(alloc, body, lines)?;
-    let reply = load_text(alloc, &taken.reply)?;
-    print(output, &reply)?;
+    print_taken(alloc, &taken, site, day, output)
+}
+
+/// Prints the reply to a load, and then the day's windows.
+fn print_taken<O: Sink>(
+    alloc: Global,
+    taken: &Taken,
+    site: SiteId,
+    day: Day,
+    output: &mut O,
+) -> Result<(), Stop>
+    ensures told { Obeys (answer_of taken.now.reply taken.now.office site day) result (O.written output.old) (O.written output.new) }
+    ensures taken { IsTaken (status_of result) }
+    ensures output_failed { RisesAt 4 (status_of result) (O.faults output.old) (O.faults output.new) }
+{
+    let reply = load_sheet(alloc, &taken.reply)?;
+    print_sheet(alloc, &reply, output)?;
     print_windows(alloc, &taken.office, site, day, output)
 }
 
@@ -82,19 +91,7 @@ fn print_windows<O: Sink>(
     if !office.has_site(site) {
         return Err(Stop::NoSite(site));
     }
-    let rows = counted::<Brand>(office, site, day, Blank::new(1));
-    let text = windows_text(alloc, site, day, &rows)?;
-    print(output, &text)
-}
-
-/// The day's windows, on a counter of their own, which nobody reads.
-fn counted<L: Ledger>(office: &Office, site: SiteId, day: Day, blank: Blank) -> [WindowRow; WINDOWS]
-    requires site { IsTrue (has_monitor office.now site Ozone) }
-    requires name { blank.name ≡ L.name }
-    requires parts { blank.parts ≡ L.parts }
-    requires some { 0 < L.parts }
-    ensures { map row_view result ≡ windows office.now site day }
-{
-    let mut steps = Steps::<L>::new(blank);
-    day_windows(office, site, day, &mut steps)
+    let windows = day_windows(office, site, day);
+    let sheet = windows_sheet(alloc, site, day, &windows)?;
+    print_sheet(alloc, &sheet, output)
 }

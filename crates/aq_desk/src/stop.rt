@@ -6,9 +6,9 @@ ghost use Rattle.aq_desk.specs.Writing.{Writes};
 
 use crate::body::BodyFault;
 use crate::outside::Sink;
-use crate::text::site_text;
 use crate::writing::write_all;
 use aq_base::{Failed, SiteId};
+use aq_reports::site_text;
 
 /// What stops a command before it has done all.
 #[derive(Clone, Copy, Debug, PartialEq, Eq)]

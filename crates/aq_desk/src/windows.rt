@@ -1,51 +1,15 @@
 //! The 8-hour averages of a day (40 CFR Part 50, Appendix U, 3).
-ghost use Rattle.std.specs.Prelude.{◌≡◌, ◌≤◌, ◌*◌, [], ◌∷◌, IfSome, IsTrue, map, unsigned_abs};
+ghost use Rattle.std.specs.Prelude.{◌≡◌, ◌≤◌, ◌*◌, [], ◌∷◌, IfSome, IsTrue, unsigned_abs};
 ghost use Rattle.aq_base.specs.declared.monitor.Pollutant.TheVariants.{Ozone};
 ghost use Rattle.aq_profile.specs.Office.Office.{has_monitor};
 ghost use Rattle.aq_profile.specs.Ozone.EightHour as book;
 ghost use Rattle.aq_profile.specs.Ozone.OzoneDay.{windows};
 ghost use Rattle.aq_desk.specs.OfficeView.{IsOzone};
-ghost use Rattle.aq_desk.specs.WindowView.{cells_at, cells_of, row_view};
+ghost use Rattle.aq_desk.specs.WindowView.{cells_at, cells_of};
 
 use crate::office::Office;
-use aq_base::{Day, Hour, LAST_HOUR, SiteId, Steps};
-use std::sync::ledger::Ledger;
-
-/// A day has the averages that start at 07:00 to 23:00.
-pub(crate) const WINDOWS: usize = 17;
-
-/// The hour at which the first of them starts.
-pub(crate) const FIRST_START: u16 = 7;
-
-/// Fewer hours than six give an average only where their sum, divided by eight, is above 0.070 ppm.
-const FEW_HOURS: u8 = 6;
-
-const GREAT_SUM: i32 = 568;
-
-/// An 8-hour average in thousandths of a ppm and the number of its hours: net of the hours that are
-/// excluded, and full.
-#[derive(Clone, Copy, Debug, PartialEq, Eq)]
-pub(crate) struct WindowRow {
-    pub(crate) net: Option<i32>,
-    pub(crate) net_hours: u8,
-    pub(crate) full: Option<i32>,
-    pub(crate) full_hours: u8,
-}
-
-/// The average of so many hours with this sum.
-fn average(count: u8, sum: i32) -> Option<i32>
-    requires count { count ≤ 8 }
-    requires sum { unsigned_abs sum ≤ 9999 * count }
-    ensures { result ≡ book.average count sum }
-{
-    if count >= FEW_HOURS {
-        Some(sum / i32::from(count))
-    } else if sum >= GREAT_SUM {
-        Some(sum / 8)
-    } else {
-        None
-    }
-}
+use aq_base::{Day, Hour, LAST_HOUR, SiteId};
+use aq_ozone::{DayWindows, WINDOWS, WindowRow, average};
 
 /// Hours that have a value: how many, and the sum of their values.
 #[derive(Clone, Copy)]
@@ -79,32 +43,27 @@ impl Tally {
 }
 
 /// The value of a registered site for an hour, by the hour's number: none past the profile.
-fn value_of<L: Ledger>(
-    office: &Office,
-    site: SiteId,
-    hour: u32,
-    steps: &mut Steps<L>,
-) -> Option<i32>
+fn value_of(office: &Office, site: SiteId, hour: u32) -> Option<i32>
     requires { IsTrue (has_monitor office.now site Ozone) }
     ensures value { cells_at office.now site (hour ∷ []) ≡ cells_of result }
     ensures range { IfSome result IsOzone }
 {
     if hour <= LAST_HOUR {
-        office.value_at(site, Hour::new(hour), steps)
+        office.value_at(site, Hour::new(hour))
     } else {
         None
     }
 }
 
 /// The average of the eight hours from a start. No hour is excluded yet.
-fn window<L: Ledger>(office: &Office, site: SiteId, start: u32, steps: &mut Steps<L>) -> WindowRow
+fn window(office: &Office, site: SiteId, start: u32) -> WindowRow
     requires start { start ≤ LAST_HOUR }
     requires site { IsTrue (has_monitor office.now site Ozone) }
-    ensures { row_view result ≡ book.window office.now site start }
+    ensures { result ≡ book.window office.now site start }
 {
     let mut tally = Tally { hours: 0, sum: 0 };
     for hour in start..start + 8 {
-        tally = tally.with(value_of(office, site, hour, steps));
+        tally = tally.with(value_of(office, site, hour));
     }
     let average = average(tally.hours, tally.sum);
     WindowRow {
@@ -116,14 +75,9 @@ fn window<L: Ledger>(office: &Office, site: SiteId, start: u32, steps: &mut Step
 }
 
 /// The averages of a day of a registered site, in the order of their starts.
-pub(crate) fn day_windows<L: Ledger>(
-    office: &Office,
-    site: SiteId,
-    day: Day,
-    steps: &mut Steps<L>,
-) -> [WindowRow; WINDOWS]
+pub(crate) fn day_windows(office: &Office, site: SiteId, day: Day) -> DayWindows
     requires { IsTrue (has_monitor office.now site Ozone) }
-    ensures { map row_view result ≡ windows office.now site day }
+    ensures { result ≡ windows office.now site day }
 {
     let empty = WindowRow {
         net: None,
@@ -132,9 +86,10 @@ pub(crate) fn day_windows<L: Ledger>(
         full_hours: 0,
     };
     let mut rows = [empty; WINDOWS];
-    let first = 24 * u32::from(day.number()) + u32::from(FIRST_START);
+    // The first of them starts at 07:00.
+    let first = 24 * u32::from(day.number()) + 7;
     for i in 0..WINDOWS {
-        rows[i] = window(office, site, first + i as u32, steps);
+        rows[i] = window(office, site, first + i as u32);
     }
-    rows
+    DayWindows::new(rows)
 }

@@ -130,6 +130,15 @@ impl Shelf {
         Ok(before)
     }
 
+    /// The observation at a key, if one stands there.
+    pub fn get(&self, key: &ObsKey) -> Option<Observation>
+        ensures content { result ≡ content_at key.now self.now }
+        ensures range { IfSome result (HasValueInRange key.now.monitor.pollutant) }
+        ensures shelf { IsShelf self.now }
+    {
+        find(&self.stretches, key)
+    }
+
     /// The observation at a key, if one stands there, in one step.
     pub fn at<L: Ledger>(&self, key: ObsKey, steps: &mut Steps<L>) -> Option<Observation>
         ensures content { result ≡ content_at key self.now }
@@ -138,7 +147,7 @@ impl Shelf {
         ensures shelf { IsShelf self.now }
     {
         steps.tick();
-        find(&self.stretches, &key)
+        self.get(&key)
     }
 
     /// The monitor's observations that start in the `hours` hours from `from` on, in order, each with

@@ -7,13 +7,14 @@ use Rattle.aq_desk.specs.Stop.{Obeys}
 use Rattle.aq_desk.specs.declared.words.Command.{Command}
 use Rattle.aq_desk.specs.declared.words.Command.TheVariants.{Scan}
 use Rattle.aq_desk.specs.contracts.words.Command.{enum}
+use borrow.Enum.Known.{ValuesAt}
 use borrow.Enum.Total.{values_d}
 use Rattle.aq_desk.proofs.command.perform.Goals as goal
 
 pub returns-clause-told : goal.returns-clause-told
 returns-clause-told g c =
     let told_by = λ (outcome : List ℕ → Outcome). Over (g.S.Source.left c.args.input.now) (λ body. Obeys (outcome body) c.scan.result (g.O.Sink.written c.args.output.now) (g.O.Sink.written c.scan.new.output)) in
-    let by_command : (command : Command) → told_by (scan_outcome (values_d enum 0 c.site-1.given.0 command).0 (values_d enum 0 c.day-1.given.0 command).1.0) → told_by (outcome_of command) =
-    elim [ (Scan site day) ↦ λ told. told ]
+    let by_command : (p q : ValuesAt enum.parts 0) (command : Command) → told_by (scan_outcome (values_d enum 0 p command).0 (values_d enum 0 q command).1.0) → told_by (outcome_of command) =
+    λ p q. elim [ (Scan site day) ↦ λ told. told ]
     in
-    by_command c.args.command.now c.scan.ensures.told
+    by_command _ _ c.args.command.now c.scan.ensures.told

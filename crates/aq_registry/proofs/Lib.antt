@@ -1,0 +1,8 @@
+-- Lemmas on the order of places, and on entries.
+pub mod PlaceOrder
+pub mod EntryLemmas
+pub mod SeriesLemmas
+pub mod QuestionLemmas
+pub mod SiteLemmas
+pub mod LatestLemmas
+pub mod ScheduleLemmas

@@ -1,0 +1,4 @@
+-- The office's records by their places in the order of rows.
+pub mod Places
+pub mod Records
+pub mod Registry

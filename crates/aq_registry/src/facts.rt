@@ -1,0 +1,127 @@
+//! What one record says.
+ghost use Rattle.std.specs.Prelude.{◌≡◌, false, option_map, IfSome, IsTrue};
+ghost use Rattle.std.specs.Option.{option_and_then, option_map_or};
+ghost use Rattle.aq_profile.specs.Office.Designation.{designated_poc};
+ghost use Rattle.aq_profile.specs.Office.Office.{is_record};
+ghost use Rattle.aq_profile.specs.Office.Schedule.{asks_for, distance};
+ghost use Rattle.aq_registry.specs.Registry.{coverage_in, days_of, designation_in, schedule_in, missed_by, makeup_in, pair_of, poc_in, registration_in, season_in, site_in};
+
+use aq_base::{Day, Duration, Hour, OfficeRecord, SiteId};
+
+/// How long a monitor's samples last, and whether its values count.
+pub(crate) fn registration(of: &Option<OfficeRecord>) -> Option<(Duration, bool)>
+    ensures { result ≡ option_map pair_of (option_and_then registration_in of.now) }
+{
+    match of {
+        Some(
+            OfficeRecord::Monitor {
+                duration,
+                eligible,
+                ..
+            },
+        ) => Some((*duration, *eligible)),
+        _ => None,
+    }
+}
+
+/// A monitor's POC.
+pub(crate) fn poc(of: &Option<OfficeRecord>) -> Option<u8>
+    ensures { result ≡ option_and_then poc_in of.now }
+{
+    match of {
+        Some(OfficeRecord::Monitor { id, .. }) => Some(id.poc),
+        _ => None,
+    }
+}
+
+/// A monitor's site.
+pub(crate) fn site(of: &Option<OfficeRecord>) -> Option<SiteId>
+    ensures { result ≡ option_and_then site_in of.now }
+{
+    match of {
+        Some(OfficeRecord::Monitor { id, .. }) => Some(id.site),
+        _ => None,
+    }
+}
+
+/// A season's first and last day.
+pub(crate) fn season(of: &Option<OfficeRecord>) -> Option<(Day, Day)>
+    ensures { result ≡ option_map days_of (option_and_then season_in of.now) }
+{
+    match of {
+        Some(OfficeRecord::Season { first, last, .. }) => Some((*first, *last)),
+        _ => None,
+    }
+}
+
+/// The day of a make-up sample.
+pub(crate) fn makeup(of: &Option<OfficeRecord>) -> Option<Day>
+    ensures { result ≡ option_and_then makeup_in of.now }
+{
+    match of {
+        Some(OfficeRecord::Makeup { makeup, .. }) => Some(*makeup),
+        _ => None,
+    }
+}
+
+/// Whether an event holds an hour in its span.
+pub(crate) fn coverage(of: &Option<OfficeRecord>, hour: Hour) -> Option<bool>
+    ensures { result ≡ option_and_then (coverage_in hour) of.now }
+{
+    match of {
+        Some(OfficeRecord::Event { first, last, .. }) => {
+            let hour = hour.number();
+            Some(first.number() <= hour && hour <= last.number())
+        }
+        _ => None,
+    }
+}
+
+/// The POC of a designation, which names none where it is 0.
+pub(crate) fn designated(of: &Option<OfficeRecord>) -> Option<u8>
+    ensures { result ≡ option_and_then designated_poc (option_and_then designation_in of.now) }
+{
+    match of {
+        Some(OfficeRecord::Primary { poc, .. }) if *poc != 0 => Some(*poc),
+        _ => None,
+    }
+}
+
+/// Whether a schedule asks for a sample on a day.
+#[tactic(auto, using(crate::proofs::ScheduleLemmas::interval_is_some))]
+pub(crate) fn asks(of: &Option<OfficeRecord>, day: Day) -> bool
+    requires { IfSome of.now (λ r. IsTrue (is_record r)) }
+    ensures { result ≡ option_map_or (asks_for day) (option_and_then schedule_in of.now) false }
+{
+    match of {
+        Some(
+            OfficeRecord::Schedule {
+                interval,
+                anchor,
+                ..
+            },
+        ) => distance(day, *anchor) % u16::from(*interval) == 0,
+        _ => false,
+    }
+}
+
+/// The days from one to the other, whichever comes first.
+fn distance(a: Day, b: Day) -> u16
+    ensures { result ≡ distance a b }
+{
+    let a = a.number();
+    let b = b.number();
+    if a < b { b - a } else { a - b }
+}
+
+/// The missed day for which the sample of a day makes up.
+pub(crate) fn missed(of: &OfficeRecord, day: Day) -> Option<Day>
+    ensures { result ≡ missed_by day of.now }
+{
+    match of {
+        OfficeRecord::Makeup { missed, makeup, .. } if makeup.number() == day.number() => {
+            Some(*missed)
+        }
+        _ => None,
+    }
+}

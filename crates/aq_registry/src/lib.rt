@@ -1,0 +1,10 @@
+//! The office's records: monitors, designations, schedules, seasons, make-up samples, exceptional events
+//! and approved days, as one map in the order of rows. Contracts see the list of its records.
+#![tactic(auto)]
+
+mod facts;
+mod place;
+mod records;
+mod registry;
+
+pub use registry::Registry;

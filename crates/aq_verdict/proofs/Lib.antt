@@ -1,0 +1,3 @@
+-- Lemmas on the numbers of this crate and on short lists.
+mod Numbers
+mod Lists

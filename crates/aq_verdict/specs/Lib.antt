@@ -1,0 +1,1 @@
+-- What the calls of this crate promise, over the definitions of aq_profile.

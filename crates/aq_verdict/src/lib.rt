@@ -1,0 +1,14 @@
+//! Design values and verdicts of three years, over what is kept of the years (40 CFR Part 50, Appendices
+//! K, N and U). It takes no memory, and each call always succeeds.
+#![tactic(auto)]
+
+mod ozone_value;
+mod ozone_year;
+mod pm10_value;
+mod pm10_year;
+mod rounded;
+
+pub use ozone_value::{OzoneDv, ozone};
+pub use ozone_year::OzoneYear;
+pub use pm10_value::{Pm10Dv, pm10};
+pub use pm10_year::{Pm10Quarter, Pm10Year};
