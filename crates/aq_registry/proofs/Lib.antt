@@ -6,3 +6,5 @@ pub mod QuestionLemmas
 pub mod SiteLemmas
 pub mod LatestLemmas
 pub mod ScheduleLemmas
+pub mod RuleLemmas
+pub mod RowCounts

@@ -2,3 +2,6 @@
 pub mod Places
 pub mod Records
 pub mod Registry
+pub mod Rules
+pub mod Changes
+pub mod LineLaws
