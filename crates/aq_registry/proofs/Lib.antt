@@ -6,3 +6,4 @@ pub mod QuestionLemmas
 pub mod SiteLemmas
 pub mod LatestLemmas
 pub mod ScheduleLemmas
+pub mod ExclusionLemmas

@@ -1,9 +1,9 @@
 -- What holds of the records of every registry, and what its answers read of one record.
-use Rattle.std.specs.Prelude.{◌≡◌, ◌==◌, if◌then◌else◌, ℕ, Bool, ◌&&◌, nat_le, Option, Some, None, List, [], ◌∷◌, length, count_by}
+use Rattle.std.specs.Prelude.{◌≡◌, ◌==◌, if◌then◌else◌, ℕ, Bool, false, ◌&&◌, nat_le, Option, Some, None, List, [], ◌∷◌, length, count_by}
 use Rattle.aq_base.specs.Site.{Site}
 use Rattle.aq_base.specs.declared.monitor.Duration.{Duration}
 use Rattle.aq_base.specs.declared.office.OfficeRecord.{OfficeRecord}
-use Rattle.aq_base.specs.declared.office.OfficeRecord.TheVariants.{Monitor, Primary, Schedule, Season, Makeup, Event}
+use Rattle.aq_base.specs.declared.office.OfficeRecord.TheVariants.{Monitor, Primary, Schedule, Season, Makeup, Event, Concurrence}
 use Rattle.aq_profile.specs.Office.Office.{Office, IsOffice, group_of, is_same, sites_of}
 use Rattle.aq_profile.specs.Office.Questions.{Registered}
 use Rattle.aq_profile.specs.Office.Season.{Season as Days}
@@ -69,3 +69,7 @@ schedule_in r = None
 abbrev pub missed_by : ℕ → OfficeRecord → Option ℕ
 missed_by day (Makeup site missed makeup) = if makeup == day then Some missed else None
 missed_by day r = None
+
+abbrev pub agreement_in : OfficeRecord → Bool
+agreement_in (Concurrence number agreed) = agreed
+agreement_in r = false
