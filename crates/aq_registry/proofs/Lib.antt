@@ -7,3 +7,5 @@ pub mod SiteLemmas
 pub mod LatestLemmas
 pub mod ScheduleLemmas
 pub mod ExclusionLemmas
+pub mod AgreedLemmas
+pub mod ReachLemmas

@@ -2,6 +2,7 @@
 //! and approved days, as one map in the order of rows. Contracts see the list of its records.
 #![tactic(auto)]
 
+mod agreed;
 mod exclusion;
 mod facts;
 mod place;
