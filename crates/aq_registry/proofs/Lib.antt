@@ -9,3 +9,5 @@ pub mod ScheduleLemmas
 pub mod ExclusionLemmas
 pub mod AgreedLemmas
 pub mod ReachLemmas
+pub mod RuleLemmas
+pub mod RowCounts

@@ -3,3 +3,6 @@ pub mod Agreed
 pub mod Places
 pub mod Records
 pub mod Registry
+pub mod Rules
+pub mod Changes
+pub mod LineLaws

@@ -3,10 +3,12 @@
 #![tactic(auto)]
 
 mod agreed;
+mod changes;
 mod exclusion;
 mod facts;
 mod place;
 mod records;
 mod registry;
 
+pub use changes::{Changes, RecordChange, RegistryFault};
 pub use registry::Registry;

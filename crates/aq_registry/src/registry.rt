@@ -14,6 +14,9 @@ ghost use Rattle.aq_registry.specs.Places.{behind_sites};
 ghost use Rattle.aq_registry.specs.Registry.{days_of, missed_by, pair_of};
 ghost use Rattle.aq_base.specs.declared.day.TheConstants.{FIRST_YEAR, LAST_YEAR};
 
+mod apply;
+mod rules;
+
 use crate::exclusion::any_takes_out;
 use crate::facts;
 use crate::place::{Place, parameter};
