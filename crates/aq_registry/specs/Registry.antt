@@ -3,7 +3,7 @@ use Rattle.std.specs.Prelude.{◌≡◌, ◌==◌, if◌then◌else◌, ℕ, Boo
 use Rattle.aq_base.specs.Site.{Site}
 use Rattle.aq_base.specs.declared.monitor.Duration.{Duration}
 use Rattle.aq_base.specs.declared.office.OfficeRecord.{OfficeRecord}
-use Rattle.aq_base.specs.declared.office.OfficeRecord.TheVariants.{Monitor, Primary, Schedule, Season, Makeup, Event}
+use Rattle.aq_base.specs.declared.office.OfficeRecord.TheVariants.{Monitor, Primary, Schedule, Season, Makeup, Event, Concurrence}
 use Rattle.aq_base.specs.declared.office.OfficeKey.{OfficeKey}
 use Rattle.aq_base.specs.declared.office.OfficeKey.TheVariants.{Event as EventKey}
 use Rattle.aq_profile.specs.Office.Refusal.{key_stands}
@@ -82,3 +82,7 @@ schedule_in r = None
 abbrev pub missed_by : ℕ → OfficeRecord → Option ℕ
 missed_by day (Makeup site missed makeup) = if makeup == day then Some missed else None
 missed_by day r = None
+
+abbrev pub agreement_in : OfficeRecord → Bool
+agreement_in (Concurrence number agreed) = agreed
+agreement_in r = false

@@ -2,7 +2,9 @@
 //! and approved days, as one map in the order of rows. Contracts see the list of its records.
 #![tactic(auto)]
 
+mod agreed;
 mod changes;
+mod exclusion;
 mod facts;
 mod place;
 mod records;
