@@ -1,10 +1,10 @@
 -- Quotients that fit.
-use Rattle.std.proofs.Common.{◌≡◌, ◌-◌, ◌*◌, ◌^◌, ◌<◌, ℤ, pos, negsuc, neg_ℤ, ◌+ℤ◌, ◌≤ℤ◌, ◌<ℤ◌, unsigned_abs, FitsSigned, arith, lit<}
+use Rattle.std.proofs.Common.{◌≡◌, ℕ, ◌+◌, ◌-◌, ◌*◌, ◌/◌, ◌^◌, ◌<◌, ℤ, pos, negsuc, neg_ℤ, ◌+ℤ◌, ◌*ℤ◌, ◌≤ℤ◌, ◌<ℤ◌, unsigned_abs, FitsSigned, arith, lit<}
 use Rattle.std.specs.Prelude.{int_rem}
-use Rattle.std.specs.Int.{w32}
+use Rattle.std.specs.Int.{w32, int_div_euclid}
 use Rattle.std.proofs.lemmas.Int.{ints, quot-rem, rem_below}
+use Rattle.std.proofs.lemmas.Nat.{div_below}
 use Rattle.aq_base.specs.Decimal.{truncated, half_up}
-use Rattle.aq_profile.proofs.Held.{half_up-held}
 
 -- the truncated mean of three numbers fits where they do
 pub third-fits : (a b c : ℤ) → FitsSigned w32 a → FitsSigned w32 b → FitsSigned w32 c → FitsSigned w32 (truncated (a +ℤ b +ℤ c) (pos 3))
@@ -13,10 +13,29 @@ third-fits a b c a_fits b_fits c_fits =
     let rest : unsigned_abs (int_rem (a +ℤ b +ℤ c) (pos 3)) < 3 = rem_below (a +ℤ b +ℤ c) (pos 3) (lit< tt) in
     omega (arith, ints)
 
+-- a quotient lies where its dividend does
+abbrev Within : ℕ → ℕ → ℤ → Type 0
+Within low high v = (neg_ℤ (pos low) ≤ℤ v) × (v ≤ℤ pos high)
+
+quotient-within : (z : ℤ) (low high m : ℕ) → 0 < m → neg_ℤ (pos (low * m)) ≤ℤ z → (z +ℤ pos 1) ≤ℤ pos ((high + 1) * m) → Within low high (int_div_euclid z (pos m))
+quotient-within (pos a) low high m some least most =
+    let few : a < (high + 1) * m = omega (arith, ints, most) in
+    let below : a / m < high + 1 = div_below a m (high + 1) some few in
+    (omega (arith, ints), omega (arith, ints, below))
+quotient-within (negsuc a) low high m some least most =
+    let few : a < low * m = omega (arith, ints, least) in
+    let below : a / m < low = div_below a m low some few in
+    (omega (arith, ints, below), omega (arith, ints))
+
+-- and a rounded one too
+pub rounded-within : (a : ℤ) (b low high : ℕ) → 0 < b → neg_ℤ (pos (low * b)) ≤ℤ a → a ≤ℤ pos (high * b) → Within low high (half_up a (pos b))
+rounded-within a b low high some least most =
+    quotient-within ((pos 2 *ℤ a) +ℤ pos b) low high (2 * b) (omega arith) (omega (arith, ints, least)) (omega (arith, ints, most, some))
+
 -- a rounded quotient fits where the fraction does
 pub rounded-fits : (num den : ℤ) → pos 0 <ℤ den → neg_ℤ (pos (2 ^ 31 * unsigned_abs den)) ≤ℤ num → num ≤ℤ pos ((2 ^ 31 - 1) * unsigned_abs den) → FitsSigned w32 (half_up num den)
 rounded-fits num (pos den) some low high =
-    let held = half_up-held num den (2 ^ 31) (2 ^ 31 - 1) (omega (arith, ints, some)) low high in
+    let held = rounded-within num den (2 ^ 31) (2 ^ 31 - 1) (omega (arith, ints, some)) low high in
     omega (arith, ints, held.0, held.1)
 rounded-fits num (negsuc den) some low high = absurd (omega (arith, ints, some))
 

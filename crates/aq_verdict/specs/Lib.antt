@@ -1,1 +1,3 @@
 -- What the calls of this crate promise, over the definitions of aq_profile.
+pub mod Top
+pub mod Places

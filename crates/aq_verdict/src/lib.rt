@@ -6,9 +6,14 @@ mod ozone_value;
 mod ozone_year;
 mod pm10_value;
 mod pm10_year;
+mod pm_quarter;
+mod pm_year;
 mod rounded;
+mod top;
 
 pub use ozone_value::{OzoneDv, ozone};
 pub use ozone_year::OzoneYear;
+pub use pm_quarter::PmQuarter;
+pub use pm_year::PmYear;
 pub use pm10_value::{Pm10Dv, pm10};
 pub use pm10_year::{Pm10Quarter, Pm10Year};
