@@ -3,7 +3,7 @@ ghost use Rattle.std.specs.Prelude.{◌≡◌};
 ghost use Rattle.aq_base.specs.Rule.{rule_number, rule_name, all_rules};
 
 /// A rule of the line formats (own). Numbers 1 to 18, 26 to 29 and 33 are rules of reading, and the
-/// others look at what stands. `NotBuilt` goes once every form is read.
+/// others look at what stands.
 #[derive(Clone, Copy, Debug, PartialEq, Eq)]
 pub enum Rule {
     /// A byte is outside 20 to 7E (hexadecimal).
@@ -74,8 +74,6 @@ pub enum Rule {
     BadCode,
     /// As many designations or schedules of the site and parameter stand as may.
     ListFull,
-    /// The program does not read this form yet.
-    NotBuilt,
 }
 
 impl Rule {
@@ -160,7 +158,6 @@ impl Rule {
             Rule::EventsFull => 32,
             Rule::BadCode => 33,
             Rule::ListFull => 34,
-            Rule::NotBuilt => 99,
         }
     }
 
@@ -203,7 +200,6 @@ impl Rule {
             Rule::EventsFull => "EventsFull",
             Rule::BadCode => "BadCode",
             Rule::ListFull => "ListFull",
-            Rule::NotBuilt => "NotBuilt",
         }
     }
 }

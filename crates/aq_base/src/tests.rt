@@ -47,7 +47,6 @@ fn rules_have_numbers_and_names(rt: HostRuntime) {
         (Rule::BadSpan, 26, "BadSpan"),
         (Rule::BadCode, 33, "BadCode"),
         (Rule::ListFull, 34, "ListFull"),
-        (Rule::NotBuilt, 99, "NotBuilt"),
     ];
     for (rule, number, name) in cases {
         assert_eq!(rt; rule.number(), number);

@@ -12,7 +12,7 @@ use Rattle.aq_base.specs.declared.code.Code.{Code}
 use Rattle.aq_base.specs.declared.reply.ListedLine.{ListedLine}
 use Rattle.aq_base.specs.declared.reply.RestRule.{RestRule}
 use Rattle.aq_base.specs.declared.rule.Rule.{Rule}
-use Rattle.aq_base.specs.declared.rule.Rule.TheVariants.{BadBytes, BadTag, FieldCount, BadAction, BadSite, ParameterOutOfProfile, BadPoc, BadDuration, BadUnit, BadMethod, BadDate, BadTime, ValueAndNull, NeitherValueNorNull, BadValue, ValueOutOfRange, BadNull, BadQualifier, UnknownMonitor, WrongDuration, AlreadyThere, NotThere, ObservationsFull, SitesFull, MonitorsFull, BadSpan, BadInterval, BadSeason, BadMakeup, MakeupsFull, UnknownEvent, EventsFull, BadCode, ListFull, NotBuilt}
+use Rattle.aq_base.specs.declared.rule.Rule.TheVariants.{BadBytes, BadTag, FieldCount, BadAction, BadSite, ParameterOutOfProfile, BadPoc, BadDuration, BadUnit, BadMethod, BadDate, BadTime, ValueAndNull, NeitherValueNorNull, BadValue, ValueOutOfRange, BadNull, BadQualifier, UnknownMonitor, WrongDuration, AlreadyThere, NotThere, ObservationsFull, SitesFull, MonitorsFull, BadSpan, BadInterval, BadSeason, BadMakeup, MakeupsFull, UnknownEvent, EventsFull, BadCode, ListFull}
 use Rattle.aq_profile.specs.Lines.Fields.{is_empty, is_space}
 use Rattle.aq_profile.specs.Lines.Spellings.{◌>>=◌, is_code_byte, qualifier_in}
 use Rattle.aq_profile.specs.Lines.Canonical.{code_text}
@@ -250,7 +250,6 @@ rule-read UnknownEvent h = refl
 rule-read EventsFull h = refl
 rule-read BadCode h = refl
 rule-read ListFull h = refl
-rule-read NotBuilt h = cc
 
 rule_small : (rule : Rule) → nat_le (rule_number rule) 34 ≡ true → rule_number rule < 2 ^ 64
 rule_small rule h = let low : rule_number rule ≤ 34 = grind (arith, nat_tests) in omega arith

@@ -15,7 +15,7 @@ use Rattle.aq_base.specs.declared.office.OfficeLine.TheVariants.{Put, Change, Dr
 use Rattle.aq_base.specs.declared.reply.ListedLine.{ListedLine}
 use Rattle.aq_base.specs.declared.reply.RestRule.{RestRule}
 use Rattle.aq_base.specs.declared.rule.Rule.{Rule}
-use Rattle.aq_base.specs.declared.rule.Rule.TheVariants.{BadBytes, BadTag, FieldCount, BadAction, NotBuilt}
+use Rattle.aq_base.specs.declared.rule.Rule.TheVariants.{BadBytes, BadTag, FieldCount, BadAction}
 use Rattle.aq_profile.specs.Limits.{MOST_LINES, MOST_LISTED}
 use Rattle.aq_profile.specs.Lines.Lines.{NumberedLine, numbered, texts, line_count, is_skipped, body_lines}
 use Rattle.aq_profile.specs.Lines.Fields.{fields}
@@ -248,7 +248,7 @@ length-body body =
 -- ---- the lines beyond those listed, by rule
 
 rule_once : (rule : Rule) → is_built rule ≡ true → count_by (λ other. rule_number rule == rule_number other) all_rules ≡ 1
-rule_once NotBuilt h = absurd (false≢true h)
+rule_once BadBytes h = refl
 rule_once rule h = refl
 
 sums_joined : (f g h : Rule → ℕ) (rules : List Rule) → ((rule : Rule) → f rule ≡ g rule + h rule) → sum_by f rules ≡ sum_by g rules + sum_by h rules

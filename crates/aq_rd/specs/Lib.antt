@@ -1,5 +1,4 @@
 pub mod Words
-pub mod PlainForm
 pub mod Ranges
 pub mod Tags
 pub mod FieldPlaces

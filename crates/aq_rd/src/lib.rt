@@ -7,7 +7,6 @@ mod bytes;
 mod digits;
 mod fields;
 mod line;
-mod plain;
 mod print;
 mod read;
 mod spellings;
@@ -17,7 +16,6 @@ mod words;
 pub use digits::{digits_in, number_to};
 pub use fields::{Fields, MOST_FIELDS};
 pub use line::RdLine;
-pub use plain::plain_monitor;
 pub use print::print_rd;
 pub use read::read_rd;
 pub use spellings::{

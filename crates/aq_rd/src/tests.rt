@@ -7,7 +7,7 @@ use std::test::Fail;
 fn reading(line: &str) -> Result<RdLine, Rule> {
     let line = line.as_bytes();
     if has_office_tag(line) {
-        Err(Rule::NotBuilt)
+        Err(Rule::BadTag)
     } else {
         read_rd(line)
     }
@@ -293,23 +293,5 @@ fn numbers_have_no_leading_zero(rt: HostRuntime) {
         (999_999, "", None),
     ] {
         assert_eq!(rt; number_to(last, text.as_bytes()), number, "{text}");
-    }
-}
-
-#[test]
-fn a_plain_line_registers_an_ozone_monitor(rt: HostRuntime) {
-    let read = plain_monitor(b"XM|I|06|037|1103|44201|12|1|Y");
-    assert!(rt; read.is_some());
-    assert_eq!(rt; read, monitor(Pollutant::Ozone, 12));
-    for line in [
-        "XM|I|06|037|1103|44201|12|1|Y|",
-        "XM|I|06|037|1103|44201|01|1|Y",
-        "XM|I|06|037|1103|44201|100|1|Y",
-        "XM|I|06|037|1103|88101|1|1|Y",
-        "XM|I|06|037|1103|44201|1|1|N",
-        "XM|I|06|037|1103|44201| 1|1|Y",
-        "XM|U|06|037|1103|44201|1|1|Y",
-    ] {
-        assert_eq!(rt; plain_monitor(line.as_bytes()), None, "{line}");
     }
 }

@@ -4,7 +4,7 @@
 ghost use Rattle.std.specs.Prelude.{◌≡◌, ◌<◌, ◌≤◌, IsTrue, true, false, List, length, ◌∷◌, [], ◌++◌, codes, map, replicate, Some, None, pos, negsuc};
 ghost use Rattle.std.specs.List.{range_with_len};
 ghost use Rattle.aq_base.specs.declared.office.OfficeRecord.TheVariants.{Concurrence};
-ghost use Rattle.aq_base.specs.declared.rule.Rule.TheVariants.{AlreadyThere, BadTag, ParameterOutOfProfile, NotBuilt};
+ghost use Rattle.aq_base.specs.declared.rule.Rule.TheVariants.{AlreadyThere, BadTag, ParameterOutOfProfile};
 ghost use Rattle.aq_profile.specs.Lines.LineExamples.{many_monitors, many_sites, refused_lines};
 ghost use Rattle.aq_profile.specs.Office.Office.{IsOffice, Office, StoredLoad, is_load, load_at};
 ghost use Rattle.aq_profile.specs.Office.Load.{with_load};
@@ -61,7 +61,7 @@ pub fn load_rows()
     ensures one_line_twice { are_office_rows (load_with (pos 3) (pos 0) (codes "2:6 2:21") [] ∷ []) ≡ false }
     ensures last_rule { are_office_rows (load_with (pos 3) (pos 0) (codes "2:34") [] ∷ []) ≡ true }
     ensures no_rule { are_office_rows (load_with (pos 3) (pos 0) (codes "2:35") [] ∷ []) ≡ false }
-    ensures not_built { are_office_rows (load_with (pos 3) (pos 0) (codes "2:99") [] ∷ []) ≡ false }
+    ensures rule_99 { are_office_rows (load_with (pos 3) (pos 0) (codes "2:99") [] ∷ []) ≡ false }
     ensures zeros { are_office_rows (load_with (pos 3) (pos 0) (codes "02:21") [] ∷ []) ≡ false }
     ensures spaces { are_office_rows (load_with (pos 3) (pos 0) (codes "2:21  3:6") [] ∷ []) ≡ false }
     ensures no_colon { are_office_rows (load_with (pos 3) (pos 0) (codes "2 21") [] ∷ []) ≡ false }
@@ -78,7 +78,6 @@ pub fn replies_with_a_rest()
     ensures rest { is_load (kept_load 700 50 602 (refused_lines 500) (record { rule = BadTag; count = 100 } ∷ record { rule = ParameterOutOfProfile; count = 2 } ∷ [])) ≡ true }
     ensures falling { is_load (kept_load 700 50 602 (refused_lines 500) (record { rule = ParameterOutOfProfile; count = 2 } ∷ record { rule = BadTag; count = 100 } ∷ [])) ≡ false }
     ensures none { is_load (kept_load 700 50 500 (refused_lines 500) (record { rule = BadTag; count = 0 } ∷ [])) ≡ false }
-    ensures not_built { is_load (kept_load 700 50 501 (refused_lines 500) (record { rule = NotBuilt; count = 1 } ∷ [])) ≡ false }
     ensures after_499 { is_load (kept_load 700 50 500 (refused_lines 499) (record { rule = BadTag; count = 1 } ∷ [])) ≡ false }
     ensures listed_501 { is_load (kept_load 700 50 501 (refused_lines 501) []) ≡ false }
     ensures other_number { is_load (kept_load 700 50 600 (refused_lines 500) (record { rule = BadTag; count = 102 } ∷ [])) ≡ false }

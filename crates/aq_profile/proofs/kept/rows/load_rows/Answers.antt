@@ -47,9 +47,9 @@ pub returns-clause-no_rule : goal.returns-clause-no_rule
 unfolding digits listed_in rest_in load_of_row are_office_rows
 returns-clause-no_rule c = refl
 
-pub returns-clause-not_built : goal.returns-clause-not_built
+pub returns-clause-rule_99 : goal.returns-clause-rule_99
 unfolding digits listed_in rest_in load_of_row are_office_rows
-returns-clause-not_built c = refl
+returns-clause-rule_99 c = refl
 
 pub returns-clause-zeros : goal.returns-clause-zeros
 unfolding digits listed_in rest_in load_of_row are_office_rows
