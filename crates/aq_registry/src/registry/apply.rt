@@ -5,7 +5,6 @@ ghost use Rattle.aq_profile.specs.Lines.Canonical.{is_office_line};
 ghost use Rattle.aq_profile.specs.Lines.Reading.{OfOffice};
 ghost use Rattle.aq_profile.specs.Office.Load.{changed, without_key};
 ghost use Rattle.aq_profile.specs.Office.Office.{IsOffice, record_rank, sites_of, with_row};
-ghost use Rattle.aq_profile.specs.Office.Questions.{record_of};
 ghost use Rattle.aq_profile.specs.Office.Refusal.{broken};
 ghost use Rattle.aq_registry.specs.Changes.{changes_of, drop_changes, dropped_with, dropping, IsFaultOf, putting};
 ghost use Rattle.aq_registry.specs.Registry.{adds_event, drops_event, events_in, office_with};

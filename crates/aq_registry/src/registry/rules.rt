@@ -1,7 +1,6 @@
 //! The first rule of the office that a line breaks.
-ghost use Rattle.std.specs.Prelude.{◌≡◌, length, count_by, is_some, nat_lt, IsTrue};
-ghost use Rattle.aq_base.specs.declared.office.OfficeKey.TheVariants.{Monitor as MonitorKey};
-ghost use Rattle.aq_base.specs.declared.office.OfficeLine.TheVariants.{Put, Change, Drop};
+ghost use Rattle.std.specs.Prelude.{◌≡◌, count_by, IsTrue};
+ghost use Rattle.aq_base.specs.declared.office.OfficeLine.TheVariants.{Put};
 ghost use Rattle.aq_profile.specs.Lines.Canonical.{is_office_line};
 ghost use Rattle.aq_profile.specs.Lines.Reading.{OfOffice};
 ghost use Rattle.aq_profile.specs.Office.Office as offices;
