@@ -12,7 +12,7 @@ use Rattle.aq_base.specs.Decimal.{truncated}
 use Rattle.aq_profile.specs.Lists.{total}
 use Rattle.aq_profile.specs.Ozone.SiteHour.{Cell, Sample}
 use Rattle.aq_series.specs.declared.tally.Tally.{Tally}
-use Rattle.aq_series.specs.Samples.{IsOzone, IsTally}
+use Rattle.aq_series.specs.Samples.{IsOfEight, IsOzone, IsTally}
 
 pub trunc-in_range : (t : ℤ) (n : ℕ) → 0 < n → neg_ℤ (pos (999 * n)) ≤ℤ t → t ≤ℤ pos (9999 * n) → IsOzone (truncated t (pos n))
 trunc-in_range (pos a) n some low high =
@@ -47,10 +47,10 @@ mean_is sum divisor count some few low high is =
     subst (λ z. IsOzone z) (sym (quot_is w32 sum divisor a b (quot_fits w32 sum divisor a positive)))
     (subst (λ z. IsOzone (int_div sum z)) (sym is) (trunc-in_range sum count above low high))
 
-pub tally_more : (before : List Sample) (poc : ℕ) (cell : Cell) (tally : Tally) (count : ℕ) (sum : ℤ) (excluded : Bool) → IsTally before tally → IsOzone cell.value → tally.count < 8
+pub tally_more : (before : List Sample) (poc : ℕ) (cell : Cell) (tally : Tally) (count : ℕ) (sum : ℤ) (excluded : Bool) → IsTally before tally
     → count ≡ tally.count + 1 → sum ≡ tally.sum +ℤ cell.value → excluded ≡ (tally.excluded || cell.excluded)
     → IsTally (before ++ record { poc = poc; cell = cell } ∷ []) (record { count = count; sum = sum; excluded = excluded })
-tally_more before poc cell tally count sum excluded is ozone room counted summed out =
+tally_more before poc cell tally count sum excluded is counted summed out =
     let last : Sample = record { poc = poc; cell = cell } in
     record {
       count = counted ∙ ap (λ n. n + 1) is.count ∙ sym (length-append before (last ∷ []));
@@ -62,7 +62,12 @@ tally_more before poc cell tally count sum excluded is ozone room counted summed
           out ∙ ap (λ b. b || cell.excluded) is.excluded
           ∙ ap (λ b. list_any (λ (s : Sample). s.cell.excluded) before || b) (sym (or-false cell.excluded))
           ∙ sym (list_any-append (λ (s : Sample). s.cell.excluded) before (last ∷ []));
-      few = omega (arith, counted, room);
-      low = omega (arith, ints, is.low, ozone.0, counted, summed);
-      high = omega (arith, ints, is.high, ozone.1, counted, summed);
     }
+
+pub eight_more : (tally : Tally) (value : ℤ) (count : ℕ) (sum : ℤ) (excluded : Bool) → IsOfEight tally → IsOzone value → tally.count < 8 → count ≡ tally.count + 1 → sum ≡ tally.sum +ℤ value
+    → IsOfEight (record { count = count; sum = sum; excluded = excluded })
+eight_more tally value count sum excluded is ozone room counted summed = record {
+  few = omega (arith, counted, room);
+  low = omega (arith, ints, is.low, ozone.0, counted, summed);
+  high = omega (arith, ints, is.high, ozone.1, counted, summed);
+}

@@ -51,6 +51,9 @@ pub record IsTally (samples : List Sample) (tally : Tally) : Type 0 where
   pub count : tally.count ≡ length samples
   pub sum : tally.sum ≡ total (map (λ (s : Sample). s.cell.value) samples)
   pub excluded : tally.excluded ≡ list_any (λ (s : Sample). s.cell.excluded) samples
+
+-- at most eight values of ozone
+pub record IsOfEight (tally : Tally) : Type 0 where
   pub few : tally.count ≤ 8
   pub low : neg_ℤ (pos (999 * tally.count)) ≤ℤ tally.sum
   pub high : tally.sum ≤ℤ pos (9999 * tally.count)

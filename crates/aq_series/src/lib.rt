@@ -6,3 +6,6 @@ mod hours;
 mod tally;
 
 pub use hours::{Cell, site_hour};
+
+#[cfg(test)]
+mod tests;

@@ -1,6 +1,6 @@
 //! The mean of some monitors' values.
 ghost use Rattle.std.specs.Prelude.{◌≡◌, [], IfSome};
-ghost use Rattle.aq_series.specs.Samples.{IsOzone, IsTally};
+ghost use Rattle.aq_series.specs.Samples.{IsOfEight, IsOzone, IsTally};
 
 use crate::hours::Cell;
 
@@ -15,11 +15,12 @@ pub(crate) struct Tally {
 impl Tally {
     ghost use Rattle.std.specs.Prelude.{◌≡◌, ℕ, ◌<◌, ◌+◌, [], ◌∷◌, ◌++◌, List, IfSome};
     ghost use Rattle.aq_profile.specs.Ozone.SiteHour.{Sample, mean_of};
-    ghost use Rattle.aq_series.specs.Samples.{IsOzone, IsTally};
+    ghost use Rattle.aq_series.specs.Samples.{IsOfEight, IsOzone, IsTally};
 
     /// No values.
     pub(crate) fn new() -> Tally
-        ensures { IsTally [] result }
+        ensures tally { IsTally [] result }
+        ensures values { IsOfEight result }
     {
         Tally {
             count: 0,
@@ -30,11 +31,12 @@ impl Tally {
 
     /// With one more value.
     pub(crate) fn with(self, cell: &Cell) -> Tally
-        requires samples { (before : List Sample) × IsTally before self }
+        requires values { IsOfEight self }
         requires count { self.count < 8 }
         requires value { IsOzone cell.now.value }
         ensures tally { (before : List Sample) (poc : ℕ) → IsTally before self → IsTally (before ++ record { poc = poc; cell = cell.now } ∷ []) result }
         ensures count { result.count ≡ self.count + 1 }
+        ensures values { IsOfEight result }
     {
         Tally {
             count: self.count + 1,
@@ -45,7 +47,7 @@ impl Tally {
 
     /// The mean, truncated, if there are values.
     pub(crate) fn mean(self) -> Option<Cell>
-        requires { (before : List Sample) × IsTally before self }
+        requires { IsOfEight self }
         ensures value { (before : List Sample) → IsTally before self → result ≡ mean_of before }
         ensures range { IfSome result (λ cell. IsOzone cell.value) }
     {

@@ -45,6 +45,7 @@ loop-poc-preserved-else-eq g c =
     let given = ap (λ o. option_map (λ (cell : Cell). as_sample c.in-Some.poc cell) o) (sym c.sample-sample.ensures.value ∙ c.in-Some-sample.is) in
     let other = sym (of_poc c.primary_on-primary.result c.in-Some.poc c.in-Some-sample.cell) ∙ sym c.eq.ensures ∙ c.if-eq.false in
     record {
+      values = c.with-tally.ensures.values;
       walked =
           walked-more c.args.registry.now c.args.shelf.now c.args.site c.args.hour c.primary_on-primary.result c.loop-poc.after c.in-Some.poc c.loop-poc.tally c.next_poc.ensures.valid next c.loop-poc.invariant.walked
           (as_sample c.in-Some.poc c.in-Some-sample.cell) given c.with-tally.result other (c.with-tally.ensures.tally c.loop-poc.invariant.walked.before c.in-Some.poc c.loop-poc.invariant.walked.tallied) c.with-tally.ensures.count;
@@ -63,6 +64,7 @@ loop-poc-preserved g c =
     let fewer = ap length (pocs-next c.args.site c.args.registry.now c.loop-poc.after c.in-Some.poc c.next_poc.ensures.valid.keys_rise.records next) in
     let given = ap (λ o. option_map (λ (cell : Cell). as_sample c.in-Some.poc cell) o) (sym c.sample-sample.ensures.value ∙ c.in_default-sample.is) in
     record {
+      values = c.loop-poc.invariant.values;
       walked =
           walked-past c.args.registry.now c.args.shelf.now c.args.site c.args.hour c.primary_on-primary.result c.loop-poc.after c.in-Some.poc c.loop-poc.tally c.next_poc.ensures.valid next c.loop-poc.invariant.walked given;
       steps = omega (arith, fewer, c.loop-poc.invariant.steps, c.sample-sample.ensures.steps);

@@ -1,10 +1,11 @@
 use Rattle.std.proofs.Common.{◌+◌, ◌≤◌, length}
-use Rattle.aq_series.specs.Samples.{pocs_above}
+use Rattle.aq_series.specs.Samples.{pocs_above, IsOfEight}
 use Rattle.aq_series.proofs.Stages.{Walked}
 use Rattle.aq_series.proofs.hours.site_hour.Given as goal
 
 abbrev pub invariant-loop-poc : goal.invariant-loop-poc
 invariant-loop-poc g l = record {
+  values : IsOfEight l.tally;
   walked : Walked l.registry l.shelf l.site l.hour l.primary l.after l.tally;
   steps : l.steps + length (pocs_above l.registry l.site l.after) ≤ l.initial.steps + length (pocs_above l.registry l.site 0);
 }

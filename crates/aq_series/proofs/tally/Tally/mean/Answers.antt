@@ -3,5 +3,5 @@ use Rattle.aq_series.proofs.tally.Tally.mean.Goals as goal
 
 pub returns-clause-range : goal.returns-clause-range
 returns-clause-range c =
-    let is = c.requires.1 in
+    let is = c.requires in
     mean_is c.args.self.sum c.from.result c.args.self.count c.if-self-eq0.false is.few is.low is.high c.from.ensures
