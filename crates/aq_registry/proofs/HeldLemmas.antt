@@ -3,9 +3,8 @@ use Rattle.std.proofs.Common.{◌≡◌, ℕ, Bool, true, false, ◌&&◌, ◌||
 use Rattle.std.specs.Prelude.{not, filter, nat_lt}
 use Rattle.std.specs.List.{AllByRecursion, list_any}
 use Rattle.std.specs.Option.{option_and_then}
-use Rattle.std.proofs.lemmas.Bool.{false≢true, and_parts, and_right, eqb-true}
+use Rattle.std.proofs.lemmas.Bool.{false≢true, and_parts, eqb-true}
 use Rattle.std.proofs.lemmas.Bool.Decides.{nat_tests}
-use mathlib.Core.Path.{fun_ext}
 use Rattle.aq_base.specs.declared.office.OfficeRecord.{OfficeRecord}
 use Rattle.aq_base.specs.declared.office.OfficeRecord.TheVariants.{Event, Concurrence}
 use Rattle.aq_base.specs.declared.office.OfficeKey.{OfficeKey}
@@ -16,7 +15,7 @@ use Rattle.aq_profile.specs.Office.Office.{key_of, key_numbers, record_rank, com
 use Rattle.aq_profile.specs.Office.Questions.{record_of}
 use Rattle.aq_profile.specs.Office.RowOrder.{before-trans}
 use Rattle.aq_registry.specs.declared.agreed.Span.{Span}
-use Rattle.aq_registry.specs.Agreed.{span_by, is_agreed, agreed_span, span_at, passes, any_agreed, AreAgreedOf, number_of, renewed, spans_put, spans_dropped}
+use Rattle.aq_registry.specs.Agreed.{start_of, span_by, is_agreed, agreed_span, span_at, passes, any_agreed, AreAgreedOf, number_of, renewed, spans_put, spans_dropped}
 use Rattle.aq_registry.specs.Registry.{office_with}
 use Rattle.aq_registry.proofs.ExclusionLemmas.{any-filter}
 use Rattle.aq_registry.proofs.AgreedLemmas.{all_follow, but, any-renewed}
@@ -146,9 +145,11 @@ gone test number b span is = none_pass (but number test) b span (ap (λ c. not c
 all_behind : (row : OfficeRecord) (rows : List OfficeRecord) → rises_from record_rank row rows ≡ true → AllByRecursion (λ other. comes_before (record_rank row) (record_rank other) ≡ true) rows
 all_behind row [] h = tt
 all_behind row (next ∷ rows) h =
-    let parts = and_parts (comes_before (record_rank row) (record_rank next)) (rises_from record_rank next rows) h in
-    (parts.0, all_follow (λ other. comes_before (record_rank next) (record_rank other) ≡ true) (λ other. comes_before (record_rank row) (record_rank other) ≡ true)
-    (λ other behind. before-trans (record_rank row) (record_rank next) (record_rank other) parts.0 behind) rows (all_behind next rows parts.1))
+    let parts = and_parts (comes_before (record_rank row) (record_rank next)) (rises_from record_rank next rows) h in (
+      parts.0,
+      all_follow (λ other. comes_before (record_rank next) (record_rank other) ≡ true) (λ other. comes_before (record_rank row) (record_rank other) ≡ true)
+          (λ other behind. before-trans (record_rank row) (record_rank next) (record_rank other) parts.0 behind) rows (all_behind next rows parts.1),
+    )
 
 rises_rest : (row : OfficeRecord) (rows : List OfficeRecord) → rises_from record_rank row rows ≡ true → rises record_rank rows ≡ true
 rises_rest row [] h = refl
@@ -197,3 +198,78 @@ module _ (agrees : ℕ → Bool) (test : Span → Bool) (number : ℕ) where
           ∙ ap (λ b. passes test (option_and_then (span_by agrees) (record_of rows (EventKey number))) || (b || any_other rows)) (sym (unless_it test number (asks_exclusion code && agrees m) _ other))
           ∙ refl
   one-apart (r ∷ rows) rise = one-apart rows (rises_rest r rows rise)
+
+-- ---- a record that is put or dropped
+
+no_other : (number : ℕ) (test : Span → Bool) (span : Span) → (span.number == number) ≡ true → but number test span ≡ false
+no_other number test span h = ap (λ c. not c && test span) h
+
+one_renewed : (key : OfficeKey) (number : ℕ) (before after : List OfficeRecord) (spans : List Span) → AreSameBut key before after → rises record_rank after ≡ true
+    → number_of key ≡ Some number → AreAgreedOf before spans → AreAgreedOf after (renewed number (span_at after number) spans)
+one_renewed key number before after spans same rise is held test =
+    any-renewed test number (span_at after number) spans
+    ∙ ap (λ b. passes test (span_at after number) || b)
+    (held (but number test) ∙ sym (kept key before after same (but number test) (λ span h. no_other number test span (ap (same_number (Some span.number)) (sym is) ∙ h))))
+    ∙ sym (one-apart (is_agreed after) test number after rise)
+
+none_renewed : (key : OfficeKey) (before after : List OfficeRecord) (spans : List Span) → AreSameBut key before after
+    → number_of key ≡ None → AreAgreedOf before spans → AreAgreedOf after spans
+none_renewed key before after spans same is held test =
+    held test ∙ sym (kept key before after same test (λ span h. absurd (false≢true (ap (same_number (Some span.number)) (sym is) ∙ h))))
+
+pub held-put : (row : OfficeRecord) (rows after : List OfficeRecord) (spans : List Span) → after ≡ with_row record_rank row rows → rises record_rank after ≡ true → AreAgreedOf rows spans → AreAgreedOf after (spans_put after (number_of (key_of row)) spans)
+held-put row rows after spans is rise held = by (number_of (key_of row)) refl
+  where
+    same : AreSameBut (key_of row) rows after
+    same = subst (λ l. AreSameBut (key_of row) rows l) (sym is) (put-same row rows)
+
+    by : (o : Option ℕ) → number_of (key_of row) ≡ o → AreAgreedOf after (spans_put after o spans)
+    by None none = none_renewed (key_of row) rows after spans same none held
+    by (Some number) some = one_renewed (key_of row) number rows after spans same rise some held
+
+and_false : (a : Bool) → (a && false) ≡ false
+and_false true = refl
+and_false false = refl
+
+-- where no concurrence agrees, the event of the number is not agreed
+unagreed : (agrees : ℕ → Bool) (number : ℕ) (rows : List OfficeRecord) → agrees number ≡ false → option_and_then (span_by agrees) (record_of rows (EventKey number)) ≡ None
+unagreed agrees number [] h = refl
+unagreed agrees number (Event m site pollutant first last code ∷ rows) h = choose (m == number) refl (unagreed agrees number rows h)
+  where
+    choose : (b : Bool) → (m == number) ≡ b → option_and_then (span_by agrees) (record_of rows (EventKey number)) ≡ None
+        → option_and_then (span_by agrees) (cond (b && true) (Some (Event m site pollutant first last code)) (record_of rows (EventKey number))) ≡ None
+    choose true is rest =
+        ap (λ b. cond b (Some (record { number = m; start = start_of site pollutant code first; last = last })) None)
+        (ap (λ b. asks_exclusion code && b) (ap agrees (eqb-true m number is) ∙ h) ∙ and_false (asks_exclusion code))
+    choose false other rest = rest
+unagreed agrees number (r ∷ rows) h = unagreed agrees number rows h
+
+none-kept : (test keep : OfficeRecord → Bool) → ((r : OfficeRecord) → keep r ≡ true → test r ≡ false) → (rows : List OfficeRecord) → list_any test (filter keep rows) ≡ false
+none-kept test keep none [] = refl
+none-kept test keep none (r ∷ rows) = choose (keep r) refl (none-kept test keep none rows)
+  where
+    choose : (b : Bool) → keep r ≡ b → list_any test (filter keep rows) ≡ false → list_any test (cond b (r ∷ filter keep rows) (filter keep rows)) ≡ false
+    choose true h rest = ap (λ b. b || list_any test (filter keep rows)) (none r h) ∙ rest
+    choose false h rest = rest
+
+apart : (b agreed : Bool) → not (b && true) ≡ true → (b && agreed) ≡ false
+apart true agreed h = absurd (false≢true h)
+apart false agreed h = refl
+
+no_concurrence : (number : ℕ) (rows : List OfficeRecord) → is_agreed (without_row record_rank (key_numbers (ConcurrenceKey number)) rows) number ≡ false
+no_concurrence number rows = none-kept (agrees_to number) (λ row. not (is_same (record_rank row) (key_numbers (ConcurrenceKey number)))) each rows
+  where
+    each : (r : OfficeRecord) → not (is_same (record_rank r) (key_numbers (ConcurrenceKey number))) ≡ true → agrees_to number r ≡ false
+    each (Concurrence m agreed) h = apart (m == number) agreed h
+    each r h = refl
+
+pub held-dropped : (key : OfficeKey) (rows : List OfficeRecord) (spans : List Span) → rises record_rank (without_key key (office_with rows)).records ≡ true → AreAgreedOf rows spans → AreAgreedOf (without_key key (office_with rows)).records (spans_dropped (number_of key) spans)
+held-dropped (EventKey number) rows spans rise held =
+    let after = (without_key (EventKey number) (office_with rows)).records in
+    subst (λ o. AreAgreedOf after (renewed number o spans)) (ap (option_and_then (agreed_span after)) (found_dropped (EventKey number) rows))
+    (one_renewed (EventKey number) number rows after spans (dropped-same (EventKey number) rows) rise refl held)
+held-dropped (ConcurrenceKey number) rows spans rise held =
+    let after = (without_key (ConcurrenceKey number) (office_with rows)).records in
+    subst (λ o. AreAgreedOf after (renewed number o spans)) (unagreed (is_agreed after) number after (no_concurrence number rows))
+    (one_renewed (ConcurrenceKey number) number rows after spans (dropped-same (ConcurrenceKey number) rows) rise refl held)
+held-dropped key rows spans rise held = none_renewed key rows (without_key key (office_with rows)).records spans (dropped-same key rows) refl held

@@ -12,3 +12,4 @@ pub mod ReachLemmas
 pub mod RuleLemmas
 pub mod RowCounts
 pub mod HeldLemmas
+pub mod LeftOutLemmas

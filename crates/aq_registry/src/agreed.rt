@@ -93,6 +93,19 @@ impl Start {
     }
 }
 
+impl Span {
+    /// The hours of an event, to the last.
+    pub(crate) fn new(number: u32, start: Start, last: Hour) -> Span
+        ensures { result ≡ record { number = number; start = start; last = last } }
+    {
+        Span {
+            number,
+            start,
+            last: last.number(),
+        }
+    }
+}
+
 impl Entry {
     /// The entry of an event behind another entry.
     fn behind(before: &Option<Entry>, span: Span) -> Entry
