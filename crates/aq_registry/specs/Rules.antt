@@ -21,18 +21,19 @@ use Rattle.aq_profile.specs.Office.Refusal.{key_stands, is_taken, is_new_site, i
 abbrev pub rule_where_full : ℕ → ℕ → Rule → Option Rule
 rule_where_full count most rule = if nat_le most count then Some rule else None
 
+-- the rule, where as many records stand beside this one as may
+abbrev pub rule_if_full : Office → OfficeRecord → Rule → Option Rule
+rule_if_full office r rule = rule_where_full (group_size office r) (most_in_group r) rule
+
 -- the rule of the list that a new record joins, where it is full
 abbrev pub full_rule : Office → OfficeRecord → Option Rule
-full_rule office (Monitor id duration eligible) =
-    rule_where_full (group_size office (Monitor id duration eligible)) (most_in_group (Monitor id duration eligible)) MonitorsFull
-full_rule office (Primary site pollutant from poc) =
-    rule_where_full (group_size office (Primary site pollutant from poc)) (most_in_group (Primary site pollutant from poc)) ListFull
+full_rule office (Monitor id duration eligible) = rule_if_full office (Monitor id duration eligible) MonitorsFull
+full_rule office (Primary site pollutant from poc) = rule_if_full office (Primary site pollutant from poc) ListFull
 full_rule office (Schedule site pollutant from interval anchor) =
-    rule_where_full (group_size office (Schedule site pollutant from interval anchor)) (most_in_group (Schedule site pollutant from interval anchor)) ListFull
-full_rule office (Makeup site missed makeup) =
-    rule_where_full (group_size office (Makeup site missed makeup)) (most_in_group (Makeup site missed makeup)) MakeupsFull
+    rule_if_full office (Schedule site pollutant from interval anchor) ListFull
+full_rule office (Makeup site missed makeup) = rule_if_full office (Makeup site missed makeup) MakeupsFull
 full_rule office (Event number site pollutant first last code) =
-    rule_where_full (group_size office (Event number site pollutant first last code)) (most_in_group (Event number site pollutant first last code)) EventsFull
+    rule_if_full office (Event number site pollutant first last code) EventsFull
 full_rule office r = None
 
 -- a monitor of a new site where as many sites are registered as may

@@ -5,7 +5,6 @@ ghost use Rattle.aq_profile.specs.Lines.Canonical.{is_office_line};
 ghost use Rattle.aq_profile.specs.Lines.Reading.{OfOffice};
 ghost use Rattle.aq_profile.specs.Office.Load.{changed, without_key};
 ghost use Rattle.aq_profile.specs.Office.Office.{IsOffice, record_rank, sites_of, with_row};
-ghost use Rattle.aq_profile.specs.Office.Questions.{record_of};
 ghost use Rattle.aq_profile.specs.Office.Refusal.{broken};
 ghost use Rattle.aq_registry.specs.Changes.{changes_of, drop_changes, dropped_with, dropping, IsFaultOf, putting};
 ghost use Rattle.aq_registry.specs.Registry.{adds_event, drops_event, events_in, office_with};
@@ -19,13 +18,13 @@ use aq_base::{Memory, OfficeKey, OfficeLine, OfficeRecord};
 use aq_profile::office::valid_load::lines_leave_the_office_valid;
 
 impl Registry {
-    /// Applies a line that a body can spell: a new row, a changed one, or one dropped, an event with
-    /// its concurrence. It is refused under the first rule of the office that it breaks, or for want of
-    /// memory, which a deletion takes none of; the registry is unchanged then.
+    /// Applies a line that a body can spell: a record is new, is changed or is dropped, an event with its
+    /// concurrence. The line is refused under the first rule of the office that it breaks, or for want of
+    /// memory, of which a deletion takes none. The registry is then unchanged.
     ///
     /// It costs a few searches of the map, and for a new record a walk over those that its limit counts:
     /// the monitors, designations or schedules of its site and pollutant, or the make-up samples of its
-    /// site and quarter. Sites and events are kept counted.
+    /// site and quarter. Sites and events are kept as numbers. An update that changes nothing is accepted.
     pub fn apply(&mut self, line: OfficeLine) -> Result<Changes, RegistryFault>
         requires { IsTrue (is_office_line line) }
         ensures unbroken { OnOk result (broken (office_with self.old) (OfOffice line) ≡ None) }
@@ -47,7 +46,7 @@ impl Registry {
         }
     }
 
-    /// Puts a row, in place of one with its key.
+    /// Puts a record, in place of one with its key. It and `drop_record` alone change the registry.
     fn put_record(&mut self, row: OfficeRecord) -> Result<Changes, Memory>
         requires { IsOffice (office_with (with_row record_rank row self.old)) }
         ensures after { OnOk result (self.new ≡ with_row record_rank row self.old) }

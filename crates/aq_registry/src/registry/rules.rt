@@ -1,7 +1,6 @@
 //! The first rule of the office that a line breaks.
-ghost use Rattle.std.specs.Prelude.{◌≡◌, length, count_by, is_some, nat_lt, IsTrue};
-ghost use Rattle.aq_base.specs.declared.office.OfficeKey.TheVariants.{Monitor as MonitorKey};
-ghost use Rattle.aq_base.specs.declared.office.OfficeLine.TheVariants.{Put, Change, Drop};
+ghost use Rattle.std.specs.Prelude.{◌≡◌, count_by, IsTrue};
+ghost use Rattle.aq_base.specs.declared.office.OfficeLine.TheVariants.{Put};
 ghost use Rattle.aq_profile.specs.Lines.Canonical.{is_office_line};
 ghost use Rattle.aq_profile.specs.Lines.Reading.{OfOffice};
 ghost use Rattle.aq_profile.specs.Office.Office as offices;
@@ -35,6 +34,7 @@ impl Registry {
         }
     }
 
+    /// The first rule that a new record breaks.
     fn broken_by_new(&self, row: &OfficeRecord) -> Option<Rule>
         ensures { result ≡ rules.new_rule (office_with self.now) row.now }
     {
@@ -50,6 +50,7 @@ impl Registry {
         self.full_rule(row)
     }
 
+    /// The first rule that a changed record breaks.
     fn broken_by_change(&self, row: &OfficeRecord) -> Option<Rule>
         ensures { result ≡ rules.change_rule (office_with self.now) row.now }
     {
@@ -71,6 +72,7 @@ impl Registry {
         }
     }
 
+    /// The rule that a deletion breaks.
     fn broken_by_drop(&self, key: &OfficeKey) -> Option<Rule>
         ensures { result ≡ rules.drop_rule (office_with self.now) key.now }
     {
