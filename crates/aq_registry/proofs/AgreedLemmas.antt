@@ -1,7 +1,7 @@
 -- The agreed events: their order, their reaches, and what a binary search of them finds.
-use Rattle.std.proofs.Common.{◌≡◌, ℕ, ◌≤◌, ◌<◌, Bool, true, false, ◌&&◌, ◌||◌, ◌==◌, List, [], ◌∷◌, ◌++◌, cond, refl, ap, sym, subst, ◌∙◌, arith, inl, inr, suc, zero}
+use Rattle.std.proofs.Common.{◌≡◌, ℕ, ◌≤◌, ◌<◌, Bool, true, false, ◌&&◌, ◌||◌, ◌==◌, List, [], ◌∷◌, ◌++◌, cond, refl, ap, sym, subst, ◌∙◌, arith, inl, inr, suc, zero, Option, Some, None}
 use Rattle.std.specs.Prelude.{not, length, take, drop, filter, nat_lt, bytes_eq, slice_index_or}
-use Rattle.std.specs.List.{AllByRecursion, AllWithin}
+use Rattle.std.specs.List.{AllByRecursion, AllWithin, list_any}
 use Rattle.std.specs.List.Sorted.{IsPartitionedBy, IsPartitionPoint}
 use Rattle.std.proofs.lemmas.Bool.{false≢true, cases_Bool}
 use Rattle.std.proofs.lemmas.Bool.Decides.{nat_tests}
@@ -11,7 +11,7 @@ use Rattle.aq_profile.specs.Office.RowOrder.{before-trans, before-total}
 use Rattle.aq_registry.specs.declared.agreed.Start.{Start}
 use Rattle.aq_registry.specs.declared.agreed.Span.{Span}
 use Rattle.aq_registry.specs.declared.agreed.Entry.{Entry}
-use Rattle.aq_registry.specs.Agreed.{numbers_of, starts_before, with_span, AreInOrder, spans_of}
+use Rattle.aq_registry.specs.Agreed.{numbers_of, starts_before, with_span, AreInOrder, spans_of, passes, renewed, without_number}
 
 -- ---- the order of numbers
 
@@ -100,6 +100,10 @@ filter-in_order keep (span ∷ spans) h =
       | false ↦ filter-in_order keep spans h.1
     ]
 
+pub renewed-in_order : (number : ℕ) (span : Option Span) (spans : List Span) → AreInOrder spans → AreInOrder (renewed number span spans)
+renewed-in_order number None spans h = filter-in_order (λ (span : Span). not (span.number == number)) spans h
+renewed-in_order number (Some span) spans h = with_span-in_order span (without_number number spans) (filter-in_order (λ (span : Span). not (span.number == number)) spans h)
+
 pub spans-filter : (keep : Span → Bool) (entries : List Entry) → spans_of (filter (λ (entry : Entry). keep entry.span) entries) ≡ filter keep (spans_of entries)
 spans-filter keep [] = refl
 spans-filter keep (entry ∷ entries) =
@@ -164,3 +168,35 @@ pub point-back : (at : Start) (entries : List Entry) (n : ℕ) → IsPartitionPo
 point-back at entries n point =
     all_follow (λ entry. is_up_to at entry ≡ false) (λ entry. starts_before at entry.span.start ≡ true) (λ entry is. not_up_to (starts_before at entry.span.start) is) (drop n entries)
     (back-all (λ entry. is_up_to at entry ≡ false) entries n point.1)
+
+-- ---- tests of the events
+
+or_swap : (a b c : Bool) → (a || (b || c)) ≡ (b || (a || c))
+or_swap true true c = refl
+or_swap true false c = refl
+or_swap false b c = refl
+
+any-with_span : (test : Span → Bool) (span : Span) (spans : List Span) → list_any test (with_span span spans) ≡ (test span || list_any test spans)
+any-with_span test span [] = refl
+any-with_span test span (first ∷ spans) =
+    elim (starts_before span.start first.start) as (λ b. list_any test (cond b (span ∷ first ∷ spans) (first ∷ with_span span spans)) ≡ (test span || (test first || list_any test spans))) [
+      | true ↦ refl
+      | false ↦ ap (λ b. test first || b) (any-with_span test span spans) ∙ or_swap (test first) (test span) (list_any test spans)
+    ]
+
+any-kept : (test keep : Span → Bool) (spans : List Span) → list_any test (filter keep spans) ≡ list_any (λ span. keep span && test span) spans
+any-kept test keep [] = refl
+any-kept test keep (span ∷ spans) =
+    elim (keep span) as (λ b. list_any test (cond b (span ∷ filter keep spans) (filter keep spans)) ≡ ((b && test span) || list_any (λ span. keep span && test span) spans)) [
+      | true ↦ ap (λ b. test span || b) (any-kept test keep spans)
+      | false ↦ any-kept test keep spans
+    ]
+
+-- a test of the events but those of a number
+abbrev pub but : ℕ → (Span → Bool) → Span → Bool
+but number test span = not (span.number == number) && test span
+
+pub any-renewed : (test : Span → Bool) (number : ℕ) (span : Option Span) (spans : List Span) → list_any test (renewed number span spans) ≡ (passes test span || list_any (but number test) spans)
+any-renewed test number None spans = any-kept test (λ (span : Span). not (span.number == number)) spans
+any-renewed test number (Some span) spans =
+    any-with_span test span (without_number number spans) ∙ ap (λ b. test span || b) (any-kept test (λ (span : Span). not (span.number == number)) spans)

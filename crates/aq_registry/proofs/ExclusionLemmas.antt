@@ -1,23 +1,20 @@
--- Exclusion: the concurrence in an event is found by its key, and events lie together.
-use Rattle.std.proofs.Common.{◌≡◌, ℕ, Bool, true, false, ◌&&◌, ◌==◌, List, [], ◌∷◌, cond, Some, refl, ap, sym, subst, ◌∙◌, arith}
+-- The concurrence in an event is found by its key.
+use Rattle.std.proofs.Common.{◌≡◌, ℕ, Bool, true, false, ◌&&◌, ◌==◌, List, [], ◌∷◌, cond, Some, refl, ap, subst, ◌∙◌, arith}
 use Rattle.std.specs.Prelude.{◌||◌, filter}
 use Rattle.std.specs.declared.cmp.Ordering.TheVariants.{Less}
 use Rattle.std.specs.Ordering.{nat_cmp}
 use Rattle.std.specs.List.{AllByRecursion, list_any}
 use Rattle.std.specs.List.Sorted.{IsStrictlySortedBy}
 use Rattle.std.specs.Option.{option_map_or}
-use Rattle.std.proofs.lemmas.Bool.{false≢true, eqb-true}
+use Rattle.std.proofs.lemmas.Bool.{eqb-true}
 use Rattle.std.proofs.lemmas.Bool.Decides.{nat_tests}
-use Rattle.aq_base.specs.declared.code.Code.{Code}
-use Rattle.aq_base.specs.declared.observation.ObsKey.{ObsKey}
 use Rattle.aq_base.specs.declared.office.OfficeRecord.{OfficeRecord}
-use Rattle.aq_base.specs.declared.office.OfficeRecord.TheVariants.{Event, Concurrence}
+use Rattle.aq_base.specs.declared.office.OfficeRecord.TheVariants.{Concurrence}
 use Rattle.aq_base.specs.declared.office.OfficeKey.TheVariants.{Concurrence as ConcurrenceKey}
 use Rattle.aq_profile.specs.Office.Questions.{record_of}
-use Rattle.aq_profile.specs.Office.Exclusion.{agrees_to, takes_out, excluded}
-use Rattle.aq_registry.specs.Places.{of_event, of_kind, place_cmp, places_of, lies_between}
+use Rattle.aq_profile.specs.Office.Exclusion.{agrees_to}
+use Rattle.aq_registry.specs.Places.{of_event, place_cmp, places_of}
 use Rattle.aq_registry.specs.Registry.{agreement_in}
-use Rattle.aq_registry.proofs.SeriesLemmas.{none_below}
 
 -- ---- the concurrence in an event
 
@@ -50,7 +47,7 @@ agreement_found number (Concurrence other agreed ∷ rows) sorted =
     at (other == number) refl
 agreement_found number (r ∷ rows) sorted = agreement_found number rows sorted.1
 
--- ---- events lie together
+-- ---- tests of a part of the rows
 
 pub any-filter : {X : Type 0} (test p : X → Bool) → ((x : X) → p x ≡ false → test x ≡ false) → (xs : List X) → list_any test xs ≡ list_any test (filter p xs)
 any-filter test p outside [] = refl
@@ -62,11 +59,3 @@ any-filter test p outside (x ∷ xs) =
     ]
     in
     at (p x) refl
-
-no_event : (records : List OfficeRecord) (key : ObsKey) (codes : List Code) (r : OfficeRecord) → lies_between (of_kind 6) (of_kind 7) r ≡ false → takes_out records key codes r ≡ false
-no_event records key codes (Event number site pollutant first last code) h = absurd (false≢true (sym h ∙ ap (λ b. b && true) (none_below number)))
-no_event records key codes r h = refl
-
-pub excluded_found : (records : List OfficeRecord) (key : ObsKey) (codes : List Code) → excluded records key codes ≡ list_any (takes_out records key codes) (filter (lies_between (of_kind 6) (of_kind 7)) records)
-unfolding excluded
-excluded_found records key codes = any-filter (takes_out records key codes) (lies_between (of_kind 6) (of_kind 7)) (no_event records key codes) records

@@ -11,3 +11,5 @@ pub mod AgreedLemmas
 pub mod ReachLemmas
 pub mod RuleLemmas
 pub mod RowCounts
+pub mod HeldLemmas
+pub mod LeftOutLemmas

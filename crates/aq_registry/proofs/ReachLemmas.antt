@@ -1,5 +1,5 @@
 -- How far the agreed events up to each one reach.
-use Rattle.std.proofs.Common.{◌≡◌, ℕ, ◌-◌, ◌≤◌, ◌<◌, Bool, true, false, ◌&&◌, ◌||◌, ◌==◌, List, [], ◌∷◌, ◌++◌, cond, Option, Some, None, refl, ap, sym, subst, ◌∙◌, arith, inl, inr, suc, zero}
+use Rattle.std.proofs.Common.{◌≡◌, ℕ, ◌-◌, ◌≤◌, ◌<◌, Bool, true, false, ◌&&◌, ◌||◌, ◌==◌, List, [], ◌∷◌, ◌++◌, cond, Option, Some, None, refl, ap, sym, ◌∙◌, arith, inl, inr, suc, zero}
 use Rattle.std.specs.Prelude.{length, take, drop, nat_le, nat_lt, bytes_eq, slice_index_or, slice_set, ⊤}
 use Rattle.std.specs.List.{AllByRecursion, list_any, last_or}
 use Rattle.std.proofs.lemmas.Bool.{false≢true, cases_Bool}
@@ -230,12 +230,3 @@ less_one n = omega arith
 pub last-of : (entries : List Entry) (count : ℕ) (d : Entry) → (count ≡ 0 → ⊥) → count ≤ length entries → Some (slice_index_or entries (count - 1) d) ≡ last_or None (take count entries)
 last-of entries zero d h within = absurd (h refl)
 last-of entries (suc n) d h within = ap (λ k. Some (slice_index_or entries k d)) (less_one n) ∙ last-taken None entries n d (omega arith)
-
-kept-front : (before : Option Entry) (entries more : List Entry) (n : ℕ) → n ≤ length entries → AreReached before entries → AreReached before (take n (take n entries ++ more))
-kept-front before entries more zero h reached = tt
-kept-front before [] more (suc n) h reached = absurd (omega (arith, h))
-kept-front before (entry ∷ entries) more (suc n) h reached = (reached.0, kept-front (Some entry) entries more n (omega arith) reached.1)
-
--- the entries before one that is put in keep their reaches
-pub front-reached : (entries others more : List Entry) (n : ℕ) → n ≤ length entries → AreReached None entries → others ≡ take n entries ++ more → AreReached None (take n others)
-front-reached entries others more n h reached is = subst (λ (l : List Entry). AreReached None (take n l)) (sym is) (kept-front None entries more n h reached)

@@ -1,9 +1,17 @@
 -- The agreed events in their order, and how far those up to each one reach.
-use Rattle.std.specs.Prelude.{◌≡◌, ℕ, Bool, false, ◌&&◌, nat_le, nat_lt, if◌then◌else◌, Option, Some, None, List, [], ◌∷◌, map, ⊤}
-use Rattle.std.specs.List.{AllByRecursion}
+use Rattle.std.specs.Prelude.{◌≡◌, ℕ, Bool, false, not, filter, ◌&&◌, ◌==◌, nat_le, nat_lt, if◌then◌else◌, Option, Some, None, List, [], ◌∷◌, map, ⊤}
+use Rattle.std.specs.List.{AllByRecursion, list_any}
+use Rattle.std.specs.Option.{option_and_then}
 use Rattle.aq_base.specs.Site.{Site}
 use Rattle.aq_base.specs.declared.code.Code.{Code}
 use Rattle.aq_base.specs.declared.monitor.Pollutant.{Pollutant}
+use Rattle.aq_base.specs.declared.observation.ObsKey.{ObsKey}
+use Rattle.aq_base.specs.declared.office.OfficeRecord.{OfficeRecord}
+use Rattle.aq_base.specs.declared.office.OfficeRecord.TheVariants.{Event}
+use Rattle.aq_base.specs.declared.office.OfficeKey.{OfficeKey}
+use Rattle.aq_base.specs.declared.office.OfficeKey.TheVariants.{Event as EventKey, Concurrence as ConcurrenceKey}
+use Rattle.aq_profile.specs.Office.Exclusion.{agrees_to, asks_exclusion}
+use Rattle.aq_profile.specs.Office.Questions.{record_of}
 use Rattle.aq_profile.specs.Office.Office.{comes_before, is_same, parameter_number}
 use Rattle.aq_registry.specs.declared.agreed.Start.{Start}
 use Rattle.aq_registry.specs.declared.agreed.Span.{Span}
@@ -45,6 +53,15 @@ with_span span [] = span ∷ []
 with_span span (first ∷ spans) =
     if starts_before span.start first.start then span ∷ first ∷ spans else first ∷ with_span span spans
 
+-- the events but those of a number
+abbrev pub without_number : ℕ → List Span → List Span
+without_number number spans = filter (λ span. not (span.number == number)) spans
+
+-- the events with this one in place of those of its number
+abbrev pub renewed : ℕ → Option Span → List Span → List Span
+renewed number None spans = without_number number spans
+renewed number (Some span) spans = with_span span (without_number number spans)
+
 -- none starts before an earlier one
 abbrev pub AreInOrder : List Span → Type 0
 AreInOrder [] = ⊤
@@ -72,7 +89,63 @@ pub record AreAgreed (entries : List Entry) : Type 0 where
   pub in_order : AreInOrder (spans_of entries)
   pub reached : AreReached None entries
 
+-- the agreed events, and how many more there is room for
+pub record Held : Type 0 where
+  pub spans : List Span
+  pub room : ℕ
+
 -- whether the events up to an entry reach an hour of its series
 abbrev pub does_reach : Start → Option Entry → Bool
 does_reach at None = false
 does_reach at (Some entry) = is_same_series entry.span.start at && nat_le at.hour entry.reach
+
+-- ---- the agreed events among the office's records
+
+-- the span of an event whose code asks for an exclusion, where a concurrence in its number agrees
+abbrev pub span_by : (ℕ → Bool) → OfficeRecord → Option Span
+span_by agrees (Event number site pollutant first last code) =
+    if asks_exclusion code && agrees number
+    then Some (record { number = number; start = start_of site pollutant code first; last = last }) else None
+span_by agrees r = None
+
+abbrev pub is_agreed : List OfficeRecord → ℕ → Bool
+is_agreed records number = list_any (agrees_to number) records
+
+abbrev pub agreed_span : List OfficeRecord → OfficeRecord → Option Span
+agreed_span records r = span_by (is_agreed records) r
+
+-- the span of the event of a number, if it is agreed
+abbrev pub span_at : List OfficeRecord → ℕ → Option Span
+span_at records number = option_and_then (agreed_span records) (record_of records (EventKey number))
+
+abbrev pub passes : (Span → Bool) → Option Span → Bool
+passes test None = false
+passes test (Some span) = test span
+
+-- whether the span of an agreed event passes a test
+abbrev pub any_agreed : (Span → Bool) → List OfficeRecord → Bool
+any_agreed test records = list_any (λ r. passes test (agreed_span records r)) records
+
+-- the spans are those of the agreed events, and no others
+abbrev pub AreAgreedOf : List OfficeRecord → List Span → Type 0
+AreAgreedOf records spans = (test : Span → Bool) → list_any test spans ≡ any_agreed test records
+
+-- whether a code of the observation with this key asks for an exclusion, and an agreed event covers it
+abbrev pub leaves_out : List Span → ObsKey → Code → Bool
+leaves_out spans key code = asks_exclusion code && list_any (covers (start_of key.monitor.site key.monitor.pollutant code key.hour)) spans
+
+-- the number of the event of which a key speaks
+abbrev pub number_of : OfficeKey → Option ℕ
+number_of (EventKey number) = Some number
+number_of (ConcurrenceKey number) = Some number
+number_of key = None
+
+-- the agreed events once a record is put
+abbrev pub spans_put : List OfficeRecord → Option ℕ → List Span → List Span
+spans_put records None spans = spans
+spans_put records (Some number) spans = renewed number (span_at records number) spans
+
+-- the agreed events once a record is dropped
+abbrev pub spans_dropped : Option ℕ → List Span → List Span
+spans_dropped None spans = spans
+spans_dropped (Some number) spans = renewed number None spans

@@ -6,6 +6,8 @@ use Rattle.aq_base.specs.declared.office.OfficeRecord.{OfficeRecord}
 use Rattle.aq_base.specs.declared.office.OfficeRecord.TheVariants.{Monitor, Primary, Schedule, Season, Makeup, Event, Concurrence}
 use Rattle.aq_base.specs.declared.office.OfficeKey.{OfficeKey}
 use Rattle.aq_base.specs.declared.office.OfficeKey.TheVariants.{Event as EventKey}
+use Rattle.aq_registry.specs.declared.agreed.Span.{Span}
+use Rattle.aq_registry.specs.Agreed.{AreAgreedOf}
 use Rattle.aq_profile.specs.Office.Refusal.{key_stands}
 use Rattle.aq_profile.specs.Office.Office.{Office, IsOffice, group_of, is_same, sites_of}
 use Rattle.aq_profile.specs.Office.Questions.{Registered}
@@ -31,11 +33,12 @@ abbrev pub drops_event : List OfficeRecord → OfficeKey → Bool
 drops_event records (EventKey number) = key_stands (office_with records) (EventKey number)
 drops_event records key = false
 
--- the records are those of a valid office, and its sites and events are counted
-pub record IsRegistry (records : List OfficeRecord) (sites events : ℕ) : Type 0 where
+-- the records are those of a valid office, its sites and events are counted, and its agreed events are those of the index
+pub record IsRegistry (records : List OfficeRecord) (sites events : ℕ) (agreed : List Span) : Type 0 where
   pub office : IsOffice (office_with records)
   pub sites_counted : sites ≡ length (sites_of records)
   pub events_counted : events ≡ events_in records
+  pub agreed_held : AreAgreedOf records agreed
 
 -- ---- what a record says
 

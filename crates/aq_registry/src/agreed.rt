@@ -1,7 +1,8 @@
 //! The agreed events by site, pollutant, code and first hour.
-ghost use Rattle.std.specs.Prelude.{◌≡◌, ◌≤◌, None, Some, [], true, false, drop, filter, length, not, take, ◌&&◌, ◌==◌, nat_le, IfOk, OnOk, OnErr};
+ghost use Rattle.std.specs.Prelude.{◌≡◌, ◌<◌, ◌≤◌, None, Some, [], true, false, drop, filter, length, not, take, ◌&&◌, ◌==◌, nat_le, IfOk, IsSome, OnOk};
+ghost use Rattle.std.specs.Vec.{vec_capacity, vec_len};
 ghost use Rattle.std.specs.List.{list_any, last_or, AllByRecursion};
-ghost use Rattle.aq_registry.specs.Agreed.{covers, does_reach, entry_behind, is_same_series, reach_behind, spans_of, start_of, starts_before, with_span, AreAgreed, AreInOrder, AreReached};
+ghost use Rattle.aq_registry.specs.Agreed.{covers, does_reach, entry_behind, is_same_series, reach_behind, spans_of, start_of, starts_before, renewed, with_span, without_number, AreInOrder, AreReached};
 
 use crate::place::parameter;
 use aq_base::{Code, Hour, Memory, Pollutant, SiteId};
@@ -37,20 +38,21 @@ pub(crate) struct Entry {
     reach: u32,
 }
 
-/// The agreed events in the order of their starts. Contracts see the list of their spans.
+/// The agreed events in the order of their starts. Contracts see the list of their spans, and how many more
+/// can be put in without taking memory.
 #[derive(Drop)]
 pub(crate) struct Agreed {
     entries: Vec<Entry>,
 }
 
 impl Model for Agreed {
-    ghost use Rattle.std.specs.Prelude.{List};
-    ghost use Rattle.aq_registry.specs.Agreed.{spans_of, AreAgreed};
-    ghost use Rattle.aq_registry.specs.declared.agreed.Span.{Span};
+    ghost use Rattle.std.specs.Prelude.{◌-◌};
+    ghost use Rattle.std.specs.Vec.{vec_capacity, vec_len};
+    ghost use Rattle.aq_registry.specs.Agreed.{spans_of, AreAgreed, Held};
 
-    ghost Value = { List Span };
+    ghost Value = { Held };
 
-    ghost view = { λ agreed. spans_of agreed.entries.items };
+    ghost view = { λ agreed. record { spans = spans_of agreed.entries.items; room = vec_capacity agreed.entries - vec_len agreed.entries } };
 
     ghost invariant = { λ agreed. AreAgreed agreed.entries.items };
 }
@@ -91,6 +93,19 @@ impl Start {
     }
 }
 
+impl Span {
+    /// The hours of an event, to the last.
+    pub(crate) fn new(number: u32, start: Start, last: Hour) -> Span
+        ensures { result ≡ record { number = number; start = start; last = last } }
+    {
+        Span {
+            number,
+            start,
+            last: last.number(),
+        }
+    }
+}
+
 impl Entry {
     /// The entry of an event behind another entry.
     fn behind(before: &Option<Entry>, span: Span) -> Entry
@@ -110,7 +125,7 @@ impl Entry {
 impl Agreed {
     /// No events. It takes no memory.
     pub(crate) fn new(alloc: Global) -> Agreed
-        ensures { result ≡ [] }
+        ensures { result.spans ≡ [] }
     {
         Agreed {
             entries: Vec::new(alloc),
@@ -119,7 +134,7 @@ impl Agreed {
 
     /// The same events.
     pub(crate) fn copy(&self) -> Result<Agreed, Memory>
-        ensures { IfOk result (λ copy. copy ≡ self.now) }
+        ensures { IfOk result (λ copy. copy.spans ≡ self.now.spans) }
     {
         Ok(Agreed {
             entries: self.entries.clone()?,
@@ -128,31 +143,64 @@ impl Agreed {
 
     /// Whether an event of the site, pollutant and code holds the hour, by one binary search.
     pub(crate) fn covers(&self, at: &Start) -> bool
-        ensures { result ≡ list_any (covers at.now) self.now }
+        ensures { result ≡ list_any (covers at.now) self.now.spans }
     {
         let count = count_up_to(&self.entries, at);
         does_reach(&last_of(&self.entries, count), at)
     }
 
-    /// Puts an event in its place, before those that start behind it. It costs a shift of these and a walk
-    /// over their reaches.
-    pub(crate) fn put(&mut self, span: Span) -> Result<(), Memory>
-        ensures ok { OnOk result (self.new ≡ with_span span self.old) }
-        ensures unchanged { OnErr result (self.new ≡ self.old) }
+    /// Takes memory for one more event, where there is none left.
+    pub(crate) fn reserve(&mut self) -> Result<(), Memory>
+        ensures same { self.new.spans ≡ self.old.spans }
+        ensures room { OnOk result (0 < self.new.room) }
     {
-        let place = count_up_to(&self.entries, &span.start);
-        let entry = Entry::behind(&None, span);
-        self.entries.insert(place, entry)?;
-        reach_from(&mut self.entries, place);
+        self.entries.reserve(1)?;
         Ok(())
     }
 
-    /// Takes the events of a number away, by a walk over all. It takes no memory.
-    pub(crate) fn forget(&mut self, number: u32)
-        ensures { self.new ≡ filter (λ span. not (span.number == number)) self.old }
+    /// Puts the event of a number in place of the one that has it, or takes that away. It takes no memory. It
+    /// costs a walk over the events, and a shift of those that start behind it.
+    pub(crate) fn renew(&mut self, number: u32, span: Option<Span>)
+        requires { IsSome span → 0 < self.old.room }
+        ensures { self.new.spans ≡ renewed number span self.old.spans }
     {
-        self.entries.retain(|entry| entry.span.number != number);
-        reach_from(&mut self.entries, 0);
+        exchange(&mut self.entries, number, span);
+        reach(&mut self.entries);
+    }
+}
+
+/// Puts the event of a number in place of the one that has it, or takes that away.
+fn exchange(entries: &mut Vec<Entry>, number: u32, span: Option<Span>)
+    requires in_order { AreInOrder (spans_of entries.old.items) }
+    requires room { IsSome span → vec_len entries.old < vec_capacity entries.old }
+    ensures { spans_of entries.new.items ≡ renewed number span (spans_of entries.old.items) }
+{
+    forget(entries, number);
+    if let Some(span) = span {
+        put(entries, span);
+    }
+}
+
+/// Takes the entries of a number away.
+fn forget(entries: &mut Vec<Entry>, number: u32)
+    ensures spans { spans_of entries.new.items ≡ without_number number (spans_of entries.old.items) }
+    ensures capacity { vec_capacity entries.new ≡ vec_capacity entries.old }
+    ensures few { vec_len entries.new ≤ vec_len entries.old }
+{
+    entries.retain(|entry| entry.span.number != number);
+}
+
+/// Puts an event in its place, before those that start behind it.
+fn put(entries: &mut Vec<Entry>, span: Span)
+    requires in_order { AreInOrder (spans_of entries.old.items) }
+    requires room { vec_len entries.old < vec_capacity entries.old }
+    ensures { spans_of entries.new.items ≡ with_span span (spans_of entries.old.items) }
+{
+    let place = count_up_to(entries, &span.start);
+    let entry = Entry::behind(&None, span);
+    match entries.insert(place, entry) {
+        Ok(()) => {}
+        Err(_) => {} // This does not happen: there is room.
     }
 }
 
@@ -188,15 +236,13 @@ fn does_reach(entry: &Option<Entry>, at: &Start) -> bool
     }
 }
 
-/// Sets the reaches of the entries from a place on.
-fn reach_from(entries: &mut Vec<Entry>, place: usize)
-    requires within { place ≤ length entries.old.items }
-    requires before { AreReached None (take place entries.old.items) }
+/// Sets the reaches of the entries.
+fn reach(entries: &mut Vec<Entry>)
     ensures same { spans_of entries.new.items ≡ spans_of entries.old.items }
     ensures reached { AreReached None entries.new.items }
 {
-    let mut before = last_of(entries, place);
-    for i in place..entries.len() {
+    let mut before = None;
+    for i in 0..entries.len() {
         let entry = Entry::behind(&before, entries[i].span);
         entries[i] = entry;
         before = Some(entry);

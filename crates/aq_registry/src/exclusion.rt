@@ -1,37 +1,79 @@
-//! Which observations an event takes out.
-ghost use Rattle.std.specs.Prelude.{◌≡◌};
+//! Which observations are left out for an exceptional event.
+ghost use Rattle.std.specs.Prelude.{◌≡◌, ◌<◌};
 ghost use Rattle.std.specs.List.{list_any};
-ghost use Rattle.std.specs.Map.{values_of};
-ghost use Rattle.aq_base.specs.Quals.{has_code};
-ghost use Rattle.aq_profile.specs.Office.Exclusion.{asks_exclusion, is_flagged, is_within, takes_out};
-ghost use Rattle.aq_profile.specs.Office.Monitors.{is_same_site, is_same_pollutant};
+ghost use Rattle.std.specs.Option.{option_and_then};
+ghost use Rattle.aq_profile.specs.Office.Exclusion.{asks_exclusion};
+ghost use Rattle.aq_profile.specs.Office.Questions.{record_of};
+ghost use Rattle.aq_base.specs.declared.office.OfficeKey.TheVariants.{Event as EventKey};
+ghost use Rattle.aq_registry.specs.Agreed.{agreed_span, leaves_out, number_of, span_at, spans_dropped, spans_put};
 
-use crate::place::Place;
+use crate::agreed::{Agreed, Span, Start};
 use crate::records::Records;
-use aq_base::{Code, Hour, ObsKey, OfficeRecord, Pollutant, SiteId};
-use std::collections::btree_map::Range;
+use aq_base::{Code, ObsKey, OfficeKey, OfficeRecord};
 use std::iter::Iterator;
 
-/// Whether a record of a part of the map takes out the observation with this key and these codes.
-pub(crate) fn any_takes_out(
-    part: Range<'_, Place, OfficeRecord>,
-    records: &Records,
-    key: &ObsKey,
-    codes: &[Code],
-) -> bool
-    ensures { result ≡ list_any (takes_out records.now key.now codes.now) (values_of part.entry) }
+/// Whether one of an observation's codes leaves it out.
+pub(crate) fn any_leaves_out(agreed: &Agreed, key: &ObsKey, codes: &[Code]) -> bool
+    ensures { result ≡ list_any (leaves_out agreed.now.spans key.now) codes.now }
 {
-    for (_, row) in part {
-        if takes_out(row, records, key, codes) {
-            return true;
-        }
-    }
-    false
+    codes.iter().any(|code| leaves_out(agreed, key, *code))
 }
 
-/// Whether a record takes out the observation with this key and these codes.
-fn takes_out(row: &OfficeRecord, records: &Records, key: &ObsKey, codes: &[Code]) -> bool
-    ensures { result ≡ takes_out records.now key.now codes.now row.now }
+/// Whether a code of an observation asks for its exclusion, and an agreed event covers it.
+fn leaves_out(agreed: &Agreed, key: &ObsKey, code: Code) -> bool
+    ensures { result ≡ leaves_out agreed.now.spans key.now code }
+{
+    let at = Start::of(&key.monitor.site, key.monitor.pollutant, code, key.hour);
+    asks_exclusion(code) && agreed.covers(&at)
+}
+
+/// Whether a code is one from RA to RZ, by which an agency asks for an exclusion.
+fn asks_exclusion(code: Code) -> bool
+    ensures { result ≡ asks_exclusion code }
+{
+    code.first == b'R' && b'A' <= code.second && code.second <= b'Z'
+}
+
+/// Keeps the agreed events when a record of a key is put. It takes no memory.
+pub(crate) fn put(agreed: &mut Agreed, records: &Records, key: &OfficeKey)
+    requires { 0 < agreed.old.room }
+    ensures { agreed.new.spans ≡ spans_put records.now (number_of key.now) agreed.old.spans }
+{
+    if let Some(number) = number_of(key) {
+        agreed.renew(number, span_at(records, number));
+    }
+}
+
+/// Keeps the agreed events when the record of a key is dropped. It takes no memory.
+pub(crate) fn drop(agreed: &mut Agreed, key: &OfficeKey)
+    ensures { agreed.new.spans ≡ spans_dropped (number_of key.now) agreed.old.spans }
+{
+    if let Some(number) = number_of(key) {
+        agreed.renew(number, None);
+    }
+}
+
+/// The number of the event of which a key speaks.
+fn number_of(key: &OfficeKey) -> Option<u32>
+    ensures { result ≡ number_of key.now }
+{
+    match key {
+        OfficeKey::Event { number } | OfficeKey::Concurrence { number } => Some(*number),
+        _ => None,
+    }
+}
+
+/// The span of the event of a number, if it is agreed and asks for an exclusion.
+fn span_at(records: &Records, number: u32) -> Option<Span>
+    ensures { result ≡ span_at records.now number }
+{
+    let row = records.get(&OfficeKey::Event { number })?;
+    agreed_span(records, &row)
+}
+
+/// The span of an event that is agreed and asks for an exclusion.
+fn agreed_span(records: &Records, row: &OfficeRecord) -> Option<Span>
+    ensures { result ≡ agreed_span records.now row.now }
 {
     match row {
         OfficeRecord::Event {
@@ -41,57 +83,9 @@ fn takes_out(row: &OfficeRecord, records: &Records, key: &ObsKey, codes: &[Code]
             first,
             last,
             code,
-        } => {
-            is_flagged(*code, codes)
-                && is_within(site, *pollutant, *first, *last, key)
-                && records.agree_to(*number)
+        } if asks_exclusion(*code) && records.agree_to(*number) => {
+            Some(Span::new(*number, Start::of(site, *pollutant, *code, *first), *last))
         }
-        _ => false,
+        _ => None,
     }
-}
-
-/// Whether a code is one from RA to RZ, by which an agency asks for an exclusion.
-pub(crate) fn asks_exclusion(code: Code) -> bool
-    ensures { result ≡ asks_exclusion code }
-{
-    code.first == b'R' && b'A' <= code.second && code.second <= b'Z'
-}
-
-/// Whether a code asks for an exclusion and is one of an observation's.
-fn is_flagged(code: Code, codes: &[Code]) -> bool
-    ensures { result ≡ is_flagged code codes.now }
-{
-    asks_exclusion(code) && has_code(code, codes)
-}
-
-/// Whether a code is one of an observation's.
-fn has_code(code: Code, codes: &[Code]) -> bool
-    ensures { result ≡ has_code code codes.now }
-{
-    codes.iter().any(|other| *other == code)
-}
-
-/// Whether an observation stands at a site and pollutant in the hours from the first to the last.
-fn is_within(site: &SiteId, pollutant: Pollutant, first: Hour, last: Hour, key: &ObsKey) -> bool
-    ensures { result ≡ is_within site.now pollutant first last key.now }
-{
-    let hour = key.hour.number();
-    is_same_site(&key.monitor.site, site)
-        && is_same_pollutant(key.monitor.pollutant, pollutant)
-        && first.number() <= hour
-        && hour <= last.number()
-}
-
-/// Whether two sites are the same.
-pub(crate) fn is_same_site(a: &SiteId, b: &SiteId) -> bool
-    ensures { result ≡ is_same_site a.now b.now }
-{
-    a.state() == b.state() && a.county() == b.county() && a.site() == b.site()
-}
-
-/// Whether two pollutants are the same.
-pub(crate) fn is_same_pollutant(a: Pollutant, b: Pollutant) -> bool
-    ensures { result ≡ is_same_pollutant a b }
-{
-    a == b
 }

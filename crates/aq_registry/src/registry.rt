@@ -17,7 +17,8 @@ ghost use Rattle.aq_base.specs.declared.day.TheConstants.{FIRST_YEAR, LAST_YEAR}
 mod apply;
 mod rules;
 
-use crate::exclusion::any_takes_out;
+use crate::agreed::Agreed;
+use crate::exclusion::any_leaves_out;
 use crate::facts;
 use crate::place::{Place, parameter};
 use crate::records::Records;
@@ -41,6 +42,8 @@ pub struct Registry {
     sites: u32,
     /// How many events stand.
     events: u32,
+    /// The agreed events whose code asks for an exclusion.
+    agreed: Agreed,
 }
 
 impl Model for Registry {
@@ -52,7 +55,7 @@ impl Model for Registry {
 
     ghost view = { λ registry. registry.records };
 
-    ghost invariant = { λ registry. IsRegistry registry.records registry.sites registry.events };
+    ghost invariant = { λ registry. IsRegistry registry.records registry.sites registry.events registry.agreed.spans };
 }
 
 impl Registry {
@@ -65,6 +68,7 @@ impl Registry {
             records: Records::new(alloc),
             sites: 0,
             events: 0,
+            agreed: Agreed::new(alloc),
         }
     }
 
@@ -76,6 +80,7 @@ impl Registry {
             records: self.records.copy()?,
             sites: self.sites,
             events: self.events,
+            agreed: self.agreed.copy()?,
         })
     }
 
@@ -221,12 +226,12 @@ impl Registry {
 
     /// Whether the observation with this key and these codes is left out for an exceptional event (40 CFR
     /// 50.14): one in whose span it lies, whose code it has, and in which the Regional Administrator
-    /// concurred. By a walk over all events, with one search of the map for each that holds it.
+    /// concurred. By one binary search for each of the codes that asks for an exclusion, however many events
+    /// stand.
     pub fn excluded(&self, key: ObsKey, quals: &Quals) -> bool
         ensures { result ≡ exclusions.excluded self.now key quals.now }
     {
-        let events = self.records.between(Place::of_kind(6), Place::of_kind(7));
-        any_takes_out(events, &self.records, &key, quals.codes())
+        any_leaves_out(&self.agreed, &key, quals.codes())
     }
 }
 

@@ -1,7 +1,9 @@
-use Rattle.std.proofs.Common.{◌≡◌, ◌∙◌, length, ap, sym, subst}
+use Rattle.std.proofs.Common.{◌≡◌, ◌∙◌, length, ap, sym, subst, true}
 use Rattle.aq_profile.specs.Office.Load.{without_key}
-use Rattle.aq_profile.specs.Office.Office.{IsOffice, sites_of}
+use Rattle.aq_profile.specs.Office.Office.{IsOffice, record_rank, rises, sites_of}
 use Rattle.aq_registry.specs.Registry.{events_in, office_with}
+use Rattle.aq_registry.specs.Agreed.{AreAgreedOf}
+use Rattle.aq_registry.proofs.HeldLemmas.{held-dropped}
 use Rattle.aq_registry.proofs.RowCounts.{sites_dropped, only_records}
 use Rattle.aq_registry.proofs.registry.Registry.drop_record.Goals as goal
 
@@ -16,4 +18,10 @@ invariant_of-self c =
           ∙ ap length (sym (sites_dropped c.args.key c.args.self.now c.requires.spelled))
           ∙ ap (λ rows. length (sites_of rows)) (sym after);
       events_counted = c.events_without-events.ensures ∙ ap events_in (sym after);
+      agreed_held =
+          subst (λ rows. AreAgreedOf rows c.drop.new.agreed.spans) (sym c.remove_whole.ensures)
+          (subst (λ spans. AreAgreedOf (without_key c.args.key (office_with c.self.inside.records)).records spans) (sym c.drop.ensures)
+          (held-dropped c.args.key c.self.inside.records c.self.inside.agreed.spans
+          (subst (λ rows. rises record_rank (without_key c.args.key (office_with rows)).records ≡ true) (sym c.self.view_is) c.requires.valid.keys_rise.records)
+          c.self.invariant.agreed_held));
     }

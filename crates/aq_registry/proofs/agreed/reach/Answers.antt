@@ -5,7 +5,7 @@ use Rattle.std.proofs.lemmas.List.{length-set}
 use Rattle.aq_registry.specs.declared.agreed.Entry.{Entry}
 use Rattle.aq_registry.specs.Agreed.{entry_behind, AreReached}
 use Rattle.aq_registry.proofs.ReachLemmas.{reached-set, last-set, spans-set}
-use Rattle.aq_registry.proofs.agreed.reach_from.Goals as goal
+use Rattle.aq_registry.proofs.agreed.reach.Goals as goal
 
 next : (i : ℕ) → suc i ≡ i + 1
 next i = omega arith

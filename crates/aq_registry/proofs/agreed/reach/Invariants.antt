@@ -2,7 +2,7 @@ use Rattle.std.proofs.Common.{◌≡◌, ◌≤◌, ℕ, List, Option, None, len
 use Rattle.std.specs.List.{last_or}
 use Rattle.aq_registry.specs.declared.agreed.Entry.{Entry}
 use Rattle.aq_registry.specs.Agreed.{spans_of, AreReached}
-use Rattle.aq_registry.proofs.agreed.reach_from.Given as goal
+use Rattle.aq_registry.proofs.agreed.reach.Given as goal
 
 -- the entries before the place at hand have their reaches
 pub record IsReachedTo (old entries : List Entry) (before : Option Entry) (i : ℕ) : Type 0 where
