@@ -6,7 +6,8 @@ ghost use Rattle.aq_profile.specs.Office.Office.{is_site};
 
 use crate::*;
 use aq_base::{
-    Code, Duration, Hour, MonitorId, OfficeKey, OfficeLine, OfficeRecord, Pollutant, Rule, SiteId,
+    Code, Duration, Hour, MonitorId, ObsKey, OfficeKey, OfficeLine, OfficeRecord, Pollutant, Quals,
+    Rule, SiteId,
 };
 use std::test::Fail;
 
@@ -52,14 +53,26 @@ fn event(site: SiteId) -> OfficeRecord
     }
 }
 
-/// The concurrence in event 7.
-fn concurrence() -> OfficeRecord
+/// Whether the Regional Administrator concurred in event 7.
+fn concurrence(agreed: bool) -> OfficeRecord
     ensures { IsTrue (is_office_line (Change result)) }
 {
-    OfficeRecord::Concurrence {
-        number: 7,
-        agreed: true,
-    }
+    OfficeRecord::Concurrence { number: 7, agreed }
+}
+
+/// Whether an observation of an hour with the code RT or another one is excluded.
+fn excluded(registry: &Registry, site: SiteId, hour: Hour, second: u8) -> bool {
+    let mut quals = Quals::new();
+    quals.add(Code {
+        first: b'R',
+        second,
+    });
+    let monitor = MonitorId {
+        site,
+        pollutant: Pollutant::Ozone,
+        poc: 1,
+    };
+    registry.excluded(ObsKey { monitor, hour }, &quals)
 }
 
 /// What an accepted line changed.
@@ -83,8 +96,8 @@ fn an_event_goes_with_its_concurrence(rt: HostRuntime) -> Result<(), Fail> {
     assert_eq!(rt; updated, Ok(both));
     let put = registry.apply(OfficeLine::Put(event(site)));
     assert_eq!(rt; put, Ok(changed(None, Some(event(site)))));
-    let put = registry.apply(OfficeLine::Change(concurrence()));
-    assert_eq!(rt; put, Ok(changed(None, Some(concurrence()))));
+    let put = registry.apply(OfficeLine::Change(concurrence(true)));
+    assert_eq!(rt; put, Ok(changed(None, Some(concurrence(true)))));
     let mut copy = registry.copy()?;
     let dropped = copy.apply(OfficeLine::Drop(OfficeKey::Event { number: 7 }));
     let expected = Changes {
@@ -93,7 +106,7 @@ fn an_event_goes_with_its_concurrence(rt: HostRuntime) -> Result<(), Fail> {
             new: None,
         },
         second: Some(RecordChange {
-            old: Some(concurrence()),
+            old: Some(concurrence(true)),
             new: None,
         }),
     };
@@ -101,9 +114,37 @@ fn an_event_goes_with_its_concurrence(rt: HostRuntime) -> Result<(), Fail> {
     assert_eq!(rt; copy.get(OfficeKey::Concurrence { number: 7 }), None);
     assert_eq!(rt;
         registry.get(OfficeKey::Concurrence { number: 7 }),
-        Some(concurrence())
+        Some(concurrence(true))
     );
     let again = copy.apply(OfficeLine::Drop(OfficeKey::Event { number: 7 }));
     assert_eq!(rt; again, Err(RegistryFault::Broken(Rule::UnknownEvent)));
+    Ok(())
+}
+
+#[test]
+fn an_agreed_event_takes_out_its_hour(rt: HostRuntime) -> Result<(), Fail> {
+    let site = site()?;
+    let hour = Hour::new(210_384);
+    let mut registry = Registry::new(rt.alloc());
+    assert!(rt; registry.apply(OfficeLine::Put(monitor(site, true))).is_ok());
+    assert!(rt; registry.apply(OfficeLine::Put(event(site))).is_ok());
+    assert!(rt; !excluded(&registry, site, hour, b'T'));
+    assert!(rt;
+        registry
+            .apply(OfficeLine::Change(concurrence(true)))
+            .is_ok()
+    );
+    let copy = registry.copy()?;
+    assert!(rt; excluded(&registry, site, hour, b'T'));
+    assert!(rt; !excluded(&registry, site, hour, b'U'));
+    assert!(rt; !excluded(&registry, site, Hour::new(210_383), b'T'));
+    assert!(rt; !excluded(&registry, site, Hour::new(210_385), b'T'));
+    assert!(rt;
+        registry
+            .apply(OfficeLine::Change(concurrence(false)))
+            .is_ok()
+    );
+    assert!(rt; !excluded(&registry, site, hour, b'T'));
+    assert!(rt; excluded(&copy, site, hour, b'T'));
     Ok(())
 }
