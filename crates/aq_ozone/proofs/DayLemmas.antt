@@ -1,12 +1,12 @@
 -- A day's hours as a list by their numbers, and the eight of each average.
-use Rattle.std.proofs.Common.{◌≡◌, ℕ, zero, suc, ◌+◌, ◌-◌, ◌*◌, ◌<◌, ◌≤◌, Bool, true, false, cond, map, get_or, None, List, [], ◌∷◌, length, take, drop, refl, sym, ap, ◌∙◌, arith}
+use Rattle.std.proofs.Common.{◌≡◌, ℕ, zero, suc, ◌+◌, ◌-◌, ◌*◌, ◌<◌, ◌≤◌, Bool, true, false, cond, map, get_or, None, List, [], ◌∷◌, length, take, drop, refl, ap, ◌∙◌, arith}
 use Rattle.std.specs.Prelude.{Option, nat_le, IfSome}
-use Rattle.std.specs.List.{AllByRecursion, filter, filter_map, cons_option, range_with_len}
+use Rattle.std.specs.List.{filter, filter_map, cons_option, range_with_len}
 use Rattle.std.proofs.lemmas.List.FromFn.{fill_by_all}
 use Rattle.aq_base.specs.Site.{Site}
 use Rattle.aq_base.specs.declared.day.TheConstants.{LAST_HOUR}
 use Rattle.aq_profile.specs.Office.Office.{Office}
-use Rattle.aq_profile.specs.Ozone.EightHour.{WindowRow, cells_from, eight_hours, row_of, window}
+use Rattle.aq_profile.specs.Ozone.EightHour.{WindowRow, eight_hours, row_of, window}
 use Rattle.aq_profile.specs.Ozone.OzoneDay.{windows, starts_of}
 use Rattle.aq_profile.specs.Ozone.SiteHour.{Cell, site_hour}
 use Rattle.aq_series.specs.Samples.{IsOzone}

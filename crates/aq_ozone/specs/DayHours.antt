@@ -1,5 +1,5 @@
 -- The hours of a day's averages: each has a cell or none.
-use Rattle.std.specs.Prelude.{◌≡◌, ℕ, nat_le, if◌then◌else◌, Option, None, List, map, filter_map, IfSome}
+use Rattle.std.specs.Prelude.{ℕ, nat_le, if◌then◌else◌, Option, None, List, map, filter_map, IfSome}
 use Rattle.std.specs.List.{range_with_len, AllByRecursion}
 use Rattle.aq_base.specs.Calendar.{hour_number}
 use Rattle.aq_base.specs.Site.{Site}

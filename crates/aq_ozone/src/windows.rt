@@ -118,7 +118,7 @@ impl Tally {
 }
 
 /// The averages of at most eight hours.
-fn window(hours: &[Option<Cell>]) -> WindowRow
+pub(crate) fn window(hours: &[Option<Cell>]) -> WindowRow
     requires few { length hours.now ≤ 8 }
     requires ozone { AreOzone hours.now }
     ensures { result ≡ row_of (cells_in hours.now) }

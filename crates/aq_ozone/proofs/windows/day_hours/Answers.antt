@@ -1,4 +1,4 @@
-use Rattle.std.proofs.Common.{◌≡◌, ◌∙◌, arith}
+use Rattle.std.proofs.Common.{◌≡◌, arith}
 use Rattle.aq_series.specs.OfficeView.{office_of}
 use Rattle.aq_ozone.proofs.DayLemmas.{hours_are, ozone_by}
 use Rattle.aq_ozone.proofs.windows.day_hours.Goals as goal
