@@ -3,16 +3,15 @@ ghost use Rattle.std.specs.Prelude.{◌≡◌, false, ◌++◌, ◌∷◌, [], d
 ghost use Rattle.aq_base.specs.Decimal.{last_digits};
 ghost use Rattle.aq_profile.specs.Office.Office.{key_of};
 ghost use Rattle.aq_profile.specs.Lines.Reading.{line_value, OfOffice};
-ghost use Rattle.aq_profile.specs.Lines.Canonical.{canonical_office, is_office_line, printed_key, joined, office_texts_of, key_tag, deletion_texts, content_texts, list_texts, site_texts, start_texts, parameter_text, duration_text, date_text, code_text, truth_text};
+ghost use Rattle.aq_profile.specs.Lines.Canonical.{canonical_office, is_office_line, printed_key, joined, office_texts_of, key_tag, deletion_texts, content_texts, list_texts, site_texts, parameter_text, date_text, truth_text};
 ghost use Rattle.aq_rd.specs.Printing.{behind_bars};
 ghost use Rattle.aq_forms.specs.OfficeReading.{has_rd_tag};
 
-use aq_base::{
-    Code, Day, Duration, Hour, Memory, OfficeKey, OfficeLine, OfficeRecord, Pollutant, SiteId,
-};
-use aq_cal::{civil_of, last_digits};
+use aq_base::{Day, Memory, OfficeKey, OfficeLine, OfficeRecord, Pollutant, SiteId};
+use aq_cal::last_digits;
 use aq_num::write_fixed;
 use aq_profile::lines::canonical::canonical_office_lines_are_read_back;
+use aq_rd::{duration_name, parameter_name, write_code, write_date, write_field, write_start};
 use std::alloc::Global;
 
 /// Writes the one line by which an office line is written (own): all fields of its form, and of a
@@ -256,15 +255,6 @@ fn write_site_day(out: &mut Vec<u8>, site: &SiteId, day: Day) -> Result<(), Memo
     Ok(())
 }
 
-// Appends a field behind a bar.
-fn write_field(out: &mut Vec<u8>, text: &[u8]) -> Result<(), Memory>
-    ensures { OnOk result (out.new.items ≡ out.old.items ++ 124 ∷ text.now) }
-{
-    out.push(b'|')?;
-    out.extend_from_slice(text)?;
-    Ok(())
-}
-
 // A number without leading zeros, behind a bar.
 fn write_number(out: &mut Vec<u8>, number: u32) -> Result<(), Memory>
     ensures { OnOk result (out.new.items ≡ out.old.items ++ 124 ∷ decimal number) }
@@ -299,55 +289,6 @@ fn write_site(out: &mut Vec<u8>, site: &SiteId) -> Result<(), Memory>
     write_field(out, &last_digits::<3>(site.county()))?;
     write_field(out, &last_digits::<4>(site.site()))?;
     Ok(())
-}
-
-fn write_start(out: &mut Vec<u8>, hour: Hour) -> Result<(), Memory>
-    ensures { OnOk result (out.new.items ≡ out.old.items ++ behind_bars (start_texts hour)) }
-{
-    let number = hour.number();
-    write_date(out, Day::new((number / 24) as u16))?;
-    write_field(out, &last_digits::<2>((number % 24) as u16))?;
-    out.extend_from_slice(b":00")?;
-    Ok(())
-}
-
-fn write_date(out: &mut Vec<u8>, day: Day) -> Result<(), Memory>
-    ensures { OnOk result (out.new.items ≡ out.old.items ++ 124 ∷ date_text day) }
-{
-    let date = civil_of(day);
-    write_field(out, &last_digits::<4>(date.year))?;
-    out.extend_from_slice(&last_digits::<2>(u16::from(date.month)))?;
-    out.extend_from_slice(&last_digits::<2>(u16::from(date.day)))?;
-    Ok(())
-}
-
-fn write_code(out: &mut Vec<u8>, code: &Code) -> Result<(), Memory>
-    ensures { OnOk result (out.new.items ≡ out.old.items ++ code_text code.now) }
-{
-    out.push(code.first)?;
-    if code.second != 0 {
-        out.push(code.second)?;
-    }
-    Ok(())
-}
-
-fn parameter_name(pollutant: Pollutant) -> &'static [u8]
-    ensures { result.now ≡ parameter_text pollutant }
-{
-    match pollutant {
-        Pollutant::Ozone => b"44201",
-        Pollutant::Pm25 => b"88101",
-        Pollutant::Pm10 => b"81102",
-    }
-}
-
-fn duration_name(duration: Duration) -> &'static [u8]
-    ensures { result.now ≡ duration_text duration }
-{
-    match duration {
-        Duration::Hour => b"1",
-        Duration::Day => b"7",
-    }
 }
 
 fn truth_name(is_true: bool) -> &'static [u8]

@@ -5,6 +5,7 @@
 
 mod bytes;
 mod digits;
+mod field_texts;
 mod fields;
 mod line;
 mod plain;
@@ -15,6 +16,9 @@ mod tag;
 mod words;
 
 pub use digits::{digits_in, number_to};
+pub use field_texts::{
+    duration_name, parameter_name, write_code, write_date, write_field, write_start,
+};
 pub use fields::{Fields, MOST_FIELDS};
 pub use line::RdLine;
 pub use plain::plain_monitor;

@@ -2,14 +2,15 @@
 ghost use Rattle.std.specs.Prelude.{◌≡◌, false, ◌+◌, ◌++◌, ◌∷◌, map, if◌then◌else◌, codes, IfOk, IsTrue, OnOk, Some};
 ghost use Rattle.aq_base.specs.Decimal.{last_digits};
 ghost use Rattle.aq_profile.specs.Lines.Reading.{line_value, OfRd};
-ghost use Rattle.aq_profile.specs.Lines.Canonical.{canonical_rd, is_rd_value, monitor_texts, start_texts, date_text, code_text, value_text, texts_behind, parameter_text, duration_text, unit_text, value_places};
+ghost use Rattle.aq_profile.specs.Lines.Canonical.{canonical_rd, is_rd_value, monitor_texts, code_text, value_text, texts_behind, unit_text, value_places};
 ghost use Rattle.aq_rd.specs.Printing.{behind_bars, null_text};
 ghost use Rattle.aq_rd.specs.RdReading.{value_of};
 ghost use Rattle.aq_rd.specs.Tags.{has_office_tag};
 
+use crate::field_texts::{duration_name, parameter_name, write_code, write_field, write_start};
 use crate::line::RdLine;
-use aq_base::{Code, Day, Duration, Hour, Memory, MonitorId, Observation, Pollutant};
-use aq_cal::{civil_of, last_digits};
+use aq_base::{Code, Memory, MonitorId, Observation, Pollutant};
+use aq_cal::last_digits;
 use aq_num::write_fixed;
 use aq_profile::lines::canonical::canonical_samples_are_read_back;
 use std::alloc::Global;
@@ -62,15 +63,6 @@ fn write_line(out: &mut Vec<u8>, line: &RdLine) -> Result<(), Memory>
     }
 }
 
-/// Appends a field behind a bar.
-fn write_field(out: &mut Vec<u8>, text: &[u8]) -> Result<(), Memory>
-    ensures { OnOk result (out.new.items ≡ out.old.items ++ 124 ∷ text.now) }
-{
-    out.push(b'|')?;
-    out.extend_from_slice(text)?;
-    Ok(())
-}
-
 fn write_monitor(out: &mut Vec<u8>, monitor: &MonitorId) -> Result<(), Memory>
     ensures { OnOk result (out.new.items ≡ out.old.items ++ behind_bars (monitor_texts monitor.now)) }
 {
@@ -81,26 +73,6 @@ fn write_monitor(out: &mut Vec<u8>, monitor: &MonitorId) -> Result<(), Memory>
     write_field(out, parameter_name(monitor.pollutant))?;
     out.push(b'|')?;
     write_fixed(out, i64::from(monitor.poc), 0)?;
-    Ok(())
-}
-
-fn write_start(out: &mut Vec<u8>, hour: Hour) -> Result<(), Memory>
-    ensures { OnOk result (out.new.items ≡ out.old.items ++ behind_bars (start_texts hour)) }
-{
-    let number = hour.number();
-    write_date(out, Day::new((number / 24) as u16))?;
-    write_field(out, &last_digits::<2>((number % 24) as u16))?;
-    out.extend_from_slice(b":00")?;
-    Ok(())
-}
-
-fn write_date(out: &mut Vec<u8>, day: Day) -> Result<(), Memory>
-    ensures { OnOk result (out.new.items ≡ out.old.items ++ 124 ∷ date_text day) }
-{
-    let date = civil_of(day);
-    write_field(out, &last_digits::<4>(date.year))?;
-    out.extend_from_slice(&last_digits::<2>(u16::from(date.month)))?;
-    out.extend_from_slice(&last_digits::<2>(u16::from(date.day)))?;
     Ok(())
 }
 
@@ -151,39 +123,10 @@ fn write_quals(out: &mut Vec<u8>, quals: &[Code]) -> Result<(), Memory>
     Ok(())
 }
 
-fn write_code(out: &mut Vec<u8>, code: &Code) -> Result<(), Memory>
-    ensures { OnOk result (out.new.items ≡ out.old.items ++ code_text code.now) }
-{
-    out.push(code.first)?;
-    if code.second != 0 {
-        out.push(code.second)?;
-    }
-    Ok(())
-}
-
 fn action_name(update: bool) -> &'static [u8]
     ensures { result.now ≡ (if update then codes "U" else codes "I") }
 {
     if update { b"U" } else { b"I" }
-}
-
-fn parameter_name(pollutant: Pollutant) -> &'static [u8]
-    ensures { result.now ≡ parameter_text pollutant }
-{
-    match pollutant {
-        Pollutant::Ozone => b"44201",
-        Pollutant::Pm25 => b"88101",
-        Pollutant::Pm10 => b"81102",
-    }
-}
-
-fn duration_name(duration: Duration) -> &'static [u8]
-    ensures { result.now ≡ duration_text duration }
-{
-    match duration {
-        Duration::Hour => b"1",
-        Duration::Day => b"7",
-    }
 }
 
 fn unit_name(pollutant: Pollutant) -> &'static [u8]
