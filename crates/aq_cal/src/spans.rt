@@ -1,7 +1,8 @@
 //! Calendar quarters and years, as spans of days.
-ghost use Rattle.std.specs.Prelude.{◌≡◌, ◌+◌, ◌≤◌};
+ghost use Rattle.std.specs.Prelude.{◌≡◌, ◌+◌, ◌<◌, ◌≤◌, ◌↔◌, ℕ};
 ghost use Rattle.std.specs.Int.{IsInRange};
 ghost use Rattle.aq_base.specs.Calendar as calendar;
+ghost use Rattle.aq_base.specs.declared.day.TheConstants.{LAST_DAY};
 
 use crate::date::{civil_of, number_of};
 use aq_base::{Day, FIRST_YEAR, LAST_DAY, LAST_YEAR, Quarter};
@@ -41,6 +42,12 @@ pub fn year_span(year: u16) -> (Day, u16)
     let last = last_of_month(year, 12);
     (first, last.number() - first.number() + 1)
 }
+
+/// A day lies in a quarter exactly where it is one of those from the quarter's first on, as many as the
+/// quarter has.
+pub fn a_quarter_holds_the_days_of_its_span()
+    ensures { (quarter day : ℕ) → day ≤ LAST_DAY → (calendar.quarter_of day ≡ quarter) ↔ ((calendar.quarter_first quarter ≤ day) × (day < calendar.quarter_first quarter + calendar.days_in_quarter quarter)) }
+{}
 
 fn first_of_month(year: u16, month: u8) -> Day
     requires year { IsInRange FIRST_YEAR LAST_YEAR year }

@@ -6,3 +6,8 @@ pub mod QuestionLemmas
 pub mod SiteLemmas
 pub mod LatestLemmas
 pub mod ScheduleLemmas
+pub mod ExclusionLemmas
+pub mod AgreedLemmas
+pub mod ReachLemmas
+pub mod RuleLemmas
+pub mod RowCounts

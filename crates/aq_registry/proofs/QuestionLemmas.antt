@@ -54,11 +54,11 @@ same-parameters Pm10 Ozone = refl
 same-parameters Pm10 Pm25 = refl
 same-parameters Pm10 Pm10 = refl
 
-last_test : (a : Bool) → a ≡ (a && true)
+pub last_test : (a : Bool) → a ≡ (a && true)
 last_test true = refl
 last_test false = refl
 
-four_tests : (a b c d : Bool) → (a && b && c && d) ≡ (a && (b && (c && (d && true))))
+pub four_tests : (a b c d : Bool) → (a && b && c && d) ≡ (a && (b && (c && (d && true))))
 four_tests true true true d = last_test d
 four_tests true true false d = refl
 four_tests true false c d = refl

@@ -33,7 +33,7 @@ fits_is_record office r h =
     (first_of_both (is_record r && has_its_monitor office r) (has_its_event office r)
     (first_of_both (is_record r && has_its_monitor office r && has_its_event office r) (nat_le (group_size office r) (most_in_group r)) h))
 
-all-are_records : (office : Office) (rows : List OfficeRecord) → list_all (fits_records office) rows ≡ true → list_all is_record rows ≡ true
+pub all-are_records : (office : Office) (rows : List OfficeRecord) → list_all (fits_records office) rows ≡ true → list_all is_record rows ≡ true
 all-are_records office [] h = refl
 all-are_records office (r ∷ rows) h =
     ap (λ b. b && list_all is_record rows) (fits_is_record office r (first_of_both (fits_records office r) (list_all (fits_records office) rows) h))

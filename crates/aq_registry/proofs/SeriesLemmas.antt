@@ -1,6 +1,6 @@
 -- Records of one kind, site and parameter lie together.
 use Rattle.std.proofs.Common.{◌≡◌, ℕ, ◌+◌, ◌≤◌, Bool, true, false, ◌&&◌, ◌==◌, List, refl, ap, ◌∙◌, arith}
-use Rattle.std.specs.Prelude.{not, find, filter, nat_le, nat_lt}
+use Rattle.std.specs.Prelude.{not, find, filter, count_by, nat_le, nat_lt}
 use mathlib.Core.Path.{fun_ext}
 use Rattle.std.specs.declared.cmp.Ordering.{Ordering}
 use Rattle.std.specs.declared.cmp.Ordering.TheVariants.{Less, Equal, Greater}
@@ -10,7 +10,7 @@ use Rattle.aq_base.specs.Site.{Site}
 use Rattle.aq_base.specs.declared.office.OfficeRecord.{OfficeRecord}
 use Rattle.aq_profile.specs.Office.Office.{key_of}
 use Rattle.aq_registry.specs.declared.place.Place.{Place}
-use Rattle.aq_registry.specs.Places.{of_site, place_of, is_of_from, is_of_between, lies_between, IsSpan}
+use Rattle.aq_registry.specs.Places.{of_site, place_of, is_of, is_of_from, is_of_between, lies_between, IsSpan}
 
 -- ---- numbers
 
@@ -107,3 +107,18 @@ filter-between kind site parameter from until start end rows begins ends =
     ap (λ s. filter (lies_between s end) rows) begins
     ∙ ap (λ e. filter (lies_between (of_site kind site parameter from) e) rows) ends
     ∙ ap (λ q. filter q rows) (fun_ext (between-places kind site parameter from until))
+
+from_none : (a : Bool) (n : ℕ) → (a && nat_le 0 n) ≡ a
+from_none a n = grind (arith, nat_tests)
+
+pub count-series : (kind : ℕ) (site : Site) (parameter : ℕ) (start end : Place) (rows : List OfficeRecord) → start ≡ of_site kind site parameter 0 → end ≡ of_site kind site (parameter + 1) 0 → count_by (lies_between start end) rows ≡ count_by (is_of kind site parameter) rows
+count-series kind site parameter start end rows begins ends =
+    ap (λ s. count_by (lies_between s end) rows) begins
+    ∙ ap (λ e. count_by (lies_between (of_site kind site parameter 0) e) rows) ends
+    ∙ ap (λ q. count_by q rows) (fun_ext (λ r. from-places kind site parameter 0 r ∙ from_none (is_of kind site parameter r) (place_of (key_of r)).part))
+
+pub count-span : (kind : ℕ) (site : Site) (parameter from until : ℕ) (start end : Place) (rows : List OfficeRecord) → start ≡ of_site kind site parameter from → end ≡ of_site kind site parameter until → count_by (lies_between start end) rows ≡ count_by (is_of_between kind site parameter from until) rows
+count-span kind site parameter from until start end rows begins ends =
+    ap (λ s. count_by (lies_between s end) rows) begins
+    ∙ ap (λ e. count_by (lies_between (of_site kind site parameter from) e) rows) ends
+    ∙ ap (λ q. count_by q rows) (fun_ext (between-places kind site parameter from until))

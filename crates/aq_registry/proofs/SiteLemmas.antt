@@ -53,10 +53,10 @@ IsSpan_site kind site =
 
 -- ---- the registered sites
 
-flipped : (a b : Site) → is_same_site a b ≡ is_same_site b a
+pub flipped : (a b : Site) → is_same_site a b ≡ is_same_site b a
 flipped a b = grind (arith, nat_tests)
 
-numbers : (a b : Site) → is_same (site_numbers a) (site_numbers b) ≡ is_same_site a b
+pub numbers : (a b : Site) → is_same (site_numbers a) (site_numbers b) ≡ is_same_site a b
 numbers a b =
     let at : (x y z : Bool) → (x && (y && (z && true))) ≡ (x && y && z) = λ x y z.
     elim x as (λ x. (x && (y && (z && true))) ≡ (x && y && z)) [

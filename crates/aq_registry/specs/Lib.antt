@@ -1,4 +1,8 @@
 -- The office's records by their places in the order of rows.
+pub mod Agreed
 pub mod Places
 pub mod Records
 pub mod Registry
+pub mod Rules
+pub mod Changes
+pub mod LineLaws

@@ -1,9 +1,12 @@
 -- What holds of the records of every registry, and what its answers read of one record.
-use Rattle.std.specs.Prelude.{◌≡◌, ◌==◌, if◌then◌else◌, ℕ, Bool, ◌&&◌, nat_le, Option, Some, None, List, [], ◌∷◌, length, count_by}
+use Rattle.std.specs.Prelude.{◌≡◌, ◌==◌, if◌then◌else◌, ℕ, Bool, false, not, ◌&&◌, nat_le, Option, Some, None, List, [], ◌∷◌, length, count_by}
 use Rattle.aq_base.specs.Site.{Site}
 use Rattle.aq_base.specs.declared.monitor.Duration.{Duration}
 use Rattle.aq_base.specs.declared.office.OfficeRecord.{OfficeRecord}
-use Rattle.aq_base.specs.declared.office.OfficeRecord.TheVariants.{Monitor, Primary, Schedule, Season, Makeup, Event}
+use Rattle.aq_base.specs.declared.office.OfficeRecord.TheVariants.{Monitor, Primary, Schedule, Season, Makeup, Event, Concurrence}
+use Rattle.aq_base.specs.declared.office.OfficeKey.{OfficeKey}
+use Rattle.aq_base.specs.declared.office.OfficeKey.TheVariants.{Event as EventKey}
+use Rattle.aq_profile.specs.Office.Refusal.{key_stands}
 use Rattle.aq_profile.specs.Office.Office.{Office, IsOffice, group_of, is_same, sites_of}
 use Rattle.aq_profile.specs.Office.Questions.{Registered}
 use Rattle.aq_profile.specs.Office.Season.{Season as Days}
@@ -17,6 +20,16 @@ office_with records = record { records = records; observations = []; loads = [] 
 -- how many events stand
 abbrev pub events_in : List OfficeRecord → ℕ
 events_in records = count_by (λ r. is_same (group_of r) (6 ∷ [])) records
+
+-- whether a record is an event whose number is new
+abbrev pub adds_event : List OfficeRecord → OfficeRecord → Bool
+adds_event records (Event number site pollutant first last code) = not (key_stands (office_with records) (EventKey number))
+adds_event records r = false
+
+-- whether a key is that of an event that stands
+abbrev pub drops_event : List OfficeRecord → OfficeKey → Bool
+drops_event records (EventKey number) = key_stands (office_with records) (EventKey number)
+drops_event records key = false
 
 -- the records are those of a valid office, and its sites and events are counted
 pub record IsRegistry (records : List OfficeRecord) (sites events : ℕ) : Type 0 where
@@ -69,3 +82,7 @@ schedule_in r = None
 abbrev pub missed_by : ℕ → OfficeRecord → Option ℕ
 missed_by day (Makeup site missed makeup) = if makeup == day then Some missed else None
 missed_by day r = None
+
+abbrev pub agreement_in : OfficeRecord → Bool
+agreement_in (Concurrence number agreed) = agreed
+agreement_in r = false

@@ -4,7 +4,8 @@ ghost use Rattle.std.specs.Option.{option_and_then, option_map_or};
 ghost use Rattle.aq_profile.specs.Office.Designation.{designated_poc};
 ghost use Rattle.aq_profile.specs.Office.Office.{is_record};
 ghost use Rattle.aq_profile.specs.Office.Schedule.{asks_for, distance};
-ghost use Rattle.aq_registry.specs.Registry.{coverage_in, days_of, designation_in, schedule_in, missed_by, makeup_in, pair_of, poc_in, registration_in, season_in, site_in};
+ghost use Rattle.aq_registry.specs.Rules.{duration_in};
+ghost use Rattle.aq_registry.specs.Registry.{agreement_in, coverage_in, days_of, designation_in, schedule_in, missed_by, makeup_in, pair_of, poc_in, registration_in, season_in, site_in};
 
 use aq_base::{Day, Duration, Hour, OfficeRecord, SiteId};
 
@@ -20,6 +21,16 @@ pub(crate) fn registration(of: &Option<OfficeRecord>) -> Option<(Duration, bool)
                 ..
             },
         ) => Some((*duration, *eligible)),
+        _ => None,
+    }
+}
+
+/// How long a monitor's samples last.
+pub(crate) fn duration(of: &Option<OfficeRecord>) -> Option<Duration>
+    ensures { result ≡ duration_in of.now }
+{
+    match of {
+        Some(OfficeRecord::Monitor { duration, .. }) => Some(*duration),
         _ => None,
     }
 }
@@ -123,5 +134,15 @@ pub(crate) fn missed(of: &OfficeRecord, day: Day) -> Option<Day>
             Some(*missed)
         }
         _ => None,
+    }
+}
+
+/// Whether a concurrence agrees.
+pub(crate) fn agreement(of: &Option<OfficeRecord>) -> bool
+    ensures { result ≡ option_map_or agreement_in of.now false }
+{
+    match of {
+        Some(OfficeRecord::Concurrence { agreed, .. }) => *agreed,
+        _ => false,
     }
 }

@@ -2,9 +2,13 @@
 //! and approved days, as one map in the order of rows. Contracts see the list of its records.
 #![tactic(auto)]
 
+mod agreed;
+mod changes;
+mod exclusion;
 mod facts;
 mod place;
 mod records;
 mod registry;
 
+pub use changes::{Changes, RecordChange, RegistryFault};
 pub use registry::Registry;

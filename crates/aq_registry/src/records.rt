@@ -1,12 +1,14 @@
 //! The records as an ordered map.
 ghost use Rattle.std.specs.Prelude.{◌≡◌, ◌<◌, ◌≤◌, ◌^◌, None, [], length, find, filter, count_by, slice_get, IfOk, OnOk, OnErr};
-ghost use Rattle.std.specs.List.{last_or};
+ghost use Rattle.std.specs.List.{last_or, list_any};
 ghost use Rattle.std.specs.List.Sorted.{IsStrictlySortedBy};
 ghost use Rattle.std.specs.Map.{values_of};
 ghost use Rattle.aq_profile.specs.Office.Office.{key_of, key_numbers, record_rank, with_row, without_row};
+ghost use Rattle.aq_profile.specs.Office.Exclusion.{agrees_to};
 ghost use Rattle.aq_profile.specs.Office.Questions.{record_of, following};
 ghost use Rattle.aq_registry.specs.Places.{behind, is_of_between, is_of_from, lies_between, place_cmp, places_of, IsSpan};
 
+use crate::facts;
 use crate::place::{Place, key};
 use aq_base::{Memory, OfficeKey, OfficeRecord, SiteId};
 use std::alloc::Global;
@@ -125,6 +127,14 @@ impl Records {
         ensures { result ≡ count_by (lies_between start end) self.now }
     {
         count(self.between(start, end))
+    }
+
+    /// Whether a concurrence in the event of a number agrees, by one search of the map.
+    pub(crate) fn agree_to(&self, number: u32) -> bool
+        ensures { result ≡ list_any (agrees_to number) self.now }
+    {
+        let _ = &self.by_place;
+        facts::agreement(&self.get(&OfficeKey::Concurrence { number }))
     }
 
     /// The records from a place on and before the end, with their places.

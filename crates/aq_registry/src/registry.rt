@@ -9,14 +9,22 @@ ghost use Rattle.aq_profile.specs.Office.Designation as designations;
 ghost use Rattle.aq_profile.specs.Office.Schedule as schedules;
 ghost use Rattle.aq_profile.specs.Office.Season as seasons;
 ghost use Rattle.aq_profile.specs.Office.Approval as approvals;
+ghost use Rattle.aq_profile.specs.Office.Exclusion as exclusions;
 ghost use Rattle.aq_registry.specs.Places.{behind_sites};
 ghost use Rattle.aq_registry.specs.Registry.{days_of, missed_by, pair_of};
 ghost use Rattle.aq_base.specs.declared.day.TheConstants.{FIRST_YEAR, LAST_YEAR};
 
+mod apply;
+mod rules;
+
+use crate::exclusion::any_takes_out;
 use crate::facts;
 use crate::place::{Place, parameter};
 use crate::records::Records;
-use aq_base::{Day, Duration, Hour, Memory, MonitorId, OfficeKey, OfficeRecord, Pollutant, SiteId};
+use aq_base::{
+    Day, Duration, Hour, Memory, MonitorId, ObsKey, OfficeKey, OfficeRecord, Pollutant, Quals,
+    SiteId,
+};
 use aq_cal::year_span;
 use aq_profile::office::valid_load::an_office_of_nothing_is_valid;
 use std::alloc::Global;
@@ -208,6 +216,16 @@ impl Registry {
         ensures { result ≡ book.covers self.now number hour }
     {
         facts::coverage(&self.records.get(&OfficeKey::Event { number }), hour)
+    }
+
+    /// Whether the observation with this key and these codes is left out for an exceptional event (40 CFR
+    /// 50.14): one in whose span it lies, whose code it has, and in which the Regional Administrator
+    /// concurred. By a walk over all events, with one search of the map for each that holds it.
+    pub fn excluded(&self, key: ObsKey, quals: &Quals) -> bool
+        ensures { result ≡ exclusions.excluded self.now key quals.now }
+    {
+        let events = self.records.between(Place::of_kind(6), Place::of_kind(7));
+        any_takes_out(events, &self.records, &key, quals.codes())
     }
 }
 

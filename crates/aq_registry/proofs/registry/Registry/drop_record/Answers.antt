@@ -1,0 +1,19 @@
+use Rattle.std.proofs.Common.{◌≡◌, ◌∙◌, length, ap, sym, subst}
+use Rattle.aq_profile.specs.Office.Load.{without_key}
+use Rattle.aq_profile.specs.Office.Office.{IsOffice, sites_of}
+use Rattle.aq_registry.specs.Registry.{events_in, office_with}
+use Rattle.aq_registry.proofs.RowCounts.{sites_dropped, only_records}
+use Rattle.aq_registry.proofs.registry.Registry.drop_record.Goals as goal
+
+pub invariant_of-self : goal.invariant_of-self
+invariant_of-self c =
+    let after : c.remove_whole.new.records ≡ (without_key c.args.key (office_with c.args.self.now)).records =
+    c.remove_whole.ensures ∙ ap (λ rows. (without_key c.args.key (office_with rows)).records) c.self.view_is in
+    record {
+      office = subst (λ rows. IsOffice (office_with rows)) (sym after) (subst IsOffice (only_records c.args.key c.args.self.now) c.requires.valid);
+      sites_counted =
+          c.self.invariant.sites_counted ∙ ap (λ rows. length (sites_of rows)) c.self.view_is
+          ∙ ap length (sym (sites_dropped c.args.key c.args.self.now c.requires.spelled))
+          ∙ ap (λ rows. length (sites_of rows)) (sym after);
+      events_counted = c.events_without-events.ensures ∙ ap events_in (sym after);
+    }
