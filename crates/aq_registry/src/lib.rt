@@ -12,3 +12,6 @@ mod registry;
 
 pub use changes::{Changes, RecordChange, RegistryFault};
 pub use registry::Registry;
+
+#[cfg(test)]
+mod tests;

@@ -18,13 +18,13 @@ use aq_base::{Memory, OfficeKey, OfficeLine, OfficeRecord};
 use aq_profile::office::valid_load::lines_leave_the_office_valid;
 
 impl Registry {
-    /// Applies a line that a body can spell: a new row, a changed one, or one dropped, an event with
-    /// its concurrence. It is refused under the first rule of the office that it breaks, or for want of
-    /// memory, which a deletion takes none of; the registry is unchanged then.
+    /// Applies a line that a body can spell: a record is new, is changed or is dropped, an event with its
+    /// concurrence. The line is refused under the first rule of the office that it breaks, or for want of
+    /// memory, of which a deletion takes none. The registry is then unchanged.
     ///
     /// It costs a few searches of the map, and for a new record a walk over those that its limit counts:
     /// the monitors, designations or schedules of its site and pollutant, or the make-up samples of its
-    /// site and quarter. Sites and events are kept counted.
+    /// site and quarter. Sites and events are kept as numbers. An update that changes nothing is accepted.
     pub fn apply(&mut self, line: OfficeLine) -> Result<Changes, RegistryFault>
         requires { IsTrue (is_office_line line) }
         ensures unbroken { OnOk result (broken (office_with self.old) (OfOffice line) ≡ None) }
@@ -46,7 +46,7 @@ impl Registry {
         }
     }
 
-    /// Puts a row, in place of one with its key.
+    /// Puts a record, in place of one with its key. It and `drop_record` alone change the registry.
     fn put_record(&mut self, row: OfficeRecord) -> Result<Changes, Memory>
         requires { IsOffice (office_with (with_row record_rank row self.old)) }
         ensures after { OnOk result (self.new ≡ with_row record_rank row self.old) }

@@ -35,6 +35,7 @@ impl Registry {
         }
     }
 
+    /// The first rule that a new record breaks.
     fn broken_by_new(&self, row: &OfficeRecord) -> Option<Rule>
         ensures { result ≡ rules.new_rule (office_with self.now) row.now }
     {
@@ -50,6 +51,7 @@ impl Registry {
         self.full_rule(row)
     }
 
+    /// The first rule that a changed record breaks.
     fn broken_by_change(&self, row: &OfficeRecord) -> Option<Rule>
         ensures { result ≡ rules.change_rule (office_with self.now) row.now }
     {
@@ -71,6 +73,7 @@ impl Registry {
         }
     }
 
+    /// The rule that a deletion breaks.
     fn broken_by_drop(&self, key: &OfficeKey) -> Option<Rule>
         ensures { result ≡ rules.drop_rule (office_with self.now) key.now }
     {
