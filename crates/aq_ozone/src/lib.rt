@@ -4,9 +4,11 @@
 
 mod eight_hour;
 mod ozone_day;
+mod windows;
 
 pub use eight_hour::{DayWindows, LEVEL, WINDOWS, WindowRow, average};
 pub use ozone_day::{OzoneDay, day_of_windows};
+pub use windows::day_windows;
 
 #[cfg(test)]
 mod tests;

@@ -3,7 +3,7 @@ ghost use Rattle.std.specs.Prelude.{◌≡◌, ◌≤◌, [], option_map, IfOk};
 ghost use Rattle.std.specs.List.{list_any};
 ghost use Rattle.std.specs.Map.{values_of};
 ghost use Rattle.aq_profile.specs.Office.Monitors.{is_same_site};
-ghost use Rattle.aq_profile.specs.Office.Office.{sites_of};
+ghost use Rattle.aq_profile.specs.Office.Office.{sites_of, IsOffice};
 ghost use Rattle.aq_profile.specs.Office.Questions as book;
 ghost use Rattle.aq_profile.specs.Office.Designation as designations;
 ghost use Rattle.aq_profile.specs.Office.Schedule as schedules;
@@ -11,7 +11,7 @@ ghost use Rattle.aq_profile.specs.Office.Season as seasons;
 ghost use Rattle.aq_profile.specs.Office.Approval as approvals;
 ghost use Rattle.aq_profile.specs.Office.Exclusion as exclusions;
 ghost use Rattle.aq_registry.specs.Places.{behind_sites};
-ghost use Rattle.aq_registry.specs.Registry.{days_of, missed_by, pair_of};
+ghost use Rattle.aq_registry.specs.Registry.{days_of, missed_by, office_with, pair_of};
 ghost use Rattle.aq_base.specs.declared.day.TheConstants.{FIRST_YEAR, LAST_YEAR};
 
 mod apply;
@@ -106,7 +106,8 @@ impl Registry {
     /// The least registered POC of a site and pollutant above the given one, by one search of the map.
     #[tactic(auto, using(crate::proofs::QuestionLemmas::poc_found))]
     pub fn next_poc(&self, site: SiteId, pollutant: Pollutant, after: u8) -> Option<u8>
-        ensures { result ≡ book.next_poc self.now site pollutant after }
+        ensures value { result ≡ book.next_poc self.now site pollutant after }
+        ensures valid { IsOffice (office_with self.now) }
     {
         let from = u32::from(after) + 1;
         facts::poc(

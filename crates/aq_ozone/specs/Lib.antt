@@ -1,0 +1,2 @@
+-- The hours of a day's averages.
+pub mod DayHours

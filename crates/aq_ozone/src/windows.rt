@@ -1,0 +1,142 @@
+//! The 8-hour averages of a day of a site (40 CFR Part 50, Appendix U, 3(b)).
+ghost use Rattle.std.specs.Prelude.{◌≡◌, ◌+◌, ◌*◌, ◌≤◌, IfSome, length};
+ghost use Rattle.aq_profile.specs.Ozone.EightHour.{row_of};
+ghost use Rattle.aq_profile.specs.Ozone.OzoneDay as book;
+ghost use Rattle.aq_ozone.specs.DayHours.{cells_in, hour_at, AreOzone};
+ghost use Rattle.aq_ozone.specs.DayHours as hours;
+ghost use Rattle.aq_series.specs.OfficeView.{office_of};
+ghost use Rattle.aq_series.specs.Samples.{IsOzone};
+
+use crate::eight_hour::{DayWindows, WINDOWS, WindowRow, average};
+use aq_base::{Day, Hour, LAST_HOUR, SiteId, Steps};
+use aq_registry::Registry;
+use aq_series::{Cell, site_hour};
+use aq_shelf::Shelf;
+use std::sync::ledger::Ledger;
+
+/// The first average of a day starts at 07:00.
+const FIRST_START: u32 = 7;
+
+/// The averages of a day read so many hours.
+const DAY_HOURS: usize = 24;
+
+/// Each average is of so many.
+const WINDOW_HOURS: usize = 8;
+
+/// The seventeen 8-hour averages of a day of a site, from that of 07:00 on, each net of the excluded
+/// hours, and full. The call reads each of the day's 24 hours (07:00 to 06:00 of the next day) once: at
+/// most 192 steps.
+pub fn day_windows<L: Ledger>(
+    shelf: &Shelf,
+    registry: &Registry,
+    site: SiteId,
+    day: Day,
+    steps: &mut Steps<L>,
+) -> DayWindows
+    ensures windows { result ≡ book.windows (office_of registry.now shelf.now) site day }
+    ensures steps { steps.new ≤ steps.old + 192 }
+{
+    let cells = day_hours(shelf, registry, site, day, steps);
+    let hours = &cells[..];
+    let none = WindowRow {
+        net: None,
+        net_hours: 0,
+        full: None,
+        full_hours: 0,
+    };
+    let mut rows = [none; WINDOWS];
+    for i in 0..WINDOWS {
+        rows[i] = window(&hours[i..i + WINDOW_HOURS]);
+    }
+    DayWindows::new(rows)
+}
+
+/// What the site has for each hour that the averages of a day read.
+fn day_hours<L: Ledger>(
+    shelf: &Shelf,
+    registry: &Registry,
+    site: SiteId,
+    day: Day,
+    steps: &mut Steps<L>,
+) -> [Option<Cell>; DAY_HOURS]
+    ensures hours { result ≡ hours.day_hours (office_of registry.now shelf.now) site day }
+    ensures ozone { AreOzone result }
+    ensures steps { steps.new ≤ steps.old + 192 }
+{
+    let first = 24 * u32::from(day.number()) + FIRST_START;
+    let mut hours = [None; DAY_HOURS];
+    for i in 0..DAY_HOURS {
+        hours[i] = hour_at(shelf, registry, site, first + i as u32, steps);
+    }
+    hours
+}
+
+/// What the site has for an hour, by the hour's number: none past the profile.
+fn hour_at<L: Ledger>(
+    shelf: &Shelf,
+    registry: &Registry,
+    site: SiteId,
+    hour: u32,
+    steps: &mut Steps<L>,
+) -> Option<Cell>
+    ensures value { result ≡ hour_at (office_of registry.now shelf.now) site hour }
+    ensures ozone { IfSome result (λ cell. IsOzone cell.value) }
+    ensures steps { steps.new ≤ steps.old + 8 }
+{
+    if hour <= LAST_HOUR {
+        site_hour(shelf, registry, site, Hour::new(hour), steps)
+    } else {
+        None
+    }
+}
+
+/// Hours that have a value: how many, and the sum of their values.
+#[derive(Clone, Copy)]
+struct Tally {
+    hours: u8,
+    sum: i32,
+}
+
+impl Tally {
+    ghost use Rattle.std.specs.Prelude.{◌≡◌, ◌≤◌, ◌+◌, ◌*◌, ◌+ℤ◌, unsigned_abs};
+    ghost use Rattle.aq_series.specs.Samples.{IsOzone};
+
+    /// With one more hour.
+    fn with(self, value: i32) -> Tally
+        requires hours { self.hours ≤ 7 }
+        requires sum { unsigned_abs self.sum ≤ 9999 * self.hours }
+        requires value { IsOzone value }
+        ensures hours { result.hours ≡ self.hours + 1 }
+        ensures sum { result.sum ≡ self.sum +ℤ value }
+        ensures range { unsigned_abs result.sum ≤ 9999 * result.hours }
+    {
+        Tally {
+            hours: self.hours + 1,
+            sum: self.sum + value,
+        }
+    }
+}
+
+/// The averages of at most eight hours.
+fn window(hours: &[Option<Cell>]) -> WindowRow
+    requires few { length hours.now ≤ 8 }
+    requires ozone { AreOzone hours.now }
+    ensures { result ≡ row_of (cells_in hours.now) }
+{
+    let mut full = Tally { hours: 0, sum: 0 };
+    let mut net = Tally { hours: 0, sum: 0 };
+    for hour in hours {
+        if let Some(cell) = hour {
+            full = full.with(cell.value);
+            if !cell.excluded {
+                net = net.with(cell.value);
+            }
+        }
+    }
+    WindowRow {
+        net: average(net.hours, net.sum),
+        net_hours: net.hours,
+        full: average(full.hours, full.sum),
+        full_hours: full.hours,
+    }
+}

@@ -1,0 +1,5 @@
+pub mod Rising
+pub mod Pocs
+pub mod Walk
+pub mod Means
+pub mod Stages

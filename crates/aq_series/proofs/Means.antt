@@ -1,0 +1,68 @@
+-- The mean of a tally, and a tally with one more sample.
+use Rattle.std.proofs.Common.{◌≡◌, ℕ, suc, ◌+◌, ◌*◌, ◌/◌, ◌<◌, ◌≤◌, Bool, List, [], ◌∷◌, ◌++◌, map, sym, ap, ◌∙◌, arith, FitsSigned, w32, of_z, to_z, subst, ◌||◌}
+use Rattle.std.specs.Prelude.{ℤ, pos, negsuc, neg_ℤ, ◌+ℤ◌, ◌≤ℤ◌, ◌<ℤ◌, unsigned_abs, int_div}
+use Rattle.std.specs.List.{list_any}
+use Rattle.std.proofs.lemmas.Int.{ints, fits_signed_from_abs, to_z-of_z, quot_is, quot_fits}
+use Rattle.std.proofs.lemmas.List.{map-append, length-append}
+use Rattle.std.proofs.lemmas.List.Sums.{fold-append}
+use Rattle.std.proofs.lemmas.List.Folds.{list_any-append}
+use Rattle.std.proofs.Math.Bool.{or-false}
+use Rattle.std.proofs.Math.Nat.{div-le_of_le-mul}
+use Rattle.aq_base.specs.Decimal.{truncated}
+use Rattle.aq_profile.specs.Lists.{total}
+use Rattle.aq_profile.specs.Ozone.SiteHour.{Cell, Sample}
+use Rattle.aq_series.specs.declared.tally.Tally.{Tally}
+use Rattle.aq_series.specs.Samples.{IsOzone, IsTally}
+
+pub trunc-in_range : (t : ℤ) (n : ℕ) → 0 < n → neg_ℤ (pos (999 * n)) ≤ℤ t → t ≤ℤ pos (9999 * n) → IsOzone (truncated t (pos n))
+trunc-in_range (pos a) n some low high =
+    let few : a ≤ n * 9999 = omega (arith, ints, high) in
+    let q : a / n ≤ 9999 = div-le_of_le-mul n few in
+    (omega (arith, ints), omega (arith, ints, q))
+trunc-in_range (negsuc a) n some low high =
+    let few : suc a ≤ n * 999 = omega (arith, ints, low) in
+    let q : suc a / n ≤ 999 = div-le_of_le-mul n few in
+    (omega (arith, ints, q), omega (arith, ints))
+
+fits_sum : (z : ℤ) → neg_ℤ (pos 99990) ≤ℤ z → z ≤ℤ pos 99990 → FitsSigned w32 z
+fits_sum z low high = fits_signed_from_abs w32 z (let small : unsigned_abs z < 2147483648 = omega (arith, ints, low, high) in small)
+
+-- the sum as the machine makes it
+pub sum_is : (sum value : ℤ) (count : ℕ) → count ≤ 8 → neg_ℤ (pos (999 * count)) ≤ℤ sum → sum ≤ℤ pos (9999 * count) → IsOzone value
+    → to_z w32 (of_z w32 (to_z w32 (of_z w32 sum) +ℤ to_z w32 (of_z w32 value))) ≡ sum +ℤ value
+sum_is sum value count few low high ozone =
+    let a : FitsSigned w32 sum = fits_sum sum (omega (arith, ints, few, low)) (omega (arith, ints, few, high)) in
+    let b : FitsSigned w32 value = fits_sum value (omega (arith, ints, ozone.0)) (omega (arith, ints, ozone.1)) in
+    let c : FitsSigned w32 (sum +ℤ value) = fits_sum (sum +ℤ value) (omega (arith, ints, few, low, ozone.0)) (omega (arith, ints, few, high, ozone.1)) in
+    (λ i. to_z w32 (of_z w32 (to_z-of_z w32 sum a i +ℤ to_z-of_z w32 value b i))) ∙ to_z-of_z w32 (sum +ℤ value) c
+
+-- the mean as the machine makes it
+pub mean_is : (sum divisor : ℤ) (count : ℕ) → (count ≡ 0 → ⊥) → count ≤ 8 → neg_ℤ (pos (999 * count)) ≤ℤ sum → sum ≤ℤ pos (9999 * count) → divisor ≡ pos count
+    → IsOzone (to_z w32 (of_z w32 (int_div (to_z w32 (of_z w32 sum)) (to_z w32 (of_z w32 divisor)))))
+mean_is sum divisor count some few low high is =
+    let a : FitsSigned w32 sum = fits_sum sum (omega (arith, ints, few, low)) (omega (arith, ints, few, high)) in
+    let b : FitsSigned w32 divisor = fits_sum divisor (omega (arith, ints, is)) (omega (arith, ints, is, few)) in
+    let above : 0 < count = grind (arith, some) in
+    let positive : pos 0 <ℤ divisor = omega (arith, ints, is, above) in
+    subst (λ z. IsOzone z) (sym (quot_is w32 sum divisor a b (quot_fits w32 sum divisor a positive)))
+    (subst (λ z. IsOzone (int_div sum z)) (sym is) (trunc-in_range sum count above low high))
+
+pub tally_more : (before : List Sample) (poc : ℕ) (cell : Cell) (tally : Tally) (count : ℕ) (sum : ℤ) (excluded : Bool) → IsTally before tally → IsOzone cell.value → tally.count < 8
+    → count ≡ tally.count + 1 → sum ≡ tally.sum +ℤ cell.value → excluded ≡ (tally.excluded || cell.excluded)
+    → IsTally (before ++ record { poc = poc; cell = cell } ∷ []) (record { count = count; sum = sum; excluded = excluded })
+tally_more before poc cell tally count sum excluded is ozone room counted summed out =
+    let last : Sample = record { poc = poc; cell = cell } in
+    record {
+      count = counted ∙ ap (λ n. n + 1) is.count ∙ sym (length-append before (last ∷ []));
+      sum =
+          summed ∙ ap (λ z. z +ℤ cell.value) is.sum
+          ∙ sym (fold-append (λ z v. z +ℤ v) (pos 0) (map (λ (s : Sample). s.cell.value) before) (cell.value ∷ []))
+          ∙ ap total (sym (map-append (λ (s : Sample). s.cell.value) before (last ∷ [])));
+      excluded =
+          out ∙ ap (λ b. b || cell.excluded) is.excluded
+          ∙ ap (λ b. list_any (λ (s : Sample). s.cell.excluded) before || b) (sym (or-false cell.excluded))
+          ∙ sym (list_any-append (λ (s : Sample). s.cell.excluded) before (last ∷ []));
+      few = omega (arith, counted, room);
+      low = omega (arith, ints, is.low, ozone.0, counted, summed);
+      high = omega (arith, ints, is.high, ozone.1, counted, summed);
+    }
