@@ -1,5 +1,5 @@
 -- Testing field by field in the order of the rules gives the value that a line spells, or the first rule that it breaks.
-use Rattle.std.proofs.Common.{◌≡◌, ℕ, Bool, true, false, cond, not, ◌&&◌, ◌||◌, List, [], ◌∷◌, Some, None, Option, Ok, Err, Result, refl, sym, ap, ◌∙◌, subst, arith}
+use Rattle.std.proofs.Common.{◌≡◌, ℕ, Bool, true, false, cond, not, ◌&&◌, List, [], ◌∷◌, Some, None, Option, Ok, Err, Result, refl, sym, ap, ◌∙◌, subst, arith}
 use Rattle.std.specs.Prelude.{IfOk, IfErr, IfSome, IsTrue, OnOk, OnErr, bytes_eq, codes, find, int_le, is_none, ℤ, ◌≤ℤ◌, pos, if◌then◌else◌}
 use Rattle.std.specs.Option.{ok_or}
 use Rattle.std.proofs.lemmas.Bool.{false≢true, and_parts}

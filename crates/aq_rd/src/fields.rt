@@ -2,6 +2,7 @@
 ghost use Rattle.std.specs.Prelude.{◌≡◌, not, ◌&&◌};
 ghost use Rattle.std.specs.List.{list_any};
 ghost use Rattle.aq_profile.specs.Lines.Fields.{fields, field, trimmed, without_front, without_back, is_bar, is_space};
+ghost use Rattle.aq_rd.specs.FieldPlaces.{HoldsFields};
 
 use crate::bytes::has_spaces;
 use aq_base::Rule;
@@ -38,7 +39,7 @@ impl<'a> Model for Fields<'a> {
 }
 
 impl<'a> Fields<'a> {
-    ghost use Rattle.std.specs.Prelude.{◌≡◌, ◌≤◌, true, false, IfOk, IfErr, OnOk, OnErr, length, drop};
+    ghost use Rattle.std.specs.Prelude.{◌≡◌, ◌≤◌, [], true, false, IfOk, IfErr, OnOk, OnErr, length, drop};
     ghost use Rattle.aq_base.specs.declared.rule.Rule.TheVariants.{BadBytes};
     ghost use Rattle.aq_profile.specs.Lines.Fields.{fields, field};
     ghost use Rattle.aq_profile.specs.Lines.Reading.{is_plain};
@@ -52,31 +53,32 @@ impl<'a> Fields<'a> {
         ensures bytes { OnErr result (is_plain line.now ≡ false) }
     {
         let has_spaces = has_spaces(line)?;
-        Ok(Fields::cut(line, has_spaces))
+        let mut texts = Fields::of_empty_line();
+        texts.cut(line, has_spaces);
+        Ok(texts)
     }
 
-    /// The fields of a line, of which it is known whether it may have spaces.
-    pub(crate) fn cut(line: &'a [u8], has_spaces: bool) -> Fields<'a>
-        requires { HasSpaces has_spaces line.now }
-        ensures { result ≡ fields line.now }
+    /// The fields of an empty line. Another line is cut in their place, since to hand its fields back
+    /// copies where each of them starts.
+    pub(crate) fn of_empty_line() -> Fields<'a>
+        ensures { result ≡ fields [] }
     {
-        let mut starts = [line.len(); MOST_STARTS];
-        starts[0] = 0;
-        let mut count = 1;
-        for (place, &byte) in line.iter().enumerate() {
-            if byte == b'|' {
-                if count < MOST_STARTS {
-                    starts[count] = place + 1;
-                }
-                count += 1;
-            }
-        }
         Fields {
-            line,
-            starts,
-            count,
-            has_spaces,
+            line: &[],
+            starts: [0; MOST_STARTS],
+            count: 1,
+            has_spaces: false,
         }
+    }
+
+    /// Cuts a line, of which it is known whether it may have spaces, in place of the line before.
+    pub(crate) fn cut(&mut self, line: &'a [u8], has_spaces: bool)
+        requires { HasSpaces has_spaces line.now }
+        ensures { self.new ≡ fields line.now }
+    {
+        self.line = line;
+        self.count = cut_at_bars(line, &mut self.starts);
+        self.has_spaces = has_spaces;
     }
 
     /// How many fields the line has.
@@ -108,6 +110,24 @@ impl<'a> Fields<'a> {
         let text = &self.line[self.starts[number - 1]..end];
         if self.has_spaces { trim(text) } else { text }
     }
+}
+
+// Writes where the first fields of a line start, and answers how many fields it has.
+fn cut_at_bars(line: &[u8], starts: &mut [usize; MOST_STARTS]) -> usize
+    ensures { HoldsFields line.now starts.new result }
+{
+    *starts = [line.len(); MOST_STARTS];
+    starts[0] = 0;
+    let mut count = 1;
+    for (place, &byte) in line.iter().enumerate() {
+        if byte == b'|' {
+            if count < MOST_STARTS {
+                starts[count] = place + 1;
+            }
+            count += 1;
+        }
+    }
+    count
 }
 
 // Whether a byte is neither a bar nor a space.

@@ -19,7 +19,8 @@ pub fn plain_monitor(line: &[u8]) -> Option<MonitorId>
     if !is_dense(line) {
         return None;
     }
-    let texts = Fields::cut(line, false);
+    let mut texts = Fields::of_empty_line();
+    texts.cut(line, false);
     if !is_plain_form(&texts) {
         return None;
     }

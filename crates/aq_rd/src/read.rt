@@ -36,14 +36,14 @@ pub fn read_rd(line: &[u8]) -> Result<RdLine, Rule>
     read
 }
 
-// In the order of the rules. The fields are cut where they are read, since to hand them on in a
-// `Result` copies all their places.
+// In the order of the rules.
 #[tactic(auto, unfolding(crate::specs::RdReading::rd_reading))]
 fn read_line(line: &[u8]) -> Result<RdLine, Rule>
     ensures { result ≡ rd_reading line.now }
 {
     let has_spaces = has_spaces(line)?;
-    let texts = Fields::cut(line, has_spaces);
+    let mut texts = Fields::of_empty_line();
+    texts.cut(line, has_spaces);
     if texts.field(1) != b"RD".as_slice() {
         return Err(Rule::BadTag);
     }

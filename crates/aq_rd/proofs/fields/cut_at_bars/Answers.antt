@@ -1,7 +1,7 @@
 use Rattle.std.proofs.Common.{arith}
 use Rattle.aq_rd.proofs.Scans.{scanned-start, scanned-same, scanned-bar, scanned-bar_beyond, scanned-text, scanned-end}
-use Rattle.aq_rd.proofs.fields.Fields.cut.Goals as goal
-use Rattle.aq_rd.proofs.fields.Fields.cut.Goals.{then-byte-eq124, then-count-lt-MOST_STARTS, else-count-lt-MOST_STARTS, else-byte-eq124}
+use Rattle.aq_rd.proofs.fields.cut_at_bars.Goals as goal
+use Rattle.aq_rd.proofs.fields.cut_at_bars.Goals.{then-byte-eq124, then-count-lt-MOST_STARTS, else-count-lt-MOST_STARTS, else-byte-eq124}
 
 pub loop-place-init : goal.loop-place-init
 loop-place-init c = scanned-start c.args.line.now
@@ -18,5 +18,5 @@ loop-place-preserved c =
       | else-byte-eq124 w ↦ scanned-same (cc) (cc) (scanned-text _ _ _ _ s c.loop-place-test.true w.if-byte-eq124.false)
     ]
 
-pub invariant_of-result : goal.invariant_of-result
-invariant_of-result c = (scanned-end _ _ _ _ c.loop-place.invariant (omega (arith, c.loop-place-test.false)), c.requires)
+pub returns : goal.returns
+returns c = scanned-end _ _ _ _ c.loop-place.invariant (omega (arith, c.loop-place-test.false))
