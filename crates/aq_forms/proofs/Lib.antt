@@ -2,4 +2,3 @@
 pub mod Cuts
 pub mod OfficeOrder
 pub mod OfficePrinted
-pub mod OfficeTags

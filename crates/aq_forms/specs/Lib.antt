@@ -2,3 +2,4 @@
 pub mod BodyLines
 pub mod OfficeReading
 pub mod Actions
+pub mod OfficeTags

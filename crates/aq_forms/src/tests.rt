@@ -46,7 +46,7 @@ fn body_is_cut_into_lines(rt: HostRuntime) -> Result<(), Fail> {
 }
 
 // The value of a line, or the first reading rule that it breaks.
-#[tactic(auto, using(crate::proofs::OfficeTags::no_rd_tag))]
+#[tactic(auto, using(crate::specs::OfficeTags::no_rd_tag))]
 fn reading(line: &str) -> Result<OfficeLine, Rule> {
     let line = line.as_bytes();
     if has_office_tag(line) {
