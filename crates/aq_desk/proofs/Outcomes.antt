@@ -6,25 +6,27 @@ use Rattle.std.proofs.lemmas.Bool.Decides.{nat_tests}
 use Rattle.std.proofs.lemmas.List.{length-append, take-append-le}
 use Rattle.std.proofs.Math.Seq.{take-append-add}
 use Rattle.aq_base.specs.declared.reply.LoadReply.{LoadReply}
-use Rattle.aq_base.specs.declared.monitor.Pollutant.TheVariants.{Ozone}
 use Rattle.aq_base.specs.Site.{Site}
 use Rattle.aq_profile.specs.Limits.{MOST_BYTES, MOST_LINES}
 use Rattle.aq_profile.specs.Lines.Lines.{body_lines, line_count}
-use Rattle.aq_profile.specs.Office.Office.{Office, has_monitor, nothing}
+use Rattle.aq_profile.specs.Office.Load.{after_all, reply}
+use Rattle.aq_profile.specs.Office.Office.{Office, nothing}
 use Rattle.aq_profile.specs.Ozone.EightHour.{WindowRow}
 use Rattle.aq_profile.specs.Ozone.OzoneDay.{windows}
+use Rattle.aq_profile.specs.Shown.Answer.{Answer, OfSheet, NoSite, Windows, is_registered}
+use Rattle.aq_profile.specs.Shown.Answer as book
 use Rattle.aq_profile.specs.Shown.Sheet.{Sheet, text_of}
 use Rattle.aq_profile.specs.Shown.Sheets.{load_sheet, windows_answer, windows_sheet}
 use Rattle.aq_desk.proofs.Fronts.{behind_nothing}
 use Rattle.aq_desk.specs.Body.{excess, is_within}
-use Rattle.aq_desk.specs.Built.{built_after_all, built_reply}
 use Rattle.aq_desk.specs.Command.{IsWhole, Outcome, after_text, printed, unwritten}
 use Rattle.aq_desk.specs.Ending.{Ending, no_site, too_many_bytes, too_many_lines}
-use Rattle.aq_desk.specs.Scan.{answer_of, reply_to, scan_answer, scan_outcome, scanned, windows_outcome}
+use Rattle.aq_desk.specs.Scan.{scan_answer, scan_outcome, sheet_or_no_site}
 use Rattle.aq_desk.specs.Stop.{Obeys, ending_of, status_of}
 use Rattle.aq_desk.specs.Writing.{WritesFront}
 use Rattle.aq_desk.specs.declared.stop.Stop.{Stop}
 use Rattle.aq_desk.specs.declared.stop.Stop.TheVariants.{InputFailed, Memory, TooManyBytes}
+use Rattle.aq_desk.specs.declared.stop.Stop.TheVariants as stops
 
 -- ---- texts and their fronts
 
@@ -110,13 +112,25 @@ beyond_bytes site day body written many =
 
 -- ---- the answer to a body
 
-pub registered_answer : (office : Office) (site : Site) (day : ℕ) (rows : List WindowRow) (sheet : Sheet) (answer : Result Unit Stop) (before after : Option (List ℕ)) → has_monitor office site Ozone ≡ true → rows ≡ windows office site day → sheet ≡ windows_sheet site day rows
-    → Obeys (printed (text_of sheet)) answer before after → Obeys (windows_outcome office site day) answer before after
+-- the answer by whether the site is registered
+answered : (office : Office) (site : Site) (day : ℕ) (there : Bool) (answer : Result Unit Stop) (before after : Option (List ℕ)) → is_registered office site ≡ there
+    → Obeys (sheet_or_no_site site (if there then OfSheet (windows_answer office site day) else NoSite)) answer before after
+    → Obeys (sheet_or_no_site site (book.answer office (Windows site day))) answer before after
+unfolding book.answer
+answered office site day there answer before after is obeys =
+    let P = λ (b : Bool). Obeys (sheet_or_no_site site (if b then OfSheet (windows_answer office site day) else NoSite)) answer before after in
+    subst P (sym is) obeys
+
+pub registered_answer : (office : Office) (site : Site) (day : ℕ) (rows : List WindowRow) (sheet : Sheet) (answer : Result Unit Stop) (before after : Option (List ℕ)) → is_registered office site ≡ true → rows ≡ windows office site day → sheet ≡ windows_sheet site day rows
+    → Obeys (printed (text_of sheet)) answer before after → Obeys (sheet_or_no_site site (book.answer office (Windows site day))) answer before after
 unfolding windows_answer
 registered_answer office site day rows sheet answer before after registered same_rows same_sheet obeys =
     let P = λ (s : Sheet). Obeys (printed (text_of s)) answer before after in
-    let Q = λ (there : Bool). Obeys (if there then printed (text_of (windows_answer office site day)) else unwritten (no_site site)) answer before after in
-    subst Q (sym registered) (subst P (same_sheet ∙ ap (windows_sheet site day) same_rows) obeys)
+    answered office site day true answer before after registered (subst P (same_sheet ∙ ap (windows_sheet site day) same_rows) obeys)
+
+pub unregistered_answer : (office : Office) (site : Site) (day : ℕ) (written : Option (List ℕ)) → is_registered office site ≡ false → Obeys (sheet_or_no_site site (book.answer office (Windows site day))) (Err (stops.NoSite site)) written written
+unregistered_answer office site day written unregistered =
+    answered office site day false (Err (stops.NoSite site)) written written unregistered (writes_nothing (no_site site) (Err (stops.NoSite site)) written refl)
 
 -- a text that was printed whole, and then what follows it
 obeys_behind : (text : List ℕ) (outcome : Outcome) (answer : Result Unit Stop) (before between after : Option (List ℕ)) → between ≡ option_map (λ bytes. bytes ++ text) before → Obeys outcome answer between after → Obeys (after_text text outcome) answer before after
@@ -126,25 +140,22 @@ obeys_behind text outcome answer before between after written obeys = record {
   front = front_behind before between after text outcome.output written obeys.front;
 }
 
-pub taken_behind : (reply : LoadReply) (sheet : Sheet) (office : Office) (site : Site) (day : ℕ) (first : Unit) (answer : Result Unit Stop) (before between after : Option (List ℕ)) → sheet ≡ load_sheet reply
-    → Obeys (printed (text_of sheet)) (Ok first) before between → Obeys (windows_outcome office site day) answer between after → Obeys (answer_of reply office site day) answer before after
-taken_behind reply sheet office site day first answer before between after same printed_first obeys =
-    let P = λ (s : Sheet). Obeys (after_text (text_of s) (windows_outcome office site day)) answer before after in
-    subst P same (obeys_behind (text_of sheet) (windows_outcome office site day) answer before between after (printed_first.whole (inl refl)) obeys)
+pub taken_behind : (reply : LoadReply) (sheet : Sheet) (outcome : Outcome) (first : Unit) (answer : Result Unit Stop) (before between after : Option (List ℕ)) → sheet ≡ load_sheet reply
+    → Obeys (printed (text_of sheet)) (Ok first) before between → Obeys outcome answer between after → Obeys (after_text (text_of (load_sheet reply)) outcome) answer before after
+taken_behind reply sheet outcome first answer before between after same printed_first obeys =
+    let P = λ (s : Sheet). Obeys (after_text (text_of s) outcome) answer before after in
+    subst P same (obeys_behind (text_of sheet) outcome answer before between after (printed_first.whole (inl refl)) obeys)
 
 -- the reply and the office are those of the body
-reply_to-is : (body : List ℕ) (reply : LoadReply) → reply ≡ built_reply nothing 0 body → reply ≡ reply_to body
-unfolding reply_to
-reply_to-is body reply same = same
+scanned : (site : Site) (day : ℕ) (body : List ℕ) → after_text (text_of (load_sheet (reply nothing 0 body))) (sheet_or_no_site site (book.answer (after_all nothing (body_lines body)) (Windows site day))) ≡ scan_answer site day body
+unfolding scan_answer
+scanned site day body = refl
 
-scanned-is : (body : List ℕ) (office : Office) → office ≡ built_after_all nothing (body_lines body) → office ≡ scanned body
-unfolding scanned
-scanned-is body office same = same
-
-pub answers : (site : Site) (day : ℕ) (body : List ℕ) (reply : LoadReply) (office : Office) (answer : Result Unit Stop) (before after : Option (List ℕ)) → is_within body ≡ true → reply ≡ built_reply nothing 0 body → office ≡ built_after_all nothing (body_lines body)
-    → Obeys (answer_of reply office site day) answer before after → Obeys (scan_outcome site day body) answer before after
-answers site day body reply office answer before after few same_reply same_office obeys =
-    let P = λ (r : LoadReply). Obeys (answer_of r office site day) answer before after in
-    let Q = λ (o : Office). Obeys (answer_of (reply_to body) o site day) answer before after in
+pub answers : (site : Site) (day : ℕ) (body : List ℕ) (told : LoadReply) (office : Office) (answer : Result Unit Stop) (before after : Option (List ℕ)) → is_within body ≡ true → told ≡ reply nothing 0 body → office ≡ after_all nothing (body_lines body)
+    → Obeys (after_text (text_of (load_sheet told)) (sheet_or_no_site site (book.answer office (Windows site day)))) answer before after → Obeys (scan_outcome site day body) answer before after
+answers site day body told office answer before after few same_reply same_office obeys =
+    let P = λ (r : LoadReply). Obeys (after_text (text_of (load_sheet r)) (sheet_or_no_site site (book.answer office (Windows site day)))) answer before after in
+    let Q = λ (o : Office). Obeys (after_text (text_of (load_sheet (reply nothing 0 body))) (sheet_or_no_site site (book.answer o (Windows site day)))) answer before after in
+    let R = λ (outcome : Outcome). Obeys outcome answer before after in
     within site day body answer before after few
-    (subst Q (scanned-is body office same_office) (subst P (reply_to-is body reply same_reply) obeys))
+    (subst R (scanned site day body) (subst Q same_office (subst P same_reply obeys)))

@@ -6,8 +6,7 @@ pub mod Writing
 pub mod Words
 pub mod Command
 pub mod Stop
-pub mod Built
+pub mod Refusals
+pub mod Counts
 pub mod Scan
 pub mod Run
-pub mod OfficeView
-pub mod WindowView

@@ -1,38 +1,25 @@
 -- The command `scan SITE DAY`: the input is taken as load 0 over an office of which nothing stands; its sheet is printed, and then the sheet of the day's windows (own).
-use Rattle.std.specs.Prelude.{ℕ, if◌then◌else◌, List}
+use Rattle.std.specs.Prelude.{ℕ, if◌then◌else◌, List, []}
 use Rattle.aq_base.specs.Site.{Site}
-use Rattle.aq_base.specs.declared.monitor.Pollutant.TheVariants.{Ozone}
-use Rattle.aq_base.specs.declared.reply.LoadReply.{LoadReply}
-use Rattle.aq_profile.specs.Lines.Lines.{body_lines}
-use Rattle.aq_profile.specs.Office.Office.{Office, nothing, has_monitor}
+use Rattle.aq_profile.specs.Office.Load.{load, reply}
+use Rattle.aq_profile.specs.Office.Office.{nothing}
+use Rattle.aq_profile.specs.Shown.Answer.{Answer, OfSheet, Windows, answer}
 use Rattle.aq_profile.specs.Shown.Sheet.{text_of}
-use Rattle.aq_profile.specs.Shown.Sheets.{load_sheet, windows_answer}
+use Rattle.aq_profile.specs.Shown.Sheets.{load_sheet}
 use Rattle.aq_desk.specs.Body.{excess, is_within}
-use Rattle.aq_desk.specs.Built.{built_after_all, built_reply}
 use Rattle.aq_desk.specs.Command.{Outcome, after_text, printed, unwritten}
 use Rattle.aq_desk.specs.Ending.{no_site}
 
--- the office after the body
-unfoldable pub scanned : List ℕ → Office
-scanned body = built_after_all nothing (body_lines body)
+-- the text of the sheet where there is one, and else the site is not registered
+abbrev pub sheet_or_no_site : Site → Answer → Outcome
+sheet_or_no_site site (OfSheet sheet) = printed (text_of sheet)
+sheet_or_no_site site _ = unwritten (no_site site)
 
--- and the reply to it
-unfoldable pub reply_to : List ℕ → LoadReply
-reply_to body = built_reply nothing 0 body
-
--- the windows of a registered site
-abbrev pub windows_outcome : Office → Site → ℕ → Outcome
-windows_outcome office site day =
-    if has_monitor office site Ozone
-    then printed (text_of (windows_answer office site day))
-    else unwritten (no_site site)
-
--- the reply, and then the windows
-abbrev pub answer_of : LoadReply → Office → Site → ℕ → Outcome
-answer_of reply office site day = after_text (text_of (load_sheet reply)) (windows_outcome office site day)
-
-abbrev pub scan_answer : Site → ℕ → List ℕ → Outcome
-scan_answer site day body = answer_of (reply_to body) (scanned body) site day
+-- the sheet of the load, and then the windows over the office after it; a load with the number 0 is not kept, whatever its digest
+unfoldable pub scan_answer : Site → ℕ → List ℕ → Outcome
+scan_answer site day body =
+    after_text (text_of (load_sheet (reply nothing 0 body)))
+    (sheet_or_no_site site (answer (load nothing 0 [] body) (Windows site day)))
 
 -- a body of too many bytes or lines is not taken
 abbrev pub scan_outcome : Site → ℕ → List ℕ → Outcome

@@ -10,7 +10,6 @@ mod office;
 mod outside;
 mod scan;
 mod stop;
-mod windows;
 mod words;
 mod writing;
 

@@ -1,10 +1,11 @@
 //! A load's lines, taken in their order, and the reply.
-ghost use Rattle.std.specs.Prelude.{◌≡◌, ◌<◌, ◌≤◌, ◌++◌, ◌^◌, [], ◌∷◌, length, count_by, ◌==◌, filter_map, IfOk, OnOk};
+ghost use Rattle.std.specs.Prelude.{◌≡◌, ◌<◌, ◌≤◌, ◌++◌, ◌^◌, length, filter_map, IfOk, OnOk};
 ghost use Rattle.std.specs.Option.{option_to_list};
 ghost use Rattle.aq_profile.specs.Limits.{MOST_BYTES};
 ghost use Rattle.aq_profile.specs.Lines.Lines.{body_lines, line_count};
+ghost use Rattle.aq_profile.specs.Office.Load.{after, after_all, listed_for, refusal, reply, reply_for, rest_of};
 ghost use Rattle.aq_profile.specs.Office.Office.{nothing};
-ghost use Rattle.aq_desk.specs.Built.{built_after, built_after_all, built_reply, built_reply_for, built_rest_of, counted_in, CountsByNumber, listed_for_line};
+ghost use Rattle.aq_desk.specs.Counts.{counted_in, CountsByNumber};
 
 use crate::office::{Office, Refusal};
 use aq_base::{Listed, ListedLine, LoadReply, MOST_LISTED, Memory, Rest, RestRule, Rule};
@@ -25,8 +26,8 @@ pub(crate) struct Taken {
 pub(crate) fn take_load(alloc: Global, body: &[u8], lines: u32) -> Result<Taken, Memory>
     requires bytes { length body.now ≤ MOST_BYTES }
     requires lines { lines ≡ line_count body.now }
-    ensures office { IfOk result (λ taken. taken.office ≡ built_after_all nothing (body_lines body.now)) }
-    ensures reply { IfOk result (λ taken. taken.reply ≡ built_reply nothing 0 body.now) }
+    ensures office { IfOk result (λ taken. taken.office ≡ after_all nothing (body_lines body.now)) }
+    ensures reply { IfOk result (λ taken. taken.reply ≡ reply nothing 0 body.now) }
 {
     let mut office = Office::new(alloc);
     let mut refused = Vec::new(alloc);
@@ -46,8 +47,8 @@ fn take_line(
     number: u32,
     text: &[u8],
 ) -> Result<(), Memory>
-    ensures office { OnOk result (office.new ≡ built_after office.old text.now) }
-    ensures refused { OnOk result (refused.new.items ≡ refused.old.items ++ listed_for_line office.old number text.now) }
+    ensures office { OnOk result (office.new ≡ after office.old text.now) }
+    ensures refused { OnOk result (refused.new.items ≡ refused.old.items ++ listed_for number (refusal office.old text.now)) }
 {
     match office.take(text) {
         Ok(()) => Ok(()),
@@ -75,12 +76,11 @@ fn counts_by_number(refused: &[ListedLine]) -> [u32; NUMBERS]
 /// The lines by rule, in the order of the rules.
 fn rest_of(alloc: Global, refused: &[ListedLine]) -> Result<Rest, Memory>
     requires { length refused.now < 2 ^ 32 }
-    ensures { IfOk result (λ rest. rest ≡ built_rest_of refused.now) }
+    ensures { IfOk result (λ rest. rest ≡ rest_of refused.now) }
 {
     let counts = counts_by_number(refused);
     let mut rest = Rest::new(alloc);
     add_counts(&mut rest, &Rule::all(), &counts)?;
-    add_count(&mut rest, Rule::NotBuilt, &counts)?;
     Ok(rest)
 }
 
@@ -123,7 +123,7 @@ fn reply_of(
     refused: &[ListedLine],
 ) -> Result<LoadReply, Memory>
     requires { length refused.now ≤ taken }
-    ensures { IfOk result (λ reply. reply ≡ built_reply_for 0 lines taken refused.now) }
+    ensures { IfOk result (λ reply. reply ≡ reply_for 0 lines taken refused.now) }
 {
     let cut = refused.len().min(MOST_LISTED);
     Ok(LoadReply {

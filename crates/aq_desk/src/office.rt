@@ -1,20 +1,20 @@
-//! What stands while a load is taken: one ozone monitor at most, and its observations.
-ghost use Rattle.std.specs.Prelude.{◌≡◌, IfSome};
-ghost use Rattle.aq_base.specs.declared.monitor.Pollutant.TheVariants.{Ozone};
-ghost use Rattle.aq_base.specs.Values.{HasValueInRange};
-ghost use Rattle.aq_rd.specs.Ranges.{HasLineRange};
+//! What stands while a load is taken: the office's records, and its observations.
+ghost use Rattle.std.specs.Prelude.{◌≡◌, Some};
+ghost use Rattle.aq_profile.specs.Office.Refusal.{kept_at};
 
-use aq_base::{Duration, Hour, MonitorId, ObsKey, Observation, Rule, SiteId};
-use aq_rd::{RdLine, has_office_tag, plain_monitor, read_rd};
+use aq_base::{Duration, Hour, MonitorId, ObsKey, Observation, OfficeKey, OfficeLine, OfficeRecord, Rule};
+use aq_forms::read_office;
+use aq_rd::{RdLine, has_office_tag, read_rd};
+use aq_registry::{Registry, RegistryFault};
 use aq_shelf::{Shelf, ShelfFault};
 use std::alloc::Global;
 use std::marker::Model;
 
-/// The office as far as it is built.
+/// An office: its records, and its observations.
 #[derive(Drop)]
 pub(crate) struct Office {
-    monitor: Option<MonitorId>,
-    shelf: Shelf,
+    pub(crate) registry: Registry,
+    pub(crate) shelf: Shelf,
 }
 
 /// Why a line was not taken.
@@ -26,7 +26,7 @@ pub(crate) enum Refusal {
 
 impl From<ShelfFault> for Refusal {
     ghost use Rattle.std.specs.Prelude.{◌≡◌};
-    ghost use Rattle.aq_desk.specs.OfficeView.{refusal_of};
+    ghost use Rattle.aq_desk.specs.Refusals.{refusal_of};
 
     ghost from_gives = { λ fault refusal. refusal ≡ refusal_of fault };
 
@@ -41,79 +41,63 @@ impl From<ShelfFault> for Refusal {
 
 impl Model for Office {
     ghost use Rattle.aq_profile.specs.Office.Office.{Office as OfficeLists};
-    ghost use Rattle.aq_desk.specs.OfficeView.{office_of, IsBuilt};
+    ghost use Rattle.aq_series.specs.OfficeView.{office_of};
 
     ghost Value = { OfficeLists };
 
-    ghost view = { λ office. office_of office.monitor office.shelf };
-
-    ghost invariant = { λ office. IsBuilt office.monitor office.shelf };
+    ghost view = { λ office. office_of office.registry office.shelf };
 }
 
 impl Office {
-    ghost use Rattle.std.specs.Prelude.{◌≡◌, ℕ, ◌<◌, Some, None, [], ◌∷◌, length, if◌then◌else◌, false, IfErr, IfSome, IsTrue, OnErr, OnOk, OnSome};
-    ghost use Rattle.aq_base.specs.declared.monitor.Duration.TheVariants.{Hour as ForHour};
-    ghost use Rattle.aq_base.specs.declared.monitor.Pollutant.TheVariants.{Ozone};
-    ghost use Rattle.aq_base.specs.declared.rule.Rule.TheVariants.{NotBuilt};
-    ghost use Rattle.aq_profile.specs.Office.Load.{after, changed, refusal};
-    ghost use Rattle.aq_profile.specs.Office.Office.{nothing, duration_at, has_monitor};
+    ghost use Rattle.std.specs.Prelude.{◌≡◌, ℕ, None, true, false, IfErr, IsTrue, OnErr, OnOk};
+    ghost use Rattle.aq_base.specs.Values.{HasValueInRange};
+    ghost use Rattle.aq_profile.specs.Lines.Canonical.{is_office_line};
     ghost use Rattle.aq_profile.specs.Lines.RdForm.{Put as PutSample, Delete as DeleteSample};
-    ghost use Rattle.aq_profile.specs.Lines.Reading.{OfRd};
+    ghost use Rattle.aq_profile.specs.Lines.Reading.{OfOffice, OfRd};
+    ghost use Rattle.aq_profile.specs.Office.Load.{after, changed, refusal};
+    ghost use Rattle.aq_profile.specs.Office.Office.{duration_at, nothing};
     ghost use Rattle.aq_profile.specs.Office.Refusal.{broken};
-    ghost use Rattle.aq_desk.specs.Built.{built_after, built_refusal, monitor_for, registered};
-    ghost use Rattle.aq_desk.specs.declared.office.Refusal.TheVariants.{Broken};
     ghost use Rattle.aq_rd.specs.RdReading.{value_of};
+    ghost use Rattle.aq_rd.specs.Ranges.{HasLineRange};
     ghost use Rattle.aq_rd.specs.Tags.{has_office_tag};
-    ghost use Rattle.std.specs.Option.{option_map};
-    ghost use Rattle.aq_profile.specs.Ozone.SiteHour.{site_hour};
-    ghost use Rattle.aq_desk.specs.OfficeView.{IsOzone, IsRefusal, IsRule, plain_cell};
+    ghost use Rattle.aq_desk.specs.Refusals.{IsRefusal, IsRule};
 
     /// An office of which nothing stands.
     pub(crate) fn new(alloc: Global) -> Office
         ensures { result ≡ nothing }
     {
         Office {
-            monitor: None,
+            registry: Registry::new(alloc),
             shelf: Shelf::new(alloc),
         }
     }
 
     /// Takes a line. After a refusal the office is as before.
     pub(crate) fn take(&mut self, line: &[u8]) -> Result<(), Refusal>
-        ensures unbroken { OnOk result (built_refusal self.old line.now ≡ None) }
-        ensures after { OnOk result (self.new ≡ built_after self.old line.now) }
-        ensures refused { IfErr result (IsRefusal (built_refusal self.old line.now)) }
+        ensures unbroken { OnOk result (refusal self.old line.now ≡ None) }
+        ensures after { OnOk result (self.new ≡ after self.old line.now) }
+        ensures refused { IfErr result (IsRefusal (refusal self.old line.now)) }
         ensures unchanged { OnErr result (self.new ≡ self.old) }
     {
-        if let Some(monitor) = self.monitor_for(line) {
-            self.register(monitor);
-            return Ok(());
-        }
         if has_office_tag(line) {
-            return Err(Refusal::Broken(Rule::NotBuilt));
+            self.take_record(line)
+        } else {
+            self.take_sample(line)
         }
-        self.take_sample(line)
     }
 
-    /// The monitor that a line registers: the first one.
-    fn monitor_for(&self, line: &[u8]) -> Option<MonitorId>
-        ensures value { result ≡ monitor_for self.now.records line.now }
-        ensures ozone { IfSome result (λ id. id.pollutant ≡ Ozone) }
-        ensures first { OnSome result (self.now.records ≡ []) }
+    /// Takes a line of the agency's own forms.
+    fn take_record(&mut self, line: &[u8]) -> Result<(), Refusal>
+        requires { has_office_tag line.now ≡ true }
+        ensures unbroken { OnOk result (refusal self.old line.now ≡ None) }
+        ensures after { OnOk result (self.new ≡ after self.old line.now) }
+        ensures refused { IfErr result (IsRefusal (refusal self.old line.now)) }
+        ensures unchanged { OnErr result (self.new ≡ self.old) }
     {
-        if self.monitor.is_some() {
-            return None;
+        match read_office(line) {
+            Ok(line) => self.apply_record(line),
+            Err(rule) => Err(Refusal::Broken(rule)),
         }
-        plain_monitor(line)
-    }
-
-    /// Registers the first monitor.
-    fn register(&mut self, monitor: MonitorId)
-        requires ozone { monitor.pollutant ≡ Ozone }
-        requires first { self.old.records ≡ [] }
-        ensures { self.new ≡ record self.old { records = registered monitor ∷ [] } }
-    {
-        self.monitor = Some(monitor);
     }
 
     /// Takes an RD line.
@@ -125,23 +109,28 @@ impl Office {
         ensures unchanged { OnErr result (self.new ≡ self.old) }
     {
         match read_rd(line) {
-            Ok(line) => self.apply(&line),
+            Ok(line) => self.apply_sample(&line),
             Err(rule) => Err(Refusal::Broken(rule)),
         }
     }
 
-    /// Whether the monitor is the registered one, which is one of hours.
-    fn is_registered(&self, monitor: &MonitorId) -> bool
-        ensures { duration_at self.now monitor.now ≡ (if result then Some ForHour else None) }
+    /// Puts, changes or drops a record of the office.
+    fn apply_record(&mut self, line: OfficeLine) -> Result<(), Refusal>
+        requires { IsTrue (is_office_line line) }
+        ensures unbroken { OnOk result (broken self.old (OfOffice line) ≡ None) }
+        ensures after { OnOk result (self.new ≡ changed self.old (OfOffice line)) }
+        ensures refused { IfErr result (IsRefusal (broken self.old (OfOffice line))) }
+        ensures unchanged { OnErr result (self.new ≡ self.old) }
     {
-        match &self.monitor {
-            Some(registered) => registered == monitor,
-            None => false,
+        match self.registry.apply(line) {
+            Ok(_) => Ok(()),
+            Err(RegistryFault::Broken(rule)) => Err(Refusal::Broken(rule)),
+            Err(RegistryFault::Memory) => Err(Refusal::Memory),
         }
     }
 
-    /// Takes an RD line. After a refusal the office is as before.
-    fn apply(&mut self, line: &RdLine) -> Result<(), Refusal>
+    /// Inserts, updates or deletes an observation.
+    fn apply_sample(&mut self, line: &RdLine) -> Result<(), Refusal>
         requires { HasLineRange line.now }
         ensures unbroken { OnOk result (broken self.old (OfRd (value_of line.now)) ≡ None) }
         ensures after { OnOk result (self.new ≡ changed self.old (OfRd (value_of line.now))) }
@@ -159,6 +148,16 @@ impl Office {
                 ..
             } => self.put(*update, monitor, *duration, *hour, content),
             RdLine::Delete { monitor, hour } => self.delete(monitor, *hour),
+        }
+    }
+
+    /// How long a registered monitor's samples last, by one search of the records.
+    fn duration(&self, monitor: &MonitorId) -> Option<Duration>
+        ensures { result ≡ duration_at self.now monitor.now }
+    {
+        match self.registry.get(OfficeKey::Monitor { id: *monitor })? {
+            OfficeRecord::Monitor { duration, .. } => Some(duration),
+            _ => None,
         }
     }
 
@@ -185,16 +184,13 @@ impl Office {
         ensures no_memory { IsTrue update → IfErr result IsRule }
         ensures unchanged { OnErr result (self.new ≡ self.old) }
     {
-        if !self.is_registered(monitor) {
+        let Some(registered) = self.duration(monitor) else {
             return Err(Refusal::Broken(Rule::UnknownMonitor));
-        }
-        if duration != Duration::Hour {
+        };
+        if duration != registered {
             return Err(Refusal::Broken(Rule::WrongDuration));
         }
-        let key = ObsKey {
-            monitor: *monitor,
-            hour,
-        };
+        let key = kept_key(monitor, registered, hour);
         if update {
             match self.shelf.update(key, *content) {
                 Ok(_) => Ok(()),
@@ -217,42 +213,27 @@ impl Office {
         ensures no_memory { IfErr result IsRule }
         ensures unchanged { OnErr result (self.new ≡ self.old) }
     {
-        if !self.is_registered(monitor) {
+        let Some(registered) = self.duration(monitor) else {
             return Err(Refusal::Broken(Rule::UnknownMonitor));
-        }
-        let key = ObsKey {
-            monitor: *monitor,
-            hour,
         };
-        match self.shelf.remove(key) {
+        match self.shelf.remove(kept_key(monitor, registered, hour)) {
             Ok(_) => Ok(()),
             Err(_) => Err(Refusal::Broken(Rule::NotThere)),
         }
     }
+}
 
-    /// Whether a monitor of the site is registered.
-    pub(crate) fn has_site(&self, site: SiteId) -> bool
-        ensures { result ≡ has_monitor self.now site Ozone }
-    {
-        match &self.monitor {
-            Some(registered) => registered.site == site,
-            None => false,
-        }
-    }
-
-    /// The value of a registered site for an hour, in thousandths of a ppm. No hour is excluded yet.
-    pub(crate) fn value_at(&self, site: SiteId, hour: Hour) -> Option<i32>
-        requires { IsTrue (has_monitor self.now site Ozone) }
-        ensures value { site_hour self.now site hour ≡ option_map plain_cell result }
-        ensures range { IfSome result IsOzone }
-    {
-        // The contract names the site that the monitor has.
-        let _ = site;
-        let monitor = self.monitor.as_ref()?;
-        let key = ObsKey {
-            monitor: *monitor,
-            hour,
-        };
-        self.shelf.get(&key)?.value
+/// Where a monitor's sample stands: one of 24 hours at hour 00 of its date, whatever start time its line
+/// names.
+fn kept_key(monitor: &MonitorId, duration: Duration, hour: Hour) -> ObsKey
+    ensures { result ≡ record { monitor = monitor.now; hour = kept_at (Some duration) hour } }
+{
+    let hour = match duration {
+        Duration::Hour => hour,
+        Duration::Day => Hour::new(24 * (hour.number() / 24)),
+    };
+    ObsKey {
+        monitor: *monitor,
+        hour,
     }
 }

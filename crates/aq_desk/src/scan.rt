@@ -1,9 +1,14 @@
 //! The command `scan`.
-ghost use Rattle.std.specs.Prelude.{◌≡◌, ◌≤◌, true, false, length};
+ghost use Rattle.std.specs.Prelude.{◌≡◌, ◌<◌, ◌≤◌, true, false, length};
 ghost use Rattle.aq_profile.specs.Limits.{MOST_BYTES};
+ghost use Rattle.aq_profile.specs.Ozone.OzoneDay.{windows};
+ghost use Rattle.aq_profile.specs.Shown.Answer as book;
+ghost use Rattle.aq_profile.specs.Shown.Answer.{Windows};
+ghost use Rattle.aq_profile.specs.Shown.Sheet.{text_of};
+ghost use Rattle.aq_profile.specs.Shown.Sheets.{load_sheet};
 ghost use Rattle.aq_desk.specs.Body.{Over, is_within};
-ghost use Rattle.aq_desk.specs.Command.{ReadsWhole, RisesAt, WritesNothing};
-ghost use Rattle.aq_desk.specs.Scan.{answer_of, scan_outcome, windows_outcome};
+ghost use Rattle.aq_desk.specs.Command.{after_text, ReadsWhole, RisesAt, WritesNothing};
+ghost use Rattle.aq_desk.specs.Scan.{scan_outcome, sheet_or_no_site};
 ghost use Rattle.aq_desk.specs.Stop.{HasCauses, IsTaken, Obeys, status_of};
 
 use crate::body::read_body;
@@ -11,12 +16,14 @@ use crate::load::{Taken, take_load};
 use crate::office::Office;
 use crate::outside::{Sink, Source};
 use crate::stop::Stop;
-use crate::windows::day_windows;
 use crate::writing::print_sheet;
-use aq_base::{Day, MOST_LINES, SiteId};
+use aq_base::{Day, MOST_LINES, SiteId, Steps};
 use aq_forms::count_lines;
+use aq_ozone::{DayWindows, day_windows};
 use aq_reports::{load_sheet, windows_sheet};
 use std::alloc::Global;
+use std::marker::Brand;
+use std::sync::ledger::{Blank, Ledger};
 
 /// Takes the input as a load over an office of which nothing stands, and prints the reply and then the
 /// day's windows.
@@ -67,7 +74,7 @@ fn print_taken<O: Sink>(
     day: Day,
     output: &mut O,
 ) -> Result<(), Stop>
-    ensures told { Obeys (answer_of taken.now.reply taken.now.office site day) result (O.written output.old) (O.written output.new) }
+    ensures told { Obeys (after_text (text_of (load_sheet taken.now.reply)) (sheet_or_no_site site (book.answer taken.now.office (Windows site day)))) result (O.written output.old) (O.written output.new) }
     ensures taken { IsTaken (status_of result) }
     ensures output_failed { RisesAt 4 (status_of result) (O.faults output.old) (O.faults output.new) }
 {
@@ -84,14 +91,25 @@ fn print_windows<O: Sink>(
     day: Day,
     output: &mut O,
 ) -> Result<(), Stop>
-    ensures told { Obeys (windows_outcome office.now site day) result (O.written output.old) (O.written output.new) }
+    ensures told { Obeys (sheet_or_no_site site (book.answer office.now (Windows site day))) result (O.written output.old) (O.written output.new) }
     ensures taken { IsTaken (status_of result) }
     ensures output_failed { RisesAt 4 (status_of result) (O.faults output.old) (O.faults output.new) }
 {
-    if !office.has_site(site) {
+    if !office.registry.has_site(site) {
         return Err(Stop::NoSite(site));
     }
-    let windows = day_windows(office, site, day);
+    let windows = counted::<Brand>(office, site, day, Blank::new(1));
     let sheet = windows_sheet(alloc, site, day, &windows)?;
     print_sheet(alloc, &sheet, output)
+}
+
+/// The day's windows, on a counter of steps of their own, which nobody reads.
+fn counted<L: Ledger>(office: &Office, site: SiteId, day: Day, blank: Blank) -> DayWindows
+    requires name { blank.name ≡ L.name }
+    requires parts { blank.parts ≡ L.parts }
+    requires some { 0 < L.parts }
+    ensures { result ≡ windows office.now site day }
+{
+    let mut steps = Steps::<L>::new(blank);
+    day_windows(&office.shelf, &office.registry, site, day, &mut steps)
 }

@@ -149,7 +149,7 @@ fn refused_lines_are_listed_under_their_rules(rt: HostRuntime) -> Result<(), Fai
     let outcome = run_over(alloc, &SCAN, body.as_bytes(), &[], &[])?;
     assert_eq!(rt; outcome.status, 0);
     let reply =
-        "load 0\nlines 7\naccepted 2\nrefused 4\nline rule name count\n3 21 AlreadyThere 1\n5 2 BadTag 1\n6 99 NotBuilt 1\n7 19 UnknownMonitor 1\nsite 06-037-1103\n";
+        "load 0\nlines 7\naccepted 2\nrefused 4\nline rule name count\n3 21 AlreadyThere 1\n5 2 BadTag 1\n6 21 AlreadyThere 1\n7 19 UnknownMonitor 1\nsite 06-037-1103\n";
     assert!(rt; outcome.output.starts_with(reply.as_bytes()));
     Ok(())
 }
@@ -240,6 +240,43 @@ fn an_hour_is_updated_deleted_and_inserted_again(rt: HostRuntime) -> Result<(), 
     assert!(rt; outcome.output.starts_with(reply.as_bytes()));
     assert!(rt; has_line(&outcome.output, "13:00 0.072 1 0.072 1"));
     assert!(rt; has_line(&outcome.output, "14:00 - 0 - 0"));
+    Ok(())
+}
+
+#[test]
+fn office_lines_decide_what_a_site_has(rt: HostRuntime) -> Result<(), Fail> {
+    let alloc = rt.alloc();
+    // At 07:00 two monitors have a mean of 0.606. The hour 15:00 is excluded where the event has its
+    // concurrence. At 06:00 of the next day the second monitor is primary.
+    let cases = [("Y", "- 0 0.080 1"), ("N", "0.080 1 0.080 1")];
+    for (flag, event) in cases {
+        let body = format!(in alloc;
+            "{MONITOR}XM|I|06|037|1103|44201|2|1|Y\nXP|I|06|037|1103|44201|20240702|2\nXE|I|7|06|037|1103|44201|20240701|15:00|20240701|15:00|RT\nXC|U|7|{flag}\nRD|I|06|037|1103|44201|1|1|007|087|20240701|07:00|0.600\nRD|I|06|037|1103|44201|2|1|007|087|20240701|07:00|0.613\nRD|I|06|037|1103|44201|1|1|007|087|20240701|15:00|0.640||||RT\nRD|I|06|037|1103|44201|1|1|007|087|20240702|06:00|0.600\nRD|I|06|037|1103|44201|2|1|007|087|20240702|06:00|0.613\n"
+        )?;
+        let output = format!(in alloc;
+            "load 0\nlines 10\naccepted 10\nrefused 0\nline rule name count\nsite 06-037-1103\nday 2024-07-01\nhour average hours full full_hours\n07:00 0.075 1 0.075 1\n08:00 {event}\n09:00 {event}\n10:00 {event}\n11:00 {event}\n12:00 {event}\n13:00 {event}\n14:00 {event}\n15:00 {event}\n16:00 - 0 - 0\n17:00 - 0 - 0\n18:00 - 0 - 0\n19:00 - 0 - 0\n20:00 - 0 - 0\n21:00 - 0 - 0\n22:00 - 0 - 0\n23:00 0.076 1 0.076 1\n"
+        )?;
+        let outcome = run_over(alloc, &SCAN, body.as_bytes(), &[], &[])?;
+        assert_eq!(rt; outcome.status, 0);
+        assert_eq!(rt; outcome.output.as_slice(), output.as_bytes());
+    }
+    Ok(())
+}
+
+#[test]
+fn a_sample_of_24_hours_has_one_key_for_its_date(rt: HostRuntime) -> Result<(), Fail> {
+    let alloc = rt.alloc();
+    let key = "06|037|1103|88101|1";
+    // The site has no ozone monitor.
+    let body = format!(in alloc;
+        "XM|I|{key}|7|Y\nRD|I|{key}|7|105|145|20240701|10:00|12.3\nRD|I|{key}|7|105|145|20240701|00:00|12.3\nRD|U|{key}|7|105|145|20240701|23:00|12.4\nRD|U|{key}|1|105|145|20240701|00:00|12.4\nRD|I|{key}|7|105|145|20240702|00:00|12.3\nRD|D|{key}||||20240701|09:00\nRD|D|{key}||||20240701|10:00\nXM|I|{key}|7|Y\nXM|U|{key}|1|N\nXO|I|06|037|1103|2024|20240401|20241031\nXC|U|7|Y\nXM|D|{key}\nXE|I|0|06|037|1103|88101|20240701|00:00|20240701|23:00|RT\n"
+    )?;
+    let outcome = run_over(alloc, &SCAN, body.as_bytes(), &[], &[])?;
+    assert_eq!(rt; outcome.status, 0);
+    let reply =
+        "load 0\nlines 14\naccepted 5\nrefused 9\nline rule name count\n3 21 AlreadyThere 1\n5 20 WrongDuration 1\n8 22 NotThere 1\n9 21 AlreadyThere 1\n10 20 WrongDuration 1\n11 19 UnknownMonitor 1\n12 31 UnknownEvent 1\n13 4 BadAction 1\n14 33 BadCode 1\nsite 06-037-1103\nday 2024-07-01\n";
+    assert!(rt; outcome.output.starts_with(reply.as_bytes()));
+    assert!(rt; has_no_other_average(&outcome.output, None));
     Ok(())
 }
 

@@ -1,6 +1,6 @@
 use Rattle.std.proofs.Common.{◌≡◌, ◌++◌, drop}
 use Rattle.std.specs.List.{filter_map}
-use Rattle.aq_desk.specs.Built.{counted_in}
+use Rattle.aq_desk.specs.Counts.{counted_in}
 use Rattle.aq_desk.proofs.load.add_counts.Given as goal
 
 abbrev pub invariant-loop-rule : goal.invariant-loop-rule

@@ -1,5 +1,5 @@
 use Rattle.std.proofs.Common.{refl}
-use Rattle.aq_desk.proofs.BuiltLaws.{none_counted}
+use Rattle.aq_desk.proofs.LoadLaws.{none_counted}
 use Rattle.aq_desk.proofs.load.counts_by_number.Goals as goal
 
 pub loop-line-init : goal.loop-line-init

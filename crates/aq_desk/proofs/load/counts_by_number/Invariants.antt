@@ -1,5 +1,5 @@
 use Rattle.std.proofs.Common.{◌≡◌, length, take}
-use Rattle.aq_desk.specs.Built.{CountsByNumber}
+use Rattle.aq_desk.specs.Counts.{CountsByNumber}
 use Rattle.aq_desk.proofs.load.counts_by_number.Given as goal
 
 abbrev pub invariant-loop-line : goal.invariant-loop-line

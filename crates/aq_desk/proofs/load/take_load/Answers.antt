@@ -1,8 +1,8 @@
 use Rattle.std.proofs.Common.{◌≡◌, length, ap, ◌∙◌, arith}
 use Rattle.aq_profile.specs.Lines.Lines.{body_lines}
 use Rattle.aq_profile.specs.Office.Office.{nothing}
-use Rattle.aq_desk.specs.Built.{built_refusals}
-use Rattle.aq_desk.proofs.BuiltLaws.{all_refused, after_all_lines, few_refused, reply_for-same}
+use Rattle.aq_profile.specs.Office.Load.{refusals}
+use Rattle.aq_desk.proofs.LoadLaws.{all_refused, after_all_lines, few_refused, reply_for-same}
 use Rattle.aq_desk.proofs.load.take_load.Goals as goal
 
 pub reply_of-requires : goal.reply_of-requires
@@ -17,7 +17,7 @@ returns-clause-office c = after_all_lines _ _ _ c.in-None.ensures.steps.0 c.loop
 
 pub returns-clause-reply : goal.returns-clause-reply
 returns-clause-reply c =
-    let refused : c.deref.result.now ≡ built_refusals nothing (body_lines c.args.body.now) =
+    let refused : c.deref.result.now ≡ refusals nothing (body_lines c.args.body.now) =
     c.deref.ensures.value ∙ all_refused _ _ _ _ c.in-None.ensures.steps.0 c.loop-line.invariant.refused
     in
     let taken : c.loop-line.taken ≡ length (body_lines c.args.body.now) =

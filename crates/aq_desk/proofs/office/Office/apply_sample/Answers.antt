@@ -1,5 +1,5 @@
 use Rattle.std.proofs.lemmas.Result.{on_ok_weaker}
-use Rattle.aq_desk.proofs.office.Office.apply.Goals as goal
+use Rattle.aq_desk.proofs.office.Office.apply_sample.Goals as goal
 
 pub returns-in-Put-clause-after : goal.returns-in-Put-clause-after
 returns-in-Put-clause-after c =
