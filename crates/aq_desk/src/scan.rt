@@ -1,7 +1,6 @@
 //! The command `scan`.
-ghost use Rattle.std.specs.Prelude.{◌≡◌, ◌<◌, ◌≤◌, true, false, length};
+ghost use Rattle.std.specs.Prelude.{◌≡◌, ◌≤◌, true, false, length};
 ghost use Rattle.aq_profile.specs.Limits.{MOST_BYTES};
-ghost use Rattle.aq_profile.specs.Ozone.OzoneDay.{windows};
 ghost use Rattle.aq_profile.specs.Shown.Answer as book;
 ghost use Rattle.aq_profile.specs.Shown.Answer.{Windows};
 ghost use Rattle.aq_profile.specs.Shown.Sheet.{text_of};
@@ -17,13 +16,11 @@ use crate::office::Office;
 use crate::outside::{Sink, Source};
 use crate::stop::Stop;
 use crate::writing::print_sheet;
-use aq_base::{Day, MOST_LINES, SiteId, Steps};
+use aq_base::{Day, MOST_LINES, SiteId};
 use aq_forms::count_lines;
-use aq_ozone::{DayWindows, day_windows};
+use aq_ozone::uncounted_windows;
 use aq_reports::{load_sheet, windows_sheet};
 use std::alloc::Global;
-use std::marker::Brand;
-use std::sync::ledger::{Blank, Ledger};
 
 /// Takes the input as a load over an office of which nothing stands, and prints the reply and then the
 /// day's windows.
@@ -98,18 +95,7 @@ fn print_windows<O: Sink>(
     if !office.registry.has_site(site) {
         return Err(Stop::NoSite(site));
     }
-    let windows = counted::<Brand>(office, site, day, Blank::new(1));
+    let windows = uncounted_windows(&office.shelf, &office.registry, site, day);
     let sheet = windows_sheet(alloc, site, day, &windows)?;
     print_sheet(alloc, &sheet, output)
-}
-
-/// The day's windows, on a counter of steps of their own, which nobody reads.
-fn counted<L: Ledger>(office: &Office, site: SiteId, day: Day, blank: Blank) -> DayWindows
-    requires name { blank.name ≡ L.name }
-    requires parts { blank.parts ≡ L.parts }
-    requires some { 0 < L.parts }
-    ensures { result ≡ windows office.now site day }
-{
-    let mut steps = Steps::<L>::new(blank);
-    day_windows(&office.shelf, &office.registry, site, day, &mut steps)
 }

@@ -8,7 +8,7 @@ mod windows;
 
 pub use eight_hour::{DayWindows, LEVEL, WINDOWS, WindowRow, average};
 pub use ozone_day::{OzoneDay, day_of_windows};
-pub use windows::day_windows;
+pub use windows::{day_windows, uncounted_windows};
 
 #[cfg(test)]
 mod tests;

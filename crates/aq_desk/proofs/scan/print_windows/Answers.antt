@@ -13,4 +13,4 @@ pub returns-clause-told : goal.returns-clause-told
 returns-clause-told g c =
     registered_answer c.args.office.now c.args.site c.args.day _ _ _ _ _
     (ap (λ (o : Office). is_registered o c.args.site) (sym c.office.view_is) ∙ sym c.has_site.ensures ∙ c.if-not-has_site.false)
-    c.counted-windows.ensures c.in_ok-sheet.ensures c.print_sheet.ensures.told
+    c.uncounted_windows-windows.ensures c.in_ok-sheet.ensures c.print_sheet.ensures.told
