@@ -30,8 +30,9 @@ pub(crate) struct Span {
     last: u32,
 }
 
-/// An agreed event, with the greatest last hour among those of its site, pollutant and code that start no
-/// later: an hour behind its start is covered by one of them exactly where it is not behind that.
+/// An agreed event, with its reach: the greatest last hour among those of its site, pollutant and code up to
+/// this one in their order. An hour that does not come before its start lies in one of them exactly where it
+/// does not come behind the reach.
 #[derive(Clone, Copy, Debug, PartialEq, Eq)]
 pub(crate) struct Entry {
     span: Span,

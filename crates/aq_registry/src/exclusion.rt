@@ -34,8 +34,8 @@ fn asks_exclusion(code: Code) -> bool
     code.first == b'R' && b'A' <= code.second && code.second <= b'Z'
 }
 
-/// Keeps the agreed events when a record of a key is put. It takes no memory.
-pub(crate) fn put(agreed: &mut Agreed, records: &Records, key: &OfficeKey)
+/// Notes among the agreed events that a record of a key was put. It takes no memory.
+pub(crate) fn note_put(agreed: &mut Agreed, records: &Records, key: &OfficeKey)
     requires { 0 < agreed.old.room }
     ensures { agreed.new.spans ≡ spans_put records.now (number_of key.now) agreed.old.spans }
 {
@@ -44,8 +44,8 @@ pub(crate) fn put(agreed: &mut Agreed, records: &Records, key: &OfficeKey)
     }
 }
 
-/// Keeps the agreed events when the record of a key is dropped. It takes no memory.
-pub(crate) fn drop(agreed: &mut Agreed, key: &OfficeKey)
+/// Notes among the agreed events that the record of a key was dropped. It takes no memory.
+pub(crate) fn note_drop(agreed: &mut Agreed, key: &OfficeKey)
     ensures { agreed.new.spans ≡ spans_dropped (number_of key.now) agreed.old.spans }
 {
     if let Some(number) = number_of(key) {

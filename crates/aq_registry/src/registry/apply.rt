@@ -11,7 +11,7 @@ ghost use Rattle.aq_registry.specs.Registry.{adds_event, drops_event, events_in,
 
 use super::Registry;
 use crate::changes::{Changes, RecordChange, RegistryFault};
-use crate::exclusion;
+use crate::exclusion::{note_drop, note_put};
 use crate::place::key;
 use crate::records::Records;
 use aq_base::{Memory, OfficeKey, OfficeLine, OfficeRecord};
@@ -60,7 +60,7 @@ impl Registry {
         self.records.put(row)?;
         self.sites = sites;
         self.events = events;
-        exclusion::put(&mut self.agreed, &self.records, &key(&row));
+        note_put(&mut self.agreed, &self.records, &key(&row));
         let new = Some(row);
         Ok(Changes {
             first: RecordChange { old, new },
@@ -80,7 +80,7 @@ impl Registry {
         let events = self.events_without(&key);
         remove_whole(&mut self.records, &key);
         self.events = events;
-        exclusion::drop(&mut self.agreed, &key);
+        note_drop(&mut self.agreed, &key);
         Changes {
             first: RecordChange { old, new: None },
             second: dropping(concurrence),

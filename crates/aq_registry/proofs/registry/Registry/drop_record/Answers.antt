@@ -19,8 +19,8 @@ invariant_of-self c =
           ∙ ap (λ rows. length (sites_of rows)) (sym after);
       events_counted = c.events_without-events.ensures ∙ ap events_in (sym after);
       agreed_held =
-          subst (λ rows. AreAgreedOf rows c.drop.new.agreed.spans) (sym c.remove_whole.ensures)
-          (subst (λ spans. AreAgreedOf (without_key c.args.key (office_with c.self.inside.records)).records spans) (sym c.drop.ensures)
+          subst (λ rows. AreAgreedOf rows c.note_drop.new.agreed.spans) (sym c.remove_whole.ensures)
+          (subst (λ spans. AreAgreedOf (without_key c.args.key (office_with c.self.inside.records)).records spans) (sym c.note_drop.ensures)
           (held-dropped c.args.key c.self.inside.records c.self.inside.agreed.spans
           (subst (λ rows. rises record_rank (without_key c.args.key (office_with rows)).records ≡ true) (sym c.self.view_is) c.requires.valid.keys_rise.records)
           c.self.invariant.agreed_held));

@@ -14,8 +14,8 @@ pub invariant_of-self-2 : goal.invariant_of-self-2
 invariant_of-self-2 c =
     let rows = c.put.new.self in
     let after : rows ≡ with_row record_rank c.args.row c.args.self.now = c.in_ok-put.ensures.ok ∙ ap (with_row record_rank c.args.row) c.self.view_is in
-    let spans : c.put-2.new.agreed.spans ≡ spans_put rows (number_of (key_of c.args.row)) c.self.inside.agreed.spans =
-    c.put-2.ensures ∙ ap (λ key. spans_put rows (number_of key) c.reserve.new.self.spans) c.key-2.ensures ∙ ap (spans_put rows (number_of (key_of c.args.row))) c.in_ok-reserve.ensures.same
+    let spans : c.note_put.new.agreed.spans ≡ spans_put rows (number_of (key_of c.args.row)) c.self.inside.agreed.spans =
+    c.note_put.ensures ∙ ap (λ key. spans_put rows (number_of key) c.reserve.new.self.spans) c.key-2.ensures ∙ ap (spans_put rows (number_of (key_of c.args.row))) c.in_ok-reserve.ensures.same
     in
     record {
       office = subst (λ rows. IsOffice (office_with rows)) (sym after) c.requires;
