@@ -11,7 +11,7 @@ use Rattle.aq_profile.specs.Office.RowOrder.{before-trans, before-total}
 use Rattle.aq_registry.specs.declared.agreed.Start.{Start}
 use Rattle.aq_registry.specs.declared.agreed.Span.{Span}
 use Rattle.aq_registry.specs.declared.agreed.Entry.{Entry}
-use Rattle.aq_registry.specs.Agreed.{numbers_of, starts_before, with_span, AreInOrder, spans_of, passes, renewed, without_number}
+use Rattle.aq_registry.specs.Agreed.{numbers_of, starts_before, with_span, AreInOrder, spans_of, passes, renewed, has_number, without_number}
 
 -- ---- the order of numbers
 
@@ -200,3 +200,13 @@ pub any-renewed : (test : Span → Bool) (number : ℕ) (span : Option Span) (sp
 any-renewed test number None spans = any-kept test (λ (span : Span). not (span.number == number)) spans
 any-renewed test number (Some span) spans =
     any-with_span test span (without_number number spans) ∙ ap (λ b. test span || b) (any-kept test (λ (span : Span). not (span.number == number)) spans)
+
+-- where there is no event of a number, none is left out
+pub without-none : (number : ℕ) (spans : List Span) → has_number number spans ≡ false → without_number number spans ≡ spans
+without-none number [] h = refl
+without-none number (span ∷ spans) h = choose (span.number == number) h (without-none number spans)
+  where
+    choose : (b : Bool) → (b || has_number number spans) ≡ false → (has_number number spans ≡ false → without_number number spans ≡ spans)
+        → cond (not b) (span ∷ without_number number spans) (without_number number spans) ≡ span ∷ spans
+    choose true h rest = absurd (false≢true (sym h))
+    choose false h rest = ap (λ (l : List Span). span ∷ l) (rest h)

@@ -1,6 +1,6 @@
 -- The index of the agreed events stays true of the records when one is put or dropped.
 use Rattle.std.proofs.Common.{◌≡◌, ℕ, Bool, true, false, ◌&&◌, ◌||◌, ◌==◌, List, [], ◌∷◌, cond, Option, Some, None, refl, ap, sym, subst, ◌∙◌, arith}
-use Rattle.std.specs.Prelude.{not, filter, nat_lt}
+use Rattle.std.specs.Prelude.{not, filter, is_some, nat_lt}
 use Rattle.std.specs.List.{AllByRecursion, list_any}
 use Rattle.std.specs.Option.{option_and_then}
 use Rattle.std.proofs.lemmas.Bool.{false≢true, and_parts, eqb-true}
@@ -15,7 +15,7 @@ use Rattle.aq_profile.specs.Office.Office.{key_of, key_numbers, record_rank, com
 use Rattle.aq_profile.specs.Office.Questions.{record_of}
 use Rattle.aq_profile.specs.Office.RowOrder.{before-trans}
 use Rattle.aq_registry.specs.declared.agreed.Span.{Span}
-use Rattle.aq_registry.specs.Agreed.{start_of, span_by, is_agreed, agreed_span, span_at, passes, any_agreed, AreAgreedOf, number_of, renewed, spans_put, spans_dropped}
+use Rattle.aq_registry.specs.Agreed.{start_of, span_by, is_agreed, agreed_span, span_at, passes, any_agreed, AreAgreedOf, number_of, renewed, is_agreed_in, is_noted, spans_put, spans_dropped}
 use Rattle.aq_registry.specs.Registry.{office_with}
 use Rattle.aq_registry.proofs.ExclusionLemmas.{any-filter}
 use Rattle.aq_registry.proofs.AgreedLemmas.{all_follow, but, any-renewed}
@@ -273,3 +273,29 @@ held-dropped (ConcurrenceKey number) rows spans rise held =
     subst (λ o. AreAgreedOf after (renewed number o spans)) (unagreed (is_agreed after) number after (no_concurrence number rows))
     (one_renewed (ConcurrenceKey number) number rows after spans (dropped-same (ConcurrenceKey number) rows) rise refl held)
 held-dropped key rows spans rise held = none_renewed key rows (without_key key (office_with rows)).records spans (dropped-same key rows) refl held
+
+-- ---- an event that is not agreed is not noted
+
+none_some : (test : Span → Bool) (o : Option Span) → is_some o ≡ false → passes test o ≡ false
+none_some test None h = refl
+none_some test (Some span) h = absurd (false≢true (sym h))
+
+neither : (a : Bool) → (not a && a) ≡ false
+neither true = refl
+neither false = refl
+
+but_none : (number : ℕ) (o : Option Span) → passes (but number (λ (span : Span). span.number == number)) o ≡ false
+but_none number None = refl
+but_none number (Some span) = neither (span.number == number)
+
+any-none : {X : Type 0} (p : X → Bool) → ((x : X) → p x ≡ false) → (xs : List X) → list_any p xs ≡ false
+any-none p none [] = refl
+any-none p none (x ∷ xs) = ap (λ b. b || list_any p xs) (none x) ∙ any-none p none xs
+
+pub unnoted : (rows : List OfficeRecord) (spans : List Span) → rises record_rank rows ≡ true → AreAgreedOf rows spans → (o : Option ℕ) → is_agreed_in rows o ≡ false → is_noted o spans ≡ false
+unnoted rows spans rise held None none = refl
+unnoted rows spans rise held (Some number) none =
+    held (λ (span : Span). span.number == number)
+    ∙ one-apart (is_agreed rows) (λ (span : Span). span.number == number) number rows rise
+    ∙ ap (λ b. b || any_other (is_agreed rows) (λ (span : Span). span.number == number) number rows) (none_some (λ (span : Span). span.number == number) (span_at rows number) none)
+    ∙ any-none (λ r. passes (but number (λ (span : Span). span.number == number)) (span_by (is_agreed rows) r)) (λ r. but_none number (span_by (is_agreed rows) r)) rows

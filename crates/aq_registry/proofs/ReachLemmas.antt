@@ -9,7 +9,7 @@ use Rattle.aq_profile.specs.Office.RowOrder.{before-total}
 use Rattle.aq_registry.specs.declared.agreed.Start.{Start}
 use Rattle.aq_registry.specs.declared.agreed.Span.{Span}
 use Rattle.aq_registry.specs.declared.agreed.Entry.{Entry}
-use Rattle.aq_registry.specs.Agreed.{series_of, is_same_series, starts_before, covers, AreInOrder, spans_of, entry_behind, AreReached, AreAgreed, does_reach}
+use Rattle.aq_registry.specs.Agreed.{series_of, is_same_series, starts_before, covers, AreInOrder, spans_of, entry_behind, AreReached, AreChained, AreAgreed, does_reach}
 use Rattle.aq_registry.proofs.AgreedLemmas.{before-itself, equal-lists}
 
 -- ---- entries one by one
@@ -28,6 +28,35 @@ pub reached-set : (before : Option Entry) (entries : List Entry) (i : ℕ) (d en
 reached-set before [] i d entry h reached is = absurd (omega (arith, h))
 reached-set before (first ∷ entries) zero d entry h reached is = (is, tt)
 reached-set before (first ∷ entries) (suc i) d entry h reached is = (reached.0, reached-set (Some first) entries i d entry (omega arith) reached.1 is)
+
+-- an entry put behind others, and what follows from them
+pub reached-inserted : (before : Option Entry) (entries : List Entry) (n : ℕ) (entry : Entry) → AreReached before entries → entry ≡ entry_behind (last_or before (take n entries)) entry.span → AreReached before (take (suc n) (take n entries ++ entry ∷ drop n entries))
+reached-inserted before [] zero entry h is = (is, tt)
+reached-inserted before [] (suc n) entry h is = (is, tt)
+reached-inserted before (first ∷ entries) zero entry h is = (is, tt)
+reached-inserted before (first ∷ entries) (suc n) entry h is = (h.0, reached-inserted (Some first) entries n entry h.1 is)
+
+pub chained-inserted : (before : Option Entry) (entries : List Entry) (n : ℕ) (entry : Entry) → AreReached before entries → AreChained (drop (suc n) (take n entries ++ entry ∷ drop n entries))
+chained-inserted before [] zero entry h = tt
+chained-inserted before [] (suc n) entry h = tt
+chained-inserted before (first ∷ entries) zero entry h = h.1
+chained-inserted before (first ∷ entries) (suc n) entry h = chained-inserted (Some first) entries n entry h.1
+
+chained-of : (entry : Entry) (entries : List Entry) → AreReached (Some entry) entries → AreChained entries
+chained-of entry [] h = tt
+chained-of entry (next ∷ entries) h = h.1
+
+pub chained-set : (entries : List Entry) (i : ℕ) (entry : Entry) → AreChained (drop i entries) → AreChained (drop (suc i) (slice_set entries i entry))
+chained-set [] zero entry h = tt
+chained-set [] (suc i) entry h = tt
+chained-set (first ∷ entries) zero entry h = chained-of first entries h
+chained-set (first ∷ entries) (suc i) entry h = chained-set entries i entry h
+
+-- where an entry is as it should be, and those behind it follow from it, all are
+pub reached-whole : (before : Option Entry) (entries : List Entry) (i : ℕ) (d : Entry) → i < length entries → AreReached before (take i entries) → AreChained (drop i entries) → slice_index_or entries i d ≡ entry_behind (last_or before (take i entries)) ((slice_index_or entries i d).span) → AreReached before entries
+reached-whole before [] i d h reached chained is = absurd (omega (arith, h))
+reached-whole before (first ∷ entries) zero d h reached chained is = (is, chained)
+reached-whole before (first ∷ entries) (suc i) d h reached chained is = (reached.0, reached-whole (Some first) entries i d (omega arith) reached.1 chained is)
 
 pub last-set : (before : Option Entry) (entries : List Entry) (i : ℕ) (entry : Entry) → i < length entries → Some entry ≡ last_or before (take (suc i) (slice_set entries i entry))
 last-set before [] i entry h = absurd (omega (arith, h))

@@ -1,5 +1,5 @@
 -- The agreed events in their order, and how far those up to each one reach.
-use Rattle.std.specs.Prelude.{◌≡◌, ℕ, Bool, false, not, filter, ◌&&◌, ◌==◌, nat_le, nat_lt, if◌then◌else◌, Option, Some, None, List, [], ◌∷◌, map, ⊤}
+use Rattle.std.specs.Prelude.{◌≡◌, ℕ, Bool, false, not, filter, ◌&&◌, ◌==◌, nat_le, nat_lt, if◌then◌else◌, Option, Some, None, is_some, List, [], ◌∷◌, map, ⊤}
 use Rattle.std.specs.List.{AllByRecursion, list_any}
 use Rattle.std.specs.Option.{option_and_then}
 use Rattle.aq_base.specs.Site.{Site}
@@ -57,6 +57,10 @@ with_span span (first ∷ spans) =
 abbrev pub without_number : ℕ → List Span → List Span
 without_number number spans = filter (λ span. not (span.number == number)) spans
 
+-- whether there is an event of a number
+abbrev pub has_number : ℕ → List Span → Bool
+has_number number spans = list_any (λ (span : Span). span.number == number) spans
+
 -- the events with this one in place of those of its number
 abbrev pub renewed : ℕ → Option Span → List Span → List Span
 renewed number None spans = without_number number spans
@@ -83,6 +87,11 @@ entry_behind before span = record { span = span; reach = reach_behind before spa
 abbrev pub AreReached : Option Entry → List Entry → Type 0
 AreReached before [] = ⊤
 AreReached before (entry ∷ entries) = (entry ≡ entry_behind before entry.span) × AreReached (Some entry) entries
+
+-- each entry behind the first follows from the one before it
+abbrev pub AreChained : List Entry → Type 0
+AreChained [] = ⊤
+AreChained (entry ∷ entries) = AreReached (Some entry) entries
 
 -- what holds of the entries of every list of agreed events
 pub record AreAgreed (entries : List Entry) : Type 0 where
@@ -139,6 +148,15 @@ abbrev pub number_of : OfficeKey → Option ℕ
 number_of (EventKey number) = Some number
 number_of (ConcurrenceKey number) = Some number
 number_of key = None
+
+-- whether there is an agreed event in a record's number, and whether one is noted
+abbrev pub is_agreed_in : List OfficeRecord → Option ℕ → Bool
+is_agreed_in records None = false
+is_agreed_in records (Some number) = is_some (span_at records number)
+
+abbrev pub is_noted : Option ℕ → List Span → Bool
+is_noted None spans = false
+is_noted (Some number) spans = has_number number spans
 
 -- the agreed events once a record is put
 abbrev pub spans_put : List OfficeRecord → Option ℕ → List Span → List Span

@@ -1,8 +1,8 @@
 //! The agreed events by site, pollutant, code and first hour.
-ghost use Rattle.std.specs.Prelude.{◌≡◌, ◌<◌, ◌≤◌, None, Some, [], true, false, drop, filter, length, not, take, ◌&&◌, ◌==◌, nat_le, IfOk, IsSome, OnOk};
+ghost use Rattle.std.specs.Prelude.{◌≡◌, ◌+◌, ◌<◌, ◌≤◌, None, Some, [], true, false, drop, filter, length, not, take, ◌&&◌, ◌==◌, nat_le, IfOk, IsSome, OnOk};
 ghost use Rattle.std.specs.Vec.{vec_capacity, vec_len};
 ghost use Rattle.std.specs.List.{list_any, last_or, AllByRecursion};
-ghost use Rattle.aq_registry.specs.Agreed.{covers, does_reach, entry_behind, is_same_series, reach_behind, spans_of, start_of, starts_before, renewed, with_span, without_number, AreInOrder, AreReached};
+ghost use Rattle.aq_registry.specs.Agreed.{covers, does_reach, entry_behind, is_same_series, reach_behind, spans_of, start_of, starts_before, renewed, has_number, with_span, without_number, AreAgreed, AreChained, AreInOrder, AreReached};
 
 use crate::place::parameter;
 use aq_base::{Code, Hour, Memory, Pollutant, SiteId};
@@ -159,31 +159,38 @@ impl Agreed {
         Ok(())
     }
 
-    /// Puts the event of a number in place of the one that has it, or takes that away. It takes no memory. It
-    /// costs a walk over the events, and a shift of those that start behind it.
-    pub(crate) fn renew(&mut self, number: u32, span: Option<Span>)
-        requires { IsSome span → 0 < self.old.room }
+    /// Puts the event of a number in place of the one that has it, or takes that away; `stands` says whether
+    /// there may be one. It takes no memory. It costs a walk over the events where there may be one, and else
+    /// a search, a shift of those that start behind it, and a look at those whose reach changes.
+    pub(crate) fn renew(&mut self, number: u32, stands: bool, span: Option<Span>)
+        requires room { IsSome span → 0 < self.old.room }
+        requires stands { stands ≡ false → has_number number self.old.spans ≡ false }
         ensures { self.new.spans ≡ renewed number span self.old.spans }
     {
-        exchange(&mut self.entries, number, span);
-        reach(&mut self.entries);
+        forget(&mut self.entries, number, stands);
+        if let Some(span) = span {
+            put(&mut self.entries, span);
+        }
     }
 }
 
-/// Puts the event of a number in place of the one that has it, or takes that away.
-fn exchange(entries: &mut Vec<Entry>, number: u32, span: Option<Span>)
-    requires in_order { AreInOrder (spans_of entries.old.items) }
-    requires room { IsSome span → vec_len entries.old < vec_capacity entries.old }
-    ensures { spans_of entries.new.items ≡ renewed number span (spans_of entries.old.items) }
+/// Takes the entries of a number away, where there may be one.
+fn forget(entries: &mut Vec<Entry>, number: u32, stands: bool)
+    requires agreed { AreAgreed entries.old.items }
+    requires stands { stands ≡ false → has_number number (spans_of entries.old.items) ≡ false }
+    ensures agreed { AreAgreed entries.new.items }
+    ensures spans { spans_of entries.new.items ≡ without_number number (spans_of entries.old.items) }
+    ensures capacity { vec_capacity entries.new ≡ vec_capacity entries.old }
+    ensures few { vec_len entries.new ≤ vec_len entries.old }
 {
-    forget(entries, number);
-    if let Some(span) = span {
-        put(entries, span);
+    if stands {
+        take_away(entries, number);
+        reach(entries);
     }
 }
 
-/// Takes the entries of a number away.
-fn forget(entries: &mut Vec<Entry>, number: u32)
+/// Takes the entries of a number away, and leaves the reaches as they are.
+fn take_away(entries: &mut Vec<Entry>, number: u32)
     ensures spans { spans_of entries.new.items ≡ without_number number (spans_of entries.old.items) }
     ensures capacity { vec_capacity entries.new ≡ vec_capacity entries.old }
     ensures few { vec_len entries.new ≤ vec_len entries.old }
@@ -193,18 +200,32 @@ fn forget(entries: &mut Vec<Entry>, number: u32)
 
 /// Puts an event in its place, before those that start behind it.
 fn put(entries: &mut Vec<Entry>, span: Span)
-    requires in_order { AreInOrder (spans_of entries.old.items) }
+    requires agreed { AreAgreed entries.old.items }
     requires room { vec_len entries.old < vec_capacity entries.old }
-    ensures { spans_of entries.new.items ≡ with_span span (spans_of entries.old.items) }
+    ensures agreed { AreAgreed entries.new.items }
+    ensures spans { spans_of entries.new.items ≡ with_span span (spans_of entries.old.items) }
+{
+    let place = insert(entries, span);
+    reach_behind(entries, place + 1);
+}
+
+/// Puts an event in its place with its reach, and tells the place. The reaches behind it are those of before.
+fn insert(entries: &mut Vec<Entry>, span: Span) -> usize
+    requires agreed { AreAgreed entries.old.items }
+    requires room { vec_len entries.old < vec_capacity entries.old }
+    ensures spans { spans_of entries.new.items ≡ with_span span (spans_of entries.old.items) }
+    ensures inside { result < vec_len entries.new }
+    ensures reached { AreReached None (take (result + 1) entries.new.items) }
+    ensures chained { AreChained (drop (result + 1) entries.new.items) }
 {
     let place = count_up_to(entries, &span.start);
-    let entry = Entry::behind(&None, span);
+    let entry = Entry::behind(&last_of(entries, place), span);
     match entries.insert(place, entry) {
         Ok(()) => {}
         Err(_) => {} // This does not happen: there is room.
     }
+    place
 }
-
 /// How many entries do not start behind an hour of a site, pollutant and code, by one binary search.
 fn count_up_to(entries: &[Entry], at: &Start) -> usize
     requires { AreInOrder (spans_of entries.now) }
@@ -237,9 +258,32 @@ fn does_reach(entry: &Option<Entry>, at: &Start) -> bool
     }
 }
 
+/// Sets the reaches from a place on, as far as they change: an entry that is as it should be has only such
+/// behind it.
+fn reach_behind(entries: &mut Vec<Entry>, place: usize)
+    requires inside { place ≤ vec_len entries.old }
+    requires reached { AreReached None (take place entries.old.items) }
+    requires chained { AreChained (drop place entries.old.items) }
+    ensures same { spans_of entries.new.items ≡ spans_of entries.old.items }
+    ensures reached { AreReached None entries.new.items }
+{
+    let mut before = last_of(entries, place);
+    for i in place..entries.len() {
+        let standing = entries[i];
+        let entry = Entry::behind(&before, standing.span);
+        if entry.reach == standing.reach {
+            return;
+        }
+        entries[i] = entry;
+        before = Some(entry);
+    }
+}
+
 /// Sets the reaches of the entries.
 fn reach(entries: &mut Vec<Entry>)
     ensures same { spans_of entries.new.items ≡ spans_of entries.old.items }
+    ensures capacity { vec_capacity entries.new ≡ vec_capacity entries.old }
+    ensures many { vec_len entries.new ≡ vec_len entries.old }
     ensures reached { AreReached None entries.new.items }
 {
     let mut before = None;

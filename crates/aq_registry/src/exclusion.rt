@@ -1,11 +1,11 @@
 //! Which observations are left out for an exceptional event.
-ghost use Rattle.std.specs.Prelude.{◌≡◌, ◌<◌};
+ghost use Rattle.std.specs.Prelude.{◌≡◌, ◌<◌, false};
 ghost use Rattle.std.specs.List.{list_any};
 ghost use Rattle.std.specs.Option.{option_and_then};
 ghost use Rattle.aq_profile.specs.Office.Exclusion.{asks_exclusion};
 ghost use Rattle.aq_profile.specs.Office.Questions.{record_of};
 ghost use Rattle.aq_base.specs.declared.office.OfficeKey.TheVariants.{Event as EventKey};
-ghost use Rattle.aq_registry.specs.Agreed.{agreed_span, leaves_out, number_of, span_at, spans_dropped, spans_put};
+ghost use Rattle.aq_registry.specs.Agreed.{agreed_span, is_agreed_in, is_noted, leaves_out, number_of, span_at, spans_dropped, spans_put};
 
 use crate::agreed::{Agreed, Span, Start};
 use crate::records::Records;
@@ -34,22 +34,26 @@ fn asks_exclusion(code: Code) -> bool
     code.first == b'R' && b'A' <= code.second && code.second <= b'Z'
 }
 
-/// Notes among the agreed events that a record of a key was put. It takes no memory.
-pub(crate) fn note_put(agreed: &mut Agreed, records: &Records, key: &OfficeKey)
-    requires { 0 < agreed.old.room }
+/// Notes among the agreed events that a record of a key was put; `was` says whether its event was agreed
+/// before. It takes no memory.
+pub(crate) fn note_put(agreed: &mut Agreed, records: &Records, key: &OfficeKey, was: bool)
+    requires room { 0 < agreed.old.room }
+    requires noted { was ≡ false → is_noted (number_of key.now) agreed.old.spans ≡ false }
     ensures { agreed.new.spans ≡ spans_put records.now (number_of key.now) agreed.old.spans }
 {
     if let Some(number) = number_of(key) {
-        agreed.renew(number, span_at(records, number));
+        agreed.renew(number, was, span_at(records, number));
     }
 }
 
-/// Notes among the agreed events that the record of a key was dropped. It takes no memory.
-pub(crate) fn note_drop(agreed: &mut Agreed, key: &OfficeKey)
+/// Notes among the agreed events that the record of a key was dropped; `was` says whether its event was
+/// agreed before. It takes no memory.
+pub(crate) fn note_drop(agreed: &mut Agreed, key: &OfficeKey, was: bool)
+    requires { was ≡ false → is_noted (number_of key.now) agreed.old.spans ≡ false }
     ensures { agreed.new.spans ≡ spans_dropped (number_of key.now) agreed.old.spans }
 {
     if let Some(number) = number_of(key) {
-        agreed.renew(number, None);
+        agreed.renew(number, was, None);
     }
 }
 
@@ -60,6 +64,16 @@ fn number_of(key: &OfficeKey) -> Option<u32>
     match key {
         OfficeKey::Event { number } | OfficeKey::Concurrence { number } => Some(*number),
         _ => None,
+    }
+}
+
+/// Whether a record's event is agreed and asks for an exclusion, by two searches of the map.
+pub(crate) fn is_agreed(records: &Records, key: &OfficeKey) -> bool
+    ensures { result ≡ is_agreed_in records.now (number_of key.now) }
+{
+    match number_of(key) {
+        Some(number) => span_at(records, number).is_some(),
+        None => false,
     }
 }
 

@@ -11,7 +11,7 @@ ghost use Rattle.aq_registry.specs.Registry.{adds_event, drops_event, events_in,
 
 use super::Registry;
 use crate::changes::{Changes, RecordChange, RegistryFault};
-use crate::exclusion::{note_drop, note_put};
+use crate::exclusion::{is_agreed, note_drop, note_put};
 use crate::place::key;
 use crate::records::Records;
 use aq_base::{Memory, OfficeKey, OfficeLine, OfficeRecord};
@@ -56,11 +56,12 @@ impl Registry {
         let old = self.records.get(&key(&row));
         let sites = self.sites_with(&row);
         let events = self.events_with(&row);
+        let was = is_agreed(&self.records, &key(&row));
         self.agreed.reserve()?;
         self.records.put(row)?;
         self.sites = sites;
         self.events = events;
-        note_put(&mut self.agreed, &self.records, &key(&row));
+        note_put(&mut self.agreed, &self.records, &key(&row), was);
         let new = Some(row);
         Ok(Changes {
             first: RecordChange { old, new },
@@ -78,9 +79,10 @@ impl Registry {
         let old = self.records.get(&key);
         let concurrence = concurrence_of(&self.records, &key);
         let events = self.events_without(&key);
+        let was = is_agreed(&self.records, &key);
         remove_whole(&mut self.records, &key);
         self.events = events;
-        note_drop(&mut self.agreed, &key);
+        note_drop(&mut self.agreed, &key, was);
         Changes {
             first: RecordChange { old, new: None },
             second: dropping(concurrence),

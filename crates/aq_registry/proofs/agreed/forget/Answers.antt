@@ -1,12 +1,17 @@
-use Rattle.std.proofs.Common.{rules, ◌∙◌, ◌==◌, not, ap}
-use Rattle.std.proofs.lemmas.Fn.{filter_same}
+use Rattle.std.proofs.Common.{rules, ◌≡◌, ◌∙◌, sym, subst, ap, not, ◌==◌, false}
+use Rattle.std.specs.Vec.{vec_capacity, vec_len}
 use Rattle.aq_registry.specs.declared.agreed.Span.{Span}
-use Rattle.aq_registry.specs.declared.agreed.Entry.{Entry}
-use Rattle.aq_registry.specs.Agreed.{spans_of}
-use Rattle.aq_registry.proofs.AgreedLemmas.{spans-filter}
+use Rattle.aq_registry.specs.Agreed.{spans_of, AreInOrder}
+use Rattle.aq_registry.proofs.AgreedLemmas.{filter-in_order, without-none}
 use Rattle.aq_registry.proofs.agreed.forget.Goals as goal
 
-pub returns-clause-spans : goal.returns-clause-spans
-returns-clause-spans c =
-    ap spans_of (filter_same _ (λ (entry : Entry). not (entry.span.number == c.args.number)) _ (λ x b f k. search rules) c.args.entries.now.items c.retain.new.self.items c.retain.ensures.filtered)
-    ∙ spans-filter (λ (span : Span). not (span.number == c.args.number)) c.args.entries.now.items
+pub returns-then-stands-clause-agreed : goal.returns-then-stands-clause-agreed
+returns-then-stands-clause-agreed c = record {
+  in_order =
+      subst AreInOrder (sym (c.reach.ensures.same ∙ c.take_away.ensures.spans))
+      (filter-in_order (λ (span : Span). not (span.number == c.args.number)) (spans_of c.args.entries.now.items) c.requires.agreed.in_order);
+  reached = c.reach.ensures.reached;
+}
+
+pub returns-else-stands-clause-spans : goal.returns-else-stands-clause-spans
+returns-else-stands-clause-spans c = sym (without-none c.args.number (spans_of c.args.entries.now.items) (c.requires.stands c.if-stands.false))

@@ -27,4 +27,5 @@ loop-i-preserved c =
       last = last-set None entries i entry inside ∙ ap (λ k. last_or None (take k (slice_set entries i entry))) (next i);
       long = length-set entries i entry ∙ c.loop-i.invariant.long;
       within = search rules;
+      as_large = search rules;
     }

@@ -1,16 +1,17 @@
-use Rattle.std.proofs.Common.{◌≡◌, ◌∙◌, ap, sym, subst}
-use Rattle.aq_registry.specs.Agreed.{Held, spans_of, renewed, AreInOrder}
-use Rattle.aq_registry.proofs.AgreedLemmas.{renewed-in_order}
+use Rattle.std.proofs.Common.{rules, ◌≡◌, ◌∙◌, ap, sym, subst}
+use Rattle.aq_registry.specs.declared.agreed.Span.{Span}
+use Rattle.aq_registry.specs.Agreed.{Held, has_number, renewed, spans_of, with_span, without_number, AreInOrder}
 use Rattle.aq_registry.proofs.agreed.Agreed.renew.Goals as goal
 
-spans : (c : goal.After-reach) → spans_of c.reach.new.entries.items ≡ renewed c.args.number c.args.span (spans_of c.self.inside.entries.items)
-spans c = c.reach.ensures.same ∙ c.exchange.ensures
+pub forget-requires-clause-stands : goal.forget-requires-clause-stands
+forget-requires-clause-stands c = λ none. ap (λ (held : Held). has_number c.args.number held.spans) c.self.view_is ∙ c.requires.stands none
 
-pub invariant_of-self : goal.invariant_of-self
-invariant_of-self c = record {
-  in_order = subst AreInOrder (sym (spans c)) (renewed-in_order c.args.number c.args.span (spans_of c.self.inside.entries.items) c.self.invariant.in_order);
-  reached = c.reach.ensures.reached;
-}
+pub returns-in-Some : goal.returns-in-Some
+returns-in-Some c =
+    c.put.ensures.spans ∙ ap (with_span c.in-Some.span) (c.forget.ensures.spans ∙ ap (λ (held : Held). without_number c.args.number held.spans) c.self.view_is)
+    ∙ ap (λ o. renewed c.args.number o c.args.self.now.spans) (sym c.in-Some.is)
 
-pub returns : goal.returns
-returns c = spans c ∙ ap (λ (held : Held). renewed c.args.number c.args.span held.spans) c.self.view_is
+pub returns-in_default : goal.returns-in_default
+returns-in_default c =
+    c.forget.ensures.spans ∙ ap (λ (held : Held). without_number c.args.number held.spans) c.self.view_is
+    ∙ ap (λ o. renewed c.args.number o c.args.self.now.spans) (sym c.in_default.is)

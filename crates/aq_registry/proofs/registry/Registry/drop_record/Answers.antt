@@ -2,8 +2,8 @@ use Rattle.std.proofs.Common.{◌≡◌, ◌∙◌, length, ap, sym, subst, true
 use Rattle.aq_profile.specs.Office.Load.{without_key}
 use Rattle.aq_profile.specs.Office.Office.{IsOffice, record_rank, rises, sites_of}
 use Rattle.aq_registry.specs.Registry.{events_in, office_with}
-use Rattle.aq_registry.specs.Agreed.{AreAgreedOf}
-use Rattle.aq_registry.proofs.HeldLemmas.{held-dropped}
+use Rattle.aq_registry.specs.Agreed.{AreAgreedOf, number_of}
+use Rattle.aq_registry.proofs.HeldLemmas.{held-dropped, unnoted}
 use Rattle.aq_registry.proofs.RowCounts.{sites_dropped, only_records}
 use Rattle.aq_registry.proofs.registry.Registry.drop_record.Goals as goal
 
@@ -25,3 +25,8 @@ invariant_of-self c =
           (subst (λ rows. rises record_rank (without_key c.args.key (office_with rows)).records ≡ true) (sym c.self.view_is) c.requires.valid.keys_rise.records)
           c.self.invariant.agreed_held));
     }
+
+pub note_drop-requires : goal.note_drop-requires
+note_drop-requires c = λ none.
+    unnoted c.self.inside.records c.self.inside.agreed.spans c.self.invariant.office.keys_rise.records c.self.invariant.agreed_held (number_of c.args.key)
+    (sym c.is_agreed-was.ensures ∙ none)

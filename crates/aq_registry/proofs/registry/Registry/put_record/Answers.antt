@@ -1,8 +1,8 @@
 use Rattle.std.proofs.Common.{◌≡◌, ◌∙◌, length, ap, sym, subst, true}
 use Rattle.aq_profile.specs.Office.Office.{IsOffice, key_of, record_rank, rises, sites_of, with_row}
-use Rattle.aq_registry.specs.Agreed.{AreAgreedOf, number_of, spans_put}
+use Rattle.aq_registry.specs.Agreed.{AreAgreedOf, is_agreed_in, is_noted, number_of, spans_put}
 use Rattle.aq_registry.specs.Registry.{IsRegistry, events_in, office_with}
-use Rattle.aq_registry.proofs.HeldLemmas.{held-put}
+use Rattle.aq_registry.proofs.HeldLemmas.{held-put, unnoted}
 use Rattle.aq_registry.proofs.registry.Registry.put_record.Goals as goal
 
 -- there may be more room for agreed events, and nothing else was changed
@@ -15,7 +15,7 @@ invariant_of-self-2 c =
     let rows = c.put.new.self in
     let after : rows ≡ with_row record_rank c.args.row c.args.self.now = c.in_ok-put.ensures.ok ∙ ap (with_row record_rank c.args.row) c.self.view_is in
     let spans : c.note_put.new.agreed.spans ≡ spans_put rows (number_of (key_of c.args.row)) c.self.inside.agreed.spans =
-    c.note_put.ensures ∙ ap (λ key. spans_put rows (number_of key) c.reserve.new.self.spans) c.key-2.ensures ∙ ap (spans_put rows (number_of (key_of c.args.row))) c.in_ok-reserve.ensures.same
+    c.note_put.ensures ∙ ap (λ key. spans_put rows (number_of key) c.reserve.new.self.spans) c.key-3.ensures ∙ ap (spans_put rows (number_of (key_of c.args.row))) c.in_ok-reserve.ensures.same
     in
     record {
       office = subst (λ rows. IsOffice (office_with rows)) (sym after) c.requires;
@@ -26,3 +26,11 @@ invariant_of-self-2 c =
           (held-put c.args.row c.self.inside.records rows c.self.inside.agreed.spans c.in_ok-put.ensures.ok
           (subst (λ rows. rises record_rank rows ≡ true) (sym after) c.requires.keys_rise.records) c.self.invariant.agreed_held);
     }
+
+pub note_put-requires-clause-noted : goal.note_put-requires-clause-noted
+note_put-requires-clause-noted c = λ none.
+    let rows = c.self.inside.records in
+    ap (λ spans. is_noted (number_of c.key-3.result) spans) c.in_ok-reserve.ensures.same
+    ∙ ap (λ key. is_noted (number_of key) c.self.inside.agreed.spans) c.key-3.ensures
+    ∙ unnoted rows c.self.inside.agreed.spans c.self.invariant.office.keys_rise.records c.self.invariant.agreed_held (number_of (key_of c.args.row))
+    (ap (λ key. is_agreed_in rows (number_of key)) (sym c.key-2.ensures) ∙ sym c.is_agreed-was.ensures ∙ none)
