@@ -20,4 +20,6 @@ pub use outside::{Sink, Source};
 pub use words::{Command, read_words};
 
 #[cfg(test)]
+mod office_tests;
+#[cfg(test)]
 mod tests;
