@@ -6,8 +6,8 @@ ghost use Rattle.aq_measure.specs.Counts.{field_count, field_count_in};
 use aq_forms::{MOST_BYTES, lines_of};
 use aq_rd::{Fields, MOST_FIELDS};
 
-/// The lines of a body that are not skipped, and their fields. So many lines of any length have
-/// fewer fields than fit.
+/// The lines of a body that are not skipped, and their fields. The fields of so many lines fit,
+/// however long each is.
 #[derive(Drop)]
 pub struct FieldCounts {
     pub lines: u32,
@@ -37,7 +37,8 @@ pub fn fields_in(body: &[u8]) -> FieldCounts
 }
 
 // How many fields a line has: none where a byte is outside 20 to 7E (hexadecimal), or where a text
-// stands behind the fields of every form.
+// stands behind the fields of every form. That is asked so that the places of the fields are kept,
+// which the compiler would else leave out.
 fn field_count(line: &[u8]) -> u64
     ensures { result ≡ field_count line.now }
 {

@@ -1,6 +1,6 @@
 //! Counts the lines and fields of a body on standard input. It is for measures alone: `bench/scan`
 //! holds a scan beside it. `cut` cuts the body as a scan does, and does nothing else with it. `bytes`
-//! looks at each byte once, which is the least that any program has to do.
+//! looks at each byte once in a plain loop.
 #![tactic(auto)]
 
 mod counts;
