@@ -53,12 +53,7 @@ pub fn day_windows<L: Ledger>(
 }
 
 /// The seventeen averages of a day, for callers that count no steps.
-pub fn uncounted_windows(
-    shelf: &Shelf,
-    registry: &Registry,
-    site: SiteId,
-    day: Day,
-) -> DayWindows
+pub fn uncounted_windows(shelf: &Shelf, registry: &Registry, site: SiteId, day: Day) -> DayWindows
     ensures { result ≡ book.windows (office_of registry.now shelf.now) site day }
 {
     counted::<Brand>(shelf, registry, site, day, Blank::new(1))

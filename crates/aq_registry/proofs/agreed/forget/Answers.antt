@@ -1,5 +1,4 @@
-use Rattle.std.proofs.Common.{rules, ◌≡◌, ◌∙◌, sym, subst, ap, not, ◌==◌, false}
-use Rattle.std.specs.Vec.{vec_capacity, vec_len}
+use Rattle.std.proofs.Common.{◌∙◌, sym, subst, not, ◌==◌}
 use Rattle.aq_registry.specs.declared.agreed.Span.{Span}
 use Rattle.aq_registry.specs.Agreed.{spans_of, AreInOrder}
 use Rattle.aq_registry.proofs.AgreedLemmas.{filter-in_order, without-none}

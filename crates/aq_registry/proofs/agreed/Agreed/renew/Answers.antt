@@ -1,6 +1,5 @@
-use Rattle.std.proofs.Common.{rules, ◌≡◌, ◌∙◌, ap, sym, subst}
-use Rattle.aq_registry.specs.declared.agreed.Span.{Span}
-use Rattle.aq_registry.specs.Agreed.{Held, has_number, renewed, spans_of, with_span, without_number, AreInOrder}
+use Rattle.std.proofs.Common.{◌∙◌, ap, sym}
+use Rattle.aq_registry.specs.Agreed.{Held, has_number, renewed, with_span, without_number}
 use Rattle.aq_registry.proofs.agreed.Agreed.renew.Goals as goal
 
 pub forget-requires-clause-stands : goal.forget-requires-clause-stands
