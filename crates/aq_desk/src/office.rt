@@ -2,7 +2,9 @@
 ghost use Rattle.std.specs.Prelude.{◌≡◌, Some};
 ghost use Rattle.aq_profile.specs.Office.Refusal.{kept_at};
 
-use aq_base::{Duration, Hour, MonitorId, ObsKey, Observation, OfficeKey, OfficeLine, OfficeRecord, Rule};
+use aq_base::{
+    Duration, Hour, MonitorId, ObsKey, Observation, OfficeKey, OfficeLine, OfficeRecord, Rule,
+};
 use aq_forms::read_office;
 use aq_rd::{RdLine, has_office_tag, read_rd};
 use aq_registry::{Registry, RegistryFault};
