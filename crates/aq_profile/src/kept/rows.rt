@@ -73,18 +73,15 @@ pub fn load_rows()
     ensures rest { (load_row (kept_load 700 50 602 (refused_lines 500) (record { rule = BadTag; count = 100 } ∷ record { rule = ParameterOutOfProfile; count = 2 } ∷ []))).rest ≡ codes "2:100 6:2" }
 {}
 
-/// Beyond 500 listed lines the others are counted by rule, in rising number, each once at least.
-pub fn replies_with_a_rest()
+/// Beyond 500 listed lines the others are counted by rule, in rising number, each once at least. Nine
+/// monitors of a site may stand where they are of two pollutants, and of one eight.
+pub fn rests_and_monitors()
     ensures rest { is_load (kept_load 700 50 602 (refused_lines 500) (record { rule = BadTag; count = 100 } ∷ record { rule = ParameterOutOfProfile; count = 2 } ∷ [])) ≡ true }
     ensures falling { is_load (kept_load 700 50 602 (refused_lines 500) (record { rule = ParameterOutOfProfile; count = 2 } ∷ record { rule = BadTag; count = 100 } ∷ [])) ≡ false }
     ensures none { is_load (kept_load 700 50 500 (refused_lines 500) (record { rule = BadTag; count = 0 } ∷ [])) ≡ false }
     ensures after_499 { is_load (kept_load 700 50 500 (refused_lines 499) (record { rule = BadTag; count = 1 } ∷ [])) ≡ false }
     ensures listed_501 { is_load (kept_load 700 50 501 (refused_lines 501) []) ≡ false }
     ensures other_number { is_load (kept_load 700 50 600 (refused_lines 500) (record { rule = BadTag; count = 102 } ∷ [])) ≡ false }
-{}
-
-/// Nine monitors of a site may stand where they are of two pollutants, and of one eight.
-pub fn monitors_of_a_site()
     ensures two_pollutants { is_valid nine_monitors ≡ true }
     ensures eight { is_valid (many_monitors 8) ≡ true }
     ensures nine { is_valid (many_monitors 9) ≡ false }

@@ -14,9 +14,11 @@ ghost use Rattle.aq_profile.specs.Lines.Reading.{LineValue, OfRd, OfOffice, line
 ghost use Rattle.aq_profile.specs.Lines.Canonical.{canonical_rd, canonical_office, is_line_value, is_office_line, is_rd_value, printed_key};
 
 /// Digits beyond thousandths of a ppm, or tenths of a µg/m3, are dropped, toward zero for negative
-/// values too; a value in ppb is cut to whole ppb.
-#[tactic(auto, unfolding(crate::specs::Lines::Spellings::value_in))]
-pub fn values_are_cut()
+/// values too; a value in ppb is cut to whole ppb. The least and the greatest value of each pollutant
+/// are read, and the ones beyond are not. Codes of one character and of two, in the fields of
+/// qualifiers and of the null code. Three canonical RD lines, and the values that they spell.
+#[tactic(auto, unfolding(crate::specs::Lines::Spellings::value_in, crate::specs::Lines::Spellings::qualifiers_in, crate::specs::Lines::Spellings::site_in, crate::specs::Lines::Spellings::date_in, crate::specs::Lines::Spellings::time_in, crate::specs::Lines::RdForm::monitor_in, crate::specs::Lines::RdForm::start_in, crate::specs::Lines::RdForm::content_in, crate::specs::Lines::RdForm::put_in, crate::specs::Lines::RdForm::delete_in, aq_base::specs::Calendar::days_of_years, aq_base::specs::Calendar::days_of_months))]
+pub fn fields_and_samples_are_read()
     ensures ppm { option_and_then (λ places. value_in Ozone places (codes ".0437")) (unit_in Ozone (codes "007")) ≡ Some (pos 43) }
     ensures ppb { option_and_then (λ places. value_in Ozone places (codes "43.7")) (unit_in Ozone (codes "008")) ≡ Some (pos 43) }
     ensures below_zero { option_and_then (λ places. value_in Pm25 places (codes "-0.05")) (unit_in Pm25 (codes "105")) ≡ Some (pos 0) }
@@ -24,11 +26,6 @@ pub fn values_are_cut()
     ensures least { value_in Ozone 3 (codes "-.9999") ≡ Some (neg_ℤ (pos 999)) }
     ensures too_low { value_in Ozone 3 (codes "-1") ≡ None }
     ensures greatest { value_in Pm25 1 (codes "+9999.99") ≡ Some (pos 99999) }
-{}
-
-/// The least and the greatest value of each pollutant are read, and the ones beyond are not.
-#[tactic(auto, unfolding(crate::specs::Lines::Spellings::value_in))]
-pub fn values_at_the_ends_of_their_range()
     ensures least_ozone { value_in Ozone 3 (codes "-0.999") ≡ Some (neg_ℤ (pos 999)) }
     ensures greatest_ozone { value_in Ozone 3 (codes "9.9999") ≡ Some (pos 9999) }
     ensures above_ozone { value_in Ozone 3 (codes "10") ≡ None }
@@ -38,11 +35,6 @@ pub fn values_at_the_ends_of_their_range()
     ensures least_pm10 { value_in Pm10 1 (codes "-99.99") ≡ Some (neg_ℤ (pos 999)) }
     ensures greatest_pm10 { value_in Pm10 1 (codes "9999.9") ≡ Some (pos 99999) }
     ensures above_pm10 { value_in Pm10 1 (codes "10000.0") ≡ None }
-{}
-
-/// Codes of one character and of two, in the fields of qualifiers and of the null code.
-#[tactic(auto, unfolding(crate::specs::Lines::Spellings::qualifiers_in))]
-pub fn codes_are_read()
     ensures digit { qualifiers_in (codes "1" ∷ []) ≡ Some (record { first = 49; second = 0 } ∷ []) }
     ensures digit_and_letter { qualifiers_in (codes "9Z" ∷ []) ≡ Some (record { first = 57; second = 90 } ∷ []) }
     ensures behind_empty_fields { qualifiers_in ([] ∷ codes "V" ∷ [] ∷ codes "RT" ∷ []) ≡ Some (record { first = 86; second = 0 } ∷ record { first = 82; second = 84 } ∷ []) }
@@ -51,11 +43,6 @@ pub fn codes_are_read()
     ensures three_characters { qualifiers_in (codes "RTX" ∷ []) ≡ None }
     ensures null { null_in (codes "A1") ≡ Some (record { first = 65; second = 49 }) }
     ensures null_of_one_character { null_in (codes "A") ≡ None }
-{}
-
-/// Three canonical RD lines, and the values that they spell.
-#[tactic(auto, unfolding(crate::specs::Lines::Spellings::site_in, crate::specs::Lines::Spellings::date_in, crate::specs::Lines::Spellings::time_in, crate::specs::Lines::Spellings::value_in, crate::specs::Lines::Spellings::qualifiers_in, crate::specs::Lines::RdForm::monitor_in, crate::specs::Lines::RdForm::start_in, crate::specs::Lines::RdForm::content_in, crate::specs::Lines::RdForm::put_in, crate::specs::Lines::RdForm::delete_in, aq_base::specs::Calendar::days_of_years, aq_base::specs::Calendar::days_of_months))]
-pub fn samples_are_read()
     ensures inserted { line_value (codes "RD|I|06|037|1103|44201|1|1|007|087|20240701|13:00|0.071||||V|RT") ≡ Some (OfRd (Put false (record { site = record { state = 6; county = 37; number = 1103 }; pollutant = Ozone; poc = 1 }) Hour 87 214765 (record { value = Some (pos 71); null = None; quals = record { first = 86; second = 0 } ∷ record { first = 82; second = 84 } ∷ [] }))) }
     ensures updated { line_value (codes "RD|U|06|037|1103|88101|2|7|105|145|20240107|00:00||AN") ≡ Some (OfRd (Put true (record { site = record { state = 6; county = 37; number = 1103 }; pollutant = Pm25; poc = 2 }) Day 145 210528 (record { value = None; null = Some (record { first = 65; second = 78 }); quals = [] }))) }
     ensures deleted { line_value (codes "RD|D|06|037|1103|44201|1||||20240701|13:00") ≡ Some (OfRd (Delete (record { site = record { state = 6; county = 37; number = 1103 }; pollutant = Ozone; poc = 1 }) 214765)) }

@@ -14,27 +14,20 @@ ghost use Rattle.aq_profile.specs.Office.Exclusion.{agrees_to, excluded};
 ghost use Rattle.aq_profile.specs.Ozone.OzoneExamples.{monitor_id, site, smoke, smoke_event, summer_day};
 ghost use Rattle.aq_profile.specs.Office.OfficeExamples.{east, events, fireworks, monitor_at, noon, west};
 
-/// Nothing is excluded where no concurrence `Y` stands.
-pub fn exclusion_needs_a_concurrence()
-    ensures { (records : List OfficeRecord) (key : ObsKey) (codes : List Code)
+/// Nothing is excluded where no concurrence `Y` stands. The event's hours with its code are excluded;
+/// its other hours, hours outside, and hours under the number of another event are not. A code outside
+/// RA to RZ, as IT, excludes nothing, whatever events stand.
+pub fn exclusion_needs_an_event_and_its_concurrence()
+    ensures exclusion_needs_a_concurrence { (records : List OfficeRecord) (key : ObsKey) (codes : List Code)
         → ((number : ℕ) → list_any (agrees_to number) records ≡ false)
         → excluded records key codes ≡ false }
-{}
-
-/// The event's hours with its code are excluded; its other hours, hours outside, and hours under the
-/// number of another event are not.
-pub fn exclusion_of_a_smoky_hour()
     ensures first { excluded (smoke_event ∷ Concurrence 1 true ∷ []) (record { monitor = monitor_id 1; hour = hour_number summer_day 12 }) (smoke ∷ []) ≡ true }
     ensures last { excluded (smoke_event ∷ Concurrence 1 true ∷ []) (record { monitor = monitor_id 1; hour = hour_number summer_day 14 }) (smoke ∷ []) ≡ true }
     ensures later { excluded (smoke_event ∷ Concurrence 1 true ∷ []) (record { monitor = monitor_id 1; hour = hour_number summer_day 15 }) (smoke ∷ []) ≡ false }
     ensures without_code { excluded (smoke_event ∷ Concurrence 1 true ∷ []) (record { monitor = monitor_id 1; hour = hour_number summer_day 12 }) [] ≡ false }
     ensures other_number { excluded (smoke_event ∷ Concurrence 2 true ∷ []) (record { monitor = monitor_id 1; hour = hour_number summer_day 12 }) (smoke ∷ []) ≡ false }
     ensures disagreed { excluded (smoke_event ∷ Concurrence 1 false ∷ []) (record { monitor = monitor_id 1; hour = hour_number summer_day 12 }) (smoke ∷ []) ≡ false }
-{}
-
-/// A code outside RA to RZ, as IT, excludes nothing, whatever events stand.
-pub fn exclusion_needs_a_code_from_ra_to_rz()
-    ensures { excluded
+    ensures exclusion_needs_a_code_from_ra_to_rz { excluded
         (Event 1 site Ozone 0 9 (record { first = 73; second = 84 }) ∷ Concurrence 1 true ∷ [])
         (record { monitor = monitor_id 1; hour = 5 }) (record { first = 73; second = 84 } ∷ []) ≡ false }
 {}

@@ -9,26 +9,19 @@ ghost use Rattle.aq_profile.specs.Office.Schedule.{is_scheduled};
 ghost use Rattle.aq_profile.specs.Office.Season.{Season, season_of};
 ghost use Rattle.aq_profile.specs.Ozone.OzoneExamples.{site};
 
-/// The designation with the latest start counts, whatever its place in the list, and POC 0 means
-/// none.
-pub fn latest_designation_counts()
+/// The designation with the latest start counts, whatever its place in the list, and POC 0 means none.
+/// Every third day counts from an anchor, before it and after it, once the schedule has begun. The
+/// season on record counts for its year; another year's season is the whole year.
+pub fn what_records_say_of_a_day()
     ensures before { primary_on (Primary site Ozone 100 2 ∷ Primary site Ozone 50 1 ∷ []) site Ozone 49 ≡ None }
     ensures first { primary_on (Primary site Ozone 100 2 ∷ Primary site Ozone 50 1 ∷ []) site Ozone 99 ≡ Some 1 }
     ensures second { primary_on (Primary site Ozone 100 2 ∷ Primary site Ozone 50 1 ∷ []) site Ozone 100 ≡ Some 2 }
     ensures ended { primary_on (Primary site Ozone 50 1 ∷ Primary site Ozone 100 0 ∷ []) site Ozone 100 ≡ None }
-{}
-
-/// Every third day counts from an anchor, before it and after it, once the schedule has begun.
-pub fn every_third_day_is_scheduled()
     ensures anchor { is_scheduled (Schedule site Pm25 10 3 20 ∷ []) site Pm25 20 ≡ true }
     ensures after { is_scheduled (Schedule site Pm25 10 3 20 ∷ []) site Pm25 23 ≡ true }
     ensures earlier { is_scheduled (Schedule site Pm25 10 3 20 ∷ []) site Pm25 11 ≡ true }
     ensures between { is_scheduled (Schedule site Pm25 10 3 20 ∷ []) site Pm25 22 ≡ false }
     ensures not_begun { is_scheduled (Schedule site Pm25 10 3 20 ∷ []) site Pm25 8 ≡ false }
-{}
-
-/// The season on record counts for its year; another year's season is the whole year.
-pub fn season_without_a_record_is_the_year()
     ensures recorded { season_of (SeasonRecord site 2000 60 304 ∷ []) site 2000 ≡ record { first = 60; last = 304 } }
     ensures whole { season_of (SeasonRecord site 2000 60 304 ∷ []) site 2001 ≡ record { first = 366; last = 730 } }
 {}

@@ -8,9 +8,10 @@ ghost use Rattle.aq_profile.specs.Office.Questions.{covers, following, makeup_of
 ghost use Rattle.aq_profile.specs.Office.QuestionExamples.{coast, desert, monitor_at, two_sites, valley};
 
 /// A record is found by its key, and the next one by any key, whether or not a record has it. PM10
-/// comes before PM2.5.
-#[tactic(auto, unfolding(crate::specs::Office::Questions::following))]
-pub fn records_by_their_keys()
+/// comes before PM2.5. A monitor's duration and eligibility, the registered POC that comes next, and
+/// the site.
+#[tactic(auto, unfolding(crate::specs::Office::Questions::following, crate::specs::Office::Questions::registration_of, crate::specs::Office::Questions::next_poc, crate::specs::Office::Questions::next_site))]
+pub fn records_and_monitors_asked_for()
     ensures found { record_of two_sites (PrimaryKey coast Ozone 8766) ≡ Some (Primary coast Ozone 8766 4) }
     ensures absent { record_of two_sites (PrimaryKey coast Ozone 8767) ≡ None }
     ensures first { following two_sites None ≡ Some (Monitor (monitor_at coast Ozone 1) Hour true) }
@@ -19,11 +20,6 @@ pub fn records_by_their_keys()
     ensures next_kind { following two_sites (Some (PrimaryKey coast Ozone 8766)) ≡ Some (Makeup coast 8772 8774) }
     ensures behind_events { following two_sites (Some (EventKey 15)) ≡ Some (Concurrence 12 true) }
     ensures behind_all { following two_sites (Some (ConcurrenceKey 12)) ≡ None }
-{}
-
-/// A monitor's duration and eligibility, the registered POC that comes next, and the site.
-#[tactic(auto, unfolding(crate::specs::Office::Questions::registration_of, crate::specs::Office::Questions::next_poc, crate::specs::Office::Questions::next_site))]
-pub fn monitors_and_sites()
     ensures hours { registration_of two_sites (monitor_at coast Ozone 4) ≡ Some (record { duration = Hour; eligible = false }) }
     ensures days { registration_of two_sites (monitor_at coast Pm10 2) ≡ Some (record { duration = Day; eligible = true }) }
     ensures other_pollutant { registration_of two_sites (monitor_at coast Pm10 4) ≡ None }
@@ -34,7 +30,7 @@ pub fn monitors_and_sites()
     ensures first_site { next_site two_sites None ≡ Some coast }
     ensures next_site { next_site two_sites (Some coast) ≡ Some valley }
     ensures no_site { next_site two_sites (Some valley) ≡ None }
-    ensures behind_all { next_site two_sites (Some desert) ≡ None }
+    ensures monitors_and_sites_behind_all { next_site two_sites (Some desert) ≡ None }
 {}
 
 /// A missed day has its make-up day, and a make-up day its missed day, each at its own site.

@@ -11,8 +11,9 @@ ghost use Rattle.aq_profile.specs.Office.Schedule.{is_scheduled};
 ghost use Rattle.aq_profile.specs.Office.Season.{season_of};
 ghost use Rattle.aq_profile.specs.Office.OfficeExamples.{east, west};
 
-/// An approval is of its day and site; a designation and a schedule of their site and pollutant; a
-/// season of its site and year.
+/// An approval is of one day of one site. A designation of PM2.5 or of another site makes no primary of
+/// ozone. A schedule of PM10 or of another site asks for no sample of PM2.5. The schedule that began
+/// last counts, whichever anchor is later. A season is of one year of one site, and lies in that year.
 #[tactic(auto, unfolding(crate::specs::Office::Approval::is_approved, crate::specs::Office::Designation::primary_on, crate::specs::Office::Schedule::is_scheduled, crate::specs::Office::Season::season_of, crate::specs::Lines::Spellings::site_in, crate::specs::Lines::Spellings::year_in, crate::specs::Lines::Spellings::date_in, aq_base::specs::Calendar::year_of, aq_base::specs::Calendar::days_of_years, aq_base::specs::Calendar::days_of_months))]
 pub fn records_are_of_their_own_site()
     ensures day { is_approved (Approved west 8948 ∷ []) west 8948 ≡ true }

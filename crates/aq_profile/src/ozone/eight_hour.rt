@@ -8,8 +8,8 @@ ghost use Rattle.aq_profile.specs.Office.Office.{Office};
 ghost use Rattle.aq_profile.specs.Ozone.SiteHour.{Cell, site_hour};
 ghost use Rattle.aq_profile.specs.Ozone.EightHour.{WindowRow, average, row_of, window};
 
-/// Six hours are averaged and truncated. Five with a sum of 567 have no average, and with 568 they have
-/// one, over eight.
+/// Six hours, five of 0.071 ppm and one of 0.070: the mean is cut to 0.070. Five hours whose sum over
+/// eight is not above the level of 0.070 ppm have no average. With one more thousandth they have one.
 pub fn averages_of_six_hours_and_of_five()
     ensures six_hours_are_truncated { average 6 (pos 425) ≡ Some (pos 70) }
     ensures five_hours_with_567_have_no_average { average 5 (pos 567) ≡ None }

@@ -10,8 +10,9 @@ ghost use Rattle.aq_profile.specs.Office.Office.{Office};
 ghost use Rattle.aq_profile.specs.Office.OfficeExamples.{season_of_days};
 ghost use Rattle.aq_profile.specs.Ozone.OzoneExamples.{year_with, year_without_fourth};
 
-/// Values of 0.070, 0.071 and 0.071 ppm have a third of 212, which is truncated and meets the standard; a
-/// third of 213 does not. Where a fourth highest value is missing there is no design value.
+/// A third of 212 thousandths is cut to 0.070 ppm, which meets the standard where the seasons are
+/// complete. A third of 213 thousandths is above the level, complete or not. A year without a fourth
+/// highest value leaves no design value.
 pub fn values_of_three_years()
     ensures complete { ozone_dv (year_with 245 71 ∷ year_with 245 71 ∷ year_with 245 70 ∷ []) ≡ record { value = Some (pos 70); verdict = Met } }
     ensures incomplete { ozone_dv (year_with 245 71 ∷ year_with 245 71 ∷ year_with 183 70 ∷ []) ≡ record { value = Some (pos 70); verdict = Incomplete } }
@@ -19,8 +20,10 @@ pub fn values_of_three_years()
     ensures missing_fourth_leaves_no_value { ozone_dv (year_with 245 71 ∷ year_without_fourth ∷ year_with 245 71 ∷ []) ≡ record { value = None; verdict = NoValue } }
 {}
 
-/// Each season is three quarters valid, and the three are nine tenths valid on average: the parts are
-/// averaged, and the days are not pooled.
+/// Of three seasons of 245 days, 662 days are nine tenths, and 661 are not. Each season needs three
+/// quarters of its days: 184 of 245, where 183 are too few. Nine tenths are of the three fractions, and
+/// not of all days together: 292 of 365, 100 of 100 and 90 of 100 are enough, and with one day fewer
+/// they are not.
 pub fn complete_seasons()
     ensures enough { is_complete (year_with 221 70) (year_with 221 70) (year_with 220 70) ≡ true }
     ensures too_few { is_complete (year_with 221 70) (year_with 220 70) (year_with 220 70) ≡ false }

@@ -14,8 +14,8 @@ ghost use Rattle.aq_profile.specs.Ozone.OzoneDay.{OzoneDay, ozone_day};
 ghost use Rattle.aq_profile.specs.Lists.{ranked};
 ghost use Rattle.aq_profile.specs.Ozone.OzoneYear.{OzoneYear, fourth_of, ozone_year, ranked_maxima};
 
-/// Equal values are counted each, and three values have no fourth. Days that are not valid, and valid
-/// days without a maximum, are not ranked.
+/// Equal values are counted each. Three values have no fourth. Days that are not valid, and valid days
+/// without a maximum, are not ranked.
 pub fn ranked_values_and_their_fourth()
     ensures fourth_highest_counts_ties { fourth_of (ranked (pos 60 ∷ pos 71 ∷ pos 71 ∷ pos 75 ∷ pos 71 ∷ [])) ≡ Some (pos 71) }
     ensures three_values_have_no_fourth { fourth_of (ranked (pos 60 ∷ pos 71 ∷ pos 75 ∷ [])) ≡ None }

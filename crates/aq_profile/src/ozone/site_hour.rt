@@ -11,15 +11,12 @@ ghost use Rattle.aq_profile.specs.Office.Monitors.{is_same_key};
 ghost use Rattle.aq_profile.specs.Ozone.SiteHour.{is_ozone_at, site_hour};
 ghost use Rattle.aq_profile.specs.Ozone.OzoneExamples.{site, summer_day, three_monitors, secondaries, reading, office_of};
 
-/// Without the primary's value the mean of the other two monitors is taken, truncated.
-pub fn secondaries_are_averaged()
-    ensures { site_hour (office_of three_monitors secondaries) site (hour_number summer_day 12)
+/// Without the primary's value the mean of the other two monitors is taken, truncated. With the
+/// primary's value it alone is taken.
+pub fn hours_of_two_monitors()
+    ensures secondaries_are_averaged { site_hour (office_of three_monitors secondaries) site (hour_number summer_day 12)
         ≡ Some (record { value = pos 42; excluded = false }) }
-{}
-
-/// With the primary's value it alone is taken.
-pub fn primary_stands_alone()
-    ensures { site_hour (office_of three_monitors (reading 1 50 [] (hour_number summer_day 12) ∷ secondaries)) site (hour_number summer_day 12)
+    ensures primary_stands_alone { site_hour (office_of three_monitors (reading 1 50 [] (hour_number summer_day 12) ∷ secondaries)) site (hour_number summer_day 12)
         ≡ Some (record { value = pos 50; excluded = false }) }
 {}
 

@@ -9,8 +9,12 @@ ghost use Rattle.aq_profile.specs.Shown.Sheet.{text_of};
 ghost use Rattle.aq_profile.specs.Shown.Sheets.{load_sheet, windows_answer};
 ghost use Rattle.aq_profile.specs.Ozone.OzoneExamples.{site, summer_day, old_years_day, new_years_day, afternoon, nine_lines, one_hour, empty_row, single_row, smoky};
 
-/// A load of nine lines, and the windows of its eight hours.
-pub fn windows_of_a_load()
+/// The reply to a monitor and eight hours of values. Eight hours of 0.071 ppm from 10:00: the averages
+/// that read six of them or more are there. An hour at 06:00 is read by the average of 23:00 on the day
+/// before, and by no average of its own day. An hour at 07:00 is read by the average of that hour, and
+/// by no average of the day before. With the event concurred in, six net averages are gone, and the
+/// full ones stay.
+pub fn windows_of_offices()
     ensures load_of_nine_lines { text_of (load_sheet nine_lines)
         ≡ codes "load 0\nlines 9\naccepted 9\nrefused 0\nline rule name count\n" }
     ensures windows_of_eight_hours { text_of (windows_answer afternoon site summer_day)
@@ -20,20 +24,12 @@ pub fn windows_of_a_load()
         ++ codes "13:00 - 5 - 5\n14:00 - 4 - 4\n15:00 - 3 - 3\n16:00 - 2 - 2\n17:00 - 1 - 1\n"
         ++ codes "18:00 - 0 - 0\n19:00 - 0 - 0\n20:00 - 0 - 0\n21:00 - 0 - 0\n22:00 - 0 - 0\n"
         ++ codes "23:00 - 0 - 0\n" }
-{}
-
-/// The average of 06:00 counts for the day before, and that of 07:00 for its day.
-pub fn days_begin_at_seven()
     ensures before { windows (one_hour (hour_number new_years_day 6)) site old_years_day
         ≡ replicate 16 empty_row ++ single_row ∷ [] }
     ensures same_day { windows (one_hour (hour_number new_years_day 6)) site new_years_day ≡ replicate 17 empty_row }
     ensures seven_o_clock_counts_for_its_day_before { windows (one_hour (hour_number new_years_day 7)) site old_years_day ≡ replicate 17 empty_row }
     ensures seven_o_clock_counts_for_its_day_same_day { windows (one_hour (hour_number new_years_day 7)) site new_years_day
         ≡ single_row ∷ replicate 16 empty_row }
-{}
-
-/// With the event concurred in, six net averages are gone, and the full ones stay.
-pub fn event_takes_out_three_hours()
     ensures net { map (λ (r : WindowRow). r.net) (windows (smoky true) site summer_day)
         ≡ replicate 6 None ++ replicate 11 (Some (pos 60)) }
     ensures full { map (λ (r : WindowRow). r.full) (windows (smoky true) site summer_day)

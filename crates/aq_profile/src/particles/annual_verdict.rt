@@ -12,8 +12,12 @@ ghost use Rattle.aq_profile.specs.Standards.{level_of};
 ghost use Rattle.aq_profile.specs.Lists.{greatest, least};
 ghost use Rattle.aq_profile.specs.Particles.ParticleExamples.{daily_year, even_quarter, even_year, mixed_quarter, with_low_day, year_above_360, year_from, year_with_second};
 
-/// Means are rounded once, at the end. The maximum test needs half of the days, and the minimum test
-/// thirty days. An empty quarter leaves no value.
+/// Thirty values with a sum of 361.5 in each quarter give 12.05, which rounds to 12.1 and does not meet
+/// 12.0; a sum of 361.2 gives 12.04, which rounds to 12.0 and meets it. A quarter with 54 of 90 days
+/// has a capture of 60, and passes the maximum test; with 44 days its capture of 49 is too low for the
+/// test. A quarter with ten samples gets one copy of the least value of its calendar quarter, and the
+/// test value stays above the level; three such quarters with 28 days in all have no test. A quarter
+/// without a value leaves no design value.
 pub fn means_of_three_years()
     ensures above { annual_dv (level_of Annual2012) (replicate 3 (year_above_360 15))
         ≡ record { value = Some (pos 121); test = None; valid = true ∷ true ∷ true ∷ []; verdict = NotMet } }
@@ -31,8 +35,14 @@ pub fn means_of_three_years()
         ≡ record { value = None; test = None; valid = false ∷ true ∷ true ∷ []; verdict = NoValue } }
 {}
 
-/// Quarters weigh the same whatever the number of their days. Above the level eleven samples a quarter
-/// are enough. Copies fill a quarter, with the value of the same quarter of the three years.
+/// Each quarter counts the same in a year, however many days it has: 10.0 and three times 14.0 have the
+/// mean 13.0. Eleven creditable samples in each quarter are enough for a year whose mean is above the
+/// level, and also where the design value alone is, and ten are not; counted samples and days are other
+/// numbers. A quarter is filled up to its scheduled days by copies for those without a creditable
+/// sample, where half of them have one; what is excluded gets no copy. For the minimum test it is
+/// filled up to eleven, where thirty days have a value. The copies are of the least value for the
+/// minimum test, and of the greatest for the maximum test, of the same quarter of any of the three
+/// years, and of no other quarter.
 pub fn quarters_and_their_copies()
     ensures quarters_weigh_the_same { mean_of of_values (even_quarter 30 10 100 ∷ even_quarter 30 30 140 ∷ even_quarter 30 30 140 ∷ even_quarter 30 30 140 ∷ []) ≡ Some (pos 130) }
     ensures eleven { annual_dv (level_of Annual2012) (replicate 3 (year_with_second (mixed_quarter 30 11 10 12 130)))

@@ -6,8 +6,10 @@ ghost use Rattle.aq_base.specs.declared.standard.Verdict.TheVariants.{Met, NotMe
 ghost use Rattle.aq_profile.specs.Particles.DailyVerdict.{daily_dv, is_daily_year};
 ghost use Rattle.aq_profile.specs.Particles.ParticleExamples.{no_sample, one_sample, year_of_percentile, year_of_two_ranks, year_with_first};
 
-/// The mean of three percentiles is rounded once; 35 µg/m3 meets the standard. Copies join the list, and
-/// count as samples.
+/// Percentiles of 35.4, 35.5 and 35.6 have a mean of 35.5, which rounds to 36. Twelve copies of 10.0
+/// for a quarter with a capture of 60 leave the percentile; with a capture of 49 there is no test. 35
+/// meets the standard. The copies count as samples: with 11 of them 100 counted samples are 111, and
+/// the percentile is the third of the values and no more the second.
 pub fn percentiles_of_three_years()
     ensures mean_of_percentiles_is_rounded_once { daily_dv (year_of_percentile 354 ∷ year_of_percentile 355 ∷ year_of_percentile 356 ∷ [])
         ≡ record { value = Some (pos 36); test = None; valid = true ∷ true ∷ true ∷ []; verdict = NotMet } }

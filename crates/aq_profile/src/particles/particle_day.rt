@@ -16,9 +16,13 @@ ghost use Rattle.aq_profile.specs.Particles.Pm10Estimate.{pm10_year};
 ghost use Rattle.aq_profile.specs.Ozone.OzoneExamples.{office_of, site};
 ghost use Rattle.aq_profile.specs.Particles.ParticleExamples.{hourly, particle_id, particle_sample, primary_of, smoky_evening, three_samplers, winter_day, with_ineligible};
 
-/// Seventeen hours need a high sum. One excluded hour excludes the day. A monitor that is not registered
-/// or not eligible has no day, and its duration decides. The primary stands for the site, and one monitor
-/// counts for PM10.
+/// Seventeen hours of PM2.5 with a sum of 852.0 make a day of 35.5, and with 851.9 they make none. Of
+/// PM10 they make none at all, and eighteen hours make the day of their mean. One excluded hour of
+/// eighteen makes the day an excluded one. A monitor that is not eligible has no day, and neither has
+/// one that is not registered. A monitor's own duration decides: of hours its day is their mean, of 24
+/// hours its sample at 00:00. Of PM2.5 the primary's sample counts, and where it has none the truncated
+/// mean of the others'. Of PM10 the primary alone counts, and without one the lowest POC alone, whether
+/// or not it has a sample.
 pub fn days_of_monitors_and_sites()
     ensures high { site_day (hourly Pm25 504 16) site Pm25 winter_day ≡ Some (record { value = pos 355; excluded = false }) }
     ensures lower { site_day (hourly Pm25 503 16) site Pm25 winter_day ≡ None }

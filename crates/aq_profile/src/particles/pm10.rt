@@ -10,8 +10,13 @@ ghost use Rattle.aq_profile.specs.Particles.Pm10Verdict.{is_complete_quarter, pm
 ghost use Rattle.aq_profile.specs.Ozone.OzoneExamples.{site};
 ghost use Rattle.aq_profile.specs.Particles.ParticleExamples.{busy_quarter, calm_quarter, calm_year, captured_quarter, empty_quarter, exceeding_quarter, mixed_days, particle_sample, quarter_of_exceedances, third_of_2023, with_exceedance};
 
-/// An exceedance begins at 155 µg/m3. One of fifteen samples, and a second sample in a stratum, are
-/// estimated. Four exceedances are unambiguous. The lower estimate takes all scheduled days.
+/// 154.9 rounds to 150 and does not exceed; 155.0 rounds to 160 and does, and so does every value above
+/// it. Every sixth day, 15 of 16 scheduled days sampled and one exceeding: 92 days over 15 samples is
+/// 6.13, the year has 6.1, and three years 2.0, which does not meet the standard. With a second sample
+/// in the exceeding day's stratum half of that stratum exceeds: 3.07, 3.1 and 1.0, which meets the
+/// standard. A quarter without a sample leaves no design value. Four exceedances elsewhere do not meet
+/// the standard all the same; three that are on no scheduled day decide nothing. The lower estimate
+/// counts exceedances on scheduled days over all scheduled days: 92 over 16 is 5.75.
 pub fn exceedances_and_their_estimates()
     ensures below { exceeds (pos 1549) ≡ false }
     ensures above { exceeds (pos 1550) ≡ true }
@@ -41,8 +46,11 @@ pub fn a_pm10_quarter_is_counted()
     ensures lower { quarter_lower (pm10_quarter mixed_days site third_of_2023) ≡ Some (pos 575) }
 {}
 
-/// Estimates are rounded once. A quarter with a sample on three quarters of its scheduled days is
-/// complete, and an unambiguous case needs no complete quarter.
+/// Means are rounded and not cut: of 0, 0 and 3.2 the mean is 1.07, which is 1.1. Without a scheduled
+/// day the lower estimate is 0. Three quarters of the scheduled days have to be captured, and one day
+/// has to be scheduled. An unambiguous case does not meet the standard where a quarter is not complete,
+/// whatever the value. One exceedance on one of 16 scheduled days is unambiguous: its lower estimate is
+/// 5.75 for the quarter and 1.9 for the three years.
 pub fn estimates_and_completeness()
     ensures quarter { quarter_estimate busy_quarter ≡ Some (pos 321) }
     ensures year { year_of_quarters quarter_estimate (calm_quarter ∷ busy_quarter ∷ calm_quarter ∷ calm_quarter ∷ []) ≡ Some (pos 32) }

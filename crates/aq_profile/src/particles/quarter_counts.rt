@@ -9,20 +9,18 @@ ghost use Rattle.aq_profile.specs.Ozone.OzoneExamples.{site};
 ghost use Rattle.aq_profile.specs.Particles.ParticleExamples.{makeup_on, makeups_every, sampled_quarter, with_makeups};
 
 /// 68 of 91 scheduled days are 75 percent, and 67 of 90 are 74. Days that are excluded take nothing
-/// away. Without a scheduled day it is 0.
-pub fn capture_is_rounded_to_a_percent()
+/// away. Without a scheduled day it is 0. Every sixth day is scheduled, and 7 January is missed. A
+/// sample makes up for it before the 13th or exactly a week later; the 13th is scheduled, and on the
+/// 8th there is none. Where every day is scheduled, one a week later makes up for none. Where every
+/// third day is, one before the 10th does and one after it does not, but a week later one does. A day
+/// with a sample of its own is not missed, and neither is one that is not scheduled. Of the 91 days of
+/// the first quarter of 2024 every sixth, 16, is scheduled. Three of these have a sample, and the
+/// sample of another day makes up for a fourth; one sample is excluded.
+pub fn captures_and_credits()
     ensures enough { capture (record { scheduled = 91; creditable = 68; counted = 68 }) ≡ 75 }
     ensures too_few { capture (record { scheduled = 90; creditable = 67; counted = 67 }) ≡ 74 }
     ensures excluded { capture (record { scheduled = 91; creditable = 68; counted = 60 }) ≡ 75 }
     ensures none { capture (record { scheduled = 0; creditable = 0; counted = 0 }) ≡ 0 }
-{}
-
-/// Every sixth day is scheduled, and 7 January is missed. A sample makes up for it before the 13th or
-/// exactly a week later; the 13th is scheduled, and on the 8th there is none. Where every day is
-/// scheduled, one a week later makes up for none. Where every third day is, one before the 10th does and
-/// one after it does not, but a week later one does. A day with a sample of its own is not missed, and
-/// neither is one that is not scheduled.
-pub fn makeup_days_give_credit()
     ensures ninth { gives_credit with_makeups site (makeup_on 9) ≡ true }
     ensures twelfth { gives_credit with_makeups site (makeup_on 12) ≡ true }
     ensures week_later { gives_credit with_makeups site (makeup_on 14) ≡ true }
@@ -34,12 +32,7 @@ pub fn makeup_days_give_credit()
     ensures week_behind_the_next { gives_credit (makeups_every 3) site (makeup_on 14) ≡ true }
     ensures missed_is_sampled { gives_credit with_makeups site (record { missed = day_number 2024 1 13; makeup = day_number 2024 1 14 }) ≡ false }
     ensures missed_is_unscheduled { gives_credit with_makeups site (record { missed = day_number 2024 1 8; makeup = day_number 2024 1 9 }) ≡ false }
-{}
-
-/// Of the 91 days of the first quarter of 2024 every sixth, 16, is scheduled. Three of these have a
-/// sample, and the sample of another day makes up for a fourth; one sample is excluded.
-pub fn a_quarter_is_counted()
-    ensures { quarter_counts sampled_quarter site (quarter_number 2024 0) ≡ record { scheduled = 16; creditable = 4; counted = 3 } }
+    ensures a_quarter_is_counted { quarter_counts sampled_quarter site (quarter_number 2024 0) ≡ record { scheduled = 16; creditable = 4; counted = 3 } }
 {}
 
 /// A design value is of the year and the two before it, the oldest first.

@@ -30,25 +30,18 @@ pub fn strata_are_short()
 
 /// Without a schedule the 90 days of the first quarter of 2023 are fifteen strata of six. Where every
 /// sixth day is scheduled from 1 July 2023 on, that quarter has 16, of which the last has two days, and
-/// 3 July lies in the stratum of 1 July; a schedule from 10 August on begins a new one on that day.
-pub fn strata_begin_six_days_apart_or_sooner()
+/// 3 July lies in the stratum of 1 July; a schedule from 10 August on begins a new one on that day. Of
+/// one to six samples the part that exceeds is a whole number of sixtieths. Where no stratum has two
+/// samples, the quarter's estimate is its days times the exceedances over the samples.
+pub fn strata_and_their_sixtieths()
     ensures unscheduled { map length (strata_of (office_of [] []) example_site (quarter_number 2023 0)) ≡ replicate 15 6 }
     ensures scheduled { map length (strata_of mixed_days example_site third_of_2023) ≡ replicate 15 6 ++ 2 ∷ [] }
     ensures sooner { map length (strata_of (office_of (Schedule example_site Pm10 (day_number 2023 8 10) 3 (day_number 2023 8 10) ∷ []) []) example_site third_of_2023)
         ≡ replicate 6 6 ++ 4 ∷ replicate 17 3 ++ 1 ∷ [] }
     ensures first_day { stratum_of mixed_days example_site (day_number 2023 7 3) ≡ Some (day_number 2023 7 1) }
     ensures next_day { stratum_of mixed_days example_site (day_number 2023 7 7) ≡ Some (day_number 2023 7 7) }
-{}
-
-/// Of one to six samples the part that exceeds is a whole number of sixtieths.
-pub fn sixtieths_are_exact()
-    ensures { (values : List ℤ) → 1 ≤ length values → length values ≤ 6 → sixtieths_of values * length values ≡ 60 * count_by exceeds values }
-{}
-
-/// Where no stratum has two samples, the quarter's estimate is its days times the exceedances over the
-/// samples.
-pub fn single_samples_give_the_plain_estimate()
-    ensures { (days scheduled captured exceeding : ℕ) (strata : List (List ℤ))
+    ensures sixtieths_are_exact { (values : List ℤ) → 1 ≤ length values → length values ≤ 6 → sixtieths_of values * length values ≡ 60 * count_by exceeds values }
+    ensures single_samples_give_the_plain_estimate { (days scheduled captured exceeding : ℕ) (strata : List (List ℤ))
         → All (λ values. length values ≤ 1) strata
         → quarter_estimate (quarter_of_strata days scheduled captured exceeding strata)
         ≡ (if sum_by length strata == 0 then None

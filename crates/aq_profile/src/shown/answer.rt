@@ -38,8 +38,11 @@ pub fn design_years_have_three_years()
 {}
 
 /// A site without a monitor has no answer, whatever is asked of it, and a number without a load has no
-/// reply.
-pub fn unknown_things_have_no_answer()
+/// reply. A registered site is answered, and each ask by a sheet of its own: with the columns of that
+/// sheet, and the site, day, year and standard that were asked under its heads. Of an office with
+/// monitors of two sites, the third is not answered; and a site is answered about a pollutant of which
+/// it has no monitor, with nothing counted.
+pub fn questions_have_their_sheets()
     ensures windows { (office : Office) (site : Site) (day : ℕ) → is_registered office site ≡ false → answer office (Windows site day) ≡ NoSite }
     ensures days { (office : Office) (site : Site) (year : ℕ) → is_registered office site ≡ false → answer office (Days site year) ≡ NoSite }
     ensures fine { (office : Office) (site : Site) (year : ℕ) → is_registered office site ≡ false → answer office (Pm25 site year) ≡ NoSite }
@@ -47,27 +50,22 @@ pub fn unknown_things_have_no_answer()
     ensures site { (office : Office) (standard : Standard) (site : Site) (year : ℕ) → is_registered office site ≡ false → answer office (Value standard site year) ≡ NoSite }
     ensures export { (office : Office) (site : Site) (pollutant : Pollutant) (year : ℕ) → is_registered office site ≡ false → answer office (Export site pollutant year) ≡ NoSite }
     ensures load { (office : Office) (number : ℕ) → load_at office number ≡ None → answer office (Reply number) ≡ NoLoad }
-{}
-
-/// A registered site is answered, and each ask by a sheet of its own: with the columns of that sheet, and
-/// the site, day, year and standard that were asked under its heads.
-pub fn each_ask_has_its_own_sheet()
-    ensures load { (office : Office) (number : ℕ) (load : StoredLoad) → load_at office number ≡ Some load
+    ensures each_ask_has_its_own_sheet_load { (office : Office) (number : ℕ) (load : StoredLoad) → load_at office number ≡ Some load
         → outline (codes "load" ∷ []) (answer office (Reply number))
         ≡ Some (count_cell load.reply.number ∷ [], codes "line" ∷ codes "rule" ∷ codes "name" ∷ codes "count" ∷ []) }
-    ensures windows { (office : Office) (site : Site) (day : ℕ) → is_registered office site ≡ true
+    ensures each_ask_has_its_own_sheet_windows { (office : Office) (site : Site) (day : ℕ) → is_registered office site ≡ true
         → outline (codes "site" ∷ codes "day" ∷ []) (answer office (Windows site day))
         ≡ Some (Text (site_text site) ∷ Text (day_text day) ∷ [], codes "hour" ∷ codes "average" ∷ codes "hours" ∷ codes "full" ∷ codes "full_hours" ∷ []) }
-    ensures days { (office : Office) (site : Site) (year : ℕ) → is_registered office site ≡ true
+    ensures each_ask_has_its_own_sheet_days { (office : Office) (site : Site) (year : ℕ) → is_registered office site ≡ true
         → outline (codes "site" ∷ codes "year" ∷ []) (answer office (Days site year))
         ≡ Some (Text (site_text site) ∷ count_cell year ∷ [], codes "day" ∷ codes "averages" ∷ codes "valid" ∷ codes "approved" ∷ codes "maximum" ∷ []) }
-    ensures fine { (office : Office) (site : Site) (year : ℕ) → is_registered office site ≡ true
+    ensures each_ask_has_its_own_sheet_fine { (office : Office) (site : Site) (year : ℕ) → is_registered office site ≡ true
         → outline (codes "site" ∷ codes "year" ∷ []) (answer office (Pm25 site year))
         ≡ Some (
           Text (site_text site) ∷ count_cell year ∷ [],
           codes "quarter" ∷ codes "scheduled" ∷ codes "creditable" ∷ codes "capture" ∷ codes "counted" ∷ codes "days" ∷ codes "sum" ∷ codes "least" ∷ codes "greatest" ∷ [],
         ) }
-    ensures coarse { (office : Office) (site : Site) (year : ℕ) → is_registered office site ≡ true
+    ensures each_ask_has_its_own_sheet_coarse { (office : Office) (site : Site) (year : ℕ) → is_registered office site ≡ true
         → outline (codes "site" ∷ codes "year" ∷ []) (answer office (Pm10 site year))
         ≡ Some (
           Text (site_text site) ∷ count_cell year ∷ [],
@@ -79,19 +77,14 @@ pub fn each_ask_has_its_own_sheet()
     ensures report { (office : Office) (standard : Standard) (year : ℕ)
         → outline (codes "standard" ∷ codes "year" ∷ []) (answer office (Report standard year))
         ≡ Some (Text (standard_name standard) ∷ count_cell year ∷ [], codes "site" ∷ codes "value" ∷ codes "verdict" ∷ []) }
-    ensures export { (office : Office) (site : Site) (pollutant : Pollutant) (year : ℕ) → is_registered office site ≡ true
+    ensures each_ask_has_its_own_sheet_export { (office : Office) (site : Site) (pollutant : Pollutant) (year : ℕ) → is_registered office site ≡ true
         → answer office (Export site pollutant year) ≡ OfExport (export_answer office site pollutant year) }
-{}
-
-/// Of an office with monitors of two sites, the third is not answered; and a site is answered about a
-/// pollutant of which it has no monitor, with nothing counted.
-pub fn sites_are_answered_if_they_are_registered()
     ensures other { answer two_sites (Windows third_site 0) ≡ NoSite }
     ensures without { map_sheet text_of (answer two_sites (Pm25 other_site 2024))
         ≡ Some (codes "site 06-037-1104\nyear 2024\ncounted 0\nrank -\npercentile -\nmean -\n"
         ++ codes "quarter scheduled creditable capture counted days sum least greatest\n"
         ++ codes "1 0 0 0 0 0 0.0 - -\n2 0 0 0 0 0 0.0 - -\n3 0 0 0 0 0 0.0 - -\n4 0 0 0 0 0 0.0 - -\n") }
-    ensures report { map_sheet text_of (answer two_sites (Report Annual2012 2024))
+    ensures sites_are_answered_if_they_are_registered_report { map_sheet text_of (answer two_sites (Report Annual2012 2024))
         ≡ Some (codes "standard PM25-ANNUAL-2012\nyear 2024\nsite value verdict\n06-037-1103 - NoValue\n") }
 {}
 

@@ -8,7 +8,10 @@ ghost use Rattle.aq_profile.specs.Ozone.OzoneExamples.{afternoon, site};
 ghost use Rattle.aq_profile.specs.Particles.ParticleExamples.{exported};
 ghost use Rattle.aq_profile.specs.Shown.ShownExamples.{other_site, two_sites};
 
-/// An export has a record for each hour of one site and pollutant, with its codes.
+/// Eight hours of ozone, one record each; another year has the header alone. A value with two
+/// qualifiers, and a null code. A null observation is shown as excluded like any other. Of an office of
+/// two sites and two pollutants, an export has the asked site and pollutant alone, in order of POC and
+/// then of the hour, and each pollutant with its places.
 pub fn exports_print()
     ensures year { export_answer afternoon site Ozone 2024
         ≡ codes "site,parameter,poc,date,hour,value,null,qualifiers,excluded\n"

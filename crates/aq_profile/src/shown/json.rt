@@ -11,7 +11,9 @@ ghost use Rattle.aq_profile.specs.Shown.OtherSheets.{conflict_sheet, error_sheet
 ghost use Rattle.aq_profile.specs.Shown.Json.{Member, head_member, json_of, members_of, table_members};
 ghost use Rattle.aq_profile.specs.Particles.ParticleExamples.{reply_without_lines, one_row};
 
-/// The empty load has 96 bytes, and an error has one member. Each kind of cell has its JSON.
+/// The reply to a load without lines, of 96 bytes. Members go by their names. An error has one member,
+/// and a sheet without columns has neither names nor rows. A whole number is a number, one with places
+/// and a text are strings, and a missing value is null.
 pub fn sheets_have_their_json()
     ensures body { json_of (load_sheet (reply_without_lines 5))
         ≡ codes "{\"accepted\":0,\"columns\":[\"line\",\"rule\",\"name\",\"count\"],\"lines\":0,\"load\":5,\"refused\":0,\"rows\":[]}" }

@@ -17,8 +17,10 @@ ghost use Rattle.aq_profile.specs.Shown.ShownExamples.{exceeding_pm10, tested_an
 ghost use Rattle.aq_profile.specs.Ozone.OzoneExamples.{site};
 ghost use Rattle.aq_profile.specs.Particles.ParticleExamples.{calm_quarter, calm_year, empty_quarter, exceeding_quarter, daily_year, even_quarter, year_of_percentile};
 
-/// A year of PM2.5 with a short first quarter, and one without a sample.
-pub fn pm25_quarters_print()
+/// A year of PM2.5 with a short first quarter, and one without a sample. A year of PM10 with one
+/// exceedance and a quarter without a sample. The design values of three years. A report of two sites,
+/// a conflict of two digests, and a summary.
+pub fn particle_sheets_print()
     ensures sampled { text_of (pm25_sheet site 2023 (summary_of_year (daily_year 54)))
         ≡ codes "site 06-037-1103\nyear 2023\ncounted 329\nrank 7\npercentile 11.2\nmean 11.2\n"
         ++ codes "quarter scheduled creditable capture counted days sum least greatest\n"
@@ -28,19 +30,11 @@ pub fn pm25_quarters_print()
         ≡ codes "site 06-037-1103\nyear 2023\ncounted 0\nrank -\npercentile -\nmean -\n"
         ++ codes "quarter scheduled creditable capture counted days sum least greatest\n"
         ++ codes "1 30 0 0 0 0 0.0 - -\n2 30 0 0 0 0 0.0 - -\n3 30 0 0 0 0 0.0 - -\n4 30 0 0 0 0 0.0 - -\n" }
-{}
-
-/// A year of PM10 with one exceedance and a quarter without a sample.
-pub fn pm10_quarters_print()
-    ensures { text_of (pm10_sheet site 2023 (calm_quarter ∷ calm_quarter ∷ exceeding_quarter ∷ empty_quarter ∷ []))
+    ensures pm10_quarters_print { text_of (pm10_sheet site 2023 (calm_quarter ∷ calm_quarter ∷ exceeding_quarter ∷ empty_quarter ∷ []))
         ≡ codes "site 06-037-1103\nyear 2023\nestimate -\n"
         ++ codes "quarter days scheduled captured strata samples exceedances estimate lower\n"
         ++ codes "1 91 15 15 15 15 0 0.00 0.00\n2 91 15 15 15 15 0 0.00 0.00\n"
         ++ codes "3 92 16 15 15 15 1 6.13 5.75\n4 91 15 0 0 0 0 - 0.00\n" }
-{}
-
-/// The design values of three years.
-pub fn particle_values_print()
     ensures annual { text_of (annual_value_sheet Annual2012 site 2023 (map summary_of_year (daily_year 90 ∷ daily_year 90 ∷ daily_year 54 ∷ []))
         (annual_dv (level_of Annual2012) (daily_year 90 ∷ daily_year 90 ∷ daily_year 54 ∷ [])))
         ≡ codes "standard PM25-ANNUAL-2012\nsite 06-037-1103\nyear 2023\nvalue 11.2\ntest 11.2\nverdict Met\n"
@@ -56,10 +50,6 @@ pub fn particle_values_print()
         ≡ codes "standard PM10-24H-1987\nsite 06-037-1103\nyear 2023\nvalue 2.0\ntest -\nverdict NotMet\n"
         ++ codes "year estimate lower exceedances complete\n"
         ++ codes "2021 0.0 0.0 0 Y\n2022 0.0 0.0 0 Y\n2023 6.1 5.8 1 Y\n" }
-{}
-
-/// A report of two sites, a conflict of two digests, and a summary.
-pub fn other_sheets_print()
     ensures report { text_of (report_sheet Daily2006 2023 (record { site = site; value = Some (pos 36); verdict = NotMet } ∷ record { site = record { state = 6; county = 37; number = 1104 }; value = None; verdict = NoValue } ∷ []))
         ≡ codes "standard PM25-24H-2006\nyear 2023\nsite value verdict\n06-037-1103 36 NotMet\n06-037-1104 - NoValue\n" }
     ensures conflict { text_of (conflict_sheet 5 (227 ∷ 176 ∷ 10 ∷ []) (186 ∷ 120 ∷ 255 ∷ []))
@@ -68,7 +58,10 @@ pub fn other_sheets_print()
 {}
 
 /// Each column of a year of PM2.5 and of PM10 prints its own field: all fields of the quarters differ.
-pub fn each_column_of_a_quarter_prints_its_field()
+/// Each column of a design value prints its own field, the test stands apart from the value, and a year
+/// that is not valid or not complete prints N. A value sheet and a report print a design value in the
+/// unit of its standard, under its name.
+pub fn each_column_prints_its_field()
     ensures fine { map (λ year. text_of (pm25_sheet site 2023 year)) (take 1 three_pm25_years)
         ≡ (codes "site 06-037-1103\nyear 2023\ncounted 176\nrank 4\npercentile 25.0\nmean 10.8\n"
         ++ codes "quarter scheduled creditable capture counted days sum least greatest\n"
@@ -79,11 +72,6 @@ pub fn each_column_of_a_quarter_prints_its_field()
         ++ codes "quarter days scheduled captured strata samples exceedances estimate lower\n"
         ++ codes "1 90 16 14 12 13 3 18.75 11.25\n2 91 15 11 8 9 1 5.69 0.00\n"
         ++ codes "3 92 31 30 28 29 4 10.95 8.90\n4 92 0 0 5 6 2 27.60 0.00\n") ∷ [] }
-{}
-
-/// Each column of a design value prints its own field, the test stands apart from the value, and a year
-/// that is not valid or not complete prints N.
-pub fn each_column_of_a_design_value_prints_its_field()
     ensures annual { text_of (annual_value_sheet Annual2012 site 2023 three_pm25_years tested_annual)
         ≡ codes "standard PM25-ANNUAL-2012\nsite 06-037-1103\nyear 2023\nvalue 12.3\ntest 11.8\nverdict Incomplete\n"
         ++ codes "year mean capture1 capture2 capture3 capture4 valid\n"
@@ -96,10 +84,6 @@ pub fn each_column_of_a_design_value_prints_its_field()
         ≡ codes "standard PM10-24H-1987\nsite 06-037-1103\nyear 2023\nvalue 43.7\ntest -\nverdict NotMet\n"
         ++ codes "year estimate lower exceedances complete\n"
         ++ codes "2021 63.0 20.2 10 N\n2022 43.8 35.6 16 Y\n2023 - 20.2 9 N\n" }
-{}
-
-/// A value sheet and a report print a design value in the unit of its standard, under its name.
-pub fn standards_print_in_their_units()
     ensures sheets { map (λ standard. text_of (value_sheet standard site 2023 (OfAnnual [] tested_annual))) (Annual2012 ∷ AnnualSecondary ∷ [])
         ≡ (codes "standard PM25-ANNUAL-2012\nsite 06-037-1103\nyear 2023\nvalue 12.3\ntest 11.8\nverdict Incomplete\n"
         ++ codes "year mean capture1 capture2 capture3 capture4 valid\n")

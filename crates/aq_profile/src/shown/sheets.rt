@@ -16,9 +16,12 @@ ghost use Rattle.aq_profile.specs.Shown.ShownExamples.{incomplete_ozone, reply_w
 ghost use Rattle.aq_profile.specs.Shown.OtherSheets.{value_answer};
 ghost use Rattle.aq_profile.specs.Ozone.OzoneExamples.{site, summer_day, day_with, year_with, year_without_fourth};
 
-/// The first two days of a year, of which the second has no average and is approved.
-pub fn days_print()
-    ensures { text_of
+/// The first two days of a year, of which the second has no average and is approved. A load with listed
+/// lines and further ones of two rules. Each column of windows, days and a design value prints its own
+/// field: all fields of the records differ. A day that is not valid prints its maximum, too. Three
+/// years and their design value.
+pub fn sheets_of_loads_and_of_ozone_print()
+    ensures days_print { text_of
         (days_sheet site 2000 (record { first = 60; last = 304 })
         (day_with 12 70 ∷ record { averages = 0; valid = false; maximum = None } ∷ [])
         (false ∷ true ∷ []) (year_with 221 71))
@@ -26,18 +29,9 @@ pub fn days_print()
         ++ codes "season_days 245\nseason_valid 221\nfourth 0.071\n"
         ++ codes "day averages valid approved maximum\n"
         ++ codes "2000-01-01 12 N N 0.070\n2000-01-02 0 N Y -\n" }
-{}
-
-/// A load with listed lines and further ones of two rules.
-pub fn refused_lines_print()
-    ensures { text_of (load_sheet reply_with_rest)
+    ensures refused_lines_print { text_of (load_sheet reply_with_rest)
         ≡ codes "load 8\nlines 530\naccepted 12\nrefused 515\nline rule name count\n"
         ++ codes "3 21 AlreadyThere 1\n17 7 BadPoc 1\n- 11 BadDate 9\n- 22 NotThere 4\n" }
-{}
-
-/// Each column of windows, days and a design value prints its own field: all fields of the records
-/// differ. A day that is not valid prints its maximum, too.
-pub fn each_column_of_ozone_prints_its_field()
     ensures windows { text_of (windows_sheet site summer_day three_windows)
         ≡ codes "site 06-037-1103\nday 2024-07-01\nhour average hours full full_hours\n"
         ++ codes "07:00 0.065 6 0.071 8\n08:00 - 2 - 5\n09:00 - 4 0.068 7\n" }
@@ -50,10 +44,6 @@ pub fn each_column_of_ozone_prints_its_field()
         ≡ codes "standard O3-2015\nsite 06-037-1103\nyear 2024\nvalue 0.070\ntest -\nverdict Incomplete\n"
         ++ codes "year ranked fourth season_days season_valid\n"
         ++ codes "2022 250 0.071 245 240\n2023 230 0.069 214 209\n2024 3 - 365 301\n" }
-{}
-
-/// Three years and their design value.
-pub fn design_value_prints()
     ensures met { text_of
         (ozone_value_sheet site 2024 (year_with 245 71 ∷ year_with 245 71 ∷ year_with 240 70 ∷ [])
         (ozone_dv (year_with 245 71 ∷ year_with 245 71 ∷ year_with 240 70 ∷ [])))
