@@ -13,7 +13,7 @@ use Rattle.aq_profile.specs.Office.Load.{after_all, reply}
 use Rattle.aq_profile.specs.Office.Office.{Office, nothing}
 use Rattle.aq_profile.specs.Ozone.EightHour.{WindowRow}
 use Rattle.aq_profile.specs.Ozone.OzoneDay.{windows}
-use Rattle.aq_profile.specs.Shown.Answer.{Answer, OfSheet, NoSite, Windows, is_registered}
+use Rattle.aq_profile.specs.Shown.Answer.{OfSheet, NoSite, Windows, is_registered}
 use Rattle.aq_profile.specs.Shown.Answer as book
 use Rattle.aq_profile.specs.Shown.Sheet.{Sheet, text_of}
 use Rattle.aq_profile.specs.Shown.Sheets.{load_sheet, windows_answer, windows_sheet}
