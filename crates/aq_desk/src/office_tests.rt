@@ -357,16 +357,16 @@ fn one_agreed_event_of_many_excludes_its_hour(rt: HostRuntime) -> Result<(), Fai
     let mut body = Body::new(alloc);
     body.add_all(&[(OZONE, TAKEN), (FIRST, TAKEN)])?;
     // All but the last cover the hour.
-    for number in 1..=300 {
-        let first = if number < 300 { "07:00" } else { "08:00" };
+    for number in 1..=10_000 {
+        let first = if number < 10_000 { "07:00" } else { "08:00" };
         let line = format!(in alloc;
             "XE|I|{number}|06|037|1103|44201|20240701|{first}|20240701|09:00|RT"
         )?;
         body.add(line.as_str(), TAKEN)?;
     }
     for (line, rows) in [
-        ("XC|U|300|Y", FIRST_COUNTS),
-        ("XC|U|150|Y", FIRST_IS_EXCLUDED),
+        ("XC|U|10000|Y", FIRST_COUNTS),
+        ("XC|U|5000|Y", FIRST_IS_EXCLUDED),
     ] {
         body.answer(&rt, line, rows)?;
     }
