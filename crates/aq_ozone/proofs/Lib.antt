@@ -1,1 +1,4 @@
 pub mod DayLemmas
+pub mod RangeLemmas
+pub mod TopLemmas
+pub mod YearLemmas

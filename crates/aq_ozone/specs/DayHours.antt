@@ -5,6 +5,7 @@ use Rattle.aq_base.specs.Calendar.{hour_number}
 use Rattle.aq_base.specs.Site.{Site}
 use Rattle.aq_base.specs.declared.day.TheConstants.{LAST_HOUR}
 use Rattle.aq_profile.specs.Office.Office.{Office}
+use Rattle.aq_profile.specs.Ozone.EightHour.{WindowRow}
 use Rattle.aq_profile.specs.Ozone.SiteHour.{Cell, site_hour}
 use Rattle.aq_series.specs.Samples.{IsOzone}
 
@@ -23,3 +24,7 @@ cells_in hours = filter_map (λ hour. hour) hours
 -- their values are ozone's
 abbrev pub AreOzone : List (Option Cell) → Type 0
 AreOzone hours = AllByRecursion (λ hour. IfSome hour (λ (cell : Cell). IsOzone cell.value)) hours
+
+-- and so are net averages
+abbrev pub AreNetOzone : List WindowRow → Type 0
+AreNetOzone rows = AllByRecursion (λ (row : WindowRow). IfSome row.net IsOzone) rows

@@ -1,13 +1,16 @@
-//! Ozone (40 CFR Part 50, Appendix U): the 8-hour averages of a site, and the daily maximum 8-hour
-//! average that they give. It takes no memory.
+//! Ozone (40 CFR Part 50, Appendix U): the 8-hour averages of a site, the daily maximum 8-hour average
+//! that they give, and the fourth highest of a year. It takes no memory.
 #![tactic(auto)]
 
 mod eight_hour;
 mod ozone_day;
+mod ozone_year;
+mod top_four;
 mod windows;
 
 pub use eight_hour::{DayWindows, LEVEL, WINDOWS, WindowRow, average};
 pub use ozone_day::{OzoneDay, day_of_windows};
+pub use ozone_year::year;
 pub use windows::{day_windows, uncounted_windows};
 
 #[cfg(test)]

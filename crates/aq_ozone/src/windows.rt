@@ -2,7 +2,7 @@
 ghost use Rattle.std.specs.Prelude.{◌≡◌, ◌+◌, ◌*◌, ◌<◌, ◌≤◌, IfSome, length};
 ghost use Rattle.aq_profile.specs.Ozone.EightHour.{row_of};
 ghost use Rattle.aq_profile.specs.Ozone.OzoneDay as book;
-ghost use Rattle.aq_ozone.specs.DayHours.{cells_in, hour_at, AreOzone};
+ghost use Rattle.aq_ozone.specs.DayHours.{cells_in, hour_at, AreNetOzone, AreOzone};
 ghost use Rattle.aq_ozone.specs.DayHours as hours;
 ghost use Rattle.aq_series.specs.OfficeView.{office_of};
 ghost use Rattle.aq_series.specs.Samples.{IsOzone};
@@ -35,6 +35,7 @@ pub fn day_windows<L: Ledger>(
     steps: &mut Steps<L>,
 ) -> DayWindows
     ensures windows { result ≡ book.windows (office_of registry.now shelf.now) site day }
+    ensures range { AreNetOzone result }
     ensures steps { steps.new ≤ steps.old + 192 }
 {
     let cells = day_hours(shelf, registry, site, day, steps);

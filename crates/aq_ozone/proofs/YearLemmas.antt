@@ -1,0 +1,223 @@
+-- The days of a year one by one, and the year that their tally is.
+use Rattle.std.proofs.Common.{◌≡◌, ℕ, suc, ◌+◌, ◌≤◌, Bool, true, false, ◌&&◌, cond, List, [], ◌∷◌, ◌++◌, length, map, refl, sym, ap, ◌∙◌, subst, arith}
+use Rattle.std.specs.Prelude.{ℤ, int_lt, Option, Some, None, is_some, nat_le, slice_get, count_by, filter_map}
+use Rattle.std.specs.List.{range_with_len, cons_option}
+use Rattle.std.specs.List.Sorted.{IsPermutation}
+use Rattle.std.proofs.lemmas.List.{length-map, length-append}
+use Rattle.std.proofs.lemmas.List.FromFn.{length-range_with_len, map-range_with_len_more}
+use Rattle.std.proofs.lemmas.List.Sorted.{IsPermutation-to_front}
+use Rattle.std.proofs.lemmas.List.Sums.{count_by-le-length, sum_by-cons, sum_by-le-sum_by, sum_by_push}
+use Rattle.std.proofs.lemmas.Bool.Decides.{nat_tests}
+use Rattle.aq_base.specs.Calendar.{year_first, days_in_year}
+use Rattle.aq_base.specs.Site.{Site}
+use Rattle.aq_profile.specs.Kept.Summaries.{KeepsOzoneYear}
+use Rattle.aq_profile.specs.Lists.{ranked, ranked_in}
+use Rattle.aq_profile.specs.Office.Office.{Office}
+use Rattle.aq_profile.specs.Office.Season.{Season, season_of, is_in_season}
+use Rattle.aq_profile.specs.Ozone.OzoneDay.{ozone_day}
+use Rattle.aq_profile.specs.Ozone.OzoneYear.{OzoneYear, counts_as_valid, days_of, ozone_days, ozone_year, ranked_maximum}
+use Rattle.aq_registry.specs.Registry.{office_with}
+use Rattle.aq_series.specs.Samples.{IsOzone}
+use Rattle.aq_ozone.specs.declared.ozone_year.DayOfYear.{DayOfYear}
+use Rattle.aq_ozone.specs.declared.ozone_year.YearTally.{YearTally}
+use Rattle.aq_ozone.specs.declared.top_four.TopFour.{TopFour}
+use Rattle.aq_ozone.specs.FourGreatest.{four_of}
+use Rattle.aq_ozone.specs.YearDays.{day_in, maxima_of, IsTallyOf}
+use Rattle.aq_ozone.proofs.RangeLemmas.{Ozones, fourth_range}
+
+-- ---- one more day
+
+abbrev pub Ranking : Type 0
+Ranking = (a b : List ℤ) → IsPermutation a b → ranked a ≡ ranked b
+
+count_more : {X : Type 0} (p : X → Bool) (list : List X) (x : X) → count_by p (list ++ x ∷ []) ≡ count_by p list + cond (p x) 1 0
+count_more {X} p list x = sum_by_push (λ (y : X). cond (p y) 1 0) list x
+
+maxima_some : (days : List DayOfYear) (day : DayOfYear) (maximum : ℤ) → day.maximum ≡ Some maximum → maxima_of (days ++ day ∷ []) ≡ maxima_of days ++ maximum ∷ []
+maxima_some [] day maximum is = ap (λ (o : Option ℤ). cons_option o []) is
+maxima_some (d ∷ days) day maximum is =
+    let rest = maxima_some days day maximum is in
+    elim d.maximum as (λ o. cons_option o (maxima_of (days ++ day ∷ [])) ≡ cons_option o (maxima_of days) ++ maximum ∷ []) [
+      | None ↦ rest
+      | Some m ↦ ap (λ (l : List ℤ). m ∷ l) rest
+    ]
+
+maxima_none : (days : List DayOfYear) (day : DayOfYear) → day.maximum ≡ None → maxima_of (days ++ day ∷ []) ≡ maxima_of days
+maxima_none [] day is = ap (λ (o : Option ℤ). cons_option o []) is
+maxima_none (d ∷ days) day is = ap (λ (l : List ℤ). cons_option d.maximum l) (maxima_none days day is)
+
+ozone_more : (values : List ℤ) (value : ℤ) → Ozones values → IsOzone value → Ozones (values ++ value ∷ [])
+ozone_more [] value all h = (h, tt)
+ozone_more (v ∷ vs) value all h = (all.0, ozone_more vs value all.1 h)
+
+ranked_more : Ranking → (values : List ℤ) (value : ℤ) → ranked (values ++ value ∷ []) ≡ ranked_in value (ranked values)
+unfolding ranked
+ranked_more ranking values value = ranking (values ++ value ∷ []) (value ∷ values) (IsPermutation-to_front values value)
+
+pub more_with : Ranking → (days : List DayOfYear) (day : DayOfYear) (maximum : ℤ) (before after : YearTally) → IsTallyOf days before → day.maximum ≡ Some maximum → IsOzone maximum
+    → after.season_days ≡ before.season_days + cond day.in_season 1 0
+    → after.season_valid ≡ before.season_valid + cond day.counted 1 0
+    → after.ranked ≡ before.ranked + 1
+    → ((values : List ℤ) → before.top ≡ four_of values → after.top ≡ four_of (ranked_in maximum values))
+    → IsTallyOf (days ++ day ∷ []) after
+more_with ranking days day maximum before after is some ozone counted valid more top =
+    let maxima = maxima_some days day maximum some in
+    record {
+      season_days = counted ∙ ap (λ (n : ℕ). n + cond day.in_season 1 0) is.season_days ∙ sym (count_more (λ (d : DayOfYear). d.in_season) days day);
+      season_valid = valid ∙ ap (λ (n : ℕ). n + cond day.counted 1 0) is.season_valid ∙ sym (count_more (λ (d : DayOfYear). d.counted) days day);
+      ranked_maxima = more ∙ ap (λ (n : ℕ). n + 1) is.ranked_maxima ∙ sym (ap length maxima ∙ length-append (maxima_of days) (maximum ∷ []));
+      ozone = subst Ozones (sym maxima) (ozone_more (maxima_of days) maximum is.ozone ozone);
+      top = top (ranked (maxima_of days)) is.top ∙ ap four_of (sym (ap ranked maxima ∙ ranked_more ranking (maxima_of days) maximum));
+    }
+
+pub more_without : (days : List DayOfYear) (day : DayOfYear) (before after : YearTally) → IsTallyOf days before → day.maximum ≡ None
+    → after.season_days ≡ before.season_days + cond day.in_season 1 0
+    → after.season_valid ≡ before.season_valid + cond day.counted 1 0
+    → after.ranked ≡ before.ranked + 0
+    → after.top ≡ before.top
+    → IsTallyOf (days ++ day ∷ []) after
+more_without days day before after is none counted valid more top =
+    let maxima = maxima_none days day none in
+    let same : after.ranked ≡ before.ranked = omega (arith, more) in
+    record {
+      season_days = counted ∙ ap (λ (n : ℕ). n + cond day.in_season 1 0) is.season_days ∙ sym (count_more (λ (d : DayOfYear). d.in_season) days day);
+      season_valid = valid ∙ ap (λ (n : ℕ). n + cond day.counted 1 0) is.season_valid ∙ sym (count_more (λ (d : DayOfYear). d.counted) days day);
+      ranked_maxima = same ∙ is.ranked_maxima ∙ sym (ap length maxima);
+      ozone = subst Ozones (sym maxima) is.ozone;
+      top = top ∙ is.top ∙ ap four_of (sym (ap ranked maxima));
+    }
+
+pub days_more : (f : ℕ → DayOfYear) (first count number : ℕ) (day : DayOfYear) → first + count ≡ number → day ≡ f number → map f (range_with_len first count) ++ day ∷ [] ≡ map f (range_with_len first (count + 1))
+days_more f first count number day at is =
+    ap (λ (d : DayOfYear). map f (range_with_len first count) ++ d ∷ []) is ∙ sym (map-range_with_len_more f first count number at)
+
+-- ---- no more than the days
+
+few_maxima : (days : List DayOfYear) → length (maxima_of days) ≤ length days
+few_maxima [] = omega arith
+few_maxima (day ∷ days) =
+    let rest = few_maxima days in
+    elim day.maximum as (λ o. length (cons_option o (maxima_of days)) ≤ length (day ∷ days)) [
+      | None ↦ omega (arith, rest)
+      | Some m ↦ omega (arith, rest)
+    ]
+
+pub record AreFew (count : ℕ) (tally : YearTally) : Type 0 where
+  pub season_days : tally.season_days ≤ count
+  pub season_valid : tally.season_valid ≤ count
+  pub ranked : tally.ranked ≤ count
+
+pub few : (day : ℕ → DayOfYear) (first count : ℕ) (tally : YearTally) → IsTallyOf (map day (range_with_len first count)) tally → AreFew count tally
+few day first count tally is =
+    let days = map day (range_with_len first count) in
+    let many : length days ≡ count = length-map (range_with_len first count) day ∙ length-range_with_len first count in
+    record {
+      season_days = omega (arith, is.season_days, many, count_by-le-length (λ (d : DayOfYear). d.in_season) days);
+      season_valid = omega (arith, is.season_valid, many, count_by-le-length (λ (d : DayOfYear). d.counted) days);
+      ranked = omega (arith, is.ranked_maxima, many, few_maxima days);
+    }
+
+-- ---- the year
+
+count_map : {X Y : Type 0} (p : Y → Bool) (f : X → Y) (list : List X) → count_by p (map f list) ≡ count_by (λ x. p (f x)) list
+count_map p f [] = refl
+count_map {X} {Y} p f (x ∷ list) =
+    sum_by-cons (λ (y : Y). cond (p y) 1 0) (f x) (map f list)
+    ∙ ap (λ (n : ℕ). cond (p (f x)) 1 0 + n) (count_map p f list)
+    ∙ sym (sum_by-cons (λ (y : X). cond (p (f y)) 1 0) x list)
+
+module _ (office : Office) (site : Site) (season : Season) where
+  maxima_are : (days : List ℕ) → maxima_of (map (day_in office site season) days) ≡ filter_map ranked_maximum (map (ozone_day office site) days)
+  maxima_are [] = refl
+  maxima_are (day ∷ days) = ap (λ (l : List ℤ). cons_option (ranked_maximum (ozone_day office site day)) l) (maxima_are days)
+
+  valid_few : (days : List ℕ) → count_by (λ (day : ℕ). is_in_season season day && counts_as_valid office site day) days ≤ count_by (λ (day : ℕ). is_in_season season day) days
+  valid_few days =
+      sum_by-le-sum_by (λ (day : ℕ). cond (is_in_season season day && counts_as_valid office site day) 1 0) (λ (day : ℕ). cond (is_in_season season day) 1 0) days
+      (λ day. by_tests (is_in_season season day) (counts_as_valid office site day))
+    where
+      by_tests : (a b : Bool) → cond (a && b) 1 0 ≤ cond a 1 0
+      by_tests true true = omega arith
+      by_tests true false = omega arith
+      by_tests false b = omega arith
+
+length_ranked_in : (v : ℤ) (values : List ℤ) → length (ranked_in v values) ≡ suc (length values)
+length_ranked_in v [] = refl
+length_ranked_in v (w ∷ ws) =
+    let rest = length_ranked_in v ws in
+    elim (int_lt v w) as (λ b. length (cond b (w ∷ ranked_in v ws) (v ∷ w ∷ ws)) ≡ suc (length (w ∷ ws))) [ true ↦ ap suc rest | false ↦ refl ]
+
+length_ranked : (values : List ℤ) → length (ranked values) ≡ length values
+unfolding ranked
+length_ranked [] = refl
+length_ranked (v ∷ vs) = length_ranked_in v (ranked vs) ∙ ap suc (length_ranked vs)
+
+fourth_there : (values : List ℤ) → is_some (slice_get values 3) ≡ nat_le 4 (length values)
+fourth_there [] = refl
+fourth_there (a ∷ []) = refl
+fourth_there (a ∷ b ∷ []) = refl
+fourth_there (a ∷ b ∷ c ∷ []) = refl
+fourth_there (a ∷ b ∷ c ∷ d ∷ values) = grind (arith, nat_tests)
+
+-- the year that a tally is
+abbrev pub year_of : YearTally → OzoneYear
+year_of tally = record { season_days = tally.season_days; season_valid = tally.season_valid; ranked = tally.ranked; fourth = tally.top.fourth }
+
+-- the tally of the days of a year
+pub record IsYearTally (office : Office) (site : Site) (year first count : ℕ) (season : Season) (tally : YearTally) : Type 0 where
+  pub first_day : first ≡ year_first year
+  pub all_days : count ≡ days_in_year year
+  pub season_is : season ≡ season_of office.records site year
+  pub tally_is : IsTallyOf (map (day_in office site season) (range_with_len first count)) tally
+
+pub year_is : (office : Office) (site : Site) (year first count : ℕ) (season : Season) (tally : YearTally) → IsYearTally office site year first count season tally → year_of tally ≡ ozone_year office site year
+unfolding ozone_year ozone_days days_of
+year_is office site year first count season tally is =
+    let numbers = range_with_len first count in
+    let numbers_are : numbers ≡ range_with_len (year_first year) (days_in_year year) = λ i. range_with_len (is.first_day i) (is.all_days i) in
+    let tally_is = is.tally_is in
+    let season_days : tally.season_days ≡ count_by (λ (day : ℕ). is_in_season (season_of office.records site year) day) (range_with_len (year_first year) (days_in_year year)) =
+    tally_is.season_days ∙ count_map (λ (d : DayOfYear). d.in_season) (day_in office site season) numbers
+    ∙ (λ i. count_by (λ (day : ℕ). is_in_season (is.season_is i) day) (numbers_are i)) in
+    let season_valid : tally.season_valid ≡ count_by (λ (day : ℕ). is_in_season (season_of office.records site year) day && counts_as_valid office site day) (range_with_len (year_first year) (days_in_year year)) =
+    tally_is.season_valid ∙ count_map (λ (d : DayOfYear). d.counted) (day_in office site season) numbers
+    ∙ (λ i. count_by (λ (day : ℕ). is_in_season (is.season_is i) day && counts_as_valid office site day) (numbers_are i)) in
+    let maxima : maxima_of (map (day_in office site season) numbers) ≡ filter_map ranked_maximum (map (ozone_day office site) (range_with_len (year_first year) (days_in_year year))) =
+    maxima_are office site season numbers ∙ ap (λ (l : List ℕ). filter_map ranked_maximum (map (ozone_day office site) l)) numbers_are in
+    let values = maxima_of (map (day_in office site season) numbers) in
+    let many : tally.ranked ≡ length (ranked (filter_map ranked_maximum (map (ozone_day office site) (range_with_len (year_first year) (days_in_year year))))) =
+    tally_is.ranked_maxima ∙ sym (length_ranked values) ∙ ap (λ (l : List ℤ). length (ranked l)) maxima in
+    let fourth : tally.top.fourth ≡ slice_get (ranked (filter_map ranked_maximum (map (ozone_day office site) (range_with_len (year_first year) (days_in_year year))))) 3 =
+    ap (λ (t : TopFour). t.fourth) tally_is.top ∙ ap (λ (l : List ℤ). slice_get (ranked l) 3) maxima in
+    λ i. record { season_days = season_days i; season_valid = season_valid i; ranked = many i; fourth = fourth i }
+
+-- the season is the same whatever was observed
+season_days_of : (office : Office) (site : Site) (year : ℕ) → (ozone_year office site year).season_days ≡ (ozone_year (office_with office.records) site year).season_days
+unfolding ozone_year
+season_days_of office site year = refl
+
+pub year_keeps : (office : Office) (site : Site) (year first count : ℕ) (season : Season) (tally : YearTally) → IsYearTally office site year first count season tally → count ≤ 366
+    → KeepsOzoneYear (ozone_year (office_with office.records) site year) → KeepsOzoneYear (year_of tally)
+year_keeps office site year first count season tally is most keeps =
+    let numbers = range_with_len first count in
+    let values = maxima_of (map (day_in office site season) numbers) in
+    let same : tally.season_days ≡ (ozone_year (office_with office.records) site year).season_days =
+    ap (λ (y : OzoneYear). y.season_days) (year_is office site year first count season tally is) ∙ season_days_of office site year in
+    let are_few = few (day_in office site season) first count tally is.tally_is in
+    let fourth : tally.top.fourth ≡ slice_get (ranked values) 3 = ap (λ (t : TopFour). t.fourth) is.tally_is.top in
+    record {
+      some_season = omega (arith, same, keeps.some_season);
+      season_days = omega (arith, same, keeps.season_days);
+      season_valid =
+          omega (
+            arith,
+            is.tally_is.season_days,
+            is.tally_is.season_valid,
+            valid_few office site season numbers,
+            count_map (λ (d : DayOfYear). d.in_season) (day_in office site season) numbers,
+            count_map (λ (d : DayOfYear). d.counted) (day_in office site season) numbers,
+          );
+      ranked = omega (arith, are_few.ranked, most);
+      fourth = ap (λ (o : Option ℤ). is_some o) fourth ∙ fourth_there (ranked values) ∙ ap (λ (n : ℕ). nat_le 4 n) (length_ranked values ∙ sym is.tally_is.ranked_maxima);
+      fourth_in_range = rw fourth (fourth_range values is.tally_is.ozone);
+    }

@@ -1,0 +1,140 @@
+//! The ozone year of a site (40 CFR Part 50, Appendix U, 3(e) and 4(b)).
+ghost use Rattle.std.specs.Prelude.{◌≡◌, ◌+◌, ◌*◌, ◌≤◌, IfSome};
+ghost use Rattle.aq_profile.specs.Ozone.OzoneYear.{ozone_year, ranked_maximum};
+ghost use Rattle.aq_base.specs.declared.day.TheConstants.{FIRST_YEAR, LAST_YEAR};
+ghost use Rattle.aq_ozone.specs.YearDays.{day_in};
+ghost use Rattle.aq_series.specs.OfficeView.{office_of};
+ghost use Rattle.aq_series.specs.Samples.{IsOzone};
+
+use crate::ozone_day::{OzoneDay, day_of_windows};
+use crate::top_four::TopFour;
+use crate::windows::day_windows;
+use aq_base::{Day, FIRST_YEAR, LAST_YEAR, Pollutant, SiteId, Steps};
+use aq_cal::year_span;
+use aq_profile::kept::summaries::ozone_years_keep_their_facts;
+use aq_profile::lists::ranking_forgets_the_order;
+use aq_registry::Registry;
+use aq_shelf::Shelf;
+use aq_verdict::OzoneYear;
+use std::sync::ledger::Ledger;
+
+/// The ozone year of a site: the days of its season, those of them that are valid or approved, the number
+/// of ranked maxima, and the fourth highest of these in thousandths of a ppm (40 CFR Part 50, Appendix U,
+/// 3(e) and 4(b)). The maxima of all valid days of the year are ranked, in season or not. The call reads
+/// each of the year's hours once: at most 192 steps a day. The year is 2000 to 2049.
+pub fn year<L: Ledger>(
+    shelf: &Shelf,
+    registry: &Registry,
+    site: SiteId,
+    year: u16,
+    steps: &mut Steps<L>,
+) -> OzoneYear
+    requires first { FIRST_YEAR ≤ year }
+    requires last { year ≤ LAST_YEAR }
+    ensures year { result ≡ ozone_year (office_of registry.now shelf.now) site year }
+    ensures steps { steps.new ≤ steps.old + 192 * 366 }
+{
+    ozone_years_keep_their_facts();
+    // The proof learns that the records are those of a valid office.
+    let _ = registry.next_poc(site, Pollutant::Ozone, 0);
+    let (first, days) = year_span(year);
+    let season = registry.season(site, year);
+    let mut so_far = YearTally::new();
+    for count in 0..days {
+        let day = Day::new(first.number() + count);
+        so_far = so_far.with(day_of_year(shelf, registry, site, &season, day, steps));
+    }
+    OzoneYear::new(
+        so_far.season_days,
+        so_far.season_valid,
+        so_far.ranked,
+        so_far.top.fourth(),
+    )
+}
+
+/// What a day gives its year: whether it is of the season, whether it is one of the season's valid or
+/// approved days, and the maximum that is ranked.
+#[derive(Clone, Copy)]
+struct DayOfYear {
+    in_season: bool,
+    counted: bool,
+    maximum: Option<i32>,
+}
+
+/// A day in a season's year. An approval is looked up where the day is not valid by its hours.
+#[tactic(auto, unfolding(aq_profile::specs::Ozone::OzoneDay::ozone_day))]
+fn day_of_year<L: Ledger>(
+    shelf: &Shelf,
+    registry: &Registry,
+    site: SiteId,
+    season: &(Day, Day),
+    day: Day,
+    steps: &mut Steps<L>,
+) -> DayOfYear
+    ensures day { result ≡ day_in (office_of registry.now shelf.now) site (record { first = season.now.0; last = season.now.1 }) day }
+    ensures range { IfSome result.maximum (λ value. IsOzone value) }
+    ensures steps { steps.new ≤ steps.old + 192 }
+{
+    let ozone = day_of_windows(&day_windows(shelf, registry, site, day, steps));
+    let in_season = season.0 <= day && day <= season.1;
+    DayOfYear {
+        in_season,
+        counted: in_season && (ozone.valid || registry.is_approved(site, day)),
+        maximum: ranked_maximum(&ozone),
+    }
+}
+
+/// The maximum of a valid day.
+fn ranked_maximum(day: &OzoneDay) -> Option<i32>
+    ensures { result ≡ ranked_maximum day.now }
+{
+    if day.valid { day.maximum } else { None }
+}
+
+/// What the days of a year so far give.
+#[derive(Clone, Copy)]
+struct YearTally {
+    season_days: u16,
+    season_valid: u16,
+    ranked: u16,
+    top: TopFour,
+}
+
+impl YearTally {
+    ghost use Rattle.std.specs.Prelude.{◌<◌, ◌++◌, [], ◌∷◌, List, IfSome};
+    ghost use Rattle.aq_series.specs.Samples.{IsOzone};
+    ghost use Rattle.aq_ozone.specs.declared.ozone_year.DayOfYear.{DayOfYear};
+    ghost use Rattle.aq_ozone.specs.YearDays.{IsTallyOf};
+
+    /// Of no days.
+    fn new() -> YearTally
+        ensures { IsTallyOf [] result }
+    {
+        YearTally {
+            season_days: 0,
+            season_valid: 0,
+            ranked: 0,
+            top: TopFour::new(),
+        }
+    }
+
+    /// With one more day.
+    fn with(self, day: DayOfYear) -> YearTally
+        requires season_days { self.season_days < 366 }
+        requires season_valid { self.season_valid < 366 }
+        requires ranked { self.ranked < 366 }
+        requires range { IfSome day.maximum (λ value. IsOzone value) }
+        ensures { (days : List DayOfYear) → IsTallyOf days self → IsTallyOf (days ++ day ∷ []) result }
+    {
+        ranking_forgets_the_order();
+        YearTally {
+            season_days: self.season_days + u16::from(day.in_season),
+            season_valid: self.season_valid + u16::from(day.counted),
+            ranked: self.ranked + u16::from(day.maximum.is_some()),
+            top: match day.maximum {
+                Some(maximum) => self.top.with(maximum),
+                None => self.top,
+            },
+        }
+    }
+}
