@@ -1,16 +1,15 @@
 -- Sums of values in the range of PM2.5, and of copies of one.
-use Rattle.std.proofs.Common.{◌≡◌, ℕ, zero, suc, ◌+◌, ◌*◌, ◌≤◌, List, [], ◌∷◌, length, replicate, ℤ, pos, negsuc, neg_ℤ, ◌+ℤ◌, ◌*ℤ◌, ◌≤ℤ◌, unsigned_abs, Bool, true, false, ◌&&◌, refl, sym, ap, ◌∙◌, arith, fold}
-use Rattle.std.specs.Prelude.{Option, Some, None, int_le, nat_le, IsTrue, is_some}
+use Rattle.std.proofs.Common.{◌≡◌, ℕ, zero, suc, ◌+◌, ◌*◌, ◌≤◌, replicate, ℤ, pos, negsuc, neg_ℤ, ◌+ℤ◌, ◌*ℤ◌, ◌≤ℤ◌, unsigned_abs, Bool, true, false, ◌&&◌, refl, ap, ◌∙◌, arith, fold}
+use Rattle.std.specs.Prelude.{Option, Some, None, int_le, nat_le, is_some}
 use Rattle.std.specs.Option.{option_map_or}
 use Rattle.std.proofs.lemmas.Bool.{false≢true}
 use Rattle.std.proofs.lemmas.Bool.Decides.{nat_tests}
-use Rattle.std.proofs.lemmas.Int.{ints, unsigned_abs-mul}
+use Rattle.std.proofs.lemmas.Int.{ints}
 use Rattle.std.proofs.Math.IntN.{suc_ℤ-*ℤ, *ℤ_comm, *ℤ-zero}
-use Rattle.std.proofs.Math.Nat.{mul-le-mul_right}
 use Rattle.aq_base.specs.declared.monitor.Pollutant.TheVariants.{Pm25}
 use Rattle.aq_profile.specs.Lists.{total}
 use Rattle.aq_verdict.specs.QuarterlyMean.{IsMean}
-use Rattle.aq_profile.specs.Kept.Summaries.{PmQuarter, KeepsPmQuarter, is_value, is_sum_within}
+use Rattle.aq_profile.specs.Kept.Summaries.{PmQuarter, KeepsPmQuarter, is_value}
 
 times-more : (a : ℤ) (n : ℕ) → a *ℤ pos (suc n) ≡ (a *ℤ pos n) +ℤ a
 times-more a n = *ℤ_comm a (pos (suc n)) ∙ suc_ℤ-*ℤ (pos n) a ∙ ap (λ (z : ℤ). z +ℤ a) (*ℤ_comm (pos n) a)

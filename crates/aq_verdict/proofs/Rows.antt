@@ -1,5 +1,5 @@
 -- Years and their quarters, place by place.
-use Rattle.std.proofs.Common.{◌≡◌, ℕ, ◌<◌, ◌≤◌, List, [], ◌∷◌, ◌++◌, length, map, get_or, All, refl, sym, ap, ◌∙◌, arith}
+use Rattle.std.proofs.Common.{◌≡◌, ℕ, ◌<◌, List, [], ◌∷◌, ◌++◌, length, map, get_or, refl, sym, ap, ◌∙◌, arith}
 use Rattle.std.specs.Prelude.{Option, Some, None, option_map, option_and_then, slice_get, zip}
 use Rattle.std.specs.List.{flat_map}
 use Rattle.std.proofs.lemmas.Option.{slice_get-get_or}
@@ -80,3 +80,11 @@ pub matched-four : (years : List PmYear) (year : PmYear) (qs : List PmQuarter) (
 matched-four years year qs a b c d same four =
     let all : qs ≡ get_or qs 0 a ∷ get_or qs 1 b ∷ get_or qs 2 c ∷ get_or qs 3 d ∷ [] = four-of qs a b c d (ap length same ∙ four) in
     sym (ap (λ l. zip l (map (same_part of_summaries years) (0 ∷ 1 ∷ 2 ∷ 3 ∷ []))) (sym same ∙ all))
+
+-- and of all of some options
+pub all-three : {X Y : Type 0} (f : X → Option Y) (g : PmYear → List X) (years : List PmYear) (a b c : PmYear) (first second third : Option (List Y)) → years ≡ a ∷ b ∷ c ∷ []
+    → first ≡ all_of (map f (g a)) → second ≡ all_of (map f (g b)) → third ≡ all_of (map f (g c))
+    → joined_three first second third ≡ all_of (map f (flat_map g years))
+all-three f g years a b c first second third three is_first is_second is_third =
+    (λ i. joined_three (is_first i) (is_second i) (is_third i))
+    ∙ all_of-three (map f (g a)) (map f (g b)) (map f (g c)) ∙ ap all_of (map-three f g years a b c three)

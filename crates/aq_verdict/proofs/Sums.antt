@@ -1,14 +1,12 @@
 -- Sums of quarterly means.
-use Rattle.std.proofs.Common.{◌≡◌, ℕ, zero, suc, replicate, ◌*◌, ◌≤◌, ◌<◌, Bool, true, false, ◌&&◌, List, [], ◌∷◌, ◌++◌, length, All, get_or, ℤ, pos, ◌+ℤ◌, ◌*ℤ◌, unsigned_abs, refl, sym, ap, ◌∙◌, arith, lit≤}
-use Rattle.std.specs.Prelude.{nat_le, Some}
+use Rattle.std.proofs.Common.{◌≡◌, ℕ, zero, suc, replicate, ◌≤◌, Bool, true, false, ◌&&◌, List, [], ◌∷◌, ◌++◌, All, pos, unsigned_abs, refl, ap, ◌∙◌, arith, lit≤}
 use Rattle.std.specs.List.{list_all}
 use Rattle.std.proofs.lemmas.Bool.Decides.{nat_tests}
 use Rattle.std.proofs.lemmas.Bool.{false≢true}
 use Rattle.std.proofs.lemmas.List.Folds.{list_all-append}
 use Rattle.std.proofs.lemmas.List.Elements.{All-append, All-cons, All-nil, All-head, All-tail}
-use Rattle.aq_base.specs.Decimal.{half_up}
 use Rattle.aq_num.specs.Fractions.{sum_of_fractions, fraction_sum}
-use Rattle.aq_profile.specs.Particles.Means.{Fraction, has_days, mean_of_means, sum_of_fractions as sum_of_means}
+use Rattle.aq_profile.specs.Particles.Means.{Fraction, has_days, sum_of_fractions as sum_of_means}
 use Rattle.aq_verdict.specs.QuarterlyMean.{IsMean, nothing_more}
 
 -- both words of a sum of fractions say the same

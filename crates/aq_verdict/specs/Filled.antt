@@ -1,5 +1,5 @@
 -- The copies that join a quarter's list, over what is kept of the quarters.
-use Rattle.std.specs.Prelude.{◌≡◌, ℕ, ◌+◌, ◌≤◌, IsTrue, List, ◌++◌, replicate, filter_map, sum_by, Option, Some, None, ℤ, unsigned_abs}
+use Rattle.std.specs.Prelude.{◌+◌, ◌≤◌, IsTrue, List, ◌++◌, replicate, filter_map, sum_by, Option, Some, None, ℤ, unsigned_abs}
 use Rattle.std.specs.Int.{int_min, int_max}
 use Rattle.aq_base.specs.declared.monitor.Pollutant.TheVariants.{Pm25}
 use Rattle.aq_profile.specs.Lists.{least, greatest}

@@ -59,7 +59,11 @@ fn annual_value(years: &[PmYear; 3]) -> Option<i32>
     ensures { result ≡ annual_value of_summaries years.now }
 {
     let [a, b, c] = years;
-    let means = together(&quarterly_means(a), &quarterly_means(b), &quarterly_means(c));
+    let means = together(
+        &quarterly_means(a),
+        &quarterly_means(b),
+        &quarterly_means(c),
+    );
     mean_of_three_years(&means)
 }
 
@@ -79,12 +83,16 @@ fn is_annual_year(year: &PmYear, level: i32, value: Option<i32>) -> bool
     ensures { result ≡ is_annual_year level value (mean_of of_summaries year.now.quarters) (counts_in of_summaries year.now) }
 {
     is_captured(year)
-        || (has_eleven_each(year)
-            && (is_above(level, annual_mean(year)) || is_above(level, value)))
+        || (has_eleven_each(year) && (is_above(level, annual_mean(year)) || is_above(level, value)))
 }
 
 // Above the level the minimum test is asked for, else the maximum test.
-fn annual_test(years: &[PmYear; 3], level: i32, value: Option<i32>, valid: &[bool; 3]) -> Option<i32>
+fn annual_test(
+    years: &[PmYear; 3],
+    level: i32,
+    value: Option<i32>,
+    valid: &[bool; 3],
+) -> Option<i32>
     ensures { result ≡ annual_test level value valid.now (filled_value of_summaries (minimum_for of_summaries) years.now) (filled_value of_summaries (maximum_for of_summaries) years.now) }
 {
     let value = value?;
@@ -105,10 +113,18 @@ fn annual_verdict(level: i32, value: Option<i32>, valid: &[bool; 3], test: Optio
     match value {
         None => Verdict::NoValue,
         Some(value) if level < value => {
-            if all || is_above(level, test) { Verdict::NotMet } else { Verdict::Incomplete }
+            if all || is_above(level, test) {
+                Verdict::NotMet
+            } else {
+                Verdict::Incomplete
+            }
         }
         Some(_) => {
-            if all || is_at_or_below(level, test) { Verdict::Met } else { Verdict::Incomplete }
+            if all || is_at_or_below(level, test) {
+                Verdict::Met
+            } else {
+                Verdict::Incomplete
+            }
         }
     }
 }
@@ -159,7 +175,11 @@ fn all_four(a: Option<Mean>, b: Option<Mean>, c: Option<Mean>, d: Option<Mean>) 
     Some([a?, b?, c?, d?])
 }
 
-fn all_together(a: Option<[Mean; 4]>, b: Option<[Mean; 4]>, c: Option<[Mean; 4]>) -> Option<[Mean; 12]>
+fn all_together(
+    a: Option<[Mean; 4]>,
+    b: Option<[Mean; 4]>,
+    c: Option<[Mean; 4]>,
+) -> Option<[Mean; 12]>
     requires a { IfSome a (All IsMean) }
     requires b { IfSome b (All IsMean) }
     requires c { IfSome c (All IsMean) }

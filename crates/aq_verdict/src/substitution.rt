@@ -36,7 +36,12 @@ pub(crate) struct ThreeQuarters {
 
 /// The copies for a quarter, which is the given part of its year, in a test; none where the test is
 /// not to be had.
-pub(crate) fn copies_in_test(years: &[PmYear; 3], quarter: &PmQuarter, part: usize, test: Test) -> Option<Copies>
+pub(crate) fn copies_in_test(
+    years: &[PmYear; 3],
+    quarter: &PmQuarter,
+    part: usize,
+    test: Test,
+) -> Option<Copies>
     requires { part < 4 }
     ensures copies { option_map copies_of result ≡ copies_in_test test (quarter.now, same_part of_summaries years.now part) }
     ensures fills { IfSome result (Fills quarter.now) }
@@ -103,7 +108,12 @@ fn no_copies(quarter: &PmQuarter) -> Copies
     ensures copies { copies_of result ≡ [] }
     ensures fills { FillsUp quarter.now result }
 {
-    let _ = (quarter.scheduled(), quarter.creditable(), quarter.counted(), quarter.days());
+    let _ = (
+        quarter.scheduled(),
+        quarter.creditable(),
+        quarter.counted(),
+        quarter.days(),
+    );
     Copies {
         value: 0,
         number: 0,
@@ -133,7 +143,11 @@ fn together_at(years: &[PmYear; 3], part: usize) -> ThreeQuarters
     ensures range { IsCombined result }
 {
     let [a, b, c] = years;
-    together(&a.quarters()[part], &b.quarters()[part], &c.quarters()[part])
+    together(
+        &a.quarters()[part],
+        &b.quarters()[part],
+        &c.quarters()[part],
+    )
 }
 
 fn together(a: &PmQuarter, b: &PmQuarter, c: &PmQuarter) -> ThreeQuarters

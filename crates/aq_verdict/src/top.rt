@@ -95,13 +95,21 @@ fn joined(places: &[Option<i32>; 8], value: Option<i32>) -> [Option<i32>; 8]
 fn higher(place: Option<i32>, value: Option<i32>) -> Option<i32>
     ensures { result ≡ higher place value }
 {
-    if is_higher(place, value) { place } else { value }
+    if is_higher(place, value) {
+        place
+    } else {
+        value
+    }
 }
 
 fn lower(place: Option<i32>, value: Option<i32>) -> Option<i32>
     ensures { result ≡ lower place value }
 {
-    if is_higher(place, value) { value } else { place }
+    if is_higher(place, value) {
+        value
+    } else {
+        place
+    }
 }
 
 fn is_higher(place: Option<i32>, value: Option<i32>) -> bool

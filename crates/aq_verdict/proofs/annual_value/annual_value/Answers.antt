@@ -1,4 +1,4 @@
-use Rattle.std.proofs.Common.{◌≡◌, ◌++◌, ◌∙◌, ap, map, get_or, List, All}
+use Rattle.std.proofs.Common.{◌++◌, ◌∙◌, ap}
 use Rattle.std.specs.Prelude.{[]}
 use Rattle.std.proofs.lemmas.List.Elements.{All-append}
 use Rattle.aq_profile.specs.Particles.Means.{mean_of_means}

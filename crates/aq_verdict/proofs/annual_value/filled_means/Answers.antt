@@ -1,4 +1,4 @@
-use Rattle.std.proofs.Common.{◌≡◌, [], ◌∷◌, ◌∙◌, ap, map}
+use Rattle.std.proofs.Common.{[], ◌∷◌, ◌∙◌, ap, map}
 use Rattle.aq_profile.specs.Lists.{all_of}
 use Rattle.aq_profile.specs.Particles.AnnualVerdict.{filled_mean}
 use Rattle.aq_profile.specs.Kept.SummaryVerdicts.{of_summaries}

@@ -1,4 +1,4 @@
-use Rattle.std.proofs.Common.{◌≡◌, ◌^◌, ◌∙◌, ap, pos, ◌*ℤ◌, ◌*◌, FitsSigned, lit<, arith, rules}
+use Rattle.std.proofs.Common.{◌^◌, ◌∙◌, pos, ◌*ℤ◌, FitsSigned, lit<, arith, rules}
 use Rattle.std.specs.Int.{w32, w128}
 use Rattle.std.proofs.lemmas.Int.{ints, to_z-of_z, fits_signed_mul}
 use Rattle.aq_base.specs.Decimal.{half_up}

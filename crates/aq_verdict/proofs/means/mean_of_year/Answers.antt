@@ -1,12 +1,11 @@
 use Rattle.std.proofs.Common.{◌≡◌, ◌*◌, ◌∙◌, ap, sym, pos, length, true, rules, FitsSigned}
 use Rattle.std.specs.Int.{w32}
 use Rattle.std.proofs.lemmas.Int.{to_z-of_z}
-use Rattle.std.specs.Prelude.{Some, None}
+use Rattle.std.specs.Prelude.{Some}
 use Rattle.std.specs.List.{list_all}
 use Rattle.aq_base.specs.Decimal.{half_up}
 use Rattle.aq_num.specs.Fractions.{sum_of_fractions}
 use Rattle.aq_profile.specs.Particles.Means.{Fraction, has_days, sum_of_fractions as sum_of_means}
-use Rattle.aq_verdict.specs.QuarterlyMean.{IsMean, nothing_more}
 use Rattle.aq_verdict.proofs.Sums.{same-sum-more, each-more, days-more}
 use Rattle.aq_verdict.proofs.means.mean_of_year.Goals as goal
 

@@ -1,4 +1,4 @@
-use Rattle.std.proofs.Common.{◌∙◌, FitsSigned, rules}
+use Rattle.std.proofs.Common.{FitsSigned, rules}
 use Rattle.std.specs.Int.{w32}
 use Rattle.std.proofs.lemmas.Int.{to_z-of_z}
 use Rattle.aq_verdict.proofs.Copied.{is_mean-plain}

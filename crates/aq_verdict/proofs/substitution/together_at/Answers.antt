@@ -1,4 +1,4 @@
-use Rattle.std.proofs.Common.{◌≡◌, ◌∷◌, [], ◌∙◌, ap, get_or}
+use Rattle.std.proofs.Common.{◌∙◌, ap, get_or}
 use Rattle.aq_verdict.specs.Filled.{together}
 use Rattle.aq_verdict.proofs.Rows.{three-of, same-part, part-within}
 use Rattle.aq_verdict.proofs.substitution.together_at.Goals as goal

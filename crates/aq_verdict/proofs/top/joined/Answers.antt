@@ -1,4 +1,3 @@
-use Rattle.std.proofs.Common.{◌≡◌, length, arith}
 use Rattle.aq_verdict.proofs.Lists.{joined-eight}
 use Rattle.aq_verdict.proofs.top.joined.Goals as goal
 

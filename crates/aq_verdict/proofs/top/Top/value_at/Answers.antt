@@ -1,4 +1,4 @@
-use Rattle.std.proofs.Common.{◌≡◌, ◌-◌, ◌<◌, ◌∙◌, ap, length, arith, get_or}
+use Rattle.std.proofs.Common.{◌-◌, ◌<◌, ◌∙◌, ap, length, arith, get_or}
 use Rattle.std.specs.Prelude.{None, slice_get}
 use Rattle.aq_verdict.proofs.Inserted.{given-at}
 use Rattle.aq_verdict.proofs.top.Top.value_at.Goals as goal
