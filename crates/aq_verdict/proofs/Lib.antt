@@ -5,3 +5,4 @@ mod Sums
 mod Inserted
 mod Rows
 mod Copied
+mod PercentilePlaces

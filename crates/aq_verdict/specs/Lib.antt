@@ -5,3 +5,4 @@ pub mod Inserted
 pub mod Counts
 pub mod QuarterlyMean
 pub mod Filled
+pub mod Ranks

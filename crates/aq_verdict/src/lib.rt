@@ -4,10 +4,12 @@
 
 mod annual_value;
 mod counts;
+mod daily_value;
 mod levels;
 mod means;
 mod ozone_value;
 mod ozone_year;
+mod percentile;
 mod pm10_value;
 mod pm10_year;
 mod pm_quarter;
@@ -18,6 +20,7 @@ mod substitution;
 mod top;
 
 pub use annual_value::{AnnualDv, annual};
+pub use daily_value::{DailyDv, daily};
 pub use ozone_value::{OzoneDv, ozone};
 pub use ozone_year::OzoneYear;
 pub use pm_quarter::PmQuarter;
