@@ -6,3 +6,4 @@ pub mod Counts
 pub mod QuarterlyMean
 pub mod Filled
 pub mod Ranks
+pub mod Designs

@@ -5,6 +5,7 @@
 mod annual_value;
 mod counts;
 mod daily_value;
+mod design_value;
 mod levels;
 mod means;
 mod ozone_value;
@@ -21,6 +22,7 @@ mod top;
 
 pub use annual_value::{AnnualDv, annual};
 pub use daily_value::{DailyDv, daily};
+pub use design_value::DesignValue;
 pub use ozone_value::{OzoneDv, ozone};
 pub use ozone_year::OzoneYear;
 pub use pm_quarter::PmQuarter;
