@@ -1,9 +1,10 @@
 -- Quotients that fit.
-use Rattle.std.proofs.Common.{◌≡◌, ℕ, ◌+◌, ◌-◌, ◌*◌, ◌/◌, ◌^◌, ◌<◌, ℤ, pos, negsuc, neg_ℤ, ◌+ℤ◌, ◌*ℤ◌, ◌≤ℤ◌, ◌<ℤ◌, unsigned_abs, FitsSigned, arith, lit<}
+use Rattle.std.proofs.Common.{◌≡◌, ℕ, ◌+◌, ◌-◌, ◌*◌, ◌/◌, ◌^◌, ◌<◌, ◌≤◌, ℤ, pos, negsuc, neg_ℤ, ◌+ℤ◌, ◌*ℤ◌, ◌≤ℤ◌, ◌<ℤ◌, unsigned_abs, FitsSigned, arith, lit<}
 use Rattle.std.specs.Prelude.{int_rem}
 use Rattle.std.specs.Int.{w32, int_div_euclid}
 use Rattle.std.proofs.lemmas.Int.{ints, quot-rem, rem_below}
 use Rattle.std.proofs.lemmas.Nat.{div_below}
+use Rattle.std.proofs.Math.Nat.{mul-le-mul_right}
 use Rattle.aq_base.specs.Decimal.{truncated, half_up}
 
 -- the truncated mean of three numbers fits where they do
@@ -42,3 +43,23 @@ rounded-fits num (negsuc den) some low high = absurd (omega (arith, ints, some))
 -- nothing and a number
 pub zero-plus : (a : ℤ) → pos 0 +ℤ a ≡ a
 zero-plus a = omega (arith, ints)
+
+-- a mean of up to twelve quarterly means is rounded within 32 bits
+pub record RoundsWithin (num den : ℤ) : Type 0 where
+  pub positive : pos 0 <ℤ den
+  pub small : den ≤ℤ pos (2 ^ 88)
+  pub low : neg_ℤ (pos (2 ^ 31 * unsigned_abs den)) ≤ℤ num
+  pub high : num ≤ℤ pos ((2 ^ 31 - 1) * unsigned_abs den)
+
+pub mean-rounds : (num den : ℤ) (number : ℕ) → pos 0 <ℤ den → den <ℤ pos (2 ^ 81) → unsigned_abs num ≤ 12 * 10299897 * unsigned_abs den → 1 ≤ number → number ≤ 12
+    → RoundsWithin num (pos number *ℤ den)
+mean-rounds num (pos d) number positive small within some few =
+    let least : 1 * d ≤ number * d = mul-le-mul_right d some in
+    let most : number * d ≤ 12 * d = mul-le-mul_right d few in
+    record {
+      positive = omega (arith, ints, positive, least);
+      small = omega (arith, ints, small, most);
+      low = omega (arith, ints, within, least);
+      high = omega (arith, ints, within, least);
+    }
+mean-rounds num (negsuc d) number positive small within some few = absurd (omega (arith, ints, positive))

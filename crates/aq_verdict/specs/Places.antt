@@ -1,6 +1,6 @@
 -- Places that descend hold the values that they give.
-use Rattle.std.proofs.Common.{◌≡◌, ℕ, suc, List, [], ◌∷◌, length, Bool, true, false, ◌&&◌, refl, sym, ap, ◌∙◌}
-use Rattle.std.specs.Prelude.{Option, Some, None, ℤ, int_le}
+use Rattle.std.proofs.Common.{◌≡◌, List, [], ◌∷◌, length, Bool, true, false, ◌&&◌, refl, sym, ap, ◌∙◌}
+use Rattle.std.specs.Prelude.{Option, Some, None, ℤ}
 use Rattle.std.proofs.lemmas.Bool.{false≢true}
 use Rattle.aq_verdict.specs.declared.top.Top.TheInside.{Inside}
 use Rattle.aq_verdict.specs.Top.{given, placed, is_no_higher, descends, HoldsTop}

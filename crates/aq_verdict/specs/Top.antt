@@ -1,5 +1,5 @@
 -- The eight greatest values of a year, in eight places.
-use Rattle.std.specs.Prelude.{◌≡◌, ℕ, zero, suc, Bool, true, false, ◌&&◌, IsTrue, List, [], ◌∷◌, Option, Some, None, ℤ, int_le}
+use Rattle.std.specs.Prelude.{◌≡◌, ℕ, zero, suc, Bool, true, false, ◌&&◌, IsTrue, List, [], ◌∷◌, length, Option, Some, None, ℤ, int_le}
 
 -- the values in the places, up to the first place without one
 abbrev pub given : List (Option ℤ) → List ℤ
@@ -28,3 +28,4 @@ descends (place ∷ next ∷ places) = is_no_higher place next && descends (next
 pub record HoldsTop (places : List (Option ℤ)) : Type 0 where
   pub falls : IsTrue (descends places)
   pub rest : places ≡ placed 8 (given places)
+  pub eight : length places ≡ 8

@@ -2,15 +2,27 @@
 //! K, N and U). It takes no memory, and each call always succeeds.
 #![tactic(auto)]
 
+mod annual_value;
+mod counts;
+mod daily_value;
+mod design_value;
+mod levels;
+mod means;
 mod ozone_value;
 mod ozone_year;
+mod percentile;
 mod pm10_value;
 mod pm10_year;
 mod pm_quarter;
 mod pm_year;
+mod quarterly;
 mod rounded;
+mod substitution;
 mod top;
 
+pub use annual_value::{AnnualDv, annual};
+pub use daily_value::{DailyDv, daily};
+pub use design_value::DesignValue;
 pub use ozone_value::{OzoneDv, ozone};
 pub use ozone_year::OzoneYear;
 pub use pm_quarter::PmQuarter;

@@ -1,5 +1,7 @@
 //! The eight greatest values of a year.
-ghost use Rattle.std.specs.Prelude.{◌≡◌, IsTrue};
+ghost use Rattle.std.specs.Prelude.{◌≡◌, ◌≤◌, ◌-◌, IsTrue, take, replicate, length, slice_get};
+ghost use Rattle.aq_profile.specs.Lists.{ranked_in};
+ghost use Rattle.aq_verdict.specs.Inserted.{inserted, is_higher, higher, lower, joined};
 ghost use Rattle.aq_verdict.specs.Top.{given, placed, descends, HoldsTop};
 
 use std::marker::Model;
@@ -40,7 +42,82 @@ impl Top {
         ensures value { result.now ≡ placed 8 self.now }
         ensures given { given result.now ≡ self.now }
         ensures falls { IsTrue (descends result.now) }
+        ensures eight { length result.now ≡ 8 }
     {
         &self.places
+    }
+
+    /// The eight greatest of these values and one more.
+    fn with_value(&self, value: i32) -> Top
+        ensures { result ≡ take 8 (ranked_in value self.now) }
+    {
+        Top::new(joined(self.places(), Some(value)))
+    }
+
+    /// The eight greatest of these values and so many copies of one more.
+    pub(crate) fn with_copies(&self, value: i32, number: u8) -> Top
+        ensures { result ≡ take 8 (inserted (replicate number value) self.now) }
+    {
+        let mut top = Top::new(*self.places());
+        for _copy in 0..number {
+            top = top.with_value(value);
+        }
+        top
+    }
+
+    /// The value of a rank, counted from the greatest one, which is 1.
+    pub(crate) fn value_at(&self, rank: u8) -> Option<i32>
+        requires some { 1 ≤ rank }
+        requires few { rank ≤ 8 }
+        ensures { result ≡ slice_get self.now (rank - 1) }
+    {
+        self.places()[usize::from(rank) - 1]
+    }
+}
+
+// Each place keeps the higher of its value and of what moves on from the place above.
+fn joined(places: &[Option<i32>; 8], value: Option<i32>) -> [Option<i32>; 8]
+    ensures { result ≡ joined value places.now }
+{
+    let [a, b, c, d, e, f, g, h] = *places;
+    [
+        higher(a, value),
+        higher(b, lower(a, value)),
+        higher(c, lower(b, value)),
+        higher(d, lower(c, value)),
+        higher(e, lower(d, value)),
+        higher(f, lower(e, value)),
+        higher(g, lower(f, value)),
+        higher(h, lower(g, value)),
+    ]
+}
+
+fn higher(place: Option<i32>, value: Option<i32>) -> Option<i32>
+    ensures { result ≡ higher place value }
+{
+    if is_higher(place, value) {
+        place
+    } else {
+        value
+    }
+}
+
+fn lower(place: Option<i32>, value: Option<i32>) -> Option<i32>
+    ensures { result ≡ lower place value }
+{
+    if is_higher(place, value) {
+        value
+    } else {
+        place
+    }
+}
+
+fn is_higher(place: Option<i32>, value: Option<i32>) -> bool
+    ensures { result ≡ is_higher place value }
+{
+    match (place, value) {
+        (None, _) => false,
+        (Some(_), None) => true,
+        (Some(other), Some(value)) => value < other,
     }
 }

@@ -8,5 +8,6 @@ invariant_of-result c =
     let eight : length c.args.places ≡ 8 = omega arith in
     record {
       falls = c.requires;
+      eight = eight;
       rest = places-given c.args.places c.requires ∙ ap (λ n. placed n (given c.args.places)) eight;
     }
