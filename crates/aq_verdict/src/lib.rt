@@ -18,6 +18,8 @@ mod pm_year;
 mod quarterly;
 mod rounded;
 mod substitution;
+#[cfg(test)]
+mod tests;
 mod top;
 
 pub use annual_value::{AnnualDv, annual};

@@ -17,6 +17,7 @@ use crate::top::Top;
 pub(crate) fn percentile_of(year: &PmYear) -> Option<i32>
     ensures { result ≡ percentile_of of_summaries year.now }
 {
+    // The year keeps its facts.
     let _ = year.quarters();
     percentile(year.greatest_values(), counted_in(year))
 }
@@ -26,9 +27,9 @@ pub(crate) fn percentile_with(year: &PmYear, copies: &[Copies; 4]) -> Option<i32
     requires { counted_with year.now.quarters copies.now ≤ 400 }
     ensures { result ≡ of_summaries.percentile_with (flat_map copies_of copies.now) year.now }
 {
-    // The order of the copies does not matter.
-    aq_profile::lists::ranking_forgets_the_order();
+    // The year keeps its facts, and the order of the copies does not matter.
     let _ = year.quarters();
+    aq_profile::lists::ranking_forgets_the_order();
     percentile(
         &top_with(year, copies),
         counted_in(year) + number_of(copies),
