@@ -2,9 +2,11 @@
 //! takes no memory.
 #![tactic(auto)]
 
+mod day_hours;
 mod hours;
 mod tally;
 
+pub use day_hours::{DAY_HOURS, site_hours};
 pub use hours::{Cell, site_hour};
 
 #[cfg(test)]
