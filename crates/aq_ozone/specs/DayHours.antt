@@ -1,5 +1,5 @@
 -- The hours of a day's averages: each has a cell or none.
-use Rattle.std.specs.Prelude.{ℕ, nat_le, if◌then◌else◌, Option, None, List, map, filter_map, IfSome}
+use Rattle.std.specs.Prelude.{ℕ, ◌*◌, nat_le, if◌then◌else◌, Option, None, List, map, filter_map, IfSome}
 use Rattle.std.specs.List.{range_with_len, AllByRecursion}
 use Rattle.aq_base.specs.Calendar.{hour_number}
 use Rattle.aq_base.specs.Site.{Site}
@@ -17,14 +17,14 @@ hour_at office site hour = if nat_le hour LAST_HOUR then site_hour office site h
 unfoldable pub day_hours : Office → Site → ℕ → List (Option Cell)
 day_hours office site day = map (hour_at office site) (range_with_len (hour_number day 7) 24)
 
+-- what it has for the hours of a calendar day
+unfoldable pub calendar_hours : Office → Site → ℕ → List (Option Cell)
+calendar_hours office site day = map (hour_at office site) (range_with_len (24 * day) 24)
+
 -- the cells of hours
 abbrev pub cells_in : List (Option Cell) → List Cell
 cells_in hours = filter_map (λ hour. hour) hours
 
--- their values are ozone's
-abbrev pub AreOzone : List (Option Cell) → Type 0
-AreOzone hours = AllByRecursion (λ hour. IfSome hour (λ (cell : Cell). IsOzone cell.value)) hours
-
--- and so are net averages
+-- their net averages are ozone's values
 abbrev pub AreNetOzone : List WindowRow → Type 0
 AreNetOzone rows = AllByRecursion (λ (row : WindowRow). IfSome row.net IsOzone) rows
