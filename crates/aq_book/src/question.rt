@@ -16,7 +16,7 @@ use crate::book::Book;
 use crate::fault::{AskFault, UnknownSite};
 use crate::ozone::{OzoneDays, days_of_year, three_years};
 use aq_base::{Day, SiteId, Standard, Steps};
-use aq_ozone::{DayWindows, day_windows};
+use aq_ozone::{DayWindows, day_windows, uncounted_windows};
 use aq_verdict::{DesignValue, OzoneYear};
 use std::alloc::Global;
 use std::sync::ledger::Ledger;
@@ -36,6 +36,15 @@ impl Book {
     {
         self.find(site)?;
         Ok(day_windows(&self.shelf, &self.registry, site, day, steps))
+    }
+
+    /// The seventeen 8-hour averages of a day of a site, for callers that count no steps.
+    pub fn uncounted_windows(&self, site: SiteId, day: Day) -> Result<DayWindows, UnknownSite>
+        ensures windows { IfOk result (λ windows. windows ≡ ozone.windows self.now site day) }
+        ensures registered { is_ok result ≡ is_registered self.now site }
+    {
+        self.find(site)?;
+        Ok(uncounted_windows(&self.shelf, &self.registry, site, day))
     }
 
     /// The first and the last day of the ozone season of a site and year (40 CFR Part 50, Appendix U,
