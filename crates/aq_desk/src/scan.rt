@@ -1,10 +1,9 @@
 //! The command `scan`.
-ghost use Rattle.std.specs.Prelude.{◌≡◌, ◌<◌, ◌≤◌, true, false, is_ok, length, IfErr, IfOk};
+ghost use Rattle.std.specs.Prelude.{◌≡◌, ◌≤◌, true, false, length, IfErr};
 ghost use Rattle.aq_book.specs.Staged.{office_with, Fits};
 ghost use Rattle.aq_profile.specs.Limits.{MOST_BYTES};
-ghost use Rattle.aq_profile.specs.Ozone.OzoneDay as ozone;
 ghost use Rattle.aq_profile.specs.Shown.Answer as questions;
-ghost use Rattle.aq_profile.specs.Shown.Answer.{is_registered, Windows};
+ghost use Rattle.aq_profile.specs.Shown.Answer.{Windows};
 ghost use Rattle.aq_profile.specs.Shown.Sheet.{text_of};
 ghost use Rattle.aq_profile.specs.Shown.Sheets.{load_sheet};
 ghost use Rattle.aq_desk.specs.Body.{Over, is_within};
@@ -16,14 +15,11 @@ use crate::body::read_body;
 use crate::outside::{Sink, Source};
 use crate::stop::Stop;
 use crate::writing::print_sheet;
-use aq_base::{Day, MOST_LINES, SiteId, Steps};
-use aq_book::{Book, Staged, UnknownSite};
+use aq_base::{Day, MOST_LINES, SiteId};
+use aq_book::{Book, Staged};
 use aq_forms::count_lines;
-use aq_ozone::DayWindows;
 use aq_reports::{load_sheet, windows_sheet};
 use std::alloc::Global;
-use std::marker::Brand;
-use std::sync::ledger::{Blank, Ledger};
 
 /// Takes the input as a load over an office of which nothing stands, and prints the reply and then the
 /// day's windows.
@@ -126,34 +122,9 @@ fn print_windows<O: Sink>(
     ensures taken { IsTaken (status_of result) }
     ensures output_failed { RisesAt 4 (status_of result) (O.faults output.old) (O.faults output.new) }
 {
-    let Ok(windows) = windows_of(book, site, day) else {
+    let Ok(windows) = book.uncounted_windows(site, day) else {
         return Err(Stop::NoSite(site));
     };
     let sheet = windows_sheet(alloc, site, day, &windows)?;
     print_sheet(alloc, &sheet, output)
-}
-
-/// The day's windows, where the site is registered.
-fn windows_of(book: &Book, site: SiteId, day: Day) -> Result<DayWindows, UnknownSite>
-    ensures windows { IfOk result (λ windows. windows ≡ ozone.windows book.now site day) }
-    ensures registered { is_ok result ≡ is_registered book.now site }
-{
-    counted::<Brand>(book, site, day, Blank::new(1))
-}
-
-/// The same, on a counter of its own, which nobody reads.
-fn counted<L: Ledger>(
-    book: &Book,
-    site: SiteId,
-    day: Day,
-    blank: Blank,
-) -> Result<DayWindows, UnknownSite>
-    requires name { blank.name ≡ L.name }
-    requires parts { blank.parts ≡ L.parts }
-    requires some { 0 < L.parts }
-    ensures windows { IfOk result (λ windows. windows ≡ ozone.windows book.now site day) }
-    ensures registered { is_ok result ≡ is_registered book.now site }
-{
-    let mut steps = Steps::<L>::new(blank);
-    book.windows(site, day, &mut steps)
 }
