@@ -2,6 +2,7 @@
 //! that they give, and the fourth highest of a year. It takes no memory.
 #![tactic(auto)]
 
+mod day_span;
 mod eight_hour;
 mod ozone_day;
 mod ozone_year;

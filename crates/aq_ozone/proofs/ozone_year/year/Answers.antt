@@ -33,8 +33,8 @@ loop-count-preserved g c =
     let day = day_in office c.args.site season in
     let at : c.year_span-first.result.0 + c.loop-count.count ≡ c.new-day.result = omega (arith, c.new-day.ensures, c.number-in-loop-count.ensures.value) in
     let after : c.new-day.result + 1 ≡ c.year_span-first.result.0 + (c.loop-count.count + 1) = omega (arith, at) in
-    let behind : c.calendar_hours-tomorrow.result ≡ calendar_hours office c.args.site (c.new-day.result + 1) =
-    c.calendar_hours-tomorrow.ensures.hours ∙ ap (λ (n : ℕ). calendar_hours office c.args.site (n + 1)) c.number-in-loop-count-2.ensures.value
+    let behind : c.day-tomorrow.result ≡ calendar_hours office c.args.site (c.new-day.result + 1) =
+    c.day-tomorrow.ensures.hours office c.args.site c.reach.ensures.holds ∙ ap (λ (n : ℕ). calendar_hours office c.args.site (n + 1)) c.number-next.ensures.value
     in
     let windows = c.windows_of-windows.ensures.windows office c.args.site c.new-day.result (c.hours_of.ensures.hours office c.args.site c.new-day.result (c.loop-count.invariant.today ∙ ap (calendar_hours office c.args.site) at) behind) in
     record {
@@ -43,8 +43,14 @@ loop-count-preserved g c =
           (days_more day c.year_span-first.result.0 c.loop-count.count c.new-day.result c.day_of_year.result at (c.day_of_year.ensures.day c.args.shelf.now windows))
           (c.with-so_far.ensures (map day (range_with_len c.year_span-first.result.0 c.loop-count.count)) c.loop-count.invariant.tally);
       today = behind ∙ ap (λ (n : ℕ). calendar_hours office c.args.site n) after;
-      ozone = c.calendar_hours-tomorrow.ensures.ozone;
-      steps = omega (arith, c.loop-count.invariant.steps, c.calendar_hours-tomorrow.ensures.steps);
+      ozone = c.day-tomorrow.ensures.ozone;
+      reaches = record {
+        low = omega (arith, c.reach.ensures.reaches.low, after, c.number-next.ensures.value);
+        high = omega (arith, c.reach.ensures.reaches.high, after, c.number-next.ensures.value);
+      };
+      first_day = omega (arith, c.loop-count.invariant.first_day, c.reach.ensures.later);
+      holds = c.reach.ensures.holds;
+      steps = omega (arith, c.loop-count.invariant.steps, c.reach.ensures.steps);
     }
 
 pub new-requires : goal.new-requires
