@@ -15,7 +15,7 @@ use aq_shelf::Shelf;
 use std::sync::ledger::Ledger;
 
 /// What a site has for the hours of eight days, by the number of the first.
-#[derive(Clone, Copy)]
+#[derive(Drop)]
 pub(crate) struct DaySpan {
     first: u16,
     hours: [Option<Cell>; SPAN_HOURS],

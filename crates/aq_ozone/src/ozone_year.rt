@@ -10,11 +10,10 @@ ghost use Rattle.aq_ozone.specs.YearDays.{day_in};
 ghost use Rattle.aq_series.specs.OfficeView.{office_of};
 ghost use Rattle.aq_series.specs.Samples.{IsOzone};
 
-use crate::day_span::DaySpan;
+use crate::days::Days;
 use crate::eight_hour::DayWindows;
 use crate::ozone_day::{OzoneDay, day_of_windows};
 use crate::top_four::TopFour;
-use crate::windows::{hours_of, windows_of};
 use aq_base::{Day, FIRST_YEAR, LAST_YEAR, Pollutant, SiteId, Steps};
 use aq_cal::year_span;
 use aq_profile::kept::summaries::ozone_years_keep_their_facts;
@@ -47,16 +46,11 @@ pub fn year<L: Ledger>(
     let (first, days) = year_span(year);
     let season = registry.season(site, year);
     let mut so_far = YearTally::new();
-    let mut span = DaySpan::read(shelf, registry, site, first.number(), steps);
-    let mut today = span.day(first.number());
+    let mut walk = Days::new(shelf, registry, site, first, steps);
     for count in 0..days {
         let day = Day::new(first.number() + count);
-        let next = day.number() + 1;
-        span.reach(shelf, registry, site, next, steps);
-        let tomorrow = span.day(next);
-        let windows = windows_of(&hours_of(&today, &tomorrow));
+        let windows = walk.next(shelf, registry, site, steps);
         so_far = so_far.with(day_of_year(registry, site, &season, day, &windows));
-        today = tomorrow;
     }
     OzoneYear::new(
         so_far.season_days,
@@ -75,7 +69,8 @@ struct DayOfYear {
     maximum: Option<i32>,
 }
 
-/// A day in a season's year, by its averages. An approval is looked up where the day is not valid by its hours.
+/// A day in a season's year, by its averages. An approval is looked up where the day is not valid by its
+/// hours.
 #[tactic(auto, unfolding(aq_profile::specs::Ozone::OzoneDay::ozone_day))]
 fn day_of_year(
     registry: &Registry,
