@@ -11,9 +11,9 @@ use Rattle.aq_profile.specs.Office.Office.{Office}
 use Rattle.aq_profile.specs.Ozone.EightHour.{WindowRow, eight_hours, row_of, window}
 use Rattle.aq_profile.specs.Ozone.OzoneDay.{windows, starts_of}
 use Rattle.aq_profile.specs.Ozone.SiteHour.{Cell, site_hour}
-use Rattle.aq_series.specs.DayStates.{site_hours}
+use Rattle.aq_series.specs.DayStates.{hour_at, site_hours}
 use Rattle.aq_series.specs.Samples.{AreOzone, IsOzone}
-use Rattle.aq_ozone.specs.DayHours.{calendar_hours, cells_in, day_hours, hour_at}
+use Rattle.aq_ozone.specs.DayHours.{calendar_hours, cells_in, day_hours}
 
 -- ---- lists by their numbers
 
@@ -82,23 +82,38 @@ all_none : (a n : ℕ) → map nothing (range_with_len a n) ≡ replicate n None
 all_none a zero = refl
 all_none a (suc n) = ap (λ (l : List (Option Cell)). None ∷ l) (all_none (a + 1) n)
 
-pub there : (office : Office) (site : Site) (day : ℕ) → day ≤ LAST_DAY → site_hours office site day ≡ calendar_hours office site day
-unfolding site_hours calendar_hours
-there office site day within =
-    same_in_range (site_hour office site) (hour_at office site) (24 * day) 24
-    (λ k low high. let least : nat_le k LAST_HOUR ≡ true = grind (arith, nat_tests) in sym (ap (λ b. cond b (site_hour office site k) None) least))
-
-pub past : (office : Office) (site : Site) (day : ℕ) → LAST_DAY < day → replicate 24 None ≡ calendar_hours office site day
-unfolding calendar_hours
+pub past : (office : Office) (site : Site) (day : ℕ) → LAST_DAY < day → replicate 192 None ≡ site_hours office site day
+unfolding site_hours
 past office site day behind =
-    sym (all_none (24 * day) 24)
-    ∙ same_in_range nothing (hour_at office site) (24 * day) 24
+    sym (all_none (24 * day) 192)
+    ∙ same_in_range nothing (hour_at office site) (24 * day) 192
     (λ k low high. let most : nat_le k LAST_HOUR ≡ false = grind (arith, nat_tests) in sym (ap (λ b. cond b (site_hour office site k) None) most))
 
 at_range : {Y : Type 0} (f : ℕ → Y) (a n k : ℕ) (d : Y) → k < n → get_or (map f (range_with_len a n)) k d ≡ f (a + k)
 at_range f a zero k d within = absurd (omega (arith, within))
 at_range f a (suc n) zero d within = let e : a ≡ a + 0 = omega arith in ap f e
 at_range f a (suc n) (suc k) d within = let e : a + 1 + k ≡ a + suc k = omega arith in at_range f (a + 1) n k d (omega (arith, within)) ∙ ap f e
+
+module _ (span hours : List (Option Cell)) (d : ℕ) (within : d < 8) (many : length hours ≡ 24) (each : (k : ℕ) → k < 24 → get_or hours k None ≡ get_or span (24 * d + k) None) where
+  pub part : (office : Office) (site : Site) (first : ℕ) → span ≡ site_hours office site first → hours ≡ calendar_hours office site (first + d)
+  unfolding site_hours calendar_hours
+  part office site first is =
+      list_by None (hour_at office site) hours (24 * (first + d)) 24 many
+      (λ k below.
+      let e : 24 * first + (24 * d + k) ≡ 24 * (first + d) + k = omega arith in
+      each k below ∙ ap (λ (l : List (Option Cell)). get_or l (24 * d + k) None) is
+      ∙ at_range (hour_at office site) (24 * first) 192 (24 * d + k) None (omega (arith, within, below)) ∙ ap (hour_at office site) e)
+
+  pub part_ozone : AreOzone span → AreOzone hours
+  part_ozone all = ozone_by hours (λ k. by_test k (nat_lt k 24) refl)
+    where
+      by_test : (k : ℕ) → (b : Bool) → nat_lt k 24 ≡ b → IfSome (get_or hours k None) (λ (cell : Cell). IsOzone cell.value)
+      by_test k true h =
+          let below : k < 24 = grind (arith, nat_tests) in
+          subst (λ (o : Option Cell). IfSome o (λ (cell : Cell). IsOzone cell.value)) (sym (each k below)) (ozone_at span (24 * d + k) all)
+      by_test k false h =
+          let outside : length hours ≤ k = grind (arith, nat_tests, many) in
+          subst (λ (o : Option Cell). IfSome o (λ (cell : Cell). IsOzone cell.value)) (sym (get_or_past hours k None outside)) tt
 
 module _ (today tomorrow hours : List (Option Cell)) (many : length hours ≡ 24)
     (early : (k : ℕ) → k < 17 → get_or hours k None ≡ get_or today (k + 7) None)

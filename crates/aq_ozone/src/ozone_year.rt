@@ -10,10 +10,10 @@ ghost use Rattle.aq_ozone.specs.YearDays.{day_in};
 ghost use Rattle.aq_series.specs.OfficeView.{office_of};
 ghost use Rattle.aq_series.specs.Samples.{IsOzone};
 
+use crate::days::Days;
 use crate::eight_hour::DayWindows;
 use crate::ozone_day::{OzoneDay, day_of_windows};
 use crate::top_four::TopFour;
-use crate::windows::{calendar_hours, hours_of, windows_of};
 use aq_base::{Day, FIRST_YEAR, LAST_YEAR, Pollutant, SiteId, Steps};
 use aq_cal::year_span;
 use aq_profile::kept::summaries::ozone_years_keep_their_facts;
@@ -26,8 +26,8 @@ use std::sync::ledger::Ledger;
 /// The ozone year of a site: the days of its season, those of them that are valid or approved, the number
 /// of ranked maxima, and the fourth highest of these in thousandths of a ppm (40 CFR Part 50, Appendix U,
 /// 3(e) and 4(b)). The maxima of all valid days of the year are ranked, in season or not. The call reads
-/// each calendar day of the year and the day behind it once: at most 200 steps a day. The year is 2000 to
-/// 2049.
+/// each calendar day of the year and the day behind it once, eight days together: at most 200 steps a day.
+/// The year is 2000 to 2049.
 pub fn year<L: Ledger>(
     shelf: &Shelf,
     registry: &Registry,
@@ -46,13 +46,11 @@ pub fn year<L: Ledger>(
     let (first, days) = year_span(year);
     let season = registry.season(site, year);
     let mut so_far = YearTally::new();
-    let mut today = calendar_hours(shelf, registry, site, first.number(), steps);
+    let mut walk = Days::new(shelf, registry, site, first, steps);
     for count in 0..days {
         let day = Day::new(first.number() + count);
-        let tomorrow = calendar_hours(shelf, registry, site, day.number() + 1, steps);
-        let windows = windows_of(&hours_of(&today, &tomorrow));
+        let windows = walk.next(shelf, registry, site, steps);
         so_far = so_far.with(day_of_year(registry, site, &season, day, &windows));
-        today = tomorrow;
     }
     OzoneYear::new(
         so_far.season_days,
@@ -71,7 +69,8 @@ struct DayOfYear {
     maximum: Option<i32>,
 }
 
-/// A day in a season's year, by its averages. An approval is looked up where the day is not valid by its hours.
+/// A day in a season's year, by its averages. An approval is looked up where the day is not valid by its
+/// hours.
 #[tactic(auto, unfolding(aq_profile::specs::Ozone::OzoneDay::ozone_day))]
 fn day_of_year(
     registry: &Registry,

@@ -4,21 +4,25 @@ ghost use Rattle.aq_base.specs.Site.{Site};
 ghost use Rattle.aq_profile.specs.Office.Office.{Office};
 ghost use Rattle.aq_profile.specs.Ozone.EightHour.{row_of};
 ghost use Rattle.aq_profile.specs.Ozone.OzoneDay as book;
-ghost use Rattle.aq_ozone.specs.DayHours.{cells_in, hour_at, AreNetOzone};
+ghost use Rattle.aq_ozone.specs.DayHours.{cells_in, AreNetOzone};
 ghost use Rattle.aq_ozone.specs.DayHours as hours;
+ghost use Rattle.aq_series.specs.DayStates.{hour_at};
 ghost use Rattle.aq_series.specs.OfficeView.{office_of};
 ghost use Rattle.aq_series.specs.Samples.{AreOzone, IsOzone};
 
 use crate::eight_hour::{DayWindows, WINDOWS, WindowRow, average};
-use aq_base::{Day, Hour, LAST_DAY, LAST_HOUR, SiteId, Steps};
+use aq_base::{Day, Hour, LAST_HOUR, SiteId, Steps};
 use aq_registry::Registry;
-use aq_series::{Cell, DAY_HOURS, site_hour, site_hours};
+use aq_series::{Cell, site_hour};
 use aq_shelf::Shelf;
 use std::marker::Brand;
 use std::sync::ledger::{Blank, Ledger};
 
 /// The first average of a day starts at 07:00.
 const FIRST_START: u32 = 7;
+
+/// The averages of a day read so many hours.
+pub(crate) const DAY_HOURS: usize = 24;
 
 /// Each average is of so many.
 const WINDOW_HOURS: usize = 8;
@@ -102,26 +106,6 @@ fn day_hours<L: Ledger>(
         hours[i] = hour_at(shelf, registry, site, first + i as u32, steps);
     }
     hours
-}
-
-/// What the site has for the hours of a calendar day, by the day's number: none past the profile. At most
-/// 200 steps.
-pub(crate) fn calendar_hours<L: Ledger>(
-    shelf: &Shelf,
-    registry: &Registry,
-    site: SiteId,
-    day: u16,
-    steps: &mut Steps<L>,
-) -> [Option<Cell>; DAY_HOURS]
-    ensures hours { result ≡ hours.calendar_hours (office_of registry.now shelf.now) site day }
-    ensures ozone { AreOzone result }
-    ensures steps { steps.new ≤ steps.old + 200 }
-{
-    if day <= LAST_DAY {
-        site_hours(shelf, registry, site, Day::new(day), steps)
-    } else {
-        [None; DAY_HOURS]
-    }
 }
 
 /// The hours that the averages of a day read, from 07:00 of its calendar day to 06:00 of the next one.

@@ -67,32 +67,32 @@ same_or_not m n h = grind (arith, nat_tests)
 apart : (m n : ℕ) → (m == n) ≡ false → m ≡ n → ⊥
 apart m n h e = grind (arith, nat_tests)
 
-module _ (records : List OfficeRecord) (rows : List (ObsKey × Observation)) (monitor : MonitorId) (day : ℕ) (primary : Bool) where
+module _ (records : List OfficeRecord) (rows : List (ObsKey × Observation)) (monitor : MonitorId) (day : ℕ) where
   -- what is still to be read for an hour, and its state before and now
   abbrev pub Read : ℕ → Option Item → HourState → HourState → Type 0
-  Read k None before now = Adds primary (stood_at records rows (standing_at monitor day k)) before now
+  Read k None before now = Adds monitor.poc (stood_at records rows (standing_at monitor day k)) before now
   Read k (Some item) before now = (now ≡ before) × (content_at (standing_at monitor day k) rows ≡ Some item.1)
 
   abbrev pub Reads : List Item → List HourState → List HourState → Type 0
-  Reads items before now = (k : ℕ) (d : HourState) → k < 24 → Read k (found hour_of (24 * day + k) items) (get_or before k d) (get_or now k d)
+  Reads items before now = (k : ℕ) (d : HourState) → k < 192 → Read k (found hour_of (24 * day + k) items) (get_or before k d) (get_or now k d)
 
   unread : (k : ℕ) (state : HourState) (o : Option Item) → option_map (λ (i : Item). i.1) o ≡ content_at (standing_at monitor day k) rows → Read k o state state
   unread k state None is =
-      subst (λ (content : Option Observation). Adds primary (option_and_then (cell_of records (standing_at monitor day k)) content) state state) is refl
+      subst (λ (content : Option Observation). Adds monitor.poc (option_and_then (cell_of records (standing_at monitor day k)) content) state state) is refl
   unread k state (Some item) is = (refl, sym is)
 
-  pub reads-start : IsTrue (rises observation_rank rows) → (states : List HourState) → Reads (observations_in monitor (24 * day) 24 rows) states states
+  pub reads-start : IsTrue (rises observation_rank rows) → (states : List HourState) → Reads (observations_in monitor (24 * day) 192 rows) states states
   reads-start rising states k d within =
-      unread k (get_or states k d) (found hour_of (24 * day + k) (observations_in monitor (24 * day) 24 rows))
-      (span-at monitor (24 * day) 24 (24 * day + k) (omega arith) (omega (arith, within)) rows rising)
+      unread k (get_or states k d) (found hour_of (24 * day + k) (observations_in monitor (24 * day) 192 rows))
+      (span-at monitor (24 * day) 192 (24 * day + k) (omega arith) (omega (arith, within)) rows rising)
 
   module _ (item : Item) (items : List Item) (rising : Rising hour_of (item ∷ items)) (before now : List HourState) (reads : Reads (item ∷ items) before now) where
     -- the hour of the observation, and another one
-    here : (k : ℕ) (d : HourState) → k < 24 → item.0 ≡ 24 * day + k → (get_or now k d ≡ get_or before k d) × (content_at (standing_at monitor day k) rows ≡ Some item.1)
+    here : (k : ℕ) (d : HourState) → k < 192 → item.0 ≡ 24 * day + k → (get_or now k d ≡ get_or before k d) × (content_at (standing_at monitor day k) rows ≡ Some item.1)
     here k d within is =
         subst (λ (o : Option Item). Read k o (get_or before k d) (get_or now k d)) (ap (λ (hour : ℕ). found hour_of hour (item ∷ items)) (sym is) ∙ found_first hour_of item items) (reads k d within)
 
-    elsewhere : (k : ℕ) (d : HourState) → k < 24 → (item.0 == 24 * day + k) ≡ false → Read k (found hour_of (24 * day + k) items) (get_or before k d) (get_or now k d)
+    elsewhere : (k : ℕ) (d : HourState) → k < 192 → (item.0 == 24 * day + k) ≡ false → Read k (found hour_of (24 * day + k) items) (get_or before k d) (get_or now k d)
     elsewhere k d within other =
         subst (λ (o : Option Item). Read k o (get_or before k d) (get_or now k d)) (ap (λ (b : Bool). cond b (Some item) (found hour_of (24 * day + k) items)) other) (reads k d within)
 
@@ -100,12 +100,12 @@ module _ (records : List OfficeRecord) (rows : List (ObsKey × Observation)) (mo
     none_more : (k : ℕ) → item.0 ≡ 24 * day + k → found hour_of (24 * day + k) items ≡ None
     none_more k is = none_later hour_of (24 * day + k) item.0 items (omega (arith, is)) rising.0
 
-    stood : (k : ℕ) (d : HourState) → k < 24 → item.0 ≡ 24 * day + k → stood_at records rows (standing_at monitor day k) ≡ cell_of records (record { monitor = monitor; hour = item.0 }) item.1
+    stood : (k : ℕ) (d : HourState) → k < 192 → item.0 ≡ 24 * day + k → stood_at records rows (standing_at monitor day k) ≡ cell_of records (record { monitor = monitor; hour = item.0 }) item.1
     stood k d within is =
         ap (λ (content : Option Observation). option_and_then (cell_of records (standing_at monitor day k)) content) (here k d within is).1
         ∙ (λ i. cell_of records (record { monitor = monitor; hour = sym is i }) item.1)
 
-    pub unchanged_yet : (k : ℕ) (d : HourState) → k < 24 → item.0 ≡ 24 * day + k → get_or now k d ≡ get_or before k d
+    pub unchanged_yet : (k : ℕ) (d : HourState) → k < 192 → item.0 ≡ 24 * day + k → get_or now k d ≡ get_or before k d
     unchanged_yet k d within is = (here k d within is).0
 
     -- an observation without a value
@@ -117,11 +117,11 @@ module _ (records : List OfficeRecord) (rows : List (ObsKey × Observation)) (mo
         by_test true same =
             let is = same_or_not item.0 (24 * day + k) same in
             subst (λ (o : Option Item). Read k o (get_or before k d) (get_or now k d)) (sym (none_more k is))
-            (subst (λ (o : Option Cell). Adds primary o (get_or before k d) (get_or now k d)) (sym (stood k d within is ∙ none)) (here k d within is).0)
+            (subst (λ (o : Option Cell). Adds monitor.poc o (get_or before k d) (get_or now k d)) (sym (stood k d within is ∙ none)) (here k d within is).0)
 
     -- one with a value, which is put into the state of its hour
     pub reads-more : (cell : Cell) (place : ℕ) (after : HourState) → cell_of records (record { monitor = monitor; hour = item.0 }) item.1 ≡ Some cell → item.0 ≡ 24 * day + place → place < length now
-        → ((d : HourState) → AddsValue primary cell (get_or now place d) after) → Reads items before (set now place after)
+        → ((d : HourState) → AddsValue monitor.poc cell (get_or now place d) after) → Reads items before (set now place after)
     reads-more cell place after given at many adds k d within = by_test (item.0 == 24 * day + k) refl
       where
         by_test : (b : Bool) → (item.0 == 24 * day + k) ≡ b → Read k (found hour_of (24 * day + k) items) (get_or before k d) (get_or (set now place after) k d)
@@ -133,6 +133,6 @@ module _ (records : List OfficeRecord) (rows : List (ObsKey × Observation)) (mo
             let is = same_or_not item.0 (24 * day + k) same in
             let there : k ≡ place = omega (arith, is, at) in
             subst (λ (o : Option Item). Read k o (get_or before k d) (get_or (set now place after) k d)) (sym (none_more k is))
-            (subst (λ (o : Option Cell). Adds primary o (get_or before k d) (get_or (set now place after) k d)) (sym (stood k d within is ∙ given))
-            (subst (λ (state : HourState). AddsValue primary cell (get_or before k d) state) (sym (get_or-set_at now place k after d there many))
-            (subst (λ (state : HourState). AddsValue primary cell state after) (ap (λ (n : ℕ). get_or now n d) (sym there) ∙ (here k d within is).0) (adds d))))
+            (subst (λ (o : Option Cell). Adds monitor.poc o (get_or before k d) (get_or (set now place after) k d)) (sym (stood k d within is ∙ given))
+            (subst (λ (state : HourState). AddsValue monitor.poc cell (get_or before k d) state) (sym (get_or-set_at now place k after d there many))
+            (subst (λ (state : HourState). AddsValue monitor.poc cell state after) (ap (λ (n : ℕ). get_or now n d) (sym there) ∙ (here k d within is).0) (adds d))))

@@ -6,7 +6,7 @@ mod day_hours;
 mod hours;
 mod tally;
 
-pub use day_hours::{DAY_HOURS, site_hours};
+pub use day_hours::{SPAN_DAYS, SPAN_HOURS, site_hours};
 pub use hours::{Cell, site_hour};
 
 #[cfg(test)]

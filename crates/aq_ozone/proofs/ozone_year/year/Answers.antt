@@ -6,7 +6,8 @@ use Rattle.aq_profile.specs.Office.Season.{Season}
 use Rattle.aq_registry.specs.Registry.{office_with}
 use Rattle.aq_series.specs.OfficeView.{office_of}
 use Rattle.aq_ozone.specs.declared.ozone_year.DayOfYear.{DayOfYear}
-use Rattle.aq_ozone.specs.DayHours.{calendar_hours}
+use Rattle.aq_profile.specs.Ozone.OzoneDay as book
+use Rattle.aq_ozone.specs.DaySpans.{IsAt}
 use Rattle.aq_ozone.specs.YearDays.{day_in, IsTallyOf}
 use Rattle.aq_ozone.proofs.YearLemmas.{days_more, few, year_is, year_keeps}
 use Rattle.aq_ozone.proofs.ozone_year.year.Goals as goal
@@ -31,20 +32,17 @@ loop-count-preserved g c =
     let office = office_of c.args.registry.now c.args.shelf.now in
     let season : Season = record { first = c.season-season.result.0; last = c.season-season.result.1 } in
     let day = day_in office c.args.site season in
-    let at : c.year_span-first.result.0 + c.loop-count.count ≡ c.new-day.result = omega (arith, c.new-day.ensures, c.number-in-loop-count.ensures.value) in
-    let after : c.new-day.result + 1 ≡ c.year_span-first.result.0 + (c.loop-count.count + 1) = omega (arith, at) in
-    let behind : c.calendar_hours-tomorrow.result ≡ calendar_hours office c.args.site (c.new-day.result + 1) =
-    c.calendar_hours-tomorrow.ensures.hours ∙ ap (λ (n : ℕ). calendar_hours office c.args.site (n + 1)) c.number-in-loop-count-2.ensures.value
-    in
-    let windows = c.windows_of-windows.ensures.windows office c.args.site c.new-day.result (c.hours_of.ensures.hours office c.args.site c.new-day.result (c.loop-count.invariant.today ∙ ap (calendar_hours office c.args.site) at) behind) in
+    let at : c.year_span-first.result.0 + c.loop-count.count ≡ c.new-day.result = omega (arith, c.new-day.ensures, c.number.ensures.value) in
+    let here = c.loop-count.invariant.at.day_is ∙ at in
+    let after : c.loop-count.walk.day + 1 ≡ c.year_span-first.result.0 + (c.loop-count.count + 1) = omega (arith, here, at) in
+    let windows = c.next-windows.ensures.windows ∙ ap (book.windows office c.args.site) here in
     record {
       tally =
           subst (λ (days : List DayOfYear). IsTallyOf days c.with-so_far.result)
           (days_more day c.year_span-first.result.0 c.loop-count.count c.new-day.result c.day_of_year.result at (c.day_of_year.ensures.day c.args.shelf.now windows))
           (c.with-so_far.ensures (map day (range_with_len c.year_span-first.result.0 c.loop-count.count)) c.loop-count.invariant.tally);
-      today = behind ∙ ap (λ (n : ℕ). calendar_hours office c.args.site n) after;
-      ozone = c.calendar_hours-tomorrow.ensures.ozone;
-      steps = omega (arith, c.loop-count.invariant.steps, c.calendar_hours-tomorrow.ensures.steps);
+      at = subst (λ (n : ℕ). IsAt office c.args.site n c.next-windows.new.self) after c.next-windows.ensures.at;
+      steps = omega (arith, c.loop-count.invariant.steps, c.next-windows.ensures.steps);
     }
 
 pub new-requires : goal.new-requires

@@ -11,11 +11,11 @@ abbrev pub invariant-loop-hour : goal.invariant-loop-hour
 invariant-loop-hour g l = record {
   can_next : (goal.iterator-loop-hour g).can_next l.hour-iterator;
   is_finite : (goal.iterator-loop-hour g).is_finite l.hour-iterator;
-  many : length l.hours ≡ 24;
+  many : length l.hours ≡ 192;
   first : l.first ≡ 24 * l.fn.day;
   ranges : AllByRecursion (λ (item : Item). HasValueInRange Ozone item.1) l.hour-iterator;
   rising : Rising hour_of l.hour-iterator;
-  within : Within (24 * l.fn.day) (24 * l.fn.day + 24) l.hour-iterator;
-  reads : Reads l.registry l.shelf l.monitor l.fn.day l.is_primary l.hour-iterator l.fn.hours l.hours;
-  steps : l.steps ≤ l.fn.steps + 25;
+  within : Within (24 * l.fn.day) (24 * l.fn.day + 192) l.hour-iterator;
+  reads : Reads l.registry l.shelf l.monitor l.fn.day l.hour-iterator l.fn.hours l.hours;
+  steps : l.steps ≤ l.fn.steps + 193;
 }

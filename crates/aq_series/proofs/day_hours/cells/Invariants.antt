@@ -7,7 +7,7 @@ use Rattle.aq_series.proofs.day_hours.cells.Given as goal
 
 abbrev pub invariant-loop-i : goal.invariant-loop-i
 invariant-loop-i l = record {
-  many : length l.cells ≡ 24;
+  many : length l.cells ≡ 192;
   values : (k : ℕ) (d : HourState) → k < l.i → (before : List Sample) → IsTally before (get_or l.hours k d).values → get_or l.cells k None ≡ mean_of before;
   range : (k : ℕ) → IfSome (get_or l.cells k None) (λ (cell : Cell). IsOzone cell.value);
 }
