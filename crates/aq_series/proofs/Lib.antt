@@ -3,3 +3,8 @@ pub mod Pocs
 pub mod Walk
 pub mod Means
 pub mod Stages
+pub mod SitePocs
+pub mod MonitorDay
+pub mod DayLists
+pub mod DayMeans
+pub mod SiteDay

@@ -96,7 +96,7 @@ fn sample<L: Ledger>(
 }
 
 /// Whether a monitor is registered and its values count.
-fn is_eligible(registry: &Registry, monitor: &MonitorId) -> bool
+pub(crate) fn is_eligible(registry: &Registry, monitor: &MonitorId) -> bool
     requires { IsOffice (office_with registry.now) }
     ensures { result ≡ monitors.is_eligible registry.now monitor.now }
 {
