@@ -6,3 +6,8 @@ pub mod Stages
 pub mod Spans
 pub mod DaySteps
 pub mod DayStages
+pub mod SitePocs
+pub mod MonitorDay
+pub mod DayLists
+pub mod DayMeans
+pub mod SiteDay

@@ -2,3 +2,4 @@
 pub mod DayStates
 pub mod OfficeView
 pub mod Samples
+pub mod DayCells

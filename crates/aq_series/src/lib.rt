@@ -1,13 +1,18 @@
-//! The ozone values of a site, hour by hour, from the records of its monitors and what they reported. It
-//! takes no memory.
+//! The ozone values of a site, hour by hour, and its PM2.5 and PM10 values, day by day, from the records
+//! of its monitors and what they reported. It takes no memory.
 #![tactic(auto)]
 
 mod day_hours;
+mod day_tally;
+mod days;
 mod hours;
 mod tally;
 
 pub use day_hours::{SPAN_DAYS, SPAN_HOURS, site_hours};
+pub use days::{monitor_day, site_day};
 pub use hours::{Cell, site_hour};
 
+#[cfg(test)]
+mod day_tests;
 #[cfg(test)]
 mod tests;
