@@ -1,0 +1,3 @@
+-- The strata of a quarter's days so far, and what its days give it.
+pub mod StrataSoFar
+pub mod QuarterDays

@@ -1,0 +1,85 @@
+//! The PM10 quarter of a site (40 CFR Part 50, Appendix K, 2.3 and 3.1).
+ghost use Rattle.std.specs.Prelude.{◌≡◌, option_and_then};
+ghost use Rattle.aq_profile.specs.Particles.ParticleDay.{unless_excluded};
+ghost use Rattle.aq_profile.specs.Particles.Pm10Estimate.{pm10_quarter};
+ghost use Rattle.aq_series.specs.OfficeView.{office_of};
+ghost use Rattle.aq_pm10.specs.QuarterDays.{day_in};
+
+use crate::days::{DayOfQuarter, QuarterTally};
+use aq_base::{Day, Pollutant, Quarter, SiteId, Steps};
+use aq_cal::quarter_span;
+use aq_profile::kept::summaries::pm10_quarters_keep_their_facts;
+use aq_registry::Registry;
+use aq_series::{Cell, site_day};
+use aq_shelf::Shelf;
+use aq_verdict::Pm10Quarter;
+use std::sync::ledger::Ledger;
+
+/// The PM10 quarter of a site: the days of the calendar quarter, its scheduled days and those of them with
+/// a sample, its strata with samples, its samples, how many of them exceed 150 µg/m3, of all and of those
+/// on scheduled days, and the sum over the strata of the part of their samples that exceed, in sixtieths
+/// (40 CFR Part 50, Appendix K, 2.3, 3.1 and 3.2). An excluded day is no sample; it counts as one of the
+/// scheduled days with a sample. Each day's value and schedule are looked up once.
+pub fn quarter<L: Ledger>(
+    shelf: &Shelf,
+    registry: &Registry,
+    site: SiteId,
+    quarter: Quarter,
+    steps: &mut Steps<L>,
+) -> Pm10Quarter
+    ensures { result ≡ pm10_quarter (office_of registry.now shelf.now) site quarter }
+{
+    pm10_quarters_keep_their_facts();
+    let (first, days) = quarter_span(quarter);
+    let mut so_far = QuarterTally::new(first.number());
+    for count in 0..days {
+        let day = Day::new(first.number() + u16::from(count));
+        so_far = so_far.with(day_of_quarter(shelf, registry, site, day, steps));
+    }
+    let strata = so_far.strata.totals();
+    Pm10Quarter::new(
+        days,
+        so_far.scheduled,
+        so_far.captured,
+        strata.strata,
+        strata.samples,
+        strata.exceedances,
+        so_far.scheduled_exceedances,
+        strata.sixtieths,
+    )
+}
+
+/// What a day of a quarter gives it.
+fn day_of_quarter<L: Ledger>(
+    shelf: &Shelf,
+    registry: &Registry,
+    site: SiteId,
+    day: Day,
+    steps: &mut Steps<L>,
+) -> DayOfQuarter
+    ensures { result ≡ day_in (office_of registry.now shelf.now) site day }
+{
+    let cell = site_day(shelf, registry, site, Pollutant::Pm10, day, steps);
+    DayOfQuarter {
+        number: day.number(),
+        is_scheduled: registry.is_scheduled(site, Pollutant::Pm10, day),
+        is_sampled: cell.is_some(),
+        sample: sample_of(&cell),
+    }
+}
+
+/// The value of a day, unless it is excluded.
+fn sample_of(cell: &Option<Cell>) -> Option<i32>
+    ensures { result ≡ option_and_then unless_excluded cell.now }
+{
+    match cell {
+        Some(cell) => {
+            if cell.excluded {
+                None
+            } else {
+                Some(cell.value)
+            }
+        }
+        None => None,
+    }
+}
