@@ -373,6 +373,28 @@ fn one_agreed_event_of_many_excludes_its_hour(rt: HostRuntime) -> Result<(), Fai
     Ok(())
 }
 
+/// Seven of eight monitors have 600 and the last one 669: the mean is cut to 608, which gives 76; that of
+/// the seven would give 75.
+const MEAN_OF_EIGHT: &str = "07:00 0.076 1 0.076 1\n";
+
+#[test]
+fn eight_monitors_give_one_mean(rt: HostRuntime) -> Result<(), Fail> {
+    let alloc = rt.alloc();
+    let mut body = Body::new(alloc);
+    for poc in 1..9 {
+        let line = format!(in alloc; "XM|I|06|037|1103|44201|{poc}|1|Y")?;
+        body.add(line.as_str(), TAKEN)?;
+    }
+    for poc in 1..8 {
+        let line = format!(in alloc;
+            "RD|I|06|037|1103|44201|{poc}|1|007|087|20240701|07:00|0.600"
+        )?;
+        body.add(line.as_str(), TAKEN)?;
+    }
+    let last = "RD|I|06|037|1103|44201|8|1|007|087|20240701|07:00|0.669";
+    body.answer(&rt, last, MEAN_OF_EIGHT)
+}
+
 #[test]
 fn a_site_without_an_ozone_monitor_is_registered(rt: HostRuntime) -> Result<(), Fail> {
     let mut body = Body::new(rt.alloc());
