@@ -4,3 +4,6 @@ pub mod OverlayLemmas
 pub mod LoadLaws
 pub mod StageLemmas
 pub mod OzoneLemmas
+pub mod LoadMap
+pub mod Loadless
+pub mod LoadlessAnswers

@@ -1,48 +1,89 @@
 -- The office that a staged load stands for.
-use Rattle.std.proofs.Common.{◌≡◌, ℕ, ◌≤◌, List, length, ap, sym, subst, ◌∙◌}
+use Rattle.std.proofs.Common.{◌≡◌, ℕ, zero, suc, ◌≤◌, ◌⊎◌, inl, inr, arith, ◌==◌, Bool, true, false, cond, List, length, refl, ap, sym, subst, ◌∙◌}
 use Rattle.aq_base.specs.declared.observation.ObsKey.{ObsKey}
 use Rattle.aq_base.specs.declared.observation.Observation.{Observation}
 use Rattle.aq_base.specs.declared.office.OfficeRecord.{OfficeRecord}
 use Rattle.aq_base.specs.declared.reply.LoadReply.{LoadReply}
 use Rattle.aq_profile.specs.Limits.{MOST_OBSERVATIONS}
 use Rattle.aq_profile.specs.Lines.Lines.{body_lines}
-use Rattle.aq_profile.specs.Office.Load.{after_all, load}
-use Rattle.aq_profile.specs.Office.Office.{IsOffice, Office}
+use Rattle.aq_profile.specs.Office.Load.{New, after_all, decide, load, reply, with_load}
+use Rattle.aq_profile.specs.Office.Office.{IsOffice, Office, StoredLoad, load_rank, with_row}
 use Rattle.aq_series.specs.OfficeView.{office_of}
 use Rattle.aq_book.specs.declared.staging.Staging.{Staging}
 use Rattle.aq_book.specs.declared.changes.Changes.{Changes}
 use Rattle.aq_book.specs.Changes.{with_changes}
 use Rattle.aq_book.specs.Refusals.{office_in}
-use Rattle.aq_book.specs.Staged.{StagedLoad, office_with, Fits}
+use Rattle.aq_book.specs.Staged.{StagedLoad, after_lines, office_with, Fits}
+use Rattle.aq_book.specs.KeptLoads.{stored_as, with_kept}
+use Rattle.aq_book.specs.View.{standing}
+use Rattle.aq_book.proofs.Loadless.{after_all_loads, reply_loads, with_loads}
 
-abbrev staged_of : List OfficeRecord → Changes → LoadReply → StagedLoad
-staged_of records changes reply = record { records = records; changes = changes; reply = reply }
+abbrev staged_of : List OfficeRecord → Changes → ℕ → List ℕ → LoadReply → StagedLoad
+staged_of records changes number digest reply = record { records = records; changes = changes; number = number; digest = digest; reply = reply }
 
-pub staged-office : (staging : Staging) (changes : Changes) (reply : LoadReply) (records : List OfficeRecord) (rows : List (ObsKey × Observation)) → staging.observations.before ≡ rows → with_changes changes staging.observations.before ≡ staging.observations.standing → office_with (staged_of staging.registry changes reply) (office_of records rows) ≡ office_in staging
-staged-office staging changes reply records rows before standing =
+pub staged-office : (staging : Staging) (changes : Changes) (number : ℕ) (digest : List ℕ) (reply : LoadReply) (records : List OfficeRecord) (rows : List (ObsKey × Observation)) → staging.observations.before ≡ rows → with_changes changes staging.observations.before ≡ staging.observations.standing → after_lines (staged_of staging.registry changes number digest reply) (office_of records rows) ≡ office_in staging
+staged-office staging changes number digest reply records rows before standing =
     ap (office_of staging.registry) (ap (with_changes changes) (sym before) ∙ standing)
 
--- a load with the number 0 is its lines
-pub with_number : (office now : Office) (number : ℕ) (digest body : List ℕ) → number ≡ 0 → now ≡ after_all office (body_lines body) → now ≡ load office number digest body
-with_number office now number digest body zero is = subst (λ n. now ≡ load office n digest body) (sym zero) is
+-- ---- a load that is staged on a book with loads
 
-pub still_valid : (office now : Office) (digest body : List ℕ) → IsOffice (load office 0 digest body) → now ≡ after_all office (body_lines body) → IsOffice now
-still_valid office now digest body valid is = subst IsOffice (sym is) valid
+module _ (staged : StagedLoad) (records : List OfficeRecord) (rows : List (ObsKey × Observation)) (loads : List StoredLoad) (office : Office) (view : standing records rows loads ≡ office) (number : ℕ) (digest body : List ℕ) where
+  module _ (is_reply : staged.reply ≡ reply (office_of records rows) number body) where
+    pub reply-is : staged.reply ≡ reply office number body
+    reply-is = is_reply ∙ sym (reply_loads loads (office_of records rows) number body) ∙ ap (λ (o : Office). reply o number body) view
+
+    module _ (is_load : (staged.number ≡ number) × (staged.digest ≡ digest)) (is_after : after_lines staged (office_of records rows) ≡ after_all (office_of records rows) (body_lines body)) where
+      after-is : after_lines staged office ≡ after_all office (body_lines body)
+      after-is =
+          ap (after_lines staged) (sym view) ∙ ap (with_loads loads) is_after
+          ∙ sym (after_all_loads loads (body_lines body) (office_of records rows))
+          ∙ ap (λ (o : Office). after_all o (body_lines body)) view
+
+      pub office-is : office_with staged office ≡ load office number digest body
+      unfolding office_with
+      office-is = λ i. with_load (stored_as (is_load.0 i) (is_load.1 i) (reply-is i)) (after-is i)
+
+-- the laws on loads say that the office is valid then
+module _ (office : Office) (digest body : List ℕ) (not_kept : IsOffice (load office 0 digest body)) where
+  pub valid-loaded : (number : ℕ) → (1 ≤ number → decide office number digest ≡ New → IsOffice (load office number digest body)) → (number ≡ 0) ⊎ (decide office number digest ≡ New) → IsOffice (load office number digest body)
+  valid-loaded zero kept either = not_kept
+  valid-loaded (suc n) kept (inl none) = absurd (omega (arith, none))
+  valid-loaded (suc n) kept (inr new) = kept (omega arith) new
 
 -- ---- a load that is taken
 
-module _ (staged : StagedLoad) (office : Office) (records old : List OfficeRecord) (changes : Changes) (reply : LoadReply) (rows : List (ObsKey × Observation)) (seen : staged_of records changes reply ≡ staged) (view : office_of old rows ≡ office) where
+observations-kept : (stored : StoredLoad) (office : Office) → (with_load stored office).observations ≡ office.observations
+observations-kept stored office = by (stored.number == 0)
+  where
+    by : (b : Bool) → (cond b office (record office { loads = with_row load_rank stored office.loads })).observations ≡ office.observations
+    by true = refl
+    by false = refl
+
+load-kept : (stored : StoredLoad) (records : List OfficeRecord) (rows : List (ObsKey × Observation)) (loads : List StoredLoad) → standing records rows (with_kept stored loads) ≡ with_load stored (standing records rows loads)
+load-kept stored records rows loads = by (stored.number == 0)
+  where
+    by : (b : Bool) → standing records rows (cond b loads (with_row load_rank stored loads)) ≡ cond b (standing records rows loads) (standing records rows (with_row load_rank stored loads))
+    by true = refl
+    by false = refl
+
+module _ (staged : StagedLoad) (office : Office) (records old : List OfficeRecord) (changes : Changes) (number : ℕ) (digest : List ℕ) (reply : LoadReply) (rows : List (ObsKey × Observation)) (loads : List StoredLoad) (seen : staged_of records changes number digest reply ≡ staged) (view : standing old rows loads ≡ office) where
   -- the shelf with the changes is not too full
   pub room-after : Fits staged office → length (with_changes changes rows) ≤ MOST_OBSERVATIONS
+  unfolding office_with
   room-after fits =
       subst (λ (o : Office). length (with_changes changes o.observations) ≤ MOST_OBSERVATIONS) (sym view)
-      (subst (λ (s : StagedLoad). length (with_changes s.changes office.observations) ≤ MOST_OBSERVATIONS) (sym seen) fits.few_observations)
+      (subst (λ (s : StagedLoad). length (with_changes s.changes office.observations) ≤ MOST_OBSERVATIONS) (sym seen)
+      (subst (λ (o : List (ObsKey × Observation)). length o ≤ MOST_OBSERVATIONS) (observations-kept (stored_as staged.number staged.digest staged.reply) (after_lines staged office)) fits.few_observations))
 
-  module _ (new : List (ObsKey × Observation)) (is : new ≡ with_changes changes rows) where
-    -- the shelf after the changes, and the records of the load
-    pub taken-office : office_of records new ≡ office_with staged office
+  module _ (new : List (ObsKey × Observation)) (is : new ≡ with_changes changes rows) (kept : List StoredLoad) (kept_is : kept ≡ with_kept (stored_as number digest reply) loads) where
+    -- the shelf after the changes, the records of the load, and the loads with it
+    pub taken-office : standing records new kept ≡ office_with staged office
+    unfolding office_with
     taken-office =
-        ap (office_of records) is ∙ ap (office_with (staged_of records changes reply)) view ∙ ap (λ (s : StagedLoad). office_with s office) seen
+        (λ i. standing records (is i) (kept_is i))
+        ∙ load-kept (stored_as number digest reply) records (with_changes changes rows) loads
+        ∙ ap (office_with (staged_of records changes number digest reply)) view
+        ∙ ap (λ (s : StagedLoad). office_with s office) seen
 
-    pub valid-after : Fits staged office → IsOffice (office_of records new)
+    pub valid-after : Fits staged office → IsOffice (standing records new kept)
     valid-after fits = subst IsOffice (sym taken-office) fits

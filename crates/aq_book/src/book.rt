@@ -1,37 +1,42 @@
 //! An office with its observations and records.
-ghost use Rattle.std.specs.Prelude.{◌≡◌, ◌≤◌, length, IfOk};
+ghost use Rattle.std.specs.Prelude.{◌≡◌, ◌≤◌, ◌⊎◌, length, option_map, IfOk};
+ghost use Rattle.aq_book.specs.Checks.{decision_of};
+ghost use Rattle.aq_book.specs.KeptLoads.{digest_in, reply_in};
 ghost use Rattle.aq_book.specs.Staged.{office_with, Fits};
 ghost use Rattle.aq_profile.specs.Limits.{MOST_BYTES, MOST_LINES};
 ghost use Rattle.aq_profile.specs.Lines.Lines.{line_count};
-ghost use Rattle.aq_profile.specs.Office.Load.{load, reply};
-ghost use Rattle.aq_profile.specs.Office.Office.{nothing};
+ghost use Rattle.aq_profile.specs.Office.Load.{New, decide, load, reply};
+ghost use Rattle.aq_profile.specs.Office.Office.{load_at, nothing};
 
+use crate::check::LoadCheck;
 use crate::load::stage_load;
+use crate::loads::{Loads, digest_is_32_bytes};
 use crate::staged::Staged;
-use aq_base::Memory;
+use aq_base::{LoadReply, Memory};
 use aq_profile::office::valid_load::{an_office_of_nothing_is_valid, loads_leave_the_office_valid};
 use aq_registry::Registry;
 use aq_shelf::Shelf;
 use std::alloc::Global;
 use std::marker::Model;
 
-/// An office with its observations and records, as it stands between two loads. Contracts see the valid
-/// office of the book of rules; its list of loads is empty.
+/// An office with its records, observations and loads, as it stands between two loads. Contracts see the
+/// valid office of the book of rules.
 #[derive(Drop)]
 pub struct Book {
     pub(crate) registry: Registry,
     pub(crate) shelf: Shelf,
+    pub(crate) loads: Loads,
 }
 
 impl Model for Book {
     ghost use Rattle.aq_profile.specs.Office.Office.{IsOffice, Office};
-    ghost use Rattle.aq_series.specs.OfficeView.{office_of};
+    ghost use Rattle.aq_book.specs.View.{standing};
 
     ghost Value = { Office };
 
-    ghost view = { λ book. office_of book.registry book.shelf };
+    ghost view = { λ book. standing book.registry book.shelf book.loads };
 
-    ghost invariant = { λ book. IsOffice (office_of book.registry book.shelf) };
+    ghost invariant = { λ book. IsOffice (standing book.registry book.shelf book.loads) };
 }
 
 impl Book {
@@ -43,13 +48,51 @@ impl Book {
         Book {
             registry: Registry::new(alloc),
             shelf: Shelf::new(alloc),
+            loads: Loads::new(alloc),
         }
     }
 
-    /// What a load makes of the book, which is not changed. The number is 0, the number of a load that is
-    /// not kept, so the digest is not looked at. A body has at most 8,388,608 bytes and 120,000 lines. It
-    /// costs a copy of the records, and for each line some searches of them, of the observations, and of
-    /// those that the lines before it changed.
+    /// What becomes of a load with a number from 1 on: a known number with the same digest is a repeat, and
+    /// with another a conflict; for a new one there is no room where `MOST_LOADS` stand. It takes no memory.
+    pub fn check(&self, number: u32, digest: &[u8; 32]) -> LoadCheck
+        ensures { decision_of result ≡ decide self.now number digest.now }
+    {
+        match self.loads.digest_of(number) {
+            Some(kept) => {
+                if kept == *digest {
+                    LoadCheck::Repeat
+                } else {
+                    LoadCheck::Conflict
+                }
+            }
+            None => {
+                if self.loads.are_full() {
+                    LoadCheck::Full
+                } else {
+                    LoadCheck::New
+                }
+            }
+        }
+    }
+
+    /// The reply to the load with a number, if one stands. It takes no memory.
+    pub fn reply_of(&self, number: u32) -> Option<&LoadReply>
+        ensures { option_map (λ reply. reply.now) result ≡ option_map reply_in (load_at self.now number) }
+    {
+        self.loads.reply_of(number)
+    }
+
+    /// The digest of the load with a number, if one stands. It takes no memory.
+    pub fn digest_of(&self, number: u32) -> Option<[u8; 32]>
+        ensures { result ≡ option_map digest_in (load_at self.now number) }
+    {
+        self.loads.digest_of(number)
+    }
+
+    /// What a load makes of the book, which is not changed. The number is that of a new load, or 0, the
+    /// number of a load that is not kept. A body has at most 8,388,608 bytes and 120,000 lines. It costs a
+    /// copy of the records, and for each line some searches of them, of the observations, and of those that
+    /// the lines before it changed.
     pub fn stage(
         &self,
         alloc: Global,
@@ -57,7 +100,7 @@ impl Book {
         digest: [u8; 32],
         body: &[u8],
     ) -> Result<Staged, Memory>
-        requires number { number ≡ 0 }
+        requires number { (number ≡ 0) ⊎ (decide self.now number digest ≡ New) }
         requires bytes { length body.now ≤ MOST_BYTES }
         requires lines { line_count body.now ≤ MOST_LINES }
         ensures reply { IfOk result (λ staged. staged.reply ≡ reply self.now number body.now) }
@@ -65,8 +108,9 @@ impl Book {
         ensures fits { IfOk result (λ staged. Fits staged self.now) }
     {
         loads_leave_the_office_valid();
-        let _ = digest;
-        let staged = stage_load(alloc, &self.registry, &self.shelf, number, body)?;
+        // The proof learns that the digest is 32 bytes.
+        digest_is_32_bytes(&digest);
+        let staged = stage_load(alloc, &self.registry, &self.shelf, number, digest, body)?;
         Ok(staged)
     }
 
@@ -77,9 +121,11 @@ impl Book {
         ensures { IfOk result (λ book. book ≡ office_with staged self) }
     {
         let shelf = staged.changes.onto(self.shelf)?;
+        let loads = self.loads.with(staged.number, staged.digest, staged.reply)?;
         Ok(Book {
             registry: staged.registry,
             shelf,
+            loads,
         })
     }
 }

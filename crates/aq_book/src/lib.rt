@@ -4,8 +4,10 @@
 
 mod book;
 mod changes;
+mod check;
 mod fault;
 mod load;
+mod loads;
 mod overlay;
 mod ozone;
 mod question;
@@ -14,6 +16,7 @@ mod staged;
 mod staging;
 
 pub use book::Book;
+pub use check::LoadCheck;
 pub use fault::{AskFault, UnknownSite};
 pub use ozone::OzoneDays;
 pub use staged::Staged;

@@ -1,7 +1,7 @@
 //! A load's lines, taken in their order beside the office.
 ghost use Rattle.std.specs.Prelude.{◌≡◌, ◌≤◌, ◌++◌, length, IfOk, OnOk};
 ghost use Rattle.aq_book.specs.Refusals.{office_in};
-ghost use Rattle.aq_book.specs.Staged.{office_with};
+ghost use Rattle.aq_book.specs.Staged.{after_lines};
 ghost use Rattle.aq_profile.specs.Limits.{MOST_BYTES};
 ghost use Rattle.aq_profile.specs.Lines.Lines.{body_lines};
 ghost use Rattle.aq_profile.specs.Office.Load.{after, after_all, listed_for, refusal, reply};
@@ -22,11 +22,13 @@ pub(crate) fn stage_load(
     registry: &Registry,
     shelf: &Shelf,
     number: u32,
+    digest: [u8; 32],
     body: &[u8],
 ) -> Result<Staged, Memory>
     requires { length body.now ≤ MOST_BYTES }
     ensures reply { IfOk result (λ staged. staged.reply ≡ reply (office_of registry.now shelf.now) number body.now) }
-    ensures office { IfOk result (λ staged. office_with staged (office_of registry.now shelf.now) ≡ after_all (office_of registry.now shelf.now) (body_lines body.now)) }
+    ensures load { IfOk result (λ staged. (staged.number ≡ number) × (staged.digest ≡ digest)) }
+    ensures office { IfOk result (λ staged. after_lines staged (office_of registry.now shelf.now) ≡ after_all (office_of registry.now shelf.now) (body_lines body.now)) }
 {
     let mut staging = Staging::new(alloc, registry, shelf)?;
     let mut refused = Vec::new(alloc);
@@ -39,6 +41,8 @@ pub(crate) fn stage_load(
     Ok(Staged {
         registry: staging.registry,
         changes: staging.observations.into_changes(),
+        number,
+        digest,
         reply,
     })
 }

@@ -7,11 +7,13 @@ use aq_registry::Registry;
 use std::marker::Model;
 
 /// What a load makes of an office, held beside it: the records after it, the observations that it
-/// changed, and its reply.
+/// changed, and its number, the digest of its body and its reply.
 #[derive(Drop)]
 pub struct Staged {
     pub(crate) registry: Registry,
     pub(crate) changes: Changes,
+    pub(crate) number: u32,
+    pub(crate) digest: [u8; 32],
     pub(crate) reply: LoadReply,
 }
 
@@ -20,7 +22,7 @@ impl Model for Staged {
 
     ghost Value = { StagedLoad };
 
-    ghost view = { λ staged. record { records = staged.registry; changes = staged.changes; reply = staged.reply } };
+    ghost view = { λ staged. record { records = staged.registry; changes = staged.changes; number = staged.number; digest = staged.digest; reply = staged.reply } };
 }
 
 impl Staged {

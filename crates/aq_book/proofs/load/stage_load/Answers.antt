@@ -15,7 +15,7 @@ reply_of-requires c =
 
 pub returns-clause-office : goal.returns-clause-office
 returns-clause-office c =
-    staged-office c.loop-line.staging c.into_changes.result c.in_ok-reply.reply c.args.registry.now c.args.shelf.now c.loop-line.invariant.before c.into_changes.ensures
+    staged-office c.loop-line.staging c.into_changes.result c.args.number c.args.digest c.in_ok-reply.reply c.args.registry.now c.args.shelf.now c.loop-line.invariant.before c.into_changes.ensures
     ∙ after_all_lines _ _ _ c.in-None.ensures.steps.0 c.loop-line.invariant.office
 
 pub returns-clause-reply : goal.returns-clause-reply

@@ -1,0 +1,44 @@
+-- What is asked of an office does not hang on its loads.
+use Rattle.std.proofs.Common.{◌≡◌, ℕ, List, refl}
+use Rattle.aq_base.specs.Site.{Site}
+use Rattle.aq_base.specs.declared.observation.ObsKey.{ObsKey}
+use Rattle.aq_base.specs.declared.observation.Observation.{Observation}
+use Rattle.aq_base.specs.declared.office.OfficeRecord.{OfficeRecord}
+use Rattle.aq_profile.specs.Kept.Summaries.{pm25_summary}
+use Rattle.aq_profile.specs.Office.Office.{StoredLoad}
+use Rattle.aq_profile.specs.Ozone.EightHour.{window}
+use Rattle.aq_profile.specs.Ozone.OzoneDay.{ozone_day, windows}
+use Rattle.aq_profile.specs.Ozone.OzoneVerdict.{three_years}
+use Rattle.aq_profile.specs.Ozone.OzoneYear.{ozone_days, ozone_year}
+use Rattle.aq_profile.specs.Ozone.SiteHour.{site_hour}
+use Rattle.aq_profile.specs.Particles.ParticleDay.{monitor_day, site_day}
+use Rattle.aq_profile.specs.Particles.QuarterCounts.{credits, pm25_year, quarter_counts, quarter_values}
+use Rattle.aq_profile.specs.Particles.Pm10Estimate.{pm10_quarter, pm10_year}
+use Rattle.aq_profile.specs.Particles.Strata.{first_days, strata_of}
+use Rattle.aq_series.specs.OfficeView.{office_of}
+use Rattle.aq_book.specs.View.{standing}
+
+module _ (records : List OfficeRecord) (rows : List (ObsKey × Observation)) (loads : List StoredLoad) (site : Site) where
+  pub windows_are : (day : ℕ) → windows (office_of records rows) site day ≡ windows (standing records rows loads) site day
+  unfolding windows window site_hour
+  windows_are day = refl
+
+  pub ozone_days_are : (year : ℕ) → ozone_days (office_of records rows) site year ≡ ozone_days (standing records rows loads) site year
+  unfolding ozone_days ozone_day windows window site_hour
+  ozone_days_are year = refl
+
+  pub ozone_year_is : (year : ℕ) → ozone_year (office_of records rows) site year ≡ ozone_year (standing records rows loads) site year
+  unfolding ozone_year ozone_days ozone_day windows window site_hour
+  ozone_year_is year = refl
+
+  pub three_years_are : (year : ℕ) → three_years (office_of records rows) site year ≡ three_years (standing records rows loads) site year
+  unfolding three_years ozone_year ozone_days ozone_day windows window site_hour
+  three_years_are year = refl
+
+  pub pm25_summary_is : (year : ℕ) → pm25_summary (office_of records rows) site year ≡ pm25_summary (standing records rows loads) site year
+  unfolding pm25_summary pm25_year quarter_counts quarter_values credits site_day monitor_day
+  pm25_summary_is year = refl
+
+  pub pm10_year_is : (year : ℕ) → pm10_year (office_of records rows) site year ≡ pm10_year (standing records rows loads) site year
+  unfolding pm10_year pm10_quarter strata_of first_days site_day monitor_day
+  pm10_year_is year = refl
