@@ -8,8 +8,8 @@ use Rattle.std.proofs.Math.Seq.{take-append-add}
 use Rattle.aq_base.specs.declared.reply.LoadReply.{LoadReply}
 use Rattle.aq_base.specs.Site.{Site}
 use Rattle.aq_profile.specs.Limits.{MOST_BYTES, MOST_LINES}
-use Rattle.aq_profile.specs.Lines.Lines.{body_lines, line_count}
-use Rattle.aq_profile.specs.Office.Load.{after_all, reply}
+use Rattle.aq_profile.specs.Lines.Lines.{line_count}
+use Rattle.aq_profile.specs.Office.Load.{load, reply}
 use Rattle.aq_profile.specs.Office.Office.{Office, nothing}
 use Rattle.aq_profile.specs.Ozone.EightHour.{WindowRow}
 use Rattle.aq_profile.specs.Ozone.OzoneDay.{windows}
@@ -22,7 +22,7 @@ use Rattle.aq_desk.specs.Body.{excess, is_within}
 use Rattle.aq_desk.specs.Command.{IsWhole, Outcome, after_text, printed, unwritten}
 use Rattle.aq_desk.specs.Ending.{Ending, no_site, too_many_bytes, too_many_lines}
 use Rattle.aq_desk.specs.Scan.{scan_answer, scan_outcome, sheet_or_no_site}
-use Rattle.aq_desk.specs.Stop.{Obeys, ending_of, status_of}
+use Rattle.aq_desk.specs.Stop.{IsCutShort, Obeys, ending_of, status_of}
 use Rattle.aq_desk.specs.Writing.{WritesFront}
 use Rattle.aq_desk.specs.declared.stop.Stop.{Stop}
 use Rattle.aq_desk.specs.declared.stop.Stop.TheVariants.{InputFailed, Memory, TooManyBytes}
@@ -140,22 +140,28 @@ obeys_behind text outcome answer before between after written obeys = record {
   front = front_behind before between after text outcome.output written obeys.front;
 }
 
-pub taken_behind : (reply : LoadReply) (sheet : Sheet) (outcome : Outcome) (first : Unit) (answer : Result Unit Stop) (before between after : Option (List ℕ)) → sheet ≡ load_sheet reply
-    → Obeys (printed (text_of sheet)) (Ok first) before between → Obeys outcome answer between after → Obeys (after_text (text_of (load_sheet reply)) outcome) answer before after
-taken_behind reply sheet outcome first answer before between after same printed_first obeys =
-    let P = λ (s : Sheet). Obeys (after_text (text_of s) outcome) answer before after in
-    subst P same (obeys_behind (text_of sheet) outcome answer before between after (printed_first.whole (inl refl)) obeys)
+pub taken_behind : (text : List ℕ) (outcome : Outcome) (first : Unit) (answer : Result Unit Stop) (before between after : Option (List ℕ))
+    → Obeys (printed text) (Ok first) before between → Obeys outcome answer between after → Obeys (after_text text outcome) answer before after
+taken_behind text outcome first answer before between after told obeys = obeys_behind text outcome answer before between after (told.whole (inl refl)) obeys
+
+-- and a text of which a front was printed
+pub cut_behind : (text : List ℕ) (outcome : Outcome) (stop : Stop) (answer : Result Unit Stop) (before after : Option (List ℕ)) → answer ≡ Err stop → IsCutShort stop → WritesFront before after text → Obeys (after_text text outcome) answer before after
+cut_behind text outcome stop answer before after is cut front =
+    let P = λ (r : Result Unit Stop). Obeys (after_text text outcome) r before after in
+    subst P (sym is) (cut_short (after_text text outcome) stop before after (λ whole. omega (arith, cut, whole)) (front_of_more before after text outcome.output front))
 
 -- the reply and the office are those of the body
-scanned : (site : Site) (day : ℕ) (body : List ℕ) → after_text (text_of (load_sheet (reply nothing 0 body))) (sheet_or_no_site site (book.answer (after_all nothing (body_lines body)) (Windows site day))) ≡ scan_answer site day body
+scanned : (site : Site) (day : ℕ) (body : List ℕ) → after_text (text_of (load_sheet (reply nothing 0 body))) (sheet_or_no_site site (book.answer (load nothing 0 [] body) (Windows site day))) ≡ scan_answer site day body
 unfolding scan_answer
 scanned site day body = refl
 
-pub answers : (site : Site) (day : ℕ) (body : List ℕ) (told : LoadReply) (office : Office) (answer : Result Unit Stop) (before after : Option (List ℕ)) → is_within body ≡ true → told ≡ reply nothing 0 body → office ≡ after_all nothing (body_lines body)
+pub answers : (site : Site) (day : ℕ) (body : List ℕ) (start : Office) (told : LoadReply) (office : Office) (answer : Result Unit Stop) (before after : Option (List ℕ)) → is_within body ≡ true → start ≡ nothing → told ≡ reply start 0 body → office ≡ load start 0 [] body
     → Obeys (after_text (text_of (load_sheet told)) (sheet_or_no_site site (book.answer office (Windows site day)))) answer before after → Obeys (scan_outcome site day body) answer before after
-answers site day body told office answer before after few same_reply same_office obeys =
+answers site day body start told office answer before after few empty same_reply same_office obeys =
     let P = λ (r : LoadReply). Obeys (after_text (text_of (load_sheet r)) (sheet_or_no_site site (book.answer office (Windows site day)))) answer before after in
     let Q = λ (o : Office). Obeys (after_text (text_of (load_sheet (reply nothing 0 body))) (sheet_or_no_site site (book.answer o (Windows site day)))) answer before after in
     let R = λ (outcome : Outcome). Obeys outcome answer before after in
     within site day body answer before after few
-    (subst R (scanned site day body) (subst Q same_office (subst P same_reply obeys)))
+    (subst R (scanned site day body)
+    (subst Q (same_office ∙ ap (λ (o : Office). load o 0 [] body) empty)
+    (subst P (same_reply ∙ ap (λ (o : Office). reply o 0 body) empty) obeys)))

@@ -6,7 +6,5 @@ pub mod Writing
 pub mod Words
 pub mod Command
 pub mod Stop
-pub mod Refusals
-pub mod Counts
 pub mod Scan
 pub mod Run

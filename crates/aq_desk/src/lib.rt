@@ -3,10 +3,8 @@
 
 mod body;
 mod command;
-mod load;
 mod memory_sink;
 mod memory_source;
-mod office;
 mod outside;
 mod scan;
 mod stop;

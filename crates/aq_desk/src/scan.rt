@@ -1,24 +1,23 @@
 //! The command `scan`.
-ghost use Rattle.std.specs.Prelude.{◌≡◌, ◌≤◌, true, false, length};
+ghost use Rattle.std.specs.Prelude.{◌≡◌, ◌≤◌, true, false, length, IfErr};
+ghost use Rattle.aq_book.specs.Staged.{office_with, Fits};
 ghost use Rattle.aq_profile.specs.Limits.{MOST_BYTES};
-ghost use Rattle.aq_profile.specs.Shown.Answer as book;
+ghost use Rattle.aq_profile.specs.Shown.Answer as questions;
 ghost use Rattle.aq_profile.specs.Shown.Answer.{Windows};
 ghost use Rattle.aq_profile.specs.Shown.Sheet.{text_of};
 ghost use Rattle.aq_profile.specs.Shown.Sheets.{load_sheet};
 ghost use Rattle.aq_desk.specs.Body.{Over, is_within};
-ghost use Rattle.aq_desk.specs.Command.{after_text, ReadsWhole, RisesAt, WritesNothing};
+ghost use Rattle.aq_desk.specs.Command.{after_text, printed, ReadsWhole, RisesAt, WritesNothing};
 ghost use Rattle.aq_desk.specs.Scan.{scan_outcome, sheet_or_no_site};
-ghost use Rattle.aq_desk.specs.Stop.{HasCauses, IsTaken, Obeys, status_of};
+ghost use Rattle.aq_desk.specs.Stop.{HasCauses, IsCutShort, IsTaken, Obeys, status_of};
 
 use crate::body::read_body;
-use crate::load::{Taken, take_load};
-use crate::office::Office;
 use crate::outside::{Sink, Source};
 use crate::stop::Stop;
 use crate::writing::print_sheet;
 use aq_base::{Day, MOST_LINES, SiteId};
+use aq_book::{Book, Staged};
 use aq_forms::count_lines;
-use aq_ozone::uncounted_windows;
 use aq_reports::{load_sheet, windows_sheet};
 use std::alloc::Global;
 
@@ -59,43 +58,73 @@ fn answer<O: Sink>(
     if lines > MOST_LINES {
         return Err(Stop::TooManyLines(lines));
     }
-    let taken = take_load(alloc, body, lines)?;
-    print_taken(alloc, &taken, site, day, output)
+    // A load with this number is not kept, and its digest is not looked at.
+    let book = Book::new(alloc);
+    let staged = book.stage(alloc, 0, [0; 32], body)?;
+    print_staged(alloc, book, staged, site, day, output)
 }
 
-/// Prints the reply to a load, and then the day's windows.
-fn print_taken<O: Sink>(
+/// Prints the reply to a staged load, and then the day's windows of the book that took it.
+fn print_staged<O: Sink>(
     alloc: Global,
-    taken: &Taken,
+    book: Book,
+    staged: Staged,
     site: SiteId,
     day: Day,
     output: &mut O,
 ) -> Result<(), Stop>
-    ensures told { Obeys (after_text (text_of (load_sheet taken.now.reply)) (sheet_or_no_site site (book.answer taken.now.office (Windows site day)))) result (O.written output.old) (O.written output.new) }
+    requires { Fits staged book }
+    ensures told { Obeys (after_text (text_of (load_sheet staged.reply)) (sheet_or_no_site site (questions.answer (office_with staged book) (Windows site day)))) result (O.written output.old) (O.written output.new) }
     ensures taken { IsTaken (status_of result) }
     ensures output_failed { RisesAt 4 (status_of result) (O.faults output.old) (O.faults output.new) }
 {
-    let reply = load_sheet(alloc, &taken.reply)?;
-    print_sheet(alloc, &reply, output)?;
-    print_windows(alloc, &taken.office, site, day, output)
+    print_reply(alloc, &staged, output)?;
+    print_taken(alloc, book, staged, site, day, output)
+}
+
+/// Prints the reply to a staged load.
+fn print_reply<O: Sink>(alloc: Global, staged: &Staged, output: &mut O) -> Result<(), Stop>
+    ensures told { Obeys (printed (text_of (load_sheet staged.now.reply))) result (O.written output.old) (O.written output.new) }
+    ensures cut { IfErr result IsCutShort }
+    ensures output_failed { RisesAt 4 (status_of result) (O.faults output.old) (O.faults output.new) }
+{
+    let sheet = load_sheet(alloc, staged.reply())?;
+    print_sheet(alloc, &sheet, output)
+}
+
+/// Takes a staged load, and prints the day's windows.
+fn print_taken<O: Sink>(
+    alloc: Global,
+    book: Book,
+    staged: Staged,
+    site: SiteId,
+    day: Day,
+    output: &mut O,
+) -> Result<(), Stop>
+    requires { Fits staged book }
+    ensures told { Obeys (sheet_or_no_site site (questions.answer (office_with staged book) (Windows site day))) result (O.written output.old) (O.written output.new) }
+    ensures taken { IsTaken (status_of result) }
+    ensures output_failed { RisesAt 4 (status_of result) (O.faults output.old) (O.faults output.new) }
+{
+    let book = book.take(staged)?;
+    print_windows(alloc, &book, site, day, output)
 }
 
 /// Prints the day's windows of a registered site.
 fn print_windows<O: Sink>(
     alloc: Global,
-    office: &Office,
+    book: &Book,
     site: SiteId,
     day: Day,
     output: &mut O,
 ) -> Result<(), Stop>
-    ensures told { Obeys (sheet_or_no_site site (book.answer office.now (Windows site day))) result (O.written output.old) (O.written output.new) }
+    ensures told { Obeys (sheet_or_no_site site (questions.answer book.now (Windows site day))) result (O.written output.old) (O.written output.new) }
     ensures taken { IsTaken (status_of result) }
     ensures output_failed { RisesAt 4 (status_of result) (O.faults output.old) (O.faults output.new) }
 {
-    if !office.registry.has_site(site) {
+    let Ok(windows) = book.uncounted_windows(site, day) else {
         return Err(Stop::NoSite(site));
-    }
-    let windows = uncounted_windows(&office.shelf, &office.registry, site, day);
+    };
     let sheet = windows_sheet(alloc, site, day, &windows)?;
     print_sheet(alloc, &sheet, output)
 }

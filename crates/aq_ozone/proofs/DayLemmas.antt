@@ -1,16 +1,19 @@
 -- A day's hours as a list by their numbers, and the eight of each average.
-use Rattle.std.proofs.Common.{◌≡◌, ℕ, zero, suc, ◌+◌, ◌-◌, ◌*◌, ◌<◌, ◌≤◌, Bool, true, false, cond, map, get_or, None, List, [], ◌∷◌, length, take, drop, refl, ap, ◌∙◌, arith}
-use Rattle.std.specs.Prelude.{Option, nat_le, IfSome}
+use Rattle.std.proofs.Common.{◌≡◌, ℕ, zero, suc, ◌+◌, ◌-◌, ◌*◌, ◌<◌, ◌≤◌, Bool, true, false, cond, map, get_or, None, List, [], ◌∷◌, length, take, drop, replicate, refl, ap, sym, subst, ◌∙◌, arith}
+use Rattle.std.specs.Prelude.{Option, nat_le, nat_lt, IfSome}
 use Rattle.std.specs.List.{filter, filter_map, cons_option, range_with_len}
+use Rattle.std.proofs.lemmas.Bool.Decides.{nat_tests}
+use Rattle.std.proofs.lemmas.List.{get_or_past}
 use Rattle.std.proofs.lemmas.List.FromFn.{fill_by_all}
 use Rattle.aq_base.specs.Site.{Site}
-use Rattle.aq_base.specs.declared.day.TheConstants.{LAST_HOUR}
+use Rattle.aq_base.specs.declared.day.TheConstants.{LAST_DAY, LAST_HOUR}
 use Rattle.aq_profile.specs.Office.Office.{Office}
 use Rattle.aq_profile.specs.Ozone.EightHour.{WindowRow, eight_hours, row_of, window}
 use Rattle.aq_profile.specs.Ozone.OzoneDay.{windows, starts_of}
 use Rattle.aq_profile.specs.Ozone.SiteHour.{Cell, site_hour}
-use Rattle.aq_series.specs.Samples.{IsOzone}
-use Rattle.aq_ozone.specs.DayHours.{cells_in, day_hours, hour_at, AreOzone}
+use Rattle.aq_series.specs.DayStates.{hour_at, site_hours}
+use Rattle.aq_series.specs.Samples.{AreOzone, IsOzone}
+use Rattle.aq_ozone.specs.DayHours.{calendar_hours, cells_in, day_hours}
 
 -- ---- lists by their numbers
 
@@ -50,6 +53,11 @@ pub ozone_by : (hours : List (Option Cell)) → ((k : ℕ) → IfSome (get_or ho
 ozone_by [] each = tt
 ozone_by (hour ∷ hours) each = (each 0, ozone_by hours (λ k. each (suc k)))
 
+ozone_at : (hours : List (Option Cell)) (k : ℕ) → AreOzone hours → IfSome (get_or hours k None) (λ (cell : Cell). IsOzone cell.value)
+ozone_at [] k all = tt
+ozone_at (hour ∷ hours) zero all = all.0
+ozone_at (hour ∷ hours) (suc k) all = ozone_at hours k all.1
+
 cells_are : (office : Office) (site : Site) (hours : List ℕ) → cells_in (map (hour_at office site) hours) ≡ filter_map (site_hour office site) (filter (λ hour. nat_le hour LAST_HOUR) hours)
 cells_are office site [] = refl
 cells_are office site (hour ∷ hours) = by_test (nat_le hour LAST_HOUR) (cells_are office site hours)
@@ -58,6 +66,87 @@ cells_are office site (hour ∷ hours) = by_test (nat_le hour LAST_HOUR) (cells_
         → cons_option (cond b (site_hour office site hour) None) (cells_in (map (hour_at office site) hours)) ≡ filter_map (site_hour office site) (cond b (hour ∷ filter (λ h. nat_le h LAST_HOUR) hours) (filter (λ h. nat_le h LAST_HOUR) hours))
     by_test true rest = ap (λ (l : List Cell). cons_option (site_hour office site hour) l) rest
     by_test false rest = rest
+
+-- ---- the hours of a calendar day
+
+same_in_range : {Y : Type 0} (f g : ℕ → Y) (a n : ℕ) → ((k : ℕ) → a ≤ k → k < a + n → f k ≡ g k) → map f (range_with_len a n) ≡ map g (range_with_len a n)
+same_in_range f g a zero same = refl
+same_in_range f g a (suc n) same =
+    let rest = same_in_range f g (a + 1) n (λ k low high. same k (omega (arith, low)) (omega (arith, high))) in
+    λ i. same a (omega arith) (omega arith) i ∷ rest i
+
+abbrev nothing : ℕ → Option Cell
+nothing k = None
+
+all_none : (a n : ℕ) → map nothing (range_with_len a n) ≡ replicate n None
+all_none a zero = refl
+all_none a (suc n) = ap (λ (l : List (Option Cell)). None ∷ l) (all_none (a + 1) n)
+
+pub past : (office : Office) (site : Site) (day : ℕ) → LAST_DAY < day → replicate 192 None ≡ site_hours office site day
+unfolding site_hours
+past office site day behind =
+    sym (all_none (24 * day) 192)
+    ∙ same_in_range nothing (hour_at office site) (24 * day) 192
+    (λ k low high. let most : nat_le k LAST_HOUR ≡ false = grind (arith, nat_tests) in sym (ap (λ b. cond b (site_hour office site k) None) most))
+
+at_range : {Y : Type 0} (f : ℕ → Y) (a n k : ℕ) (d : Y) → k < n → get_or (map f (range_with_len a n)) k d ≡ f (a + k)
+at_range f a zero k d within = absurd (omega (arith, within))
+at_range f a (suc n) zero d within = let e : a ≡ a + 0 = omega arith in ap f e
+at_range f a (suc n) (suc k) d within = let e : a + 1 + k ≡ a + suc k = omega arith in at_range f (a + 1) n k d (omega (arith, within)) ∙ ap f e
+
+module _ (span hours : List (Option Cell)) (d : ℕ) (within : d < 8) (many : length hours ≡ 24) (each : (k : ℕ) → k < 24 → get_or hours k None ≡ get_or span (24 * d + k) None) where
+  pub part : (office : Office) (site : Site) (first : ℕ) → span ≡ site_hours office site first → hours ≡ calendar_hours office site (first + d)
+  unfolding site_hours calendar_hours
+  part office site first is =
+      list_by None (hour_at office site) hours (24 * (first + d)) 24 many
+      (λ k below.
+      let e : 24 * first + (24 * d + k) ≡ 24 * (first + d) + k = omega arith in
+      each k below ∙ ap (λ (l : List (Option Cell)). get_or l (24 * d + k) None) is
+      ∙ at_range (hour_at office site) (24 * first) 192 (24 * d + k) None (omega (arith, within, below)) ∙ ap (hour_at office site) e)
+
+  pub part_ozone : AreOzone span → AreOzone hours
+  part_ozone all = ozone_by hours (λ k. by_test k (nat_lt k 24) refl)
+    where
+      by_test : (k : ℕ) → (b : Bool) → nat_lt k 24 ≡ b → IfSome (get_or hours k None) (λ (cell : Cell). IsOzone cell.value)
+      by_test k true h =
+          let below : k < 24 = grind (arith, nat_tests) in
+          subst (λ (o : Option Cell). IfSome o (λ (cell : Cell). IsOzone cell.value)) (sym (each k below)) (ozone_at span (24 * d + k) all)
+      by_test k false h =
+          let outside : length hours ≤ k = grind (arith, nat_tests, many) in
+          subst (λ (o : Option Cell). IfSome o (λ (cell : Cell). IsOzone cell.value)) (sym (get_or_past hours k None outside)) tt
+
+module _ (today tomorrow hours : List (Option Cell)) (many : length hours ≡ 24)
+    (early : (k : ℕ) → k < 17 → get_or hours k None ≡ get_or today (k + 7) None)
+    (late : (k : ℕ) → k < 24 → 17 ≤ k → get_or hours k None ≡ get_or tomorrow (k + 7 - 24) None) where
+  pub joined : (office : Office) (site : Site) (day : ℕ) → today ≡ calendar_hours office site day → tomorrow ≡ calendar_hours office site (day + 1) → hours ≡ day_hours office site day
+  unfolding calendar_hours
+  joined office site day is next = hours_are office site day (24 * day + 7) 24 hours refl refl many (λ k within. by_half k within (nat_lt k 17) refl)
+    where
+      by_half : (k : ℕ) → k < 24 → (b : Bool) → nat_lt k 17 ≡ b → get_or hours k None ≡ hour_at office site (24 * day + 7 + k)
+      by_half k within true h =
+          let low : k < 17 = grind (arith, nat_tests) in
+          let e : 24 * day + (k + 7) ≡ 24 * day + 7 + k = omega arith in
+          early k low ∙ ap (λ (l : List (Option Cell)). get_or l (k + 7) None) is ∙ at_range (hour_at office site) (24 * day) 24 (k + 7) None (omega (arith, low)) ∙ ap (hour_at office site) e
+      by_half k within false h =
+          let high : 17 ≤ k = grind (arith, nat_tests) in
+          let e : 24 * (day + 1) + (k + 7 - 24) ≡ 24 * day + 7 + k = omega (arith, high) in
+          late k within high ∙ ap (λ (l : List (Option Cell)). get_or l (k + 7 - 24) None) next
+          ∙ at_range (hour_at office site) (24 * (day + 1)) 24 (k + 7 - 24) None (omega (arith, within, high)) ∙ ap (hour_at office site) e
+
+  pub joined_ozone : AreOzone today → AreOzone tomorrow → AreOzone hours
+  joined_ozone here next = ozone_by hours (λ k. by_half k (nat_lt k 17) refl (nat_lt k 24) refl)
+    where
+      by_half : (k : ℕ) → (b : Bool) → nat_lt k 17 ≡ b → (e : Bool) → nat_lt k 24 ≡ e → IfSome (get_or hours k None) (λ (cell : Cell). IsOzone cell.value)
+      by_half k true h e within =
+          let low : k < 17 = grind (arith, nat_tests) in
+          subst (λ (o : Option Cell). IfSome o (λ (cell : Cell). IsOzone cell.value)) (sym (early k low)) (ozone_at today (k + 7) here)
+      by_half k false h true within =
+          let high : 17 ≤ k = grind (arith, nat_tests) in
+          let most : k < 24 = grind (arith, nat_tests) in
+          subst (λ (o : Option Cell). IfSome o (λ (cell : Cell). IsOzone cell.value)) (sym (late k most high)) (ozone_at tomorrow (k + 7 - 24) next)
+      by_half k false h false past =
+          let outside : length hours ≤ k = grind (arith, nat_tests, many) in
+          subst (λ (o : Option Cell). IfSome o (λ (cell : Cell). IsOzone cell.value)) (sym (get_or_past hours k None outside)) tt
 
 -- ---- averages
 

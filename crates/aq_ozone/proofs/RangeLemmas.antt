@@ -13,8 +13,8 @@ use Rattle.aq_profile.specs.Ozone.EightHour.{WindowRow, average, full_values, ne
 use Rattle.aq_profile.specs.Ozone.OzoneDay.{day_of_windows, net_averages}
 use Rattle.aq_profile.specs.Ozone.OzoneYear.{ranked_maximum}
 use Rattle.aq_profile.specs.Ozone.SiteHour.{Cell}
-use Rattle.aq_series.specs.Samples.{IsOzone}
-use Rattle.aq_ozone.specs.DayHours.{cells_in, AreNetOzone, AreOzone}
+use Rattle.aq_series.specs.Samples.{AreOzone, IsOzone}
+use Rattle.aq_ozone.specs.DayHours.{cells_in, AreNetOzone}
 
 abbrev pub IfOzone : Option ℤ → Type 0
 IfOzone o = IfSome o (λ (value : ℤ). IsOzone value)

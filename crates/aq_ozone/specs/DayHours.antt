@@ -1,30 +1,26 @@
 -- The hours of a day's averages: each has a cell or none.
-use Rattle.std.specs.Prelude.{ℕ, nat_le, if◌then◌else◌, Option, None, List, map, filter_map, IfSome}
+use Rattle.std.specs.Prelude.{ℕ, ◌*◌, Option, List, map, filter_map, IfSome}
 use Rattle.std.specs.List.{range_with_len, AllByRecursion}
 use Rattle.aq_base.specs.Calendar.{hour_number}
 use Rattle.aq_base.specs.Site.{Site}
-use Rattle.aq_base.specs.declared.day.TheConstants.{LAST_HOUR}
 use Rattle.aq_profile.specs.Office.Office.{Office}
 use Rattle.aq_profile.specs.Ozone.EightHour.{WindowRow}
-use Rattle.aq_profile.specs.Ozone.SiteHour.{Cell, site_hour}
+use Rattle.aq_profile.specs.Ozone.SiteHour.{Cell}
+use Rattle.aq_series.specs.DayStates.{hour_at}
 use Rattle.aq_series.specs.Samples.{IsOzone}
-
--- what the site has for an hour, and none past the profile
-abbrev pub hour_at : Office → Site → ℕ → Option Cell
-hour_at office site hour = if nat_le hour LAST_HOUR then site_hour office site hour else None
 
 -- a day's averages read its hours from 07:00 to 06:00 of the next day
 unfoldable pub day_hours : Office → Site → ℕ → List (Option Cell)
 day_hours office site day = map (hour_at office site) (range_with_len (hour_number day 7) 24)
 
+-- what it has for the hours of a calendar day
+unfoldable pub calendar_hours : Office → Site → ℕ → List (Option Cell)
+calendar_hours office site day = map (hour_at office site) (range_with_len (24 * day) 24)
+
 -- the cells of hours
 abbrev pub cells_in : List (Option Cell) → List Cell
 cells_in hours = filter_map (λ hour. hour) hours
 
--- their values are ozone's
-abbrev pub AreOzone : List (Option Cell) → Type 0
-AreOzone hours = AllByRecursion (λ hour. IfSome hour (λ (cell : Cell). IsOzone cell.value)) hours
-
--- and so are net averages
+-- their net averages are ozone's values
 abbrev pub AreNetOzone : List WindowRow → Type 0
 AreNetOzone rows = AllByRecursion (λ (row : WindowRow). IfSome row.net IsOzone) rows

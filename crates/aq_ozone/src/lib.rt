@@ -2,12 +2,15 @@
 //! that they give, and the fourth highest of a year. It takes no memory.
 #![tactic(auto)]
 
+mod day_span;
+mod days;
 mod eight_hour;
 mod ozone_day;
 mod ozone_year;
 mod top_four;
 mod windows;
 
+pub use days::Days;
 pub use eight_hour::{DayWindows, LEVEL, WINDOWS, WindowRow, average};
 pub use ozone_day::{OzoneDay, day_of_windows};
 pub use ozone_year::year;

@@ -1,14 +1,19 @@
 //! The ozone year of a site (40 CFR Part 50, Appendix U, 3(e) and 4(b)).
-ghost use Rattle.std.specs.Prelude.{◌≡◌, ◌+◌, ◌*◌, ◌≤◌, IfSome};
+ghost use Rattle.std.specs.Prelude.{◌≡◌, ◌+◌, ◌*◌, ◌≤◌, List, IfSome};
+ghost use Rattle.aq_profile.specs.Ozone.OzoneDay as book;
 ghost use Rattle.aq_profile.specs.Ozone.OzoneYear.{ozone_year, ranked_maximum};
 ghost use Rattle.aq_base.specs.declared.day.TheConstants.{FIRST_YEAR, LAST_YEAR};
+ghost use Rattle.aq_base.specs.declared.observation.ObsKey.{ObsKey};
+ghost use Rattle.aq_base.specs.declared.observation.Observation.{Observation};
+ghost use Rattle.aq_ozone.specs.DayHours.{AreNetOzone};
 ghost use Rattle.aq_ozone.specs.YearDays.{day_in};
 ghost use Rattle.aq_series.specs.OfficeView.{office_of};
 ghost use Rattle.aq_series.specs.Samples.{IsOzone};
 
+use crate::days::Days;
+use crate::eight_hour::DayWindows;
 use crate::ozone_day::{OzoneDay, day_of_windows};
 use crate::top_four::TopFour;
-use crate::windows::day_windows;
 use aq_base::{Day, FIRST_YEAR, LAST_YEAR, Pollutant, SiteId, Steps};
 use aq_cal::year_span;
 use aq_profile::kept::summaries::ozone_years_keep_their_facts;
@@ -21,7 +26,8 @@ use std::sync::ledger::Ledger;
 /// The ozone year of a site: the days of its season, those of them that are valid or approved, the number
 /// of ranked maxima, and the fourth highest of these in thousandths of a ppm (40 CFR Part 50, Appendix U,
 /// 3(e) and 4(b)). The maxima of all valid days of the year are ranked, in season or not. The call reads
-/// each of the year's hours once: at most 192 steps a day. The year is 2000 to 2049.
+/// each calendar day of the year and the day behind it once, eight days together: at most 200 steps a day.
+/// The year is 2000 to 2049.
 pub fn year<L: Ledger>(
     shelf: &Shelf,
     registry: &Registry,
@@ -32,7 +38,7 @@ pub fn year<L: Ledger>(
     requires first { FIRST_YEAR ≤ year }
     requires last { year ≤ LAST_YEAR }
     ensures year { result ≡ ozone_year (office_of registry.now shelf.now) site year }
-    ensures steps { steps.new ≤ steps.old + 192 * 366 }
+    ensures steps { steps.new ≤ steps.old + 200 * 367 }
 {
     ozone_years_keep_their_facts();
     // The proof learns that the records are those of a valid office.
@@ -40,9 +46,11 @@ pub fn year<L: Ledger>(
     let (first, days) = year_span(year);
     let season = registry.season(site, year);
     let mut so_far = YearTally::new();
+    let mut walk = Days::new(shelf, registry, site, first, steps);
     for count in 0..days {
         let day = Day::new(first.number() + count);
-        so_far = so_far.with(day_of_year(shelf, registry, site, &season, day, steps));
+        let windows = walk.next(shelf, registry, site, steps);
+        so_far = so_far.with(day_of_year(registry, site, &season, day, &windows));
     }
     OzoneYear::new(
         so_far.season_days,
@@ -61,21 +69,21 @@ struct DayOfYear {
     maximum: Option<i32>,
 }
 
-/// A day in a season's year. An approval is looked up where the day is not valid by its hours.
+/// A day in a season's year, by its averages. An approval is looked up where the day is not valid by its
+/// hours.
 #[tactic(auto, unfolding(aq_profile::specs::Ozone::OzoneDay::ozone_day))]
-fn day_of_year<L: Ledger>(
-    shelf: &Shelf,
+fn day_of_year(
     registry: &Registry,
     site: SiteId,
     season: &(Day, Day),
     day: Day,
-    steps: &mut Steps<L>,
+    windows: &DayWindows,
 ) -> DayOfYear
-    ensures day { result ≡ day_in (office_of registry.now shelf.now) site (record { first = season.now.0; last = season.now.1 }) day }
+    requires { AreNetOzone windows.now }
+    ensures day { (rows : List (ObsKey × Observation)) → windows.now ≡ book.windows (office_of registry.now rows) site day → result ≡ day_in (office_of registry.now rows) site (record { first = season.now.0; last = season.now.1 }) day }
     ensures range { IfSome result.maximum (λ value. IsOzone value) }
-    ensures steps { steps.new ≤ steps.old + 192 }
 {
-    let ozone = day_of_windows(&day_windows(shelf, registry, site, day, steps));
+    let ozone = day_of_windows(windows);
     let in_season = season.0 <= day && day <= season.1;
     DayOfYear {
         in_season,

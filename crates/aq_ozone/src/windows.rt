@@ -1,11 +1,14 @@
 //! The 8-hour averages of a day of a site (40 CFR Part 50, Appendix U, 3(b)).
-ghost use Rattle.std.specs.Prelude.{◌≡◌, ◌+◌, ◌*◌, ◌<◌, ◌≤◌, IfSome, length};
+ghost use Rattle.std.specs.Prelude.{◌≡◌, ℕ, ◌+◌, ◌*◌, ◌<◌, ◌≤◌, IfSome, length};
+ghost use Rattle.aq_base.specs.Site.{Site};
+ghost use Rattle.aq_profile.specs.Office.Office.{Office};
 ghost use Rattle.aq_profile.specs.Ozone.EightHour.{row_of};
 ghost use Rattle.aq_profile.specs.Ozone.OzoneDay as book;
-ghost use Rattle.aq_ozone.specs.DayHours.{cells_in, hour_at, AreNetOzone, AreOzone};
+ghost use Rattle.aq_ozone.specs.DayHours.{cells_in, AreNetOzone};
 ghost use Rattle.aq_ozone.specs.DayHours as hours;
+ghost use Rattle.aq_series.specs.DayStates.{hour_at};
 ghost use Rattle.aq_series.specs.OfficeView.{office_of};
-ghost use Rattle.aq_series.specs.Samples.{IsOzone};
+ghost use Rattle.aq_series.specs.Samples.{AreOzone, IsOzone};
 
 use crate::eight_hour::{DayWindows, WINDOWS, WindowRow, average};
 use aq_base::{Day, Hour, LAST_HOUR, SiteId, Steps};
@@ -19,7 +22,7 @@ use std::sync::ledger::{Blank, Ledger};
 const FIRST_START: u32 = 7;
 
 /// The averages of a day read so many hours.
-const DAY_HOURS: usize = 24;
+pub(crate) const DAY_HOURS: usize = 24;
 
 /// Each average is of so many.
 const WINDOW_HOURS: usize = 8;
@@ -38,7 +41,15 @@ pub fn day_windows<L: Ledger>(
     ensures range { AreNetOzone result }
     ensures steps { steps.new ≤ steps.old + 192 }
 {
-    let cells = day_hours(shelf, registry, site, day, steps);
+    windows_of(&day_hours(shelf, registry, site, day, steps))
+}
+
+/// The seventeen averages of the hours that they read, from that of 07:00 on.
+pub(crate) fn windows_of(cells: &[Option<Cell>; DAY_HOURS]) -> DayWindows
+    requires { AreOzone cells.now }
+    ensures windows { (office : Office) (site : Site) (day : ℕ) → cells.now ≡ hours.day_hours office site day → result ≡ book.windows office site day }
+    ensures range { AreNetOzone result }
+{
     let hours = &cells[..];
     let none = WindowRow {
         net: None,
@@ -93,6 +104,28 @@ fn day_hours<L: Ledger>(
     let mut hours = [None; DAY_HOURS];
     for i in 0..DAY_HOURS {
         hours[i] = hour_at(shelf, registry, site, first + i as u32, steps);
+    }
+    hours
+}
+
+/// The hours that the averages of a day read, from 07:00 of its calendar day to 06:00 of the next one.
+pub(crate) fn hours_of(
+    today: &[Option<Cell>; DAY_HOURS],
+    tomorrow: &[Option<Cell>; DAY_HOURS],
+) -> [Option<Cell>; DAY_HOURS]
+    requires today { AreOzone today.now }
+    requires tomorrow { AreOzone tomorrow.now }
+    ensures hours { (office : Office) (site : Site) (day : ℕ) → today.now ≡ hours.calendar_hours office site day → tomorrow.now ≡ hours.calendar_hours office site (day + 1) → result ≡ hours.day_hours office site day }
+    ensures ozone { AreOzone result }
+{
+    let first = FIRST_START as usize;
+    let mut hours = [None; DAY_HOURS];
+    for i in 0..DAY_HOURS {
+        hours[i] = if i < DAY_HOURS - first {
+            today[i + first]
+        } else {
+            tomorrow[i + first - DAY_HOURS]
+        };
     }
     hours
 }

@@ -3,6 +3,9 @@ pub mod Pocs
 pub mod Walk
 pub mod Means
 pub mod Stages
+pub mod Spans
+pub mod DaySteps
+pub mod DayStages
 pub mod SitePocs
 pub mod MonitorDay
 pub mod DayLists

@@ -40,13 +40,13 @@ module _ {X : Type 0} (number : X → ℕ) where
   abbrev pub found : ℕ → List X → Option X
   found n xs = find (λ x. number x == n) xs
 
-  none_later : (n m : ℕ) (xs : List X) → n ≤ m → Later m xs → found n xs ≡ None
+  pub none_later : (n m : ℕ) (xs : List X) → n ≤ m → Later m xs → found n xs ≡ None
   none_later n m [] le later = refl
   none_later n m (x ∷ xs) le later =
       ap (λ b. cond b (Some x) (found n xs)) (other_number n (number x) (omega (arith, le, later.0)))
       ∙ none_later n m xs le later.1
 
-  found_first : (x : X) (xs : List X) → found (number x) (x ∷ xs) ≡ Some x
+  pub found_first : (x : X) (xs : List X) → found (number x) (x ∷ xs) ≡ Some x
   found_first x xs = ap (λ b. cond b (Some x) (found (number x) xs)) (itself (number x))
 
   -- one that comes first is not found in the other

@@ -100,6 +100,12 @@ module _ (records : List OfficeRecord) (rows : List (ObsKey × Observation)) (si
 
   -- ---- the end
 
+  -- those of the walk are all
+  pub walked-all : (after : ℕ) (tally : Tally) (walked : Walked after tally) → next_poc records site Ozone after ≡ None → walked.before ≡ samples_above records rows site hour 0
+  walked-all after tally walked end =
+      let none : samples_above records rows site hour after ≡ [] = ap (filter_map (sample_at records rows site hour)) (pocs-end site records after end) in
+      sym (append-nil walked.before) ∙ ap (λ (l : List Sample). walked.before ++ l) (sym none) ∙ walked.whole
+
   module _ (valid : IsOffice (office_with records)) (rising : IsTrue (rises observation_rank rows)) (is : primary ≡ primary_on records site Ozone (day_of_hour hour)) where
     pub hour-is : site_hour (office_of records rows) site hour ≡ chosen (find (is_of_poc primary) (samples_above records rows site hour 0)) (samples_above records rows site hour 0)
     unfolding site_hour
@@ -108,10 +114,8 @@ module _ (records : List OfficeRecord) (rows : List (ObsKey × Observation)) (si
 
     pub hour-mean : (after : ℕ) (tally : Tally) (walked : Walked after tally) → next_poc records site Ozone after ≡ None → mean_of walked.before ≡ site_hour (office_of records rows) site hour
     hour-mean after tally walked end =
-        let none : samples_above records rows site hour after ≡ [] = ap (filter_map (sample_at records rows site hour)) (pocs-end site records after end) in
-        let all : walked.before ≡ samples_above records rows site hour 0 = sym (append-nil walked.before) ∙ ap (λ (l : List Sample). walked.before ++ l) (sym none) ∙ walked.whole in
         ap (λ o. chosen o walked.before) (sym walked.none)
-        ∙ ap (λ (l : List Sample). chosen (find (is_of_poc primary) l) l) all ∙ sym hour-is
+        ∙ ap (λ (l : List Sample). chosen (find (is_of_poc primary) l) l) (walked-all after tally walked end) ∙ sym hour-is
 
     pub hour-primary : (s : Sample) → find (is_of_poc primary) (samples_above records rows site hour 0) ≡ Some s → Some s.cell ≡ site_hour (office_of records rows) site hour
     hour-primary s found = ap (λ o. chosen o (samples_above records rows site hour 0)) (sym found) ∙ sym hour-is

@@ -1,6 +1,6 @@
 -- What the monitors of a site have for an hour, one by one in the order of their POCs.
-use Rattle.std.specs.Prelude.{◌≡◌, ℕ, ◌*◌, ◌≤◌, if◌then◌else◌, Option, None, List, length, map, filter_map, option_map, option_and_then, ℤ, pos, neg_ℤ, ◌≤ℤ◌}
-use Rattle.std.specs.List.{list_any}
+use Rattle.std.specs.Prelude.{◌≡◌, ℕ, ◌*◌, ◌≤◌, if◌then◌else◌, Option, None, List, length, map, filter_map, option_map, option_and_then, ℤ, pos, neg_ℤ, ◌≤ℤ◌, IfSome}
+use Rattle.std.specs.List.{list_any, AllByRecursion}
 use Rattle.aq_base.specs.Site.{Site}
 use Rattle.aq_base.specs.Values.{least_value, greatest_value}
 use Rattle.aq_base.specs.declared.monitor.Pollutant.TheVariants.{Ozone}
@@ -18,6 +18,10 @@ use Rattle.aq_series.specs.declared.tally.Tally.{Tally}
 -- a value of ozone, from -0.999 to 9.999 ppm
 abbrev pub IsOzone : ℤ → Type 0
 IsOzone value = (least_value ≤ℤ value) × (value ≤ℤ greatest_value Ozone)
+
+-- their values, where hours have some, are ozone's
+abbrev pub AreOzone : List (Option Cell) → Type 0
+AreOzone hours = AllByRecursion (λ hour. IfSome hour (λ (cell : Cell). IsOzone cell.value)) hours
 
 -- the cell of what stands at a key, if there is a value
 abbrev pub cell_of : List OfficeRecord → ObsKey → Observation → Option Cell

@@ -1,15 +1,17 @@
 //! The ozone value of a site for an hour (40 CFR Part 50, Appendix U, 2(b)).
 ghost use Rattle.std.specs.Prelude.{◌≡◌, ◌+◌, ◌≤◌, IfSome};
+ghost use Rattle.aq_base.specs.Values.{HasValueInRange};
 ghost use Rattle.aq_base.specs.declared.monitor.Pollutant.TheVariants.{Ozone};
+ghost use Rattle.aq_profile.specs.Office.Exclusion as exclusions;
 ghost use Rattle.aq_profile.specs.Office.Monitors as monitors;
 ghost use Rattle.aq_profile.specs.Office.Office.{IsOffice};
 ghost use Rattle.aq_profile.specs.Ozone.SiteHour as book;
 ghost use Rattle.aq_registry.specs.Registry.{office_with};
 ghost use Rattle.aq_series.specs.OfficeView.{office_of};
-ghost use Rattle.aq_series.specs.Samples.{cell_at, IsOzone};
+ghost use Rattle.aq_series.specs.Samples.{cell_at, cell_of, IsOzone};
 
 use crate::tally::Tally;
-use aq_base::{Day, Hour, MonitorId, ObsKey, Pollutant, SiteId, Steps};
+use aq_base::{Day, Hour, MonitorId, ObsKey, Observation, Pollutant, Quals, SiteId, Steps};
 use aq_registry::Registry;
 use aq_shelf::Shelf;
 use std::marker::Model;
@@ -88,11 +90,28 @@ fn sample<L: Ledger>(
         return None;
     }
     let content = shelf.at(*key, steps)?;
+    cell_of(registry, key, &content)
+}
+
+/// The cell of what stands at a key, if there is a value.
+pub(crate) fn cell_of(registry: &Registry, key: &ObsKey, content: &Observation) -> Option<Cell>
+    requires ozone { key.now.monitor.pollutant ≡ Ozone }
+    requires range { HasValueInRange Ozone content.now }
+    ensures value { result ≡ cell_of registry.now key.now content.now }
+    ensures range { IfSome result (λ cell. IsOzone cell.value) }
+{
     let value = content.value?;
     Some(Cell {
         value,
-        excluded: registry.excluded(*key, &content.quals),
+        excluded: is_excluded(registry, key, &content.quals),
     })
+}
+
+/// Whether an exceptional event leaves an observation out. Most have no codes, and are not looked up.
+fn is_excluded(registry: &Registry, key: &ObsKey, quals: &Quals) -> bool
+    ensures { result ≡ exclusions.excluded registry.now key.now quals.now }
+{
+    !quals.codes().is_empty() && registry.excluded(*key, quals)
 }
 
 /// Whether a monitor is registered and its values count.

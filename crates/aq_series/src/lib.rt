@@ -2,11 +2,13 @@
 //! of its monitors and what they reported. It takes no memory.
 #![tactic(auto)]
 
+mod day_hours;
 mod day_tally;
 mod days;
 mod hours;
 mod tally;
 
+pub use day_hours::{SPAN_DAYS, SPAN_HOURS, site_hours};
 pub use days::{monitor_day, site_day};
 pub use hours::{Cell, site_hour};
 

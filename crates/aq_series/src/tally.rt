@@ -7,8 +7,8 @@ use crate::hours::Cell;
 /// Values of ozone: how many, their sum, and whether one of them is excluded.
 #[derive(Clone, Copy)]
 pub(crate) struct Tally {
-    count: u8,
     sum: i32,
+    count: u8,
     excluded: bool,
 }
 

@@ -4,7 +4,7 @@ ghost use Rattle.aq_series.specs.Samples.{IsOzone};
 
 use crate::tally::Tally;
 use crate::*;
-use aq_base::{Hour, LAST_HOUR, SiteId, Steps};
+use aq_base::{Day, Hour, LAST_DAY, LAST_HOUR, SiteId, Steps};
 use aq_registry::Registry;
 use aq_shelf::Shelf;
 use std::alloc::Global;
@@ -46,7 +46,7 @@ fn one_excluded_monitor_excludes_the_mean(rt: HostRuntime) {
     assert_eq!(rt; mean, Some(cell(75, true)));
 }
 
-/// The profile's last hour at a site that has no monitor.
+/// The profile's last hour and the eight days from its last day on, at a site that has no monitor.
 fn ask_of_nothing<L: Ledger>(rt: &impl Abort, alloc: Global, blank: Blank) -> Result<(), Fail>
     requires name { blank.name ≡ L.name }
     requires parts { blank.parts ≡ L.parts }
@@ -58,6 +58,9 @@ fn ask_of_nothing<L: Ledger>(rt: &impl Abort, alloc: Global, blank: Blank) -> Re
     let site = SiteId::new(6, 37, 1103).ok_or("a site")?;
     let last = Hour::new(LAST_HOUR);
     assert_eq!(rt; site_hour(&shelf, &registry, site, last, &mut steps), None);
+    let day = Day::new(LAST_DAY);
+    let hours = site_hours(&shelf, &registry, site, day, &mut steps);
+    assert!(rt; hours.iter().all(|hour| hour.is_none()));
     Ok(())
 }
 

@@ -1,4 +1,4 @@
-use Rattle.std.proofs.Common.{◌≡◌, ◌+◌, ◌≤◌, List, map, sym, subst, ◌∙◌, arith}
+use Rattle.std.proofs.Common.{◌≡◌, ℕ, ◌+◌, ◌≤◌, List, map, ap, sym, subst, ◌∙◌, arith}
 use Rattle.std.specs.Prelude.{ℤ, Option}
 use Rattle.std.specs.List.{range_with_len}
 use Rattle.aq_profile.specs.Kept.Summaries.{KeepsOzoneYear}
@@ -6,6 +6,8 @@ use Rattle.aq_profile.specs.Office.Season.{Season}
 use Rattle.aq_registry.specs.Registry.{office_with}
 use Rattle.aq_series.specs.OfficeView.{office_of}
 use Rattle.aq_ozone.specs.declared.ozone_year.DayOfYear.{DayOfYear}
+use Rattle.aq_profile.specs.Ozone.OzoneDay as book
+use Rattle.aq_ozone.specs.DaySpans.{IsAt}
 use Rattle.aq_ozone.specs.YearDays.{day_in, IsTallyOf}
 use Rattle.aq_ozone.proofs.YearLemmas.{days_more, few, year_is, year_keeps}
 use Rattle.aq_ozone.proofs.ozone_year.year.Goals as goal
@@ -31,12 +33,16 @@ loop-count-preserved g c =
     let season : Season = record { first = c.season-season.result.0; last = c.season-season.result.1 } in
     let day = day_in office c.args.site season in
     let at : c.year_span-first.result.0 + c.loop-count.count ≡ c.new-day.result = omega (arith, c.new-day.ensures, c.number.ensures.value) in
+    let here = c.loop-count.invariant.at.day_is ∙ at in
+    let after : c.loop-count.walk.day + 1 ≡ c.year_span-first.result.0 + (c.loop-count.count + 1) = omega (arith, here, at) in
+    let windows = c.next-windows.ensures.windows ∙ ap (book.windows office c.args.site) here in
     record {
       tally =
           subst (λ (days : List DayOfYear). IsTallyOf days c.with-so_far.result)
-          (days_more day c.year_span-first.result.0 c.loop-count.count c.new-day.result c.day_of_year.result at c.day_of_year.ensures.day)
+          (days_more day c.year_span-first.result.0 c.loop-count.count c.new-day.result c.day_of_year.result at (c.day_of_year.ensures.day c.args.shelf.now windows))
           (c.with-so_far.ensures (map day (range_with_len c.year_span-first.result.0 c.loop-count.count)) c.loop-count.invariant.tally);
-      steps = omega (arith, c.loop-count.invariant.steps, c.day_of_year.ensures.steps);
+      at = subst (λ (n : ℕ). IsAt office c.args.site n c.next-windows.new.self) after c.next-windows.ensures.at;
+      steps = omega (arith, c.loop-count.invariant.steps, c.next-windows.ensures.steps);
     }
 
 pub new-requires : goal.new-requires

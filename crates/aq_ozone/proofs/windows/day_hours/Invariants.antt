@@ -3,7 +3,7 @@ use Rattle.std.specs.Prelude.{IfSome}
 use Rattle.aq_profile.specs.Ozone.SiteHour.{Cell}
 use Rattle.aq_series.specs.OfficeView.{office_of}
 use Rattle.aq_series.specs.Samples.{IsOzone}
-use Rattle.aq_ozone.specs.DayHours.{hour_at}
+use Rattle.aq_series.specs.DayStates.{hour_at}
 use Rattle.aq_ozone.proofs.windows.day_hours.Given as goal
 
 abbrev pub invariant-loop-i : goal.invariant-loop-i

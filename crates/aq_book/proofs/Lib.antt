@@ -1,0 +1,6 @@
+pub mod RowLemmas
+pub mod ChangeLemmas
+pub mod OverlayLemmas
+pub mod LoadLaws
+pub mod StageLemmas
+pub mod OzoneLemmas

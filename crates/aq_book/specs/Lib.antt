@@ -1,0 +1,7 @@
+-- The office of a book, and what a load makes of it.
+pub mod Questions
+pub mod Changes
+pub mod Overlay
+pub mod Staged
+pub mod Refusals
+pub mod Counts

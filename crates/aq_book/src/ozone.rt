@@ -1,0 +1,60 @@
+//! The ozone days and years of a site, over a shelf and a registry.
+ghost use Rattle.std.specs.Prelude.{◌≡◌, ◌+◌, ◌*◌, ◌≤◌, IfOk};
+ghost use Rattle.aq_base.specs.declared.day.TheConstants.{FIRST_YEAR, LAST_YEAR};
+ghost use Rattle.aq_profile.specs.Ozone.OzoneVerdict as verdicts;
+ghost use Rattle.aq_profile.specs.Ozone.OzoneYear as years;
+ghost use Rattle.aq_series.specs.OfficeView.{office_of};
+
+use aq_base::{Day, Items, Memory, SiteId, Steps};
+use aq_cal::year_span;
+use aq_ozone::{OzoneDay, day_of_windows, day_windows, year};
+use aq_registry::Registry;
+use aq_shelf::Shelf;
+use aq_verdict::OzoneYear;
+use std::alloc::Global;
+use std::sync::ledger::Ledger;
+
+/// Ozone days, in order. Contracts see the list of them.
+pub type OzoneDays = Items<OzoneDay>;
+
+/// The ozone days of a year, one by one.
+pub(crate) fn days_of_year<L: Ledger>(
+    alloc: Global,
+    shelf: &Shelf,
+    registry: &Registry,
+    site: SiteId,
+    year: u16,
+    steps: &mut Steps<L>,
+) -> Result<OzoneDays, Memory>
+    requires first { FIRST_YEAR ≤ year }
+    requires last { year ≤ LAST_YEAR }
+    ensures days { IfOk result (λ days. days ≡ years.ozone_days (office_of registry.now shelf.now) site year) }
+    ensures steps { steps.new ≤ steps.old + 192 * 366 }
+{
+    let (first, count) = year_span(year);
+    let mut days = Items::new(alloc);
+    for i in 0..count {
+        let day = Day::new(first.number() + i);
+        days.push(day_of_windows(&day_windows(shelf, registry, site, day, steps)))?;
+    }
+    Ok(days)
+}
+
+/// The three years that end with a year, the oldest first.
+pub(crate) fn three_years<L: Ledger>(
+    shelf: &Shelf,
+    registry: &Registry,
+    site: SiteId,
+    last: u16,
+    steps: &mut Steps<L>,
+) -> [OzoneYear; 3]
+    requires first { FIRST_YEAR + 2 ≤ last }
+    requires last { last ≤ LAST_YEAR }
+    ensures years { result ≡ verdicts.three_years (office_of registry.now shelf.now) site last }
+    ensures steps { steps.new ≤ steps.old + 3 * (200 * 367) }
+{
+    let first = year(shelf, registry, site, last - 2, steps);
+    let second = year(shelf, registry, site, last - 1, steps);
+    let third = year(shelf, registry, site, last, steps);
+    [first, second, third]
+}

@@ -1,0 +1,73 @@
+//! The days of a site, one after another.
+
+use crate::day_span::DaySpan;
+use crate::eight_hour::DayWindows;
+use crate::windows::{DAY_HOURS, hours_of, windows_of};
+use aq_base::{Day, SiteId, Steps};
+use aq_registry::Registry;
+use aq_series::Cell;
+use aq_shelf::Shelf;
+use std::sync::ledger::Ledger;
+
+/// A walk over the days of a site, from a day on. Each hour is read once, those of eight calendar days
+/// together; the shelf and the registry are the same all the way.
+#[derive(Drop)]
+pub struct Days {
+    day: u16,
+    today: [Option<Cell>; DAY_HOURS],
+    span: DaySpan,
+}
+
+impl Days {
+    ghost use Rattle.std.specs.Prelude.{◌≡◌, ◌+◌, ◌*◌, ◌≤◌};
+    ghost use Rattle.aq_base.specs.declared.day.TheConstants.{LAST_DAY};
+    ghost use Rattle.aq_profile.specs.Ozone.OzoneDay as book;
+    ghost use Rattle.aq_ozone.specs.DayHours.{AreNetOzone};
+    ghost use Rattle.aq_ozone.specs.DaySpans.{days_read, IsAt};
+    ghost use Rattle.aq_series.specs.OfficeView.{office_of};
+
+    /// A walk that begins with a day.
+    pub fn new<L: Ledger>(
+        shelf: &Shelf,
+        registry: &Registry,
+        site: SiteId,
+        day: Day,
+        steps: &mut Steps<L>,
+    ) -> Days
+        ensures at { IsAt (office_of registry.now shelf.now) site day result }
+        ensures read { days_read result ≡ day + 8 }
+        ensures steps { steps.new ≤ steps.old + 1544 }
+    {
+        let span = DaySpan::read(shelf, registry, site, day.number(), steps);
+        Days {
+            day: day.number(),
+            today: span.day(day.number()),
+            span,
+        }
+    }
+
+    /// The seventeen averages of the day that the walk is at, which then goes on to the next one. A step
+    /// is made for each eligible monitor and eight days, and one for each hour that it has.
+    pub fn next<L: Ledger>(
+        &mut self,
+        shelf: &Shelf,
+        registry: &Registry,
+        site: SiteId,
+        steps: &mut Steps<L>,
+    ) -> DayWindows
+        requires at { IsAt (office_of registry.now shelf.now) site self.old.day self.old }
+        requires profile { self.old.day ≤ LAST_DAY }
+        ensures windows { result ≡ book.windows (office_of registry.now shelf.now) site self.old.day }
+        ensures range { AreNetOzone result }
+        ensures at { IsAt (office_of registry.now shelf.now) site (self.old.day + 1) self.new }
+        ensures steps { steps.new + 193 * days_read self.old ≤ steps.old + 193 * days_read self.new }
+    {
+        let next = self.day + 1;
+        self.span.reach(shelf, registry, site, next, steps);
+        let tomorrow = self.span.day(next);
+        let windows = windows_of(&hours_of(&self.today, &tomorrow));
+        self.day = next;
+        self.today = tomorrow;
+        windows
+    }
+}
