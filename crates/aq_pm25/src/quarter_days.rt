@@ -1,11 +1,9 @@
 //! What a day gives its PM2.5 quarter (40 CFR Part 50, Appendix N, 1.0(c) and 3.0).
-ghost use Rattle.std.specs.Prelude.{◌≡◌, ◌≤◌, ◌+◌, ◌-◌, not, is_some, option_and_then, IfSome};
+ghost use Rattle.std.specs.Prelude.{◌≡◌, ◌+◌, ◌-◌, option_and_then, IfSome};
 ghost use Rattle.std.specs.List.{list_any, range_with_len};
-ghost use Rattle.aq_base.specs.declared.day.TheConstants.{LAST_DAY};
 ghost use Rattle.aq_base.specs.declared.monitor.Pollutant.TheVariants.{Pm25};
 ghost use Rattle.aq_profile.specs.Office.Schedule.{is_scheduled};
 ghost use Rattle.aq_profile.specs.Particles.ParticleDay.{site_day, unless_excluded};
-ghost use Rattle.aq_profile.specs.Particles.QuarterCounts as book;
 ghost use Rattle.aq_series.specs.DayCells.{IsParticle};
 ghost use Rattle.aq_series.specs.OfficeView.{office_of};
 ghost use Rattle.aq_pm25.specs.QuarterDays.{credited, day_in, is_makeup_day, makeup_cell};
