@@ -8,7 +8,6 @@ ghost use Rattle.aq_profile.specs.Office.Designation.{primary_on};
 ghost use Rattle.aq_profile.specs.Office.Office.{IsOffice};
 ghost use Rattle.aq_profile.specs.Particles.ParticleDay as book;
 ghost use Rattle.aq_registry.specs.Registry.{office_with};
-ghost use Rattle.aq_shelf.specs.Standing.{IsShelf};
 ghost use Rattle.aq_series.specs.OfficeView.{office_of};
 ghost use Rattle.aq_series.specs.DayCells.{cell_at, cells_in, cells_on, hours_of, mean_of, monitor_at, monitor_steps, pocs_of, site_steps, steps_beside, IsOfParticles, IsParticle, IsParticulate, IsTallyOf};
 

@@ -1,0 +1,56 @@
+use Rattle.std.proofs.Common.{◌≡◌, ◌+◌, List, map, subst, ◌∙◌, arith}
+use Rattle.std.specs.List.{range_with_len}
+use Rattle.aq_profile.specs.Particles.QuarterCounts.{days_of_quarter}
+use Rattle.aq_series.specs.OfficeView.{office_of}
+use Rattle.aq_pm25.specs.QuarterDays.{day_in, IsTallyOf}
+use Rattle.aq_pm25.specs.declared.quarter_days.DayOfQuarter.{DayOfQuarter}
+use Rattle.aq_pm25.proofs.DayTallies.{days-more, few}
+use Rattle.aq_pm25.proofs.quarters.tally_of.Goals as goal
+
+pub loop-count-init : goal.loop-count-init
+loop-count-init g c = record { tally = c.new-so_far.ensures.tally; sum = c.new-so_far.ensures.sum }
+
+pub with-so_far-requires-clause-scheduled : goal.with-so_far-requires-clause-scheduled
+with-so_far-requires-clause-scheduled g c =
+    let least = few _ _ c.quarter_span-first.result.0 c.loop-count.count c.loop-count.so_far c.loop-count.invariant.tally in
+    omega (arith, least.scheduled, c.loop-count-test.true, c.quarter_span-first.ensures.days_range.1)
+
+pub with-so_far-requires-clause-creditable : goal.with-so_far-requires-clause-creditable
+with-so_far-requires-clause-creditable g c =
+    let least = few _ _ c.quarter_span-first.result.0 c.loop-count.count c.loop-count.so_far c.loop-count.invariant.tally in
+    omega (arith, least.creditable, c.loop-count-test.true, c.quarter_span-first.ensures.days_range.1)
+
+pub with-so_far-requires-clause-counted : goal.with-so_far-requires-clause-counted
+with-so_far-requires-clause-counted g c =
+    let least = few _ _ c.quarter_span-first.result.0 c.loop-count.count c.loop-count.so_far c.loop-count.invariant.tally in
+    omega (arith, least.counted, c.loop-count-test.true, c.quarter_span-first.ensures.days_range.1)
+
+pub with-so_far-requires-clause-values : goal.with-so_far-requires-clause-values
+with-so_far-requires-clause-values g c =
+    let least = few _ _ c.quarter_span-first.result.0 c.loop-count.count c.loop-count.so_far c.loop-count.invariant.tally in
+    omega (arith, least.values, c.loop-count-test.true, c.quarter_span-first.ensures.days_range.1)
+
+pub with-so_far-requires-clause-sum : goal.with-so_far-requires-clause-sum
+with-so_far-requires-clause-sum g c = c.loop-count.invariant.sum
+
+pub loop-count-preserved : goal.loop-count-preserved
+loop-count-preserved g c =
+    let day = day_in (office_of c.args.registry.now c.args.shelf.now) c.args.site.now in
+    let first = c.quarter_span-first.result.0 in
+    let at : first + c.loop-count.count ≡ c.new-day.result = omega (arith, c.new-day.ensures, c.number.ensures.value, c.from.ensures) in
+    record {
+      tally =
+          subst (λ (days : List DayOfQuarter). IsTallyOf c.args.top.places days c.with-so_far.result)
+          (days-more day first c.loop-count.count c.new-day.result c.day_of_quarter.result at c.day_of_quarter.ensures.day)
+          (c.with-so_far.ensures.tally c.args.top.places (map day (range_with_len first c.loop-count.count)) c.loop-count.invariant.tally);
+      sum = c.with-so_far.ensures.sum;
+    }
+
+pub returns : goal.returns
+unfolding days_of_quarter
+returns g c =
+    let day = day_in (office_of c.args.registry.now c.args.shelf.now) c.args.site.now in
+    let all : c.loop-count.count ≡ c.quarter_span-first.result.1 = omega (arith, c.loop-count-test.false, c.loop-count.auto.count-end) in
+    subst (λ (days : List DayOfQuarter). IsTallyOf c.args.top.places days c.loop-count.so_far)
+    (λ i. map day (range_with_len (c.quarter_span-first.ensures.first i) ((all ∙ c.quarter_span-first.ensures.days) i)))
+    c.loop-count.invariant.tally

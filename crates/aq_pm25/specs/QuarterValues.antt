@@ -1,0 +1,29 @@
+-- Values of a quarter, taken together.
+use Rattle.std.specs.Prelude.{◌≡◌, ◌*◌, List, Option, Some, fold, length, ℤ, pos, neg_ℤ, ◌≤ℤ◌}
+use Rattle.std.specs.List.{AllByRecursion}
+use Rattle.aq_profile.specs.Lists.{total, least, greatest}
+use Rattle.aq_series.specs.DayCells.{IsParticle}
+use Rattle.aq_pm25.specs.Pushed.{pushed}
+use Rattle.aq_pm25.specs.declared.quarter_values.QuarterValues.{QuarterValues}
+
+-- the values are in the range of PM2.5
+abbrev pub AreParticles : List ℤ → Type 0
+AreParticles values = AllByRecursion (λ value. IsParticle value) values
+
+-- the places of the greatest values after these have joined them
+abbrev pub places_after : List (Option ℤ) → List ℤ → List (Option ℤ)
+places_after places values = fold (λ now value. pushed (Some value) now) places values
+
+-- what is kept of these values, which join the places of earlier ones
+pub record AreOf (places : List (Option ℤ)) (values : List ℤ) (kept : QuarterValues) : Type 0 where
+  pub count : kept.count ≡ length values
+  pub sum : kept.sum ≡ total values
+  pub least_is : kept.least ≡ least values
+  pub greatest_is : kept.greatest ≡ greatest values
+  pub top : kept.top.places ≡ places_after places values
+  pub range : AreParticles values
+
+-- the sum is one of so many values in range
+pub record IsSumInRange (kept : QuarterValues) : Type 0 where
+  pub low : neg_ℤ (pos (999 * kept.count)) ≤ℤ kept.sum
+  pub high : kept.sum ≤ℤ pos (99999 * kept.count)
