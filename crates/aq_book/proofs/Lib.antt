@@ -4,6 +4,7 @@ pub mod OverlayLemmas
 pub mod LoadLaws
 pub mod StageLemmas
 pub mod OzoneLemmas
+pub mod DesignLemmas
 pub mod LoadMap
 pub mod Loadless
 pub mod LoadlessAnswers

@@ -4,6 +4,7 @@ use Rattle.aq_base.specs.Site.{Site}
 use Rattle.aq_base.specs.declared.observation.ObsKey.{ObsKey}
 use Rattle.aq_base.specs.declared.observation.Observation.{Observation}
 use Rattle.aq_base.specs.declared.office.OfficeRecord.{OfficeRecord}
+use Rattle.aq_profile.specs.DesignValues.{pm10_years, pm25_years}
 use Rattle.aq_profile.specs.Kept.Summaries.{pm25_summary}
 use Rattle.aq_profile.specs.Office.Office.{StoredLoad}
 use Rattle.aq_profile.specs.Ozone.EightHour.{window}
@@ -38,6 +39,14 @@ module _ (records : List OfficeRecord) (rows : List (ObsKey × Observation)) (lo
   pub pm25_summary_is : (year : ℕ) → pm25_summary (office_of records rows) site year ≡ pm25_summary (standing records rows loads) site year
   unfolding pm25_summary pm25_year quarter_counts quarter_values credits site_day monitor_day
   pm25_summary_is year = refl
+
+  pub pm25_years_are : (year : ℕ) → pm25_years (office_of records rows) site year ≡ pm25_years (standing records rows loads) site year
+  unfolding pm25_summary pm25_year quarter_counts quarter_values credits site_day monitor_day
+  pm25_years_are year = refl
+
+  pub pm10_years_are : (year : ℕ) → pm10_years (office_of records rows) site year ≡ pm10_years (standing records rows loads) site year
+  unfolding pm10_year pm10_quarter strata_of first_days site_day monitor_day
+  pm10_years_are year = refl
 
   pub pm10_year_is : (year : ℕ) → pm10_year (office_of records rows) site year ≡ pm10_year (standing records rows loads) site year
   unfolding pm10_year pm10_quarter strata_of first_days site_day monitor_day

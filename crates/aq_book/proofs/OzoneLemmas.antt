@@ -1,16 +1,13 @@
--- The ozone days of a year one by one, its three years, and their design value.
+-- The ozone days of a year one by one, and three years.
 use Rattle.std.proofs.Common.{◌≡◌, ℕ, ◌+◌, ◌-◌, List, [], ◌∷◌, ◌++◌, map, sym, ap, ◌∙◌}
 use Rattle.std.specs.List.{range_with_len}
 use Rattle.std.proofs.lemmas.List.FromFn.{map-range_with_len_more}
 use Rattle.aq_base.specs.Calendar.{year_first, days_in_year}
 use Rattle.aq_base.specs.Site.{Site}
-use Rattle.aq_base.specs.declared.standard.Standard.{Standard}
-use Rattle.aq_base.specs.declared.standard.Standard.TheVariants.{Ozone2015}
-use Rattle.aq_profile.specs.DesignValues.{OfOzone, design_value}
 use Rattle.aq_profile.specs.Office.Office.{Office}
 use Rattle.aq_profile.specs.Ozone.EightHour.{WindowRow}
 use Rattle.aq_profile.specs.Ozone.OzoneDay.{OzoneDay, day_of_windows, ozone_day, windows}
-use Rattle.aq_profile.specs.Ozone.OzoneVerdict.{OzoneDv, ozone_design, ozone_dv, three_years}
+use Rattle.aq_profile.specs.Ozone.OzoneVerdict.{three_years}
 use Rattle.aq_profile.specs.Ozone.OzoneYear.{OzoneYear, days_of, ozone_days, ozone_year}
 
 module _ (office : Office) (site : Site) where
@@ -33,15 +30,3 @@ module _ (office : Office) (site : Site) where
   pub years-are : (last : ℕ) (first second third : OzoneYear) → first ≡ ozone_year office site (last - 2) → second ≡ ozone_year office site (last - 1) → third ≡ ozone_year office site last → first ∷ second ∷ third ∷ [] ≡ three_years office site last
   unfolding three_years
   years-are last first second third is_first is_second is_third = λ i. is_first i ∷ is_second i ∷ is_third i ∷ []
-
-  pub design-of : (last : ℕ) (years : List OzoneYear) (design : OzoneDv) → years ≡ three_years office site last → design ≡ ozone_dv years → OfOzone years design ≡ design_value Ozone2015 office site last
-  unfolding design_value
-  design-of last years design are is =
-      ap (OfOzone years) (is ∙ ap ozone_dv are) ∙ ap (λ (ys : List OzoneYear). OfOzone ys (ozone_design office site last)) are
-
--- the same of an office that is seen otherwise, and of a standard that is ozone's
-pub design-is : (standard : Standard) (office now : Office) (site : Site) (last : ℕ) (years : List OzoneYear) (design : OzoneDv) → standard ≡ Ozone2015 → office ≡ now → years ≡ three_years office site last → design ≡ ozone_dv years → OfOzone years design ≡ design_value standard now site last
-design-is standard office now site last years design built view are is =
-    design-of office site last years design are is
-    ∙ ap (λ (o : Office). design_value Ozone2015 o site last) view
-    ∙ ap (λ (s : Standard). design_value s now site last) (sym built)

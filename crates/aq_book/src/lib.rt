@@ -5,11 +5,13 @@
 mod book;
 mod changes;
 mod check;
+mod design;
 mod fault;
 mod load;
 mod loads;
 mod overlay;
 mod ozone;
+mod particles;
 mod question;
 mod reply;
 mod staged;

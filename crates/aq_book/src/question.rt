@@ -1,8 +1,8 @@
 //! Questions of a site.
 ghost use Rattle.std.specs.Prelude.{◌≡◌, ◌+◌, ◌*◌, ◌≤◌, true, is_ok, IfErr, IfOk, OnOk};
 ghost use Rattle.aq_base.specs.declared.day.TheConstants.{FIRST_YEAR, LAST_YEAR};
-ghost use Rattle.aq_base.specs.declared.standard.Standard.TheVariants.{Ozone2015};
-ghost use Rattle.aq_profile.specs.DesignValues as designs;
+ghost use Rattle.aq_profile.specs.Kept.Summaries.{pm25_summary};
+ghost use Rattle.aq_profile.specs.Particles.Pm10Estimate.{pm10_year};
 ghost use Rattle.aq_profile.specs.Office.Approval as approvals;
 ghost use Rattle.aq_profile.specs.Office.Season as seasons;
 ghost use Rattle.aq_profile.specs.Ozone.OzoneDay as ozone;
@@ -10,14 +10,13 @@ ghost use Rattle.aq_profile.specs.Ozone.OzoneYear as years;
 ghost use Rattle.aq_profile.specs.Shown.Answer.{is_registered};
 ghost use Rattle.aq_book.specs.Questions.{IsAskFault};
 ghost use Rattle.aq_registry.specs.Registry.{days_of};
-ghost use Rattle.aq_verdict.specs.Designs.{design_of};
 
 use crate::book::Book;
 use crate::fault::{AskFault, UnknownSite};
-use crate::ozone::{OzoneDays, days_of_year, three_years};
-use aq_base::{Day, SiteId, Standard, Steps};
+use crate::ozone::{OzoneDays, days_of_year};
+use aq_base::{Day, SiteId, Steps};
 use aq_ozone::{DayWindows, day_windows, uncounted_windows};
-use aq_verdict::{DesignValue, OzoneYear};
+use aq_verdict::{OzoneYear, Pm10Year, PmYear};
 use std::alloc::Global;
 use std::sync::ledger::Ledger;
 
@@ -111,36 +110,44 @@ impl Book {
         Ok(summary)
     }
 
-    /// The design value of a standard for a site and the three years that end with a year, with what is
-    /// kept of these and the verdict, in at most 200 steps a day. It takes no memory. The standard is
-    /// ozone's (40 CFR Part 50, Appendix U, 3(e) and 4), and the year is 2002 to 2049.
-    pub fn design_value<L: Ledger>(
+    /// The PM2.5 year of a site: what is kept of its four quarters, and its eight greatest values (40 CFR
+    /// Part 50, Appendix N, 1.0(c), 3.0 and 4). It takes no memory. The year is 2000 to 2049.
+    pub fn pm25_year<L: Ledger>(
         &self,
-        standard: Standard,
         site: SiteId,
         year: u16,
         steps: &mut Steps<L>,
-    ) -> Result<DesignValue, UnknownSite>
-        requires built { standard ≡ Ozone2015 }
-        requires first { FIRST_YEAR + 2 ≤ year }
+    ) -> Result<PmYear, UnknownSite>
+        requires first { FIRST_YEAR ≤ year }
         requires last { year ≤ LAST_YEAR }
-        ensures value { IfOk result (λ value. design_of value ≡ designs.design_value standard self.now site year) }
+        ensures year { IfOk result (λ summary. summary ≡ pm25_summary self.now site year) }
         ensures registered { is_ok result ≡ is_registered self.now site }
-        ensures steps { steps.new ≤ steps.old + 3 * (200 * 367) }
     {
         self.find(site)?;
-        let value = match standard {
-            Standard::Ozone2015 => {
-                let years = three_years(&self.shelf, &self.registry, site, year, steps);
-                DesignValue::Ozone(years, aq_verdict::ozone(&years))
-            }
-            _ => unreachable!(),
-        };
-        Ok(value)
+        let summary = aq_pm25::year(&self.shelf, &self.registry, site, year, steps);
+        Ok(summary)
+    }
+
+    /// The PM10 year of a site: its four quarters (40 CFR Part 50, Appendix K, 2.3 and 3). It takes no
+    /// memory. The year is 2000 to 2049.
+    pub fn pm10_year<L: Ledger>(
+        &self,
+        site: SiteId,
+        year: u16,
+        steps: &mut Steps<L>,
+    ) -> Result<Pm10Year, UnknownSite>
+        requires first { FIRST_YEAR ≤ year }
+        requires last { year ≤ LAST_YEAR }
+        ensures year { IfOk result (λ summary. summary ≡ pm10_year self.now site year) }
+        ensures registered { is_ok result ≡ is_registered self.now site }
+    {
+        self.find(site)?;
+        let summary = aq_pm10::year(&self.shelf, &self.registry, site, year, steps);
+        Ok(summary)
     }
 
     /// Finds a site among those that have a registered monitor, by one search of the records.
-    fn find(&self, site: SiteId) -> Result<(), UnknownSite>
+    pub(crate) fn find(&self, site: SiteId) -> Result<(), UnknownSite>
         ensures { is_ok result ≡ is_registered self.now site }
     {
         if self.registry.has_site(site) {

@@ -6,7 +6,7 @@ mod days;
 mod site_quarter;
 mod strata;
 
-pub use site_quarter::quarter;
+pub use site_quarter::{quarter, year};
 
 #[cfg(test)]
 mod tests;

@@ -1,18 +1,20 @@
-//! The PM10 quarter of a site (40 CFR Part 50, Appendix K, 2.3 and 3.1).
-ghost use Rattle.std.specs.Prelude.{◌≡◌, option_and_then};
+//! The PM10 quarters of a site (40 CFR Part 50, Appendix K, 2.3 and 3.1).
+ghost use Rattle.std.specs.Prelude.{◌≡◌, ◌<◌, ◌≤◌, option_and_then};
+ghost use Rattle.aq_base.specs.Calendar.{quarter_number};
+ghost use Rattle.aq_base.specs.declared.day.TheConstants.{FIRST_YEAR, LAST_YEAR};
 ghost use Rattle.aq_profile.specs.Particles.ParticleDay.{unless_excluded};
-ghost use Rattle.aq_profile.specs.Particles.Pm10Estimate.{pm10_quarter};
+ghost use Rattle.aq_profile.specs.Particles.Pm10Estimate.{pm10_quarter, pm10_year};
 ghost use Rattle.aq_series.specs.OfficeView.{office_of};
 ghost use Rattle.aq_pm10.specs.QuarterDays.{day_in};
 
 use crate::days::{DayOfQuarter, QuarterTally};
-use aq_base::{Day, Pollutant, Quarter, SiteId, Steps};
+use aq_base::{Day, FIRST_YEAR, Pollutant, Quarter, SiteId, Steps};
 use aq_cal::quarter_span;
 use aq_profile::kept::summaries::pm10_quarters_keep_their_facts;
 use aq_registry::Registry;
 use aq_series::{Cell, site_day};
 use aq_shelf::Shelf;
-use aq_verdict::Pm10Quarter;
+use aq_verdict::{Pm10Quarter, Pm10Year};
 use std::sync::ledger::Ledger;
 
 /// The PM10 quarter of a site: the days of the calendar quarter, its scheduled days and those of them with
@@ -47,6 +49,35 @@ pub fn quarter<L: Ledger>(
         so_far.scheduled_exceedances,
         strata.sixtieths,
     )
+}
+
+/// The four quarters of a site's PM10 year. The year is 2000 to 2049.
+pub fn year<L: Ledger>(
+    shelf: &Shelf,
+    registry: &Registry,
+    site: SiteId,
+    year: u16,
+    steps: &mut Steps<L>,
+) -> Pm10Year
+    requires first { FIRST_YEAR ≤ year }
+    requires last { year ≤ LAST_YEAR }
+    ensures { result ≡ pm10_year (office_of registry.now shelf.now) site year }
+{
+    let first = quarter(shelf, registry, site, quarter_in(year, 0), steps);
+    let second = quarter(shelf, registry, site, quarter_in(year, 1), steps);
+    let third = quarter(shelf, registry, site, quarter_in(year, 2), steps);
+    let fourth = quarter(shelf, registry, site, quarter_in(year, 3), steps);
+    Pm10Year::new([first, second, third, fourth])
+}
+
+/// A quarter of a year, from 0 for the first one to 3.
+fn quarter_in(year: u16, part: u8) -> Quarter
+    requires first { FIRST_YEAR ≤ year }
+    requires last { year ≤ LAST_YEAR }
+    requires part { part < 4 }
+    ensures { result ≡ quarter_number year part }
+{
+    Quarter::new(4 * (year - FIRST_YEAR) as u8 + part)
 }
 
 /// What a day of a quarter gives it.
