@@ -1,0 +1,7 @@
+use Rattle.std.proofs.Common.{◌≡◌}
+use Rattle.aq_profile.specs.Kept.RowChanges.{row_key}
+use Rattle.aq_keeper.proofs.RisingLemmas.{rise-keys}
+use Rattle.aq_keeper.proofs.tables.Tables.of.Goals as goal
+
+pub invariant_of-result : goal.invariant_of-result
+invariant_of-result c = rise-keys _ c.requires
