@@ -1,6 +1,6 @@
 -- The order of keys is a total one, by which rows rise.
-use Rattle.std.proofs.Common.{◌≡◌, ℕ, ℤ, pos, Bool, true, false, ◌&&◌, ◌==◌, cond, refl, ap, sym, ◌∙◌, List, [], ◌∷◌, arith}
-use Rattle.std.specs.Prelude.{int_lt, nat_lt, ◌||◌, map}
+use Rattle.std.proofs.Common.{◌≡◌, ℕ, ℤ, pos, true, false, ◌&&◌, cond, refl, ap, sym, ◌∙◌, List, [], ◌∷◌, arith}
+use Rattle.std.specs.Prelude.{int_lt, ◌||◌, map}
 use Rattle.std.specs.declared.cmp.Ordering.{Ordering}
 use Rattle.std.specs.declared.cmp.Ordering.TheVariants.{Less, Equal, Greater}
 use Rattle.std.specs.Ordering.{int_cmp, int_eq, nat_cmp, ordering_then, ordering_reverse, is_eq, is_lt}

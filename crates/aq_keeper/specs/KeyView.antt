@@ -1,5 +1,4 @@
 -- The key that a content is, as the book of rules has it, the same of one whose text is lent, and the order of keys.
-use Rattle.std.specs.Prelude.{List}
 use Rattle.std.specs.declared.cmp.Ordering.{Ordering}
 use Rattle.std.specs.Ordering.{int_cmp}
 use Rattle.std.specs.Cmp.Lexicographic.{slice_cmp}

@@ -1,6 +1,5 @@
-use Rattle.std.proofs.Common.{◌≡◌, ◌∙◌}
+use Rattle.std.proofs.Common.{◌∙◌}
 use Rattle.aq_keeper.proofs.KeyOrder.{derived-order}
-use Rattle.aq_keeper.proofs.RisingLemmas.{make-change}
 use Rattle.aq_keeper.proofs.key.compare.Goals as goal
 
 pub returns : goal.returns

@@ -1,4 +1,4 @@
-use Rattle.std.proofs.Common.{◌≡◌, ◌∙◌, ◌++◌, ap, sym, subst, List}
+use Rattle.std.proofs.Common.{◌∙◌, ◌++◌, ap, sym, subst, List}
 use Rattle.std.specs.Prelude.{reverse}
 use Rattle.aq_profile.specs.Kept.Rows.{Row}
 use Rattle.aq_keeper.specs.Rising.{without_first, Rise, keys_of_rows}

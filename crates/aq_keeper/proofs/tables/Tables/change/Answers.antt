@@ -1,4 +1,4 @@
-use Rattle.std.proofs.Common.{◌≡◌, List, sym, subst}
+use Rattle.std.proofs.Common.{List, sym, subst}
 use Rattle.aq_profile.specs.Kept.RowChanges.{RowChange}
 use Rattle.aq_keeper.specs.Rising.{Rise, keys_of_changes}
 use Rattle.aq_keeper.proofs.RisingLemmas.{rise-keys}

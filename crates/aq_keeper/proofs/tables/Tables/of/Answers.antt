@@ -1,5 +1,3 @@
-use Rattle.std.proofs.Common.{◌≡◌}
-use Rattle.aq_profile.specs.Kept.RowChanges.{row_key}
 use Rattle.aq_keeper.proofs.RisingLemmas.{rise-keys}
 use Rattle.aq_keeper.proofs.tables.Tables.of.Goals as goal
 
