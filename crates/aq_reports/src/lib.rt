@@ -3,15 +3,22 @@
 #![tactic(auto)]
 
 mod cell;
+mod days;
 mod list;
 mod load;
+mod report;
 mod sheet;
+mod single;
 mod text;
+mod value;
 mod windows;
 
 pub use cell::SheetCell;
+pub use days::days_sheet;
 pub use load::load_sheet;
+pub use report::report_sheet;
 pub use sheet::{Cells, Head, Heads, Names, Rows, Sheet};
+pub use single::{conflict_sheet, error_sheet, summary_sheet};
 pub use text::{site_text, text_of};
 pub use windows::windows_sheet;
 
