@@ -85,6 +85,13 @@ impl SheetCell {
         SheetCell::optional(value, 1)
     }
 
+    /// Hundredths as whole ones, where there are any.
+    pub fn hundredths(value: Option<i32>) -> SheetCell
+        ensures { result ≡ book.fixed_cell 2 value }
+    {
+        SheetCell::optional(value, 2)
+    }
+
     /// A whole number, where there is one.
     pub fn whole(value: Option<i32>) -> SheetCell
         ensures { result ≡ book.whole_cell value }
