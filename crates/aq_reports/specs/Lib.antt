@@ -1,1 +1,2 @@
 pub mod CellView
+pub mod Rows

@@ -60,14 +60,53 @@ impl SheetCell {
         }
     }
 
+    /// A value in units of `10^-places`, where there is one.
+    fn optional(value: Option<i32>, places: u8) -> SheetCell
+        requires { places ≤ 6 }
+        ensures { result ≡ book.fixed_cell places value }
+    {
+        match value {
+            Some(value) => SheetCell::fixed(i64::from(value), places),
+            None => SheetCell::missing(),
+        }
+    }
+
     /// Thousandths of a ppm as ppm, where there are any.
     pub fn ppm(value: Option<i32>) -> SheetCell
         ensures { result ≡ book.ppm_cell value }
     {
+        SheetCell::optional(value, 3)
+    }
+
+    /// Tenths as whole ones, where there are any.
+    pub fn tenths(value: Option<i32>) -> SheetCell
+        ensures { result ≡ book.tenths_cell value }
+    {
+        SheetCell::optional(value, 1)
+    }
+
+    /// Hundredths as whole ones, where there are any.
+    pub fn hundredths(value: Option<i32>) -> SheetCell
+        ensures { result ≡ book.fixed_cell 2 value }
+    {
+        SheetCell::optional(value, 2)
+    }
+
+    /// A whole number, where there is one.
+    pub fn whole(value: Option<i32>) -> SheetCell
+        ensures { result ≡ book.whole_cell value }
+    {
         match value {
-            Some(value) => SheetCell::fixed(i64::from(value), 3),
+            Some(value) => SheetCell::int(i64::from(value)),
             None => SheetCell::missing(),
         }
+    }
+
+    /// `Y` or `N`.
+    pub fn truth(alloc: Global, truth: bool) -> Result<SheetCell, Memory>
+        ensures { IfOk result (λ cell. cell ≡ book.SheetCell.Text (book.truth_text truth)) }
+    {
+        SheetCell::text(alloc, if truth { b"Y" } else { b"N" })
     }
 
     /// A text.

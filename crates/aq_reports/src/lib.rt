@@ -3,16 +3,32 @@
 #![tactic(auto)]
 
 mod cell;
+mod days;
+mod estimates;
+mod kept;
 mod list;
 mod load;
+mod mean;
+mod quarters;
+mod report;
+mod rounded;
 mod sheet;
+mod single;
 mod text;
+mod value;
+mod value_pm10;
+mod value_pm25;
 mod windows;
 
 pub use cell::SheetCell;
+pub use days::days_sheet;
 pub use load::load_sheet;
+pub use quarters::{pm10_sheet, pm25_sheet};
+pub use report::report_sheet;
 pub use sheet::{Cells, Head, Heads, Names, Rows, Sheet};
+pub use single::{conflict_sheet, error_sheet, summary_sheet};
 pub use text::{site_text, text_of};
+pub use value::value_sheet;
 pub use windows::windows_sheet;
 
 #[cfg(test)]

@@ -1,0 +1,59 @@
+-- Routes that a router takes, and what it finds.
+use Rattle.std.proofs.Common.{◌≡◌, ◌≢◌, ℕ, ◌<◌, ◌≤◌, get_or, ◌⊎◌, inl, inr, Bool, true, false, cond, List, [], ◌∷◌, length, refl, sym, ap, ◌∙◌, subst, arith, Option, Some, None, Result, Ok, Err}
+use Rattle.std.specs.Str.{IsUtf8, is_utf8}
+use Rattle.std.proofs.lemmas.Str.{IsUtf8-from_is_utf8, is_utf8-from_IsUtf8}
+use Rattle.matchit.specs.declared.error.InsertError.{InsertError}
+use Rattle.matchit.specs.declared.error.InsertError.TheVariants.{OutOfMemory}
+use Rattle.matchit.specs.Route.{Scan}
+use Rattle.matchit.specs.Router.{RouteOf, InsertsRead}
+use Rattle.matchit.specs.Rows.{RowsOf}
+use Rattle.aq_http.specs.declared.route.Route.{Route}
+use Rattle.std.specs.Prelude.{◌==◌, option_map}
+use Rattle.std.specs.List.{position_or_len}
+use Rattle.std.proofs.lemmas.Bool.{eq-eqb, ne_eqb}
+use Rattle.std.proofs.lemmas.List.Sums.{position_or_len_is}
+use Rattle.matchit.specs.Seek.{first}
+use Rattle.aq_http.specs.Routes.{all_routes, route_of, with_read}
+
+no_success : (e : InsertError) → ◌≡◌ {A = Result (Unit {0}) InsertError} (Ok tt) (Err e) → ⊥
+no_success e q = cc
+
+-- a route that was taken stands in its place
+pub taken : (read : Result Scan InsertError) (route : Route) (old new : RowsOf (RouteOf Route))
+    → InsertsRead read route old new (Ok tt) → new ≡ with_read read route old
+taken (Ok scan) route old new is = is.1
+taken (Err e) route old new is = absurd (by_error is.1)
+  where
+    by_error : (◌≡◌ {A = Result (Unit {0}) InsertError} (Ok tt) (Err e)) ⊎ (◌≡◌ {A = Result (Unit {0}) InsertError} (Ok tt) (Err OutOfMemory)) → ⊥
+    by_error (inl q) = no_success e q
+    by_error (inr q) = no_success _ q
+
+-- a text that is no UTF-8
+pub no_text : (path : List ℕ) → ¬ (IsUtf8 path) → is_utf8 path ≡ false
+no_text path none = by_test (is_utf8 path) refl
+  where
+    by_test : (t : Bool) → is_utf8 path ≡ t → is_utf8 path ≡ false
+    by_test true is = absurd (none (IsUtf8-from_is_utf8 path is))
+    by_test false is = is
+
+abbrev routed : Bool → Option (RouteOf Route) → Option Route
+routed t row = cond t (option_map (λ r. r.value) row) None
+
+pub no_text_no_route : (path : List ℕ) → ¬ (IsUtf8 path) → None ≡ route_of path
+no_text_no_route path none = sym (ap (λ t. routed t (first all_routes path)) (no_text path none))
+
+pub text_routed : (path : List ℕ) (row : Option (RouteOf Route)) → IsUtf8 path → first all_routes path ≡ row → option_map (λ r. r.value) row ≡ route_of path
+text_routed path row text is =
+    sym (ap (λ t. routed t (first all_routes path)) (is_utf8-from_IsUtf8 path text) ∙ ap (routed true) is)
+
+-- ---- the first byte of its kind
+
+pub first_at : (text : List ℕ) (byte place : ℕ) → place < length text → get_or text place 0 ≡ byte
+    → ((k : ℕ) → k < place → get_or text k 0 ≢ byte) → position_or_len (λ b. b == byte) text ≡ place
+first_at text byte place within here before =
+    position_or_len_is (λ b. b == byte) text place 0 (omega arith) (λ k below. ne_eqb _ _ (before k below)) (λ _. eq-eqb _ _ here)
+
+pub first_nowhere : (text : List ℕ) (byte : ℕ) → ((k : ℕ) → k < length text → get_or text k 0 ≢ byte)
+    → position_or_len (λ b. b == byte) text ≡ length text
+first_nowhere text byte none =
+    position_or_len_is (λ b. b == byte) text (length text) 0 (omega arith) (λ k below. ne_eqb _ _ (none k below)) (λ h. absurd (omega arith))

@@ -1,0 +1,6 @@
+pub mod Head
+pub mod Length
+pub mod Places
+pub mod Reply
+pub mod Routes
+pub mod Step

@@ -1,0 +1,15 @@
+use Rattle.std.proofs.Common.{◌≡◌, ◌∙◌, ap, sym, true, ◌-◌, List, length, Some}
+use Rattle.std.specs.Prelude.{slice_get}
+use Rattle.aq_profile.specs.Kept.Rows.{Row}
+use Rattle.aq_profile.specs.Kept.RowChanges.{row_key, key_before}
+use Rattle.aq_keeper.specs.KeyView.{key_seen}
+use Rattle.aq_keeper.proofs.RisingLemmas.{popped}
+use Rattle.aq_keeper.proofs.tables.next_earlier.Goals as goal
+
+pub returns-then-comes_before-clause-some : goal.returns-then-comes_before-clause-some
+returns-then-comes_before-clause-some c =
+    let key = key_seen c.args.key in
+    let row = c.in_ok-row.row.now in
+    let before : key_before (row_key row) key ≡ true = ap (λ k. key_before k key) (sym c.key.ensures) ∙ sym c.comes_before.ensures ∙ c.if-comes_before.true in
+    let found : slice_get c.args.later.now.items (length c.args.later.now.items - 1) ≡ Some row = ap (λ (l : List Row). slice_get l (length l - 1)) (sym c.deref.ensures.value) ∙ sym c.in_ok-row.ensures.value in
+    popped key c.args.later.now.items c.pop.new.self.items c.pop.result row c.pop.ensures.items found before

@@ -1,0 +1,46 @@
+-- Rows and changes whose keys rise, by recursion.
+use Rattle.std.specs.Prelude.{◌≡◌, true, false, if◌then◌else◌, List, [], ◌∷◌, map}
+use Rattle.std.specs.List.{AllByRecursion}
+use Rattle.aq_profile.specs.Kept.Rows.{Row}
+use Rattle.aq_profile.specs.Kept.RowChanges.{RowKey, RowChange, row_key, changed_key, key_before, is_same_row_key, PutRow, DropRow}
+
+-- all rows come before a key
+abbrev pub AreBefore : RowKey → List Row → Type 0
+AreBefore key rows = AllByRecursion (λ row. key_before (row_key row) key ≡ true) rows
+
+-- all keys come behind a key
+abbrev pub AreBehind : RowKey → List RowKey → Type 0
+AreBehind key keys = AllByRecursion (λ other. key_before key other ≡ true) keys
+
+-- each key comes before all that follow
+abbrev pub Rise : List RowKey → Type 0
+Rise [] = Unit {0}
+Rise (key ∷ keys) = AreBehind key keys × Rise keys
+
+-- keys of rows
+abbrev pub keys_of_rows : List Row → List RowKey
+keys_of_rows rows = map row_key rows
+
+-- keys of changes
+abbrev pub keys_of_changes : List RowChange → List RowKey
+keys_of_changes changes = map changed_key changes
+
+-- the first row, if there is one, does not come before a key
+abbrev pub StartsFrom : RowKey → List Row → Type 0
+StartsFrom key [] = Unit {0}
+StartsFrom key (row ∷ rows) = key_before (row_key row) key ≡ false
+
+-- the rows come before the first change, if there is one
+abbrev pub AreBeforeFirst : List Row → List RowChange → Type 0
+AreBeforeFirst rows [] = Unit {0}
+AreBeforeFirst rows (change ∷ changes) = AreBefore (changed_key change) rows
+
+-- the rows without the first, where it has this key
+abbrev pub without_first : RowKey → List Row → List Row
+without_first key [] = []
+without_first key (row ∷ rows) = if is_same_row_key (row_key row) key then rows else row ∷ rows
+
+-- the row that a change puts
+abbrev pub put_rows : RowChange → List Row
+put_rows (PutRow row) = row ∷ []
+put_rows (DropRow key) = []

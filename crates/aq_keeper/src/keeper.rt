@@ -1,0 +1,69 @@
+//! A keeper: where the tables of an office stand from run to run. It tells its tables or does not, and
+//! counts its faults. A count rises at a call that fails, and at no other; one at its greatest value
+//! counts as risen. Want of memory is no fault, and may come at any call.
+ghost use Rattle.std.specs.Prelude.{◌≡◌, ℕ, List, true, map, Option, IfSome, IfOk, OnOk, OnErr};
+ghost use Rattle.std.specs.Option.{option_map};
+ghost use Rattle.aq_profile.specs.Kept.Rows as book;
+ghost use Rattle.aq_profile.specs.Kept.RowChanges.{changed_key, keys_rise, with_row_changes};
+ghost use Rattle.aq_keeper.specs.Told.{HasCause};
+
+use crate::change::RowChange;
+use crate::row::Rows;
+use aq_base::Memory;
+use std::alloc::Global;
+use std::error::Error;
+use std::fmt;
+
+/// Why a keeper refused a call.
+#[derive(Clone, Copy, Debug, PartialEq, Eq)]
+pub enum KeeperFault {
+    /// The keeper failed, and its count of faults rose.
+    Failed,
+    /// Memory could not be had.
+    Memory,
+}
+
+impl From<Memory> for KeeperFault {
+    ghost use Rattle.std.specs.Prelude.{◌≡◌};
+    ghost use Rattle.aq_keeper.specs.declared.keeper.KeeperFault.TheVariants as faults;
+
+    ghost from_gives = { λ _ fault. fault ≡ faults.Memory };
+
+    fn from(_: Memory) -> Self {
+        KeeperFault::Memory
+    }
+}
+
+impl fmt::Display for KeeperFault {
+    fn fmt<W: fmt::Write>(&self, f: &mut fmt::Formatter<W>) -> fmt::Result {
+        f.write_str(match self {
+            KeeperFault::Failed => "failed",
+            KeeperFault::Memory => "memory",
+        })
+    }
+}
+
+impl Error for KeeperFault {}
+
+/// Keeps the rows of the three tables.
+pub trait Keeper {
+    /// The rows of its tables in the order of tables and keys, where the keeper tells them.
+    ghost tables: { Self → Option (List book.Row) };
+
+    /// How often it has failed.
+    ghost faults: { Self → ℕ };
+
+    /// All rows in the order of tables and keys. The tables stay as they are.
+    fn read_all(&mut self, alloc: Global) -> Result<Rows, KeeperFault>
+        ensures rows { IfOk result (λ rows. IfSome (tables self.old) (λ told. rows ≡ told)) }
+        ensures kept { tables self.new ≡ tables self.old }
+        ensures cause { HasCause (faults self.old) (faults self.new) result };
+
+    /// Changes the rows by a batch, of which the keys rise in the order of tables and keys, as those
+    /// of a load's batch do. After a fault the tables are as before.
+    fn commit(&mut self, alloc: Global, batch: &[RowChange]) -> Result<(), KeeperFault>
+        requires rising { keys_rise (map changed_key batch.now) ≡ true }
+        ensures done { OnOk result (tables self.new ≡ option_map (λ told. with_row_changes told batch.now) (tables self.old)) }
+        ensures kept { OnErr result (tables self.new ≡ tables self.old) }
+        ensures cause { HasCause (faults self.old) (faults self.new) result };
+}

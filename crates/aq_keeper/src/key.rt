@@ -1,0 +1,163 @@
+//! Keys of rows, and their order.
+ghost use Rattle.std.specs.Prelude.{◌≡◌};
+ghost use Rattle.aq_profile.specs.Kept.RowChanges.{key_before, is_same_row_key};
+ghost use Rattle.aq_keeper.specs.KeyView.{key_seen, key_order};
+
+use crate::row::copy_of;
+use aq_base::{Bytes, Memory};
+use std::alloc::Global;
+use std::cmp::Ordering;
+use std::marker::Model;
+
+/// What a key holds, by its table, in the order of tables.
+#[derive(Debug, Drop)]
+pub enum KeyContent {
+    Office {
+        kind: i64,
+        key: Bytes,
+    },
+    Observation {
+        site: i64,
+        pollutant: i64,
+        poc: i64,
+        hour: i64,
+    },
+    Load {
+        number: i64,
+    },
+}
+
+/// The key of a row in its table. Contracts see the book's key.
+#[derive(Debug, Drop)]
+pub struct RowKey {
+    pub content: KeyContent,
+}
+
+impl Model for RowKey {
+    ghost use Rattle.aq_profile.specs.Kept.RowChanges as book;
+
+    ghost Value = { book.RowKey };
+
+    ghost use Rattle.aq_keeper.specs.KeyView.{key_of};
+
+    ghost view = { λ key. key_of key.content };
+}
+
+/// A key whose text is lent. The order of tables, and in a table that of its columns, is the order of
+/// rows; a text goes by its bytes, and a shorter one before those that it begins.
+#[derive(Clone, Copy, Debug, PartialEq, Eq, PartialOrd, Ord)]
+pub(crate) enum KeyView<'a> {
+    Office {
+        kind: i64,
+        key: &'a [u8],
+    },
+    Observation {
+        site: i64,
+        pollutant: i64,
+        poc: i64,
+        hour: i64,
+    },
+    Load {
+        number: i64,
+    },
+}
+
+impl RowKey {
+    ghost use Rattle.std.specs.Prelude.{◌≡◌, IfOk};
+    ghost use Rattle.aq_profile.specs.Kept.RowChanges as book;
+    ghost use Rattle.aq_keeper.specs.KeyView.{key_seen};
+
+    /// The key of a record.
+    pub fn office(kind: i64, key: Bytes) -> RowKey
+        ensures { result ≡ book.OfficeRowKey kind key }
+    {
+        RowKey {
+            content: KeyContent::Office { kind, key },
+        }
+    }
+
+    /// The key of an observation.
+    pub fn observation(site: i64, pollutant: i64, poc: i64, hour: i64) -> RowKey
+        ensures { result ≡ book.ObsRowKey site pollutant poc hour }
+    {
+        RowKey {
+            content: KeyContent::Observation {
+                site,
+                pollutant,
+                poc,
+                hour,
+            },
+        }
+    }
+
+    /// The key of a load.
+    pub fn load(number: i64) -> RowKey
+        ensures { result ≡ book.LoadRowKey number }
+    {
+        RowKey {
+            content: KeyContent::Load { number },
+        }
+    }
+
+    /// The same key once more.
+    pub fn copy(&self, alloc: Global) -> Result<RowKey, Memory>
+        ensures { IfOk result (λ copy. copy ≡ self.now) }
+    {
+        Ok(match &self.content {
+            KeyContent::Office { kind, key } => RowKey::office(*kind, copy_of(alloc, key)?),
+            KeyContent::Observation {
+                site,
+                pollutant,
+                poc,
+                hour,
+            } => RowKey::observation(*site, *pollutant, *poc, *hour),
+            KeyContent::Load { number } => RowKey::load(*number),
+        })
+    }
+
+    pub(crate) fn view(&self) -> KeyView<'_>
+        ensures { key_seen result ≡ self.now }
+    {
+        match &self.content {
+            KeyContent::Office { kind, key } => KeyView::Office {
+                kind: *kind,
+                key: key.as_slice(),
+            },
+            KeyContent::Observation {
+                site,
+                pollutant,
+                poc,
+                hour,
+            } => KeyView::Observation {
+                site: *site,
+                pollutant: *pollutant,
+                poc: *poc,
+                hour: *hour,
+            },
+            KeyContent::Load { number } => KeyView::Load { number: *number },
+        }
+    }
+}
+
+/// Where a key stands to another in the order of tables and keys.
+fn compare(a: KeyView<'_>, b: KeyView<'_>) -> Ordering
+    ensures { result ≡ key_order (key_seen a.entry) (key_seen b.entry) }
+{
+    a.cmp(&b)
+}
+
+/// Whether a key comes before another in the order of tables and keys.
+#[tactic(auto, using(crate::proofs::KeyOrder::before_key))]
+pub(crate) fn comes_before(a: KeyView<'_>, b: KeyView<'_>) -> bool
+    ensures { result ≡ key_before (key_seen a.entry) (key_seen b.entry) }
+{
+    compare(a, b).is_lt()
+}
+
+/// Whether two keys are the same.
+#[tactic(auto, using(crate::proofs::KeyOrder::same_key))]
+pub(crate) fn is_same(a: KeyView<'_>, b: KeyView<'_>) -> bool
+    ensures { result ≡ is_same_row_key (key_seen a.entry) (key_seen b.entry) }
+{
+    compare(a, b).is_eq()
+}

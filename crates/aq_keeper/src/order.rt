@@ -1,0 +1,41 @@
+//! Whether rows, and changes of rows, are in the order of tables and keys.
+ghost use Rattle.std.specs.Prelude.{◌≡◌, map};
+ghost use Rattle.aq_profile.specs.Kept.RowChanges.{row_key, changed_key, keys_rise};
+
+use crate::change::RowChange;
+use crate::key::comes_before;
+use crate::row::Row;
+
+/// Whether rows are in the order of tables and keys, and no two have one key.
+pub fn are_in_order(rows: &[Row]) -> bool
+    ensures { result ≡ keys_rise (map row_key rows.now) }
+{
+    let Some((first, rest)) = rows.split_first() else {
+        return true;
+    };
+    let mut before = first;
+    for row in rest {
+        if !comes_before(before.key(), row.key()) {
+            return false;
+        }
+        before = row;
+    }
+    true
+}
+
+/// Whether the keys of changes rise in the order of tables and keys, and no two are the same.
+pub fn do_keys_rise(batch: &[RowChange]) -> bool
+    ensures { result ≡ keys_rise (map changed_key batch.now) }
+{
+    let Some((first, rest)) = batch.split_first() else {
+        return true;
+    };
+    let mut before = first;
+    for change in rest {
+        if !comes_before(before.key(), change.key()) {
+            return false;
+        }
+        before = change;
+    }
+    true
+}

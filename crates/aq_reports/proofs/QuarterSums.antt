@@ -1,0 +1,65 @@
+-- A quarterly mean of values in the range of PM2.5.
+use Rattle.std.proofs.Common.{◌≡◌, ℕ, zero, suc, ◌*◌, ◌≤◌, ℤ, pos, negsuc, neg_ℤ, ◌+ℤ◌, ◌*ℤ◌, ◌≤ℤ◌, unsigned_abs, Bool, true, false, ◌&&◌, refl, ap, ◌∙◌, arith}
+use Rattle.std.specs.Prelude.{Option, Some, None, int_le, nat_le, is_some}
+use Rattle.std.specs.Option.{option_map_or}
+use Rattle.std.proofs.lemmas.Bool.{false≢true}
+use Rattle.std.proofs.lemmas.Bool.Decides.{nat_tests}
+use Rattle.std.proofs.lemmas.Int.{ints}
+use Rattle.std.proofs.Math.IntN.{suc_ℤ-*ℤ, *ℤ_comm, *ℤ-zero}
+use Rattle.aq_base.specs.declared.monitor.Pollutant.TheVariants.{Pm25}
+use Rattle.aq_verdict.specs.QuarterlyMean.{IsMean}
+use Rattle.aq_profile.specs.Kept.Summaries.{PmQuarter, KeepsPmQuarter, is_value}
+
+times-more : (a : ℤ) (n : ℕ) → a *ℤ pos (suc n) ≡ (a *ℤ pos n) +ℤ a
+times-more a n = *ℤ_comm a (pos (suc n)) ∙ suc_ℤ-*ℤ (pos n) a ∙ ap (λ (z : ℤ). z +ℤ a) (*ℤ_comm (pos n) a)
+
+low-times : (a : ℤ) (x n : ℕ) → neg_ℤ (pos x) ≤ℤ a → neg_ℤ (pos (x * n)) ≤ℤ (a *ℤ pos n)
+low-times a x zero h = rw (*ℤ-zero a) (omega (arith, ints))
+low-times a x (suc n) h = let rest = low-times a x n h in omega (arith, ints, rest, times-more a n, h)
+
+high-times : (a : ℤ) (x n : ℕ) → a ≤ℤ pos x → (a *ℤ pos n) ≤ℤ pos (x * n)
+high-times a x zero h = rw (*ℤ-zero a) (omega (arith, ints))
+high-times a x (suc n) h = let rest = high-times a x n h in omega (arith, ints, rest, times-more a n, h)
+
+-- the sum of a quarter is within its days times the range
+first_of : (a b : Bool) → (a && b) ≡ true → a ≡ true
+first_of true b h = refl
+first_of false b h = h
+
+others_of : (a b : Bool) → (a && b) ≡ true → b ≡ true
+others_of true b h = h
+others_of false b h = absurd (false≢true h)
+
+no-days : (n : ℕ) → false ≡ nat_le 1 n → n ≡ 0
+no-days n h = grind (arith, nat_tests)
+
+le-of : (x y : ℤ) → int_le x y ≡ true → x ≤ℤ y
+le-of x y h = grind (arith, ints)
+
+sum-by : (n : ℕ) (s : ℤ) (least greatest : Option ℤ) → is_some least ≡ nat_le 1 n → is_some greatest ≡ nat_le 1 n
+    → is_value Pm25 least ≡ true → is_value Pm25 greatest ≡ true
+    → (option_map_or (λ low. int_le (low *ℤ pos n) s) least true && option_map_or (λ high. int_le s (high *ℤ pos n)) greatest true) ≡ true
+    → (n ≡ 0 → s ≡ pos 0) → unsigned_abs s ≤ 99999 * n
+sum-by n s None greatest some_least some_greatest low high within none =
+    let zero_days = no-days n some_least in
+    let no_sum = none zero_days in
+    omega (arith, ints, no_sum)
+sum-by n s (Some low) None some_least some_greatest low_in high_in within none =
+    let zero_days = no-days n some_greatest in
+    let no_sum = none zero_days in
+    omega (arith, ints, no_sum)
+sum-by n s (Some low) (Some high) some_least some_greatest low_in high_in within none =
+    let above = le-of (low *ℤ pos n) s (first_of (int_le (low *ℤ pos n) s) (int_le s (high *ℤ pos n)) within) in
+    let below = le-of s (high *ℤ pos n) (others_of (int_le (low *ℤ pos n) s) (int_le s (high *ℤ pos n)) within) in
+    let least = le-of (negsuc 998) low (first_of (int_le (negsuc 998) low) (int_le low (pos 99999)) low_in) in
+    let most = le-of high (pos 99999) (others_of (int_le (negsuc 998) high) (int_le high (pos 99999)) high_in) in
+    let low_side = low-times low 999 n (omega (arith, ints, least)) in
+    let high_side = high-times high 99999 n most in
+    omega (arith, ints, above, below, low_side, high_side)
+
+pub sum-within : (q : PmQuarter) → KeepsPmQuarter q → unsigned_abs q.sum ≤ 99999 * q.net_days
+sum-within q keeps =
+    sum-by q.net_days q.sum q.least q.greatest keeps.some_least keeps.some_greatest keeps.least_in_range keeps.greatest_in_range keeps.sum_within keeps.no_sum
+
+pub is_mean-plain : (q : PmQuarter) → KeepsPmQuarter q → IsMean (q.sum, q.net_days)
+is_mean-plain q keeps = record { days = omega (arith, keeps.net_days, keeps.creditable); sum = sum-within q keeps }

@@ -1,0 +1,90 @@
+//! The annual mean of PM2.5, the mean of the four quarterly means as exact fractions (40 CFR Part 50,
+//! Appendix N, 4.3(a) and 4.4).
+ghost use Rattle.std.specs.Prelude.{◌≡◌, ◌≤◌, ◌*◌, ◌++◌, [], IsTrue, All, map, pos};
+ghost use Rattle.std.specs.List.{list_all};
+ghost use Rattle.aq_base.specs.Decimal.{half_up};
+ghost use Rattle.aq_num.specs.Fractions.{sum_of_fractions};
+ghost use Rattle.aq_profile.specs.Particles.Means.{has_days, mean_of_means};
+ghost use Rattle.aq_profile.specs.Kept.SummaryVerdicts.{of_summaries, mean_of_sums};
+ghost use Rattle.aq_verdict.specs.QuarterlyMean.{IsMean, nothing_more};
+
+use crate::rounded::rounded;
+use aq_num::sum_of_ratios;
+use aq_verdict::{PmQuarter, PmYear};
+
+/// A quarterly mean: the sum of the quarter's values, in tenths of a µg/m3, and their number.
+type Mean = (i32, u8);
+
+/// The annual mean, in tenths of a µg/m3; none where a quarter has no day.
+pub(crate) fn annual_mean(year: &PmYear) -> Option<i32>
+    ensures { result ≡ mean_of_sums year.now.quarters }
+{
+    mean_of_year(&quarterly_means(year))
+}
+
+// The quarterly means of a year.
+fn quarterly_means(year: &PmYear) -> [Mean; 4]
+    ensures means { result ≡ map (of_summaries.mean_with []) year.now.quarters }
+    ensures each { All IsMean result }
+{
+    let [a, b, c, d] = year.quarters();
+    [
+        quarterly_mean(a),
+        quarterly_mean(b),
+        quarterly_mean(c),
+        quarterly_mean(d),
+    ]
+}
+
+fn quarterly_mean(quarter: &PmQuarter) -> Mean
+    ensures mean { result ≡ of_summaries.mean_with [] quarter.now }
+    ensures each { IsMean result }
+{
+    let _ = quarter.scheduled();
+    (quarter.sum(), quarter.days())
+}
+
+// The mean of the four quarterly means; none where a quarter has no day.
+fn mean_of_year(means: &[Mean; 4]) -> Option<i32>
+    requires { All IsMean means.now }
+    ensures { result ≡ mean_of_means means.now }
+{
+    if !have_days(means) {
+        return None;
+    }
+    Some(mean_of(&padded(means), 4))
+}
+
+// Twelve quotients with the sum of these four.
+fn padded(means: &[Mean; 4]) -> [Mean; 12]
+    ensures { result ≡ means.now ++ nothing_more }
+{
+    let [a, b, c, d] = *means;
+    let none = (0, 1);
+    [a, b, c, d, none, none, none, none, none, none, none, none]
+}
+
+// The sum of the quotients over a number, rounded.
+fn mean_of(means: &[Mean; 12], number: u8) -> i32
+    requires some { 1 ≤ number }
+    requires few { number ≤ 12 }
+    requires days { IsTrue (list_all has_days means.now) }
+    requires each { All IsMean means.now }
+    ensures { result ≡ half_up (sum_of_fractions means.now).0 (pos (number * (sum_of_fractions means.now).1)) }
+{
+    let sum = sum_of_ratios(means);
+    rounded(sum.num, i128::from(number) * sum.den)
+}
+
+// Whether each quarter has a day.
+fn have_days(means: &[Mean]) -> bool
+    ensures { result ≡ list_all has_days means.now }
+{
+    means.iter().all(has_days)
+}
+
+fn has_days(mean: &Mean) -> bool
+    ensures { result ≡ has_days mean.now }
+{
+    mean.1 >= 1
+}

@@ -1,0 +1,163 @@
+//! The sheets of a year's PM2.5 and PM10 quarters.
+ghost use Rattle.std.specs.Prelude.{◌≡◌, IfOk, map};
+ghost use Rattle.std.specs.List.{enumerate_from};
+ghost use Rattle.aq_profile.specs.Kept.SummaryVerdicts.{kept_counted};
+ghost use Rattle.aq_profile.specs.Shown.ParticleSheets as book;
+
+use crate::cell::SheetCell;
+use crate::estimates::{quarter_estimate, quarter_lower, year_estimate};
+use crate::kept::{capture, counted_in, percentile_of, rank_in};
+use crate::list::{add_count, add_head, add_text, list, names};
+use crate::mean::annual_mean;
+use crate::sheet::{Cells, Heads, Rows, Sheet};
+use crate::text::site_text;
+use aq_base::{Memory, SiteId};
+use aq_verdict::{Pm10Quarter, Pm10Year, PmQuarter, PmYear};
+use std::alloc::Global;
+
+/// The sheet of a PM2.5 year: its counted samples, the rank and the value of its percentile, its mean,
+/// and a row for each quarter.
+pub fn pm25_sheet(alloc: Global, site: SiteId, year: u16, parts: &PmYear) -> Result<Sheet, Memory>
+    ensures { IfOk result (λ sheet. sheet ≡ book.pm25_sheet site year parts.now) }
+{
+    let heads = pm25_heads(alloc, site, year, parts)?;
+    let columns = names(
+        alloc,
+        &[
+            b"quarter",
+            b"scheduled",
+            b"creditable",
+            b"capture",
+            b"counted",
+            b"days",
+            b"sum",
+            b"least",
+            b"greatest",
+        ],
+    )?;
+    let rows = pm25_rows(alloc, parts.quarters())?;
+    Ok(Sheet::new(heads, columns, rows))
+}
+
+#[tactic(auto, unfolding(aq_profile::specs::Shown::ParticleSheets::pm25_sheet))]
+fn pm25_heads(alloc: Global, site: SiteId, year: u16, parts: &PmYear) -> Result<Heads, Memory>
+    ensures { IfOk result (λ heads. heads ≡ (book.pm25_sheet site year parts.now).heads) }
+{
+    let mut heads = Heads::new(alloc);
+    add_text(alloc, &mut heads, b"site", &site_text(site))?;
+    add_count(alloc, &mut heads, b"year", u32::from(year))?;
+    add_count(alloc, &mut heads, b"counted", u32::from(counted_in(parts)))?;
+    add_head(alloc, &mut heads, b"rank", rank_cell(parts))?;
+    let percentile = SheetCell::tenths(percentile_of(parts));
+    add_head(alloc, &mut heads, b"percentile", percentile)?;
+    let mean = SheetCell::tenths(annual_mean(parts));
+    add_head(alloc, &mut heads, b"mean", mean)?;
+    Ok(heads)
+}
+
+/// The rank of the percentile; none without a counted sample.
+fn rank_cell(parts: &PmYear) -> SheetCell
+    ensures { result ≡ book.rank_cell (kept_counted parts.now.quarters) }
+{
+    match rank_in(parts) {
+        Some(rank) => SheetCell::count(u32::from(rank)),
+        None => SheetCell::missing(),
+    }
+}
+
+fn pm25_rows(alloc: Global, quarters: &[PmQuarter; 4]) -> Result<Rows, Memory>
+    ensures { IfOk result (λ rows. rows ≡ map book.pm25_cells (enumerate_from 1 quarters.now)) }
+{
+    let mut rows = Rows::new(alloc);
+    let mut number = 1;
+    for quarter in quarters {
+        rows.push(pm25_cells(alloc, number, quarter)?)?;
+        number += 1;
+    }
+    Ok(rows)
+}
+
+fn pm25_cells(alloc: Global, number: u32, quarter: &PmQuarter) -> Result<Cells, Memory>
+    ensures { IfOk result (λ cells. cells ≡ book.pm25_cells (number, quarter.now)) }
+{
+    list(
+        alloc,
+        [
+            SheetCell::count(number),
+            SheetCell::count(u32::from(quarter.scheduled())),
+            SheetCell::count(u32::from(quarter.creditable())),
+            SheetCell::count(capture(quarter)),
+            SheetCell::count(u32::from(quarter.counted())),
+            SheetCell::count(u32::from(quarter.days())),
+            SheetCell::fixed(i64::from(quarter.sum()), 1),
+            SheetCell::tenths(quarter.least()),
+            SheetCell::tenths(quarter.greatest()),
+        ],
+    )
+}
+
+/// The sheet of a PM10 year: its estimated exceedances, and a row for each quarter.
+pub fn pm10_sheet(alloc: Global, site: SiteId, year: u16, parts: &Pm10Year) -> Result<Sheet, Memory>
+    ensures { IfOk result (λ sheet. sheet ≡ book.pm10_sheet site year parts.now) }
+{
+    let heads = pm10_heads(alloc, site, year, parts)?;
+    let columns = names(
+        alloc,
+        &[
+            b"quarter",
+            b"days",
+            b"scheduled",
+            b"captured",
+            b"strata",
+            b"samples",
+            b"exceedances",
+            b"estimate",
+            b"lower",
+        ],
+    )?;
+    let rows = pm10_rows(alloc, parts.quarters())?;
+    Ok(Sheet::new(heads, columns, rows))
+}
+
+#[tactic(auto, unfolding(aq_profile::specs::Shown::ParticleSheets::pm10_sheet))]
+fn pm10_heads(alloc: Global, site: SiteId, year: u16, parts: &Pm10Year) -> Result<Heads, Memory>
+    ensures { IfOk result (λ heads. heads ≡ (book.pm10_sheet site year parts.now).heads) }
+{
+    let mut heads = Heads::new(alloc);
+    add_text(alloc, &mut heads, b"site", &site_text(site))?;
+    add_count(alloc, &mut heads, b"year", u32::from(year))?;
+    let estimate = SheetCell::tenths(year_estimate(parts));
+    add_head(alloc, &mut heads, b"estimate", estimate)?;
+    Ok(heads)
+}
+
+fn pm10_rows(alloc: Global, quarters: &[Pm10Quarter; 4]) -> Result<Rows, Memory>
+    ensures { IfOk result (λ rows. rows ≡ map book.pm10_cells (enumerate_from 1 quarters.now)) }
+{
+    let mut rows = Rows::new(alloc);
+    let mut number = 1;
+    for quarter in quarters {
+        rows.push(pm10_cells(alloc, number, quarter)?)?;
+        number += 1;
+    }
+    Ok(rows)
+}
+
+fn pm10_cells(alloc: Global, number: u32, quarter: &Pm10Quarter) -> Result<Cells, Memory>
+    ensures { IfOk result (λ cells. cells ≡ book.pm10_cells (number, quarter.now)) }
+{
+    list(
+        alloc,
+        [
+            SheetCell::count(number),
+            SheetCell::count(u32::from(quarter.days())),
+            SheetCell::count(u32::from(quarter.scheduled())),
+            SheetCell::count(u32::from(quarter.captured())),
+            SheetCell::count(u32::from(quarter.strata())),
+            SheetCell::count(u32::from(quarter.samples())),
+            SheetCell::count(u32::from(quarter.exceedances())),
+            SheetCell::hundredths(quarter_estimate(quarter)),
+            SheetCell::hundredths(quarter_lower(quarter)),
+        ],
+    )
+}

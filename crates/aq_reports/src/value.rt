@@ -1,0 +1,158 @@
+//! The sheet of a design value of any standard: three years, the oldest first.
+ghost use Rattle.std.specs.Prelude.{◌≡◌, ◌-◌, ◌≤◌, IfOk, map};
+ghost use Rattle.std.specs.List.{enumerate_from};
+ghost use Rattle.aq_profile.specs.Shown.Sheets as book;
+ghost use Rattle.aq_profile.specs.Shown.OtherSheets as other;
+ghost use Rattle.aq_verdict.specs.Designs.{design_of};
+
+use crate::cell::SheetCell;
+use crate::list::{add_count, add_head, add_text, list, names};
+use crate::sheet::{Cells, Heads, Rows, Sheet};
+use crate::text::site_text;
+use crate::value_pm10::pm10_value_sheet;
+use crate::value_pm25::{annual_value_sheet, daily_value_sheet};
+use aq_base::{Memory, SiteId, Standard, Verdict};
+use aq_verdict::{DesignValue, OzoneDv, OzoneYear};
+use std::alloc::Global;
+
+/// The sheet of a design value of the standard: the value and the test's value in the standard's unit,
+/// the verdict, and a row for each of the three years that end with the year.
+#[tactic(auto, unfolding(aq_profile::specs::Shown::OtherSheets::value_sheet))]
+pub fn value_sheet(
+    alloc: Global,
+    standard: Standard,
+    site: SiteId,
+    year: u16,
+    value: &DesignValue,
+) -> Result<Sheet, Memory>
+    ensures { IfOk result (λ sheet. sheet ≡ other.value_sheet standard site year (design_of value.now)) }
+{
+    match value {
+        DesignValue::Ozone(years, design) => ozone_value_sheet(alloc, site, year, years, design),
+        DesignValue::Annual(years, design) => {
+            annual_value_sheet(alloc, standard, site, year, years, design)
+        }
+        DesignValue::Daily(years, design) => daily_value_sheet(alloc, site, year, years, design),
+        DesignValue::Pm10(years, design) => pm10_value_sheet(alloc, site, year, years, design),
+    }
+}
+
+/// The sheet of an ozone design value. There is no test.
+fn ozone_value_sheet(
+    alloc: Global,
+    site: SiteId,
+    year: u16,
+    years: &[OzoneYear; 3],
+    design: &OzoneDv,
+) -> Result<Sheet, Memory>
+    ensures { IfOk result (λ sheet. sheet ≡ book.ozone_value_sheet site year years.now design.now) }
+{
+    let heads = value_heads(
+        alloc,
+        Standard::Ozone2015,
+        site,
+        year,
+        design.value,
+        None,
+        design.verdict,
+    )?;
+    let columns = names(
+        alloc,
+        &[
+            b"year",
+            b"ranked",
+            b"fourth",
+            b"season_days",
+            b"season_valid",
+        ],
+    )?;
+    let rows = ozone_rows(alloc, oldest_year(year), years)?;
+    Ok(Sheet::new(heads, columns, rows))
+}
+
+fn ozone_rows(alloc: Global, oldest: u32, years: &[OzoneYear; 3]) -> Result<Rows, Memory>
+    requires { oldest ≤ 65535 }
+    ensures { IfOk result (λ rows. rows ≡ map book.year_cells (enumerate_from oldest years.now)) }
+{
+    let mut rows = Rows::new(alloc);
+    let mut number = oldest;
+    for kept in years {
+        rows.push(ozone_cells(alloc, number, kept)?)?;
+        number += 1;
+    }
+    Ok(rows)
+}
+
+fn ozone_cells(alloc: Global, number: u32, kept: &OzoneYear) -> Result<Cells, Memory>
+    ensures { IfOk result (λ cells. cells ≡ book.year_cells (number, kept.now)) }
+{
+    list(
+        alloc,
+        [
+            SheetCell::count(number),
+            SheetCell::count(u32::from(kept.ranked())),
+            SheetCell::ppm(kept.fourth()),
+            SheetCell::count(u32::from(kept.season_days())),
+            SheetCell::count(u32::from(kept.season_valid())),
+        ],
+    )
+}
+
+/// The heads of a design value of any standard.
+pub(crate) fn value_heads(
+    alloc: Global,
+    standard: Standard,
+    site: SiteId,
+    year: u16,
+    value: Option<i32>,
+    test: Option<i32>,
+    verdict: Verdict,
+) -> Result<Heads, Memory>
+    ensures { IfOk result (λ heads. heads ≡ book.value_heads standard site year value test verdict) }
+{
+    let mut heads = Heads::new(alloc);
+    add_text(alloc, &mut heads, b"standard", standard.name().as_bytes())?;
+    add_text(alloc, &mut heads, b"site", &site_text(site))?;
+    add_count(alloc, &mut heads, b"year", u32::from(year))?;
+    add_head(alloc, &mut heads, b"value", design_cell(standard, value))?;
+    add_head(alloc, &mut heads, b"test", design_cell(standard, test))?;
+    add_text(
+        alloc,
+        &mut heads,
+        b"verdict",
+        verdict_name(verdict).as_bytes(),
+    )?;
+    Ok(heads)
+}
+
+/// The first of the three years that end with a year.
+pub(crate) fn oldest_year(year: u16) -> u32
+    ensures value { result ≡ year - 2 }
+    ensures small { result ≤ 65535 }
+{
+    u32::from(year.saturating_sub(2))
+}
+
+/// A design value or a test's value in its standard's unit.
+pub(crate) fn design_cell(standard: Standard, value: Option<i32>) -> SheetCell
+    ensures { result ≡ book.design_cell standard value }
+{
+    match standard {
+        Standard::Ozone2015 => SheetCell::ppm(value),
+        Standard::Annual2012 | Standard::AnnualSecondary | Standard::Pm10Of1987 => {
+            SheetCell::tenths(value)
+        }
+        Standard::Daily2006 => SheetCell::whole(value),
+    }
+}
+
+pub(crate) fn verdict_name(verdict: Verdict) -> &'static str
+    ensures { result.now ≡ book.verdict_name verdict }
+{
+    match verdict {
+        Verdict::Met => "Met",
+        Verdict::NotMet => "NotMet",
+        Verdict::Incomplete => "Incomplete",
+        Verdict::NoValue => "NoValue",
+    }
+}

@@ -1,0 +1,168 @@
+//! The sheets of PM2.5 design values: three years, the oldest first.
+ghost use Rattle.std.specs.Prelude.{◌≡◌, ◌≤◌, IfOk, map, zip};
+ghost use Rattle.std.specs.List.{enumerate_from};
+ghost use Rattle.aq_profile.specs.Particles.QuarterCounts.{capture};
+ghost use Rattle.aq_profile.specs.Kept.Summaries.{counts_of};
+ghost use Rattle.aq_profile.specs.Shown.ParticleSheets as book;
+ghost use Rattle.aq_profile.specs.Shown.Sheet.{count_cell};
+
+use crate::cell::SheetCell;
+use crate::kept::{capture, counted_in, percentile_of};
+use crate::list::{list, names};
+use crate::mean::annual_mean;
+use crate::sheet::{Cells, Rows, Sheet};
+use crate::value::{oldest_year, value_heads};
+use aq_base::{Memory, SiteId, Standard};
+use aq_verdict::{AnnualDv, DailyDv, PmQuarter, PmYear};
+use std::alloc::Global;
+
+/// The sheet of an annual PM2.5 design value.
+pub(crate) fn annual_value_sheet(
+    alloc: Global,
+    standard: Standard,
+    site: SiteId,
+    year: u16,
+    years: &[PmYear; 3],
+    design: &AnnualDv,
+) -> Result<Sheet, Memory>
+    ensures { IfOk result (λ sheet. sheet ≡ book.annual_value_sheet standard site year years.now design.now) }
+{
+    let heads = value_heads(
+        alloc,
+        standard,
+        site,
+        year,
+        design.value,
+        design.test,
+        design.verdict,
+    )?;
+    let columns = names(
+        alloc,
+        &[
+            b"year",
+            b"mean",
+            b"capture1",
+            b"capture2",
+            b"capture3",
+            b"capture4",
+            b"valid",
+        ],
+    )?;
+    let rows = annual_rows(alloc, oldest_year(year), years, &design.valid)?;
+    Ok(Sheet::new(heads, columns, rows))
+}
+
+fn annual_rows(
+    alloc: Global,
+    oldest: u32,
+    years: &[PmYear; 3],
+    valid: &[bool; 3],
+) -> Result<Rows, Memory>
+    requires { oldest ≤ 65535 }
+    ensures { IfOk result (λ rows. rows ≡ map book.annual_cells (enumerate_from oldest (zip years.now valid.now))) }
+{
+    let mut rows = Rows::new(alloc);
+    for (place, kept) in years.iter().enumerate() {
+        let number = oldest + place as u32;
+        rows.push(annual_cells(alloc, number, kept, valid[place])?)?;
+    }
+    Ok(rows)
+}
+
+fn annual_cells(alloc: Global, number: u32, kept: &PmYear, valid: bool) -> Result<Cells, Memory>
+    ensures { IfOk result (λ cells. cells ≡ book.annual_cells (number, (kept.now, valid))) }
+{
+    let [first, second, third, fourth] = kept.quarters();
+    let valid = SheetCell::truth(alloc, valid)?;
+    list(
+        alloc,
+        [
+            SheetCell::count(number),
+            SheetCell::tenths(annual_mean(kept)),
+            capture_cell(first),
+            capture_cell(second),
+            capture_cell(third),
+            capture_cell(fourth),
+            valid,
+        ],
+    )
+}
+
+/// The sheet of a 24-hour PM2.5 design value.
+pub(crate) fn daily_value_sheet(
+    alloc: Global,
+    site: SiteId,
+    year: u16,
+    years: &[PmYear; 3],
+    design: &DailyDv,
+) -> Result<Sheet, Memory>
+    ensures { IfOk result (λ sheet. sheet ≡ book.daily_value_sheet site year years.now design.now) }
+{
+    let heads = value_heads(
+        alloc,
+        Standard::Daily2006,
+        site,
+        year,
+        design.value,
+        design.test,
+        design.verdict,
+    )?;
+    let columns = names(
+        alloc,
+        &[
+            b"year",
+            b"percentile",
+            b"counted",
+            b"capture1",
+            b"capture2",
+            b"capture3",
+            b"capture4",
+            b"valid",
+        ],
+    )?;
+    let rows = daily_rows(alloc, oldest_year(year), years, &design.valid)?;
+    Ok(Sheet::new(heads, columns, rows))
+}
+
+fn daily_rows(
+    alloc: Global,
+    oldest: u32,
+    years: &[PmYear; 3],
+    valid: &[bool; 3],
+) -> Result<Rows, Memory>
+    requires { oldest ≤ 65535 }
+    ensures { IfOk result (λ rows. rows ≡ map book.daily_cells (enumerate_from oldest (zip years.now valid.now))) }
+{
+    let mut rows = Rows::new(alloc);
+    for (place, kept) in years.iter().enumerate() {
+        let number = oldest + place as u32;
+        rows.push(daily_cells(alloc, number, kept, valid[place])?)?;
+    }
+    Ok(rows)
+}
+
+fn daily_cells(alloc: Global, number: u32, kept: &PmYear, valid: bool) -> Result<Cells, Memory>
+    ensures { IfOk result (λ cells. cells ≡ book.daily_cells (number, (kept.now, valid))) }
+{
+    let [first, second, third, fourth] = kept.quarters();
+    let valid = SheetCell::truth(alloc, valid)?;
+    list(
+        alloc,
+        [
+            SheetCell::count(number),
+            SheetCell::tenths(percentile_of(kept)),
+            SheetCell::count(u32::from(counted_in(kept))),
+            capture_cell(first),
+            capture_cell(second),
+            capture_cell(third),
+            capture_cell(fourth),
+            valid,
+        ],
+    )
+}
+
+fn capture_cell(quarter: &PmQuarter) -> SheetCell
+    ensures { result ≡ count_cell (capture (counts_of quarter.now)) }
+{
+    SheetCell::count(capture(quarter))
+}
