@@ -20,6 +20,7 @@ pub fn steps_stay()
 /// More bytes are wanted only of fewer than a head and a body may have together; a request lies in the
 /// bytes, and its body is no longer than a load; each refusal has a reply.
 pub fn steps_are_bounded()
+    ensures more_of_head { (input : List ℕ) → IsHeadStep input MoreOfHead → length input < MOST_HEAD }
     ensures more { (input : List ℕ) → IsStep input More → length input < MOST_HEAD + MOST_BYTES }
     ensures used { (input : List ℕ) (request : Request) → IsStep input (Whole request) → request.used ≤ length input }
     ensures body { (input : List ℕ) (request : Request) → IsStep input (Whole request) → length request.body ≤ MOST_BYTES }

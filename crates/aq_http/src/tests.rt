@@ -82,7 +82,6 @@ fn hostile_heads_are_refused(rt: HostRuntime) {
 
 #[test]
 fn a_whole_request_ends_where_its_body_ends(rt: HostRuntime) {
-    let mut more = 0;
     for (input, answer) in [
         ("GET / HTTP/1.1\r\n\r\nGET", get(18, false)),
         ("\r\nGET / HTTP/1.1\n\n", get(18, false)),
@@ -117,11 +116,7 @@ fn a_whole_request_ends_where_its_body_ends(rt: HostRuntime) {
         ("", Outcome::More),
     ] {
         assert_eq!(rt; step_to(input.as_bytes()), answer, "{input}");
-        if answer == Outcome::More {
-            more += 1;
-        }
     }
-    assert_eq!(rt; more, 4);
 }
 
 // `front`, then `piece` so often, then `end`.
@@ -161,7 +156,9 @@ fn a_head_has_16384_bytes_and_64_headers_at_most(rt: HostRuntime) -> Result<(), 
         "\r\n\r\n",
     )?;
     assert_eq!(rt; step_to(&longer), Outcome::Refuse(431));
-    assert_eq!(rt; step_to(&longer[..16_383]), Outcome::More);
+    let short = repeated(rt.alloc(), "GET / HTTP/1.1\r\na:", "b", 16_383 - 18, "")?;
+    assert_eq!(rt; short.len(), 16_383);
+    assert_eq!(rt; step_to(&short), Outcome::More);
     let endless = repeated(rt.alloc(), "GET /", "a", 16_379, "")?;
     assert_eq!(rt; step_to(&endless), Outcome::Refuse(431));
     let full = repeated(rt.alloc(), start, "a:b\r\n", 64, "\r\n")?;

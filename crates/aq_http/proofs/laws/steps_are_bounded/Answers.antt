@@ -1,5 +1,9 @@
+use Rattle.aq_http.proofs.Fronts.{open_is_short}
 use Rattle.aq_http.proofs.Steps.{more_is_short, refusal_has_reply, whole_within}
 use Rattle.aq_http.proofs.laws.steps_are_bounded.Goals as goal
+
+pub returns-clause-more_of_head : goal.returns-clause-more_of_head
+returns-clause-more_of_head c input is = open_is_short input is
 
 pub returns-clause-more : goal.returns-clause-more
 returns-clause-more c input is = more_is_short input is
