@@ -8,3 +8,4 @@ pub mod Standard
 pub mod Text
 pub mod Values
 pub mod Places
+pub mod Faults

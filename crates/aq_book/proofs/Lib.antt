@@ -5,6 +5,5 @@ pub mod LoadLaws
 pub mod StageLemmas
 pub mod OzoneLemmas
 pub mod DesignLemmas
-pub mod LoadMap
 pub mod Loadless
 pub mod LoadlessAnswers

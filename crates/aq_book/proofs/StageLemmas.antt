@@ -14,7 +14,7 @@ use Rattle.aq_book.specs.declared.changes.Changes.{Changes}
 use Rattle.aq_book.specs.Changes.{with_changes}
 use Rattle.aq_book.specs.Refusals.{office_in}
 use Rattle.aq_book.specs.Staged.{StagedLoad, after_lines, office_with, Fits}
-use Rattle.aq_book.specs.KeptLoads.{stored_as, with_kept}
+use Rattle.aq_loads.specs.KeptLoads.{stored_as, with_kept}
 use Rattle.aq_book.specs.View.{standing}
 use Rattle.aq_book.proofs.Loadless.{after_all_loads, reply_loads, with_loads}
 

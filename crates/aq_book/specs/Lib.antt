@@ -1,6 +1,5 @@
 -- The office of a book, and what a load makes of it.
 pub mod View
-pub mod KeptLoads
 pub mod Checks
 pub mod Questions
 pub mod Changes

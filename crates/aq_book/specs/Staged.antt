@@ -3,7 +3,7 @@ use Rattle.std.specs.Prelude.{ℕ, List}
 use Rattle.aq_base.specs.declared.office.OfficeRecord.{OfficeRecord}
 use Rattle.aq_base.specs.declared.reply.LoadReply.{LoadReply}
 use Rattle.aq_profile.specs.Office.Load.{with_load}
-use Rattle.aq_book.specs.KeptLoads.{stored_as}
+use Rattle.aq_loads.specs.KeptLoads.{stored_as}
 use Rattle.aq_profile.specs.Office.Office.{IsOffice, Office}
 use Rattle.aq_book.specs.declared.changes.Changes.{Changes}
 use Rattle.aq_book.specs.Changes.{with_changes}

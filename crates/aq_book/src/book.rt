@@ -1,7 +1,7 @@
 //! An office with its observations and records.
 ghost use Rattle.std.specs.Prelude.{◌≡◌, ◌≤◌, ◌⊎◌, length, option_map, IfOk};
 ghost use Rattle.aq_book.specs.Checks.{decision_of};
-ghost use Rattle.aq_book.specs.KeptLoads.{digest_in, reply_in};
+ghost use Rattle.aq_loads.specs.KeptLoads.{digest_in, reply_in};
 ghost use Rattle.aq_book.specs.Staged.{office_with, Fits};
 ghost use Rattle.aq_profile.specs.Limits.{MOST_BYTES, MOST_LINES};
 ghost use Rattle.aq_profile.specs.Lines.Lines.{line_count};
@@ -10,9 +10,9 @@ ghost use Rattle.aq_profile.specs.Office.Office.{load_at, nothing};
 
 use crate::check::LoadCheck;
 use crate::load::stage_load;
-use crate::loads::{Loads, digest_is_32_bytes};
 use crate::staged::Staged;
 use aq_base::{LoadReply, Memory};
+use aq_loads::{Loads, digest_is_32_bytes};
 use aq_profile::office::valid_load::{an_office_of_nothing_is_valid, loads_leave_the_office_valid};
 use aq_registry::Registry;
 use aq_shelf::Shelf;

@@ -8,7 +8,6 @@ mod check;
 mod design;
 mod fault;
 mod load;
-mod loads;
 mod overlay;
 mod ozone;
 mod particles;

@@ -7,7 +7,7 @@ use Rattle.aq_desk.proofs.Outcomes.{nothing_written, beyond_bytes, is_within-byt
 use Rattle.aq_desk.specs.Body.{HasTooMany, IsBodyFault, Over}
 use Rattle.aq_desk.specs.Command.{Follows, IsWhole, Outcome, RisesAt, Tells, message_for, unwritten}
 use Rattle.aq_desk.specs.Ending.{no_command}
-use Rattle.aq_desk.specs.Outside.{HasRisen}
+use Rattle.aq_base.specs.Faults.{HasRisen}
 use Rattle.aq_desk.specs.Run.{outcome_for, outcome_of}
 use Rattle.aq_desk.specs.Scan.{scan_outcome}
 use Rattle.aq_desk.specs.Stop.{HasCauses, Obeys, ending_of, status_of, stop_of}

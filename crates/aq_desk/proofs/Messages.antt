@@ -9,7 +9,7 @@ use Rattle.aq_profile.specs.Shown.Sheet.{site_text}
 use Rattle.aq_desk.proofs.Outcomes.{front_behind, front_of_more, join}
 use Rattle.aq_desk.specs.Command.{Tells}
 use Rattle.aq_desk.specs.Ending.{input_failed, no_command, no_memory, no_site, output_failed, too_many_bytes, too_many_lines}
-use Rattle.aq_desk.specs.Outside.{HasRisen}
+use Rattle.aq_base.specs.Faults.{HasRisen}
 use Rattle.aq_desk.specs.Stop.{ending_at}
 use Rattle.aq_desk.specs.declared.stop.Stop.{Stop}
 use Rattle.aq_desk.specs.Writing.{Writes}

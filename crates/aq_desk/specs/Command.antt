@@ -2,7 +2,7 @@
 use Rattle.std.specs.Prelude.{◌≡◌, ℕ, ◌⊎◌, ◌==◌, if◌then◌else◌, List, [], ◌++◌, Option}
 use Rattle.std.specs.Option.{option_map}
 use Rattle.aq_desk.specs.Ending.{Ending, done, input_failed, output_failed, no_memory}
-use Rattle.aq_desk.specs.Outside.{HasRisen}
+use Rattle.aq_base.specs.Faults.{HasRisen}
 use Rattle.aq_desk.specs.Writing.{WritesFront}
 
 -- what a command gives, with no fault: how it ends, and what it writes on the output

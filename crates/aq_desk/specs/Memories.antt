@@ -1,6 +1,5 @@
 -- What contracts see of the sources and sinks in memory, which fail at the calls that they are told to.
-use Rattle.std.specs.Prelude.{ℕ, Bool, false, ◌==◌, nat_le, List, [], ◌∷◌, length}
-use Rattle.std.specs.List.{list_any}
+use Rattle.std.specs.Prelude.{ℕ, Bool, false, nat_le, List, [], ◌∷◌, length}
 
 -- the bytes left, the numbers of the calls that are to fail, the calls so far, and how many of them failed
 pub record SourceState : Type 0 where
@@ -16,10 +15,6 @@ pub record SinkState : Type 0 where
   pub failing : List ℕ
   pub calls : ℕ
   pub faults : ℕ
-
--- whether a call with this number is to fail
-abbrev pub is_listed : List ℕ → ℕ → Bool
-is_listed failing call = list_any (λ listed. listed == call) failing
 
 -- whether a piece with bytes finds all room taken
 abbrev pub finds_no_room : SinkState → List ℕ → Bool

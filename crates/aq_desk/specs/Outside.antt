@@ -1,19 +1,12 @@
 -- What contracts see of the outside: bytes that an object tells or does not tell, and its count of faults (own).
-use Rattle.std.specs.Prelude.{◌≡◌, ℕ, ◌+◌, ◌-◌, ◌^◌, ◌<◌, ◌≤◌, min, ◌⊎◌, List, [], ◌++◌, length, take, Option, Result, Ok, Err, IfSome}
+use Rattle.std.specs.Prelude.{◌≡◌, ℕ, ◌<◌, ◌≤◌, List, [], ◌++◌, length, take, Option, Result, Ok, Err, IfSome}
 use Rattle.std.specs.Option.{option_map}
-
--- a count of faults rose, or stood at its greatest value, where it counts as risen
-abbrev pub HasRisen : ℕ → ℕ → Type 0
-HasRisen before after = (before < after) ⊎ ((before ≡ 2 ^ 64 - 1) × (after ≡ before))
+use Rattle.aq_base.specs.Faults.{HasRisen, next}
 
 -- a count rises at a call that answers with a fault, and at no other
 abbrev pub HasCause : {A E : Type 0} → ℕ → ℕ → Result A E → Type 0
 HasCause before after (Ok answer) = after ≡ before
 HasCause before after (Err fault) = HasRisen before after
-
--- a count goes up by one, and stays at its greatest value
-abbrev pub next : ℕ → ℕ
-next count = min (count + 1) (2 ^ 64 - 1)
 
 -- how many faults are counted after a call: one more where it answers with a fault, and else as many as before
 abbrev pub faults_after : {A E : Type 0} → ℕ → Result A E → ℕ

@@ -55,8 +55,9 @@ impl MemorySink {
 
 impl Sink for MemorySink {
     ghost use Rattle.std.specs.Prelude.{◌≡◌, ◌↔◌, ◌&&◌, ◌||◌, ◌==◌, not, length, IsTrue, IsErr, IfOk, OnErr, Some};
-    ghost use Rattle.aq_desk.specs.Outside.{HasCause, Takes, faults_after, next};
-    ghost use Rattle.aq_desk.specs.Memories.{is_listed, finds_no_room};
+    ghost use Rattle.aq_base.specs.Faults.{is_listed, next};
+    ghost use Rattle.aq_desk.specs.Outside.{HasCause, Takes, faults_after};
+    ghost use Rattle.aq_desk.specs.Memories.{finds_no_room};
 
     ghost written = { λ sink. Some sink.written };
 

@@ -54,8 +54,8 @@ fn copy_front(left: &[u8], buffer: &mut [u8]) -> usize
 
 impl Source for MemorySource {
     ghost use Rattle.std.specs.Prelude.{◌≡◌, ◌↔◌, IsTrue, IsErr, IfOk, OnErr, Some};
-    ghost use Rattle.aq_desk.specs.Outside.{HasCause, Moves, faults_after, next};
-    ghost use Rattle.aq_desk.specs.Memories.{is_listed};
+    ghost use Rattle.aq_base.specs.Faults.{is_listed, next};
+    ghost use Rattle.aq_desk.specs.Outside.{HasCause, Moves, faults_after};
 
     ghost left = { λ source. Some source.left };
 

@@ -1,6 +1,5 @@
 -- What contracts see of the keeper in memory, which fails at the calls that it is told to.
-use Rattle.std.specs.Prelude.{ℕ, Bool, true, false, ◌==◌, List, Result, Ok, Err}
-use Rattle.std.specs.List.{list_any}
+use Rattle.std.specs.Prelude.{ℕ, Bool, true, false, List, Result, Ok, Err}
 use Rattle.aq_keeper.specs.declared.keeper.KeeperFault.{KeeperFault}
 use Rattle.aq_keeper.specs.declared.keeper.KeeperFault.TheVariants.{Failed, Memory}
 use Rattle.aq_profile.specs.Kept.Rows.{Row}
@@ -11,10 +10,6 @@ pub record KeeperState : Type 0 where
   pub failing : List ℕ
   pub calls : ℕ
   pub faults : ℕ
-
--- whether a call with this number is to fail
-abbrev pub is_listed : List ℕ → ℕ → Bool
-is_listed failing call = list_any (λ listed. listed == call) failing
 
 -- whether a call failed
 abbrev pub has_failed : {A : Type 0} → Result A KeeperFault → Bool

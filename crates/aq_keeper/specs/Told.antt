@@ -1,21 +1,14 @@
 -- What contracts see of a keeper: tables that it tells or does not tell, and its count of faults (own).
-use Rattle.std.specs.Prelude.{◌≡◌, ℕ, ◌+◌, ◌-◌, ◌^◌, ◌<◌, min, ◌⊎◌, Result, Ok, Err}
+use Rattle.std.specs.Prelude.{◌≡◌, ℕ, Result, Ok, Err}
+use Rattle.aq_base.specs.Faults.{HasRisen, next}
 use Rattle.aq_keeper.specs.declared.keeper.KeeperFault.{KeeperFault}
 use Rattle.aq_keeper.specs.declared.keeper.KeeperFault.TheVariants.{Failed, Memory}
-
--- a count of faults rose, or stood at its greatest value, where it counts as risen
-abbrev pub HasRisen : ℕ → ℕ → Type 0
-HasRisen before after = (before < after) ⊎ ((before ≡ 2 ^ 64 - 1) × (after ≡ before))
 
 -- a count rises at a call that fails, and at no other: want of memory is no fault
 abbrev pub HasCause : {A : Type 0} → ℕ → ℕ → Result A KeeperFault → Type 0
 HasCause before after (Ok answer) = after ≡ before
 HasCause before after (Err Failed) = HasRisen before after
 HasCause before after (Err Memory) = after ≡ before
-
--- a count goes up by one, and stays at its greatest value
-abbrev pub next : ℕ → ℕ
-next count = min (count + 1) (2 ^ 64 - 1)
 
 -- how many faults are counted after a call: one more where it failed, and else as many as before
 abbrev pub faults_after : {A : Type 0} → ℕ → Result A KeeperFault → ℕ

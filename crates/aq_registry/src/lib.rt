@@ -9,9 +9,12 @@ mod facts;
 mod place;
 mod records;
 mod registry;
+mod rows;
 
 pub use changes::{Changes, RecordChange, RegistryFault};
+pub use records::Records;
 pub use registry::Registry;
+pub use rows::Rows;
 
 #[cfg(test)]
 mod tests;

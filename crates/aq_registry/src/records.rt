@@ -10,6 +10,7 @@ ghost use Rattle.aq_registry.specs.Places.{behind, is_of_between, is_of_from, li
 
 use crate::facts;
 use crate::place::{Place, key};
+use crate::rows::Rows;
 use aq_base::{Memory, OfficeKey, OfficeRecord, SiteId};
 use std::alloc::Global;
 use std::collections::BTreeMap;
@@ -20,7 +21,7 @@ use std::ops::Bound;
 
 /// Records, each at the place of its key. Contracts see the list of them, in the order of rows.
 #[derive(Drop)]
-pub(crate) struct Records {
+pub struct Records {
     by_place: BTreeMap<Place, OfficeRecord>,
 }
 
@@ -39,7 +40,7 @@ impl Model for Records {
 
 impl Records {
     /// No records. It takes no memory.
-    pub(crate) fn new(alloc: Global) -> Records
+    pub fn new(alloc: Global) -> Records
         ensures { result ≡ [] }
     {
         Records {
@@ -57,14 +58,21 @@ impl Records {
     }
 
     /// The record of a key, by one search of the map.
-    pub(crate) fn get(&self, key: &OfficeKey) -> Option<OfficeRecord>
+    pub fn get(&self, key: &OfficeKey) -> Option<OfficeRecord>
         ensures { result ≡ record_of self.now key.now }
     {
         self.by_place.get(&Place::of(key)).copied()
     }
 
+    /// All records, in the order of rows.
+    pub fn rows(&self) -> Rows<'_>
+        ensures { result ≡ self.now }
+    {
+        Rows::new(self.by_place.iter())
+    }
+
     /// The record that follows a key, and of none the first, by one search of the map.
-    pub(crate) fn following(&self, after: &Option<OfficeKey>) -> Option<OfficeRecord>
+    pub fn following(&self, after: &Option<OfficeKey>) -> Option<OfficeRecord>
         ensures { result ≡ following self.now after.now }
     {
         first(self.by_place.range((behind(after), Bound::Unbounded)))
@@ -149,7 +157,7 @@ impl Records {
     }
 
     /// Puts a record at its place, where it takes the place of one with its key.
-    pub(crate) fn put(&mut self, row: OfficeRecord) -> Result<(), Memory>
+    pub fn put(&mut self, row: OfficeRecord) -> Result<(), Memory>
         ensures ok { OnOk result (self.new ≡ with_row record_rank row self.old) }
         ensures unchanged { OnErr result (self.new ≡ self.old) }
     {
@@ -159,7 +167,7 @@ impl Records {
     }
 
     /// Takes the record of a key away, if it is there.
-    pub(crate) fn remove(&mut self, key: &OfficeKey)
+    pub fn remove(&mut self, key: &OfficeKey)
         ensures { self.new ≡ without_row record_rank (key_numbers key.now) self.old }
     {
         let _ = self.by_place.remove(&Place::of(key));

@@ -22,6 +22,7 @@ use crate::exclusion::any_leaves_out;
 use crate::facts;
 use crate::place::{Place, parameter};
 use crate::records::Records;
+use crate::rows::Rows;
 use aq_base::{
     Day, Duration, Hour, Memory, MonitorId, ObsKey, OfficeKey, OfficeRecord, Pollutant, Quals,
     SiteId,
@@ -89,6 +90,13 @@ impl Registry {
         ensures { result ≡ book.record_of self.now key }
     {
         self.records.get(&key)
+    }
+
+    /// All records, in the order of rows.
+    pub fn rows(&self) -> Rows<'_>
+        ensures { result ≡ self.now }
+    {
+        self.records.rows()
     }
 
     /// The record that follows a key, whether or not one has the key, and of none the first, by one search

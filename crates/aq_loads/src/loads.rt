@@ -3,30 +3,31 @@ ghost use Rattle.std.specs.Prelude.{◌≡◌, [], ◌∷◌, length, nat_le, na
 ghost use Rattle.std.specs.List.{list_all};
 ghost use Rattle.aq_profile.specs.Limits.{MOST_LOADS};
 ghost use Rattle.aq_profile.specs.Office.Office.{load_rank, row_at, with_row};
-ghost use Rattle.aq_book.specs.KeptLoads.{digest_in, reply_in, stored_as, with_kept};
+ghost use Rattle.aq_loads.specs.KeptLoads.{digest_in, reply_in, stored_as, stored_in, with_kept};
 
 use aq_base::{LoadReply, MOST_LOADS, Memory};
 use std::alloc::Global;
 use std::collections::BTreeMap;
+use std::collections::btree_map::Iter;
 use std::marker::Model;
 
 /// What is kept of a load beside its number: the SHA-256 of its body, and its reply.
 #[derive(Drop)]
-struct KeptLoad {
-    digest: [u8; 32],
-    reply: LoadReply,
+pub struct KeptLoad {
+    pub digest: [u8; 32],
+    pub reply: LoadReply,
 }
 
 /// The loads that were taken, each once. Contracts see the list of them in rising order of numbers.
 #[derive(Drop)]
-pub(crate) struct Loads {
+pub struct Loads {
     by_number: BTreeMap<u32, KeptLoad>,
 }
 
 impl Model for Loads {
     ghost use Rattle.std.specs.Prelude.{List};
     ghost use Rattle.aq_profile.specs.Office.Office.{StoredLoad};
-    ghost use Rattle.aq_book.specs.KeptLoads.{stored_in};
+    ghost use Rattle.aq_loads.specs.KeptLoads.{stored_in};
 
     ghost Value = { List StoredLoad };
 
@@ -35,7 +36,7 @@ impl Model for Loads {
 
 impl Loads {
     /// No loads. It takes no memory.
-    pub(crate) fn new(alloc: Global) -> Loads
+    pub fn new(alloc: Global) -> Loads
         ensures { result ≡ [] }
     {
         Loads {
@@ -44,14 +45,21 @@ impl Loads {
     }
 
     /// Whether as many stand as may.
-    pub(crate) fn are_full(&self) -> bool
+    pub fn are_full(&self) -> bool
         ensures { result ≡ nat_le MOST_LOADS (length self.now) }
     {
         self.by_number.len() >= MOST_LOADS
     }
 
+    /// The loads by their numbers, in rising order.
+    pub fn entries(&self) -> Iter<'_, u32, KeptLoad>
+        ensures { stored_in result ≡ self.now }
+    {
+        self.by_number.iter()
+    }
+
     /// The reply to the load with a number, if one stands, by one search of the map.
-    pub(crate) fn reply_of(&self, number: u32) -> Option<&LoadReply>
+    pub fn reply_of(&self, number: u32) -> Option<&LoadReply>
         ensures { option_map (λ reply. reply.now) result ≡ option_map reply_in (row_at load_rank (number ∷ []) self.now) }
     {
         let kept = self.by_number.get(&number)?;
@@ -59,7 +67,7 @@ impl Loads {
     }
 
     /// The digest of the load with a number, if one stands, by one search of the map.
-    pub(crate) fn digest_of(&self, number: u32) -> Option<[u8; 32]>
+    pub fn digest_of(&self, number: u32) -> Option<[u8; 32]>
         ensures { result ≡ option_map digest_in (row_at load_rank (number ∷ []) self.now) }
     {
         let kept = self.by_number.get(&number)?;
@@ -68,12 +76,7 @@ impl Loads {
 
     /// With one more load, unless its number is 0, the number of a load that is not kept. After want of
     /// memory the loads are gone.
-    pub(crate) fn with(
-        self,
-        number: u32,
-        digest: [u8; 32],
-        reply: LoadReply,
-    ) -> Result<Loads, Memory>
+    pub fn with(self, number: u32, digest: [u8; 32], reply: LoadReply) -> Result<Loads, Memory>
         ensures { IfOk result (λ loads. loads ≡ with_kept (stored_as number digest reply) self) }
     {
         if number == 0 {
@@ -85,7 +88,7 @@ impl Loads {
     }
 
     /// Keeps a load under a number, by one search of the map.
-    fn put(&mut self, number: u32, digest: [u8; 32], reply: LoadReply) -> Result<(), Memory>
+    pub fn put(&mut self, number: u32, digest: [u8; 32], reply: LoadReply) -> Result<(), Memory>
         ensures ok { OnOk result (self.new ≡ with_row load_rank (stored_as number digest reply) self.old) }
         ensures unchanged { OnErr result (self.new ≡ self.old) }
     {
@@ -95,7 +98,7 @@ impl Loads {
 }
 
 /// A digest is a list of 32 bytes.
-pub(crate) fn digest_is_32_bytes(digest: &[u8; 32])
+pub fn digest_is_32_bytes(digest: &[u8; 32])
     ensures many { length digest.now ≡ 32 }
     ensures bytes { IsTrue (list_all (λ byte. nat_lt byte 256) digest.now) }
 {
