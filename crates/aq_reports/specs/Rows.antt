@@ -1,7 +1,5 @@
 -- Rows and cells as the book of rules has them.
-use Rattle.std.specs.Prelude.{ℕ, ◌==◌, if◌then◌else◌, Option, Some, None}
 use Rattle.aq_base.specs.Site.{Site}
-use Rattle.aq_profile.specs.Particles.Percentile.{rank_of}
 use Rattle.aq_profile.specs.Shown.OtherSheets.{Judged, judged_by}
 use Rattle.aq_verdict.specs.declared.design_value.DesignValue.{DesignValue}
 use Rattle.aq_verdict.specs.Designs.{design_of}
@@ -9,7 +7,3 @@ use Rattle.aq_verdict.specs.Designs.{design_of}
 -- a site and its design value
 abbrev pub judged_in : Site × DesignValue → Judged
 judged_in row = judged_by row.0 (design_of row.1)
-
--- without a counted sample there is no rank
-abbrev pub rank_in : ℕ → Option ℕ
-rank_in counted = if counted == 0 then None else Some (rank_of counted)

@@ -4,14 +4,10 @@
 
 mod cell;
 mod days;
-mod estimates;
-mod kept;
 mod list;
 mod load;
-mod mean;
 mod quarters;
 mod report;
-mod rounded;
 mod sheet;
 mod single;
 mod text;

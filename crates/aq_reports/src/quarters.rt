@@ -5,14 +5,14 @@ ghost use Rattle.aq_profile.specs.Kept.SummaryVerdicts.{kept_counted};
 ghost use Rattle.aq_profile.specs.Shown.ParticleSheets as book;
 
 use crate::cell::SheetCell;
-use crate::estimates::{quarter_estimate, quarter_lower, year_estimate};
-use crate::kept::{capture, counted_in, percentile_of, rank_in};
 use crate::list::{add_count, add_head, add_text, list, names};
-use crate::mean::annual_mean;
 use crate::sheet::{Cells, Heads, Rows, Sheet};
 use crate::text::site_text;
 use aq_base::{Memory, SiteId};
-use aq_verdict::{Pm10Quarter, Pm10Year, PmQuarter, PmYear};
+use aq_verdict::{
+    Pm10Quarter, Pm10Year, PmQuarter, PmYear, annual_mean, capture, counted_in, percentile_of,
+    quarter_estimate, quarter_lower, year_estimate,
+};
 use std::alloc::Global;
 
 /// The sheet of a PM2.5 year: its counted samples, the rank and the value of its percentile, its mean,
@@ -55,13 +55,14 @@ fn pm25_heads(alloc: Global, site: SiteId, year: u16, parts: &PmYear) -> Result<
     Ok(heads)
 }
 
-/// The rank of the percentile; none without a counted sample.
+/// The rank of the percentile, counted from the greatest value: first for 1 to 50 counted samples, second
+/// to 100, and so on; none without a counted sample (40 CFR Part 50, Appendix N, 4.5).
 fn rank_cell(parts: &PmYear) -> SheetCell
     ensures { result ≡ book.rank_cell (kept_counted parts.now.quarters) }
 {
-    match rank_in(parts) {
-        Some(rank) => SheetCell::count(u32::from(rank)),
-        None => SheetCell::missing(),
+    match u32::from(counted_in(parts)) {
+        0 => SheetCell::missing(),
+        counted => SheetCell::count((counted + 49) / 50),
     }
 }
 

@@ -4,12 +4,11 @@ ghost use Rattle.std.specs.List.{enumerate_from};
 ghost use Rattle.aq_profile.specs.Shown.ParticleSheets as book;
 
 use crate::cell::SheetCell;
-use crate::estimates::{exceedances_in, is_complete_year, year_estimate, year_lower};
 use crate::list::{list, names};
 use crate::sheet::{Cells, Rows, Sheet};
 use crate::value::{oldest_year, value_heads};
 use aq_base::{Memory, SiteId, Standard};
-use aq_verdict::{Pm10Dv, Pm10Year};
+use aq_verdict::{Pm10Dv, Pm10Year, exceedances_in, is_complete_year, year_estimate, year_lower};
 use std::alloc::Global;
 
 /// The sheet of a PM10 design value. There is no test.

@@ -7,13 +7,13 @@ ghost use Rattle.aq_profile.specs.Shown.ParticleSheets as book;
 ghost use Rattle.aq_profile.specs.Shown.Sheet.{count_cell};
 
 use crate::cell::SheetCell;
-use crate::kept::{capture, counted_in, percentile_of};
 use crate::list::{list, names};
-use crate::mean::annual_mean;
 use crate::sheet::{Cells, Rows, Sheet};
 use crate::value::{oldest_year, value_heads};
 use aq_base::{Memory, SiteId, Standard};
-use aq_verdict::{AnnualDv, DailyDv, PmQuarter, PmYear};
+use aq_verdict::{
+    AnnualDv, DailyDv, PmQuarter, PmYear, annual_mean, capture, counted_in, percentile_of,
+};
 use std::alloc::Global;
 
 /// The sheet of an annual PM2.5 design value.

@@ -13,7 +13,7 @@ use crate::rounded::rounded;
 
 /// The creditable samples in percent of the scheduled days, to the nearest whole one; 0 where nothing
 /// is scheduled (40 CFR Part 50, Appendix N, 1.0(c)).
-pub(crate) fn capture(quarter: &PmQuarter) -> u32
+pub fn capture(quarter: &PmQuarter) -> u32
     ensures { result ≡ capture (counts_of quarter.now) }
 {
     if quarter.scheduled() == 0 {
@@ -73,7 +73,7 @@ pub(crate) fn creditable_in(year: &PmYear) -> u16
 }
 
 /// The creditable samples of the year that are not excluded.
-pub(crate) fn counted_in(year: &PmYear) -> u16
+pub fn counted_in(year: &PmYear) -> u16
     ensures { result ≡ kept_counted year.now.quarters }
 {
     let [a, b, c, d] = year.quarters();

@@ -23,11 +23,17 @@ mod tests;
 mod top;
 
 pub use annual_value::{AnnualDv, annual};
+pub use counts::{capture, counted_in};
 pub use daily_value::{DailyDv, daily};
 pub use design_value::DesignValue;
 pub use ozone_value::{OzoneDv, ozone};
 pub use ozone_year::OzoneYear;
+pub use percentile::percentile_of;
 pub use pm_quarter::PmQuarter;
 pub use pm_year::PmYear;
-pub use pm10_value::{Pm10Dv, pm10};
+pub use pm10_value::{
+    Pm10Dv, exceedances_in, is_complete_year, pm10, quarter_estimate, quarter_lower, year_estimate,
+    year_lower,
+};
 pub use pm10_year::{Pm10Quarter, Pm10Year};
+pub use quarterly::annual_mean;

@@ -14,7 +14,7 @@ use crate::substitution::Copies;
 use crate::top::Top;
 
 /// The percentile, in tenths of a µg/m3; none without a counted sample.
-pub(crate) fn percentile_of(year: &PmYear) -> Option<i32>
+pub fn percentile_of(year: &PmYear) -> Option<i32>
     ensures { result ≡ percentile_of of_summaries year.now }
 {
     // The year keeps its facts.

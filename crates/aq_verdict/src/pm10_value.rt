@@ -46,7 +46,8 @@ pub fn pm10(years: &[Pm10Year; 3]) -> Pm10Dv
     }
 }
 
-fn year_estimate(year: &Pm10Year) -> Option<i32>
+/// The estimate of a year, in tenths; none where a quarter has no sample (40 CFR Part 50, Appendix K, 2.3).
+pub fn year_estimate(year: &Pm10Year) -> Option<i32>
     ensures { result ≡ year_of_quarters quarter_estimate year.now }
 {
     let [a, b, c, d] = year.quarters();
@@ -58,7 +59,8 @@ fn year_estimate(year: &Pm10Year) -> Option<i32>
     )
 }
 
-fn year_lower(year: &Pm10Year) -> Option<i32>
+/// The lower estimate of a year, in tenths (own).
+pub fn year_lower(year: &Pm10Year) -> Option<i32>
     ensures { result ≡ year_of_quarters quarter_lower year.now }
 {
     let [a, b, c, d] = year.quarters();
@@ -70,8 +72,9 @@ fn year_lower(year: &Pm10Year) -> Option<i32>
     )
 }
 
-// The estimate of a quarter, in hundredths: its days times the mean of its strata's parts.
-fn quarter_estimate(quarter: &Pm10Quarter) -> Option<i32>
+/// The estimate of a quarter, in hundredths: its days times the mean of its strata's parts; none without a
+/// sample.
+pub fn quarter_estimate(quarter: &Pm10Quarter) -> Option<i32>
     ensures { result ≡ quarter_estimate quarter.now }
 {
     if quarter.strata() == 0 {
@@ -81,8 +84,9 @@ fn quarter_estimate(quarter: &Pm10Quarter) -> Option<i32>
     Some(rounded(exceeding, 60 * i128::from(quarter.strata())))
 }
 
-// The lower estimate, in hundredths: its days times the part of its scheduled days that exceed (own).
-fn quarter_lower(quarter: &Pm10Quarter) -> Option<i32>
+/// The lower estimate of a quarter, in hundredths: its days times the part of its scheduled days that
+/// exceed; 0 where nothing is scheduled (own).
+pub fn quarter_lower(quarter: &Pm10Quarter) -> Option<i32>
     ensures { result ≡ quarter_lower quarter.now }
 {
     if quarter.scheduled() == 0 {
@@ -106,13 +110,14 @@ fn mean_of(a: Option<i32>, b: Option<i32>, c: Option<i32>) -> Option<i32>
     Some(rounded_three(a?, b?, c?, 3))
 }
 
-fn is_complete_year(year: &Pm10Year) -> bool
+/// Whether three quarters of the scheduled days of each quarter have a sample (40 CFR Part 50, Appendix K,
+/// 2.3).
+pub fn is_complete_year(year: &Pm10Year) -> bool
     ensures { result ≡ is_complete_year year.now }
 {
     year.quarters().iter().all(is_complete_quarter)
 }
 
-// Three quarters of the scheduled days have a sample.
 fn is_complete_quarter(quarter: &Pm10Quarter) -> bool
     ensures { result ≡ is_complete_quarter quarter.now }
 {
@@ -135,7 +140,8 @@ fn is_above(value: Option<i32>) -> bool
     value.is_some_and(|value| value > LEVEL)
 }
 
-fn exceedances_in(year: &Pm10Year) -> u16
+/// The samples of a year that exceed.
+pub fn exceedances_in(year: &Pm10Year) -> u16
     ensures value { result ≡ exceedances_in year.now }
     ensures few { result ≤ 1020 }
 {

@@ -11,7 +11,7 @@ use crate::pm_year::PmYear;
 use crate::substitution::Copies;
 
 /// The annual mean, in tenths of a µg/m3; none where a quarter has no day.
-pub(crate) fn annual_mean(year: &PmYear) -> Option<i32>
+pub fn annual_mean(year: &PmYear) -> Option<i32>
     ensures { result ≡ mean_of of_summaries year.now.quarters }
 {
     mean_of_year(&quarterly_means(year))
