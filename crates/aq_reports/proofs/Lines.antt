@@ -16,12 +16,18 @@ pub join_is : (words : List (List ℕ)) → join_with_byte 32 words ≡ words_be
 join_is [] = refl
 join_is (word ∷ words) = join-first word words
 
+-- words that are all written
+pub words_done : (before out space : List ℕ) (words rest : List (List ℕ)) → rest ≡ []
+    → out ++ words_behind space rest ≡ before ++ words_behind [] words
+    → out ≡ before ++ join_with_byte 32 words
+words_done before out space words rest none so_far =
+    let written : out ++ words_behind space [] ≡ before ++ words_behind [] words = subst (λ (r : List (List ℕ)). out ++ words_behind space r ≡ before ++ words_behind [] words) none so_far in
+    sym (append-nil out) ∙ written ∙ ap (λ text. before ++ text) (sym (join_is words))
+
 -- a line whose words are all written, with its end
 pub line_done : (before out all space : List ℕ) (words rest : List (List ℕ)) → rest ≡ []
     → out ++ words_behind space rest ≡ before ++ words_behind [] words
     → all ≡ out ++ 10 ∷ []
     → all ≡ before ++ (join_with_byte 32 words ++ 10 ∷ [])
 line_done before out all space words rest none so_far end =
-    let written : out ++ words_behind space [] ≡ before ++ words_behind [] words = subst (λ (r : List (List ℕ)). out ++ words_behind space r ≡ before ++ words_behind [] words) none so_far in
-    let joined : out ≡ before ++ join_with_byte 32 words = sym (append-nil out) ∙ written ∙ ap (λ text. before ++ text) (sym (join_is words)) in
-    end ∙ ap (λ text. text ++ 10 ∷ []) joined ∙ append_assoc before (join_with_byte 32 words) (10 ∷ [])
+    end ∙ ap (λ text. text ++ 10 ∷ []) (words_done before out space words rest none so_far) ∙ append_assoc before (join_with_byte 32 words) (10 ∷ [])

@@ -1,2 +1,4 @@
 pub mod CellView
+pub mod JsonView
 pub mod Rows
+pub mod Written

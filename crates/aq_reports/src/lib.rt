@@ -4,6 +4,8 @@
 
 mod cell;
 mod days;
+mod export;
+mod json_text;
 mod list;
 mod load;
 mod quarters;
@@ -18,6 +20,8 @@ mod windows;
 
 pub use cell::SheetCell;
 pub use days::days_sheet;
+pub use export::export_of;
+pub use json_text::json_of;
 pub use load::load_sheet;
 pub use quarters::{pm10_sheet, pm25_sheet};
 pub use report::report_sheet;

@@ -1,9 +1,17 @@
 //! Sheets as they print, worked out by hand.
+ghost use Rattle.std.specs.Prelude.{◌≤◌};
+
 use crate::list::{list, names};
 use crate::*;
-use aq_base::{Items, ListedLine, LoadReply, RestRule, Rule, SiteId};
-use aq_cal::day_of;
-use aq_ozone::{DayWindows, WindowRow};
+use aq_base::{
+    Items, ListedLine, LoadReply, MonitorId, ObsKey, Observation, Pollutant, Quals, RestRule, Rule,
+    Shown, SiteId, Standard, Verdict,
+};
+use aq_cal::{day_of, hour_of};
+use aq_ozone::{DayWindows, OzoneDay, WindowRow};
+use aq_verdict::{
+    AnnualDv, DesignValue, OzoneDv, OzoneYear, Pm10Quarter, Pm10Year, PmQuarter, PmYear,
+};
 use std::test::Fail;
 
 #[test]
@@ -129,5 +137,179 @@ fn each_kind_of_cell_prints(rt: HostRuntime) -> Result<(), Fail> {
         text.as_slice(),
         b"error NoSite\na b c d\n-12 -0.000005 7 -\n".as_slice()
     );
+    Ok(())
+}
+
+/// A leap year of one ozone day in all of its days.
+#[test]
+fn days_of_a_year_print(rt: HostRuntime) -> Result<(), Fail> {
+    let alloc = rt.alloc();
+    let site = SiteId::new(6, 37, 1103).expect(&rt, "a site");
+    let first = day_of(2024, 3, 1).expect(&rt, "a day");
+    let last = day_of(2024, 10, 31).expect(&rt, "a day");
+    let day = OzoneDay {
+        averages: 12,
+        valid: false,
+        maximum: Some(70),
+    };
+    let totals = OzoneYear::new(245, 240, 250, Some(71));
+    let sheet = days_sheet(
+        alloc,
+        site,
+        2024,
+        (first, last),
+        &[day; 366],
+        &[true; 366],
+        &totals,
+    )?;
+    let text = text_of(alloc, &sheet)?;
+    let want =
+        b"site 06-037-1103\nyear 2024\nseason_first 2024-03-01\nseason_last 2024-10-31\nseason_days 245\nseason_valid 240\nfourth 0.071\nday averages valid approved maximum\n2024-01-01 12 N Y 0.070\n";
+    assert!(rt; text.as_slice().starts_with(want));
+    assert!(rt; text.as_slice().ends_with(b"\n2024-12-31 12 N Y 0.070\n"));
+    Ok(())
+}
+
+#[test]
+fn ozone_value_prints(rt: HostRuntime) -> Result<(), Fail> {
+    let alloc = rt.alloc();
+    let site = SiteId::new(6, 37, 1103).expect(&rt, "a site");
+    let years = [
+        OzoneYear::new(245, 221, 240, Some(71)),
+        OzoneYear::new(245, 220, 230, Some(71)),
+        OzoneYear::new(245, 10, 3, None),
+    ];
+    let design = OzoneDv {
+        value: None,
+        verdict: Verdict::NoValue,
+    };
+    let value = DesignValue::Ozone(years, design);
+    let sheet = value_sheet(alloc, Standard::Ozone2015, site, 2024, &value)?;
+    let want =
+        b"standard O3-2015\nsite 06-037-1103\nyear 2024\nvalue -\ntest -\nverdict NoValue\nyear ranked fourth season_days season_valid\n2022 240 0.071 245 221\n2023 230 0.071 245 220\n2024 3 - 245 10\n";
+    assert_eq!(rt; text_of(alloc, &sheet)?.as_slice(), want.as_slice());
+    let report = report_sheet(alloc, Standard::Ozone2015, 2024, &[(site, value)])?;
+    assert_eq!(rt;
+        text_of(alloc, &report)?.as_slice(),
+        b"standard O3-2015\nyear 2024\nsite value verdict\n06-037-1103 - NoValue\n".as_slice()
+    );
+    Ok(())
+}
+
+/// A PM2.5 quarter of so many scheduled days, all but one of them at 13.0 µg/m3.
+fn quarter_of(scheduled: u8) -> PmQuarter
+    requires some { 2 ≤ scheduled }
+    requires most { scheduled ≤ 90 }
+{
+    let samples = scheduled - 1;
+    let value = Some(130);
+    PmQuarter::new(
+        scheduled,
+        samples,
+        samples,
+        samples,
+        130 * i32::from(samples),
+        value,
+        value,
+    )
+}
+
+#[test]
+fn pm25_year_and_value_print(rt: HostRuntime) -> Result<(), Fail> {
+    let alloc = rt.alloc();
+    let site = SiteId::new(6, 37, 1103).expect(&rt, "a site");
+    let top = Some(130);
+    let year = PmYear::new(
+        [
+            quarter_of(3),
+            quarter_of(30),
+            quarter_of(30),
+            quarter_of(30),
+        ],
+        [top, top, top, top, top, top, top, top],
+    );
+    let text = text_of(alloc, &pm25_sheet(alloc, site, 2024, &year)?)?;
+    let want =
+        b"site 06-037-1103\nyear 2024\ncounted 89\nrank 2\npercentile 13.0\nmean 13.0\nquarter scheduled creditable capture counted days sum least greatest\n1 3 2 67 2 2 26.0 13.0 13.0\n2 30 29 97 29 29 377.0 13.0 13.0\n3 30 29 97 29 29 377.0 13.0 13.0\n4 30 29 97 29 29 377.0 13.0 13.0\n";
+    assert_eq!(rt; text.as_slice(), want.as_slice());
+    let design = AnnualDv {
+        value: Some(130),
+        test: Some(129),
+        valid: [true, true, false],
+        verdict: Verdict::NotMet,
+    };
+    let value = DesignValue::Annual([year, year, year], design);
+    let sheet = value_sheet(alloc, Standard::Annual2012, site, 2024, &value)?;
+    let want =
+        b"standard PM25-ANNUAL-2012\nsite 06-037-1103\nyear 2024\nvalue 13.0\ntest 12.9\nverdict NotMet\nyear mean capture1 capture2 capture3 capture4 valid\n2022 13.0 67 97 97 97 Y\n2023 13.0 67 97 97 97 Y\n2024 13.0 67 97 97 97 N\n";
+    assert_eq!(rt; text_of(alloc, &sheet)?.as_slice(), want.as_slice());
+    Ok(())
+}
+
+/// A third quarter of 16 scheduled days, 15 of them sampled and one above the level in a stratum of
+/// its own: 92 / 15 is 6.13, and 92 / 16 is 5.75.
+#[test]
+fn pm10_year_prints(rt: HostRuntime) -> Result<(), Fail> {
+    let alloc = rt.alloc();
+    let site = SiteId::new(6, 37, 1103).expect(&rt, "a site");
+    let without = Pm10Quarter::new(91, 15, 15, 15, 15, 0, 0, 0);
+    let exceeding = Pm10Quarter::new(92, 16, 15, 15, 15, 1, 1, 60);
+    let year = Pm10Year::new([without, without, exceeding, without]);
+    let text = text_of(alloc, &pm10_sheet(alloc, site, 2023, &year)?)?;
+    let want =
+        b"site 06-037-1103\nyear 2023\nestimate 6.1\nquarter days scheduled captured strata samples exceedances estimate lower\n1 91 15 15 15 15 0 0.00 0.00\n2 91 15 15 15 15 0 0.00 0.00\n3 92 16 15 15 15 1 6.13 5.75\n4 91 15 15 15 15 0 0.00 0.00\n";
+    assert_eq!(rt; text.as_slice(), want.as_slice());
+    Ok(())
+}
+
+#[test]
+fn conflict_and_summary_print(rt: HostRuntime) -> Result<(), Fail> {
+    let alloc = rt.alloc();
+    let text = text_of(alloc, &conflict_sheet(alloc, 5, &[0xe3; 32], &[0x09; 32])?)?;
+    let want =
+        b"load 5\nkept e3e3e3e3e3e3e3e3e3e3e3e3e3e3e3e3e3e3e3e3e3e3e3e3e3e3e3e3e3e3e3e3\nsent 0909090909090909090909090909090909090909090909090909090909090909\n";
+    assert_eq!(rt; text.as_slice(), want.as_slice());
+    let text = text_of(alloc, &summary_sheet(alloc, 4, 120, 99)?)?;
+    assert_eq!(rt;
+        text.as_slice(),
+        b"loads 4\nlines 120\nobservations 99\n".as_slice()
+    );
+    Ok(())
+}
+
+#[test]
+fn error_has_one_member_in_json(rt: HostRuntime) -> Result<(), Fail> {
+    let alloc = rt.alloc();
+    let text = json_of(alloc, &error_sheet(alloc, "NotFound")?)?;
+    assert_eq!(rt; text.as_slice(), b"{\"error\":\"NotFound\"}".as_slice());
+    Ok(())
+}
+
+#[test]
+fn observation_is_exported(rt: HostRuntime) -> Result<(), Fail> {
+    let alloc = rt.alloc();
+    let site = SiteId::new(6, 37, 1103).expect(&rt, "a site");
+    let day = day_of(2024, 7, 1).expect(&rt, "a day");
+    let monitor = MonitorId {
+        site,
+        pollutant: Pollutant::Ozone,
+        poc: 1,
+    };
+    let shown = Shown {
+        key: ObsKey {
+            monitor,
+            hour: hour_of(day, 10),
+        },
+        content: Observation {
+            value: Some(71),
+            null: None,
+            quals: Quals::new(),
+        },
+        excluded: false,
+    };
+    let text = export_of(alloc, &[shown])?;
+    let want =
+        b"site,parameter,poc,date,hour,value,null,qualifiers,excluded\n06-037-1103,44201,1,2024-07-01,10,0.071,,,N\n";
+    assert_eq!(rt; text.as_slice(), want.as_slice());
     Ok(())
 }
