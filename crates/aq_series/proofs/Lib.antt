@@ -11,3 +11,5 @@ pub mod MonitorDay
 pub mod DayLists
 pub mod DayMeans
 pub mod SiteDay
+pub mod DaySpans
+pub mod SiteSpans
