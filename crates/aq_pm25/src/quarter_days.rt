@@ -24,19 +24,21 @@ pub(crate) struct DayOfQuarter {
     pub(crate) value: Option<i32>,
 }
 
-/// A day in its quarter.
+/// A day in its quarter, by the site's value for the day.
 pub(crate) fn day_of_quarter<L: Ledger>(
     shelf: &Shelf,
     registry: &Registry,
     site: &SiteId,
     day: Day,
+    cell: Option<Cell>,
     steps: &mut Steps<L>,
 ) -> DayOfQuarter
+    requires cell { cell ≡ site_day (office_of registry.now shelf.now) site.now Pm25 day }
+    requires range { IfSome cell (λ cell. IsParticle cell.value) }
     ensures day { result ≡ day_in (office_of registry.now shelf.now) site.now day }
     ensures range { IfSome result.value (λ value. IsParticle value) }
 {
     let scheduled = registry.is_scheduled(*site, Pollutant::Pm25, day);
-    let cell = site_day(shelf, registry, *site, Pollutant::Pm25, day, steps);
     let value = net(&cell);
     let sample = creditable(shelf, registry, site, day, scheduled, cell, steps);
     DayOfQuarter {

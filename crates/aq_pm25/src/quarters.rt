@@ -15,6 +15,7 @@ use crate::top_eight::TopEight;
 use aq_base::{Day, FIRST_YEAR, Pollutant, Quarter, SiteId, Steps};
 use aq_cal::{a_quarter_holds_the_days_of_its_span, quarter_span};
 use aq_registry::Registry;
+use aq_series::site_days;
 use aq_shelf::Shelf;
 use aq_verdict::{PmQuarter, PmYear};
 use std::sync::ledger::Ledger;
@@ -111,10 +112,12 @@ fn tally_of<L: Ledger>(
     ensures { IsTallyOf top.places (map (day_in (office_of registry.now shelf.now) site.now) (days_of_quarter quarter)) result }
 {
     let (first, days) = quarter_span(quarter);
+    let cells = site_days(shelf, registry, *site, first, days, steps);
     let mut so_far = QuarterTally::new(top);
     for count in 0..days {
         let day = Day::new(first.number() + u16::from(count));
-        so_far = so_far.with(day_of_quarter(shelf, registry, site, day, steps));
+        let cell = cells[usize::from(count)];
+        so_far = so_far.with(day_of_quarter(shelf, registry, site, day, cell, steps));
     }
     so_far
 }

@@ -11,3 +11,6 @@ pub mod MonitorDay
 pub mod DayLists
 pub mod DayMeans
 pub mod SiteDay
+pub mod DaySpans
+pub mod SiteSpans
+pub mod NoCodes

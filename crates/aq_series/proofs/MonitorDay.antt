@@ -55,7 +55,7 @@ module _ (records : List OfficeRecord) (rows : List Entry) (monitor : MonitorId)
   give row =
       cond (is_same_monitor row.0.monitor monitor && starts row.0.hour) (option_map (λ (value : ℤ). as_timed row.0.hour (as_cell value (excluded records row.0 row.1.quals))) row.1.value) None
 
-  abbrev give_cell : Entry → Option Cell
+  abbrev pub give_cell : Entry → Option Cell
   give_cell row =
       cond (is_same_monitor row.0.monitor monitor && starts row.0.hour) (option_map (λ (value : ℤ). as_cell value (excluded records row.0 row.1.quals)) row.1.value) None
 
@@ -249,6 +249,11 @@ in_day day hour = in_range hour (24 * day + 0) 24 ∙ of_day hour day
 rising_day : (day : ℕ) → Rising (λ m. m) (hours_of day)
 unfolding hours_of
 rising_day day = rising_range (24 * day + 0) 24
+
+-- what the rows give for a day of hours
+pub cells-of_day : (records : List OfficeRecord) (rows : List Entry) (monitor : MonitorId) (day : ℕ) → IsTrue (rises observation_rank rows)
+    → filter_map (give_cell records rows monitor (starts_on Hour day)) rows ≡ cells_in records rows monitor (hours_of day)
+cells-of_day records rows monitor day rising = cells-are records rows monitor (starts_on Hour day) rising (hours_of day) (rising_day day) (in_day day)
 
 at_start : (day hour : ℕ) → list_any (λ m. m == hour) (hour_number day 0 ∷ []) ≡ starts_on Day day hour
 at_start day hour = grind (arith, nat_tests)

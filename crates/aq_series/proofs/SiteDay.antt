@@ -263,7 +263,7 @@ module _ (office : Office) (site : Site) (pollutant : Pollutant) (day : ℕ) whe
   sample_for poc = sample_on office site pollutant day poc
 
   -- a monitor that does not count has no day
-  no_day : (poc : ℕ) → counts office.records site pollutant poc ≡ false → cell_for poc ≡ None
+  pub no_day : (poc : ℕ) → counts office.records site pollutant poc ≡ false → cell_for poc ≡ None
   unfolding monitor_day
   no_day poc none = ap (λ b. cond b (option_and_then (λ duration. day_of_samples office (monitor_at site pollutant poc) duration day) (duration_at office (monitor_at site pollutant poc))) None) none
 

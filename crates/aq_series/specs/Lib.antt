@@ -3,3 +3,4 @@ pub mod DayStates
 pub mod OfficeView
 pub mod Samples
 pub mod DayCells
+pub mod DaySums

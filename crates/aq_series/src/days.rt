@@ -214,7 +214,7 @@ fn lowest_eligible(registry: &Registry, site: &SiteId, pollutant: Pollutant) -> 
 }
 
 /// A monitor of a site.
-fn monitor_at(site: &SiteId, pollutant: Pollutant, poc: u8) -> MonitorId
+pub(crate) fn monitor_at(site: &SiteId, pollutant: Pollutant, poc: u8) -> MonitorId
     ensures { result ≡ monitor_at site.now pollutant poc }
 {
     MonitorId {
@@ -246,7 +246,7 @@ fn hours_of<L: Ledger>(
 }
 
 /// The value that a monitor has for the sample that starts at an hour, if there is one, in one step.
-fn cell_at<L: Ledger>(
+pub(crate) fn cell_at<L: Ledger>(
     shelf: &Shelf,
     registry: &Registry,
     monitor: &MonitorId,

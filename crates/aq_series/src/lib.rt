@@ -3,14 +3,17 @@
 #![tactic(auto)]
 
 mod day_hours;
+mod day_spans;
 mod day_tally;
 mod days;
 mod hours;
+mod site_spans;
 mod tally;
 
 pub use day_hours::{SPAN_DAYS, SPAN_HOURS, site_hours};
 pub use days::{monitor_day, site_day};
 pub use hours::{Cell, site_hour};
+pub use site_spans::site_days;
 
 #[cfg(test)]
 mod day_tests;
