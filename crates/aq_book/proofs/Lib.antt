@@ -1,7 +1,3 @@
-pub mod RowLemmas
-pub mod ChangeLemmas
-pub mod OverlayLemmas
-pub mod LoadLaws
 pub mod StageLemmas
 pub mod OzoneLemmas
 pub mod DesignLemmas

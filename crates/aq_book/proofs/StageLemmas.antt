@@ -9,21 +9,12 @@ use Rattle.aq_profile.specs.Lines.Lines.{body_lines}
 use Rattle.aq_profile.specs.Office.Load.{New, after_all, decide, load, reply, with_load}
 use Rattle.aq_profile.specs.Office.Office.{IsOffice, Office, StoredLoad, load_rank, with_row}
 use Rattle.aq_series.specs.OfficeView.{office_of}
-use Rattle.aq_book.specs.declared.staging.Staging.{Staging}
-use Rattle.aq_book.specs.declared.changes.Changes.{Changes}
-use Rattle.aq_book.specs.Changes.{with_changes}
-use Rattle.aq_book.specs.Refusals.{office_in}
-use Rattle.aq_book.specs.Staged.{StagedLoad, after_lines, office_with, Fits}
+use Rattle.aq_load.specs.Staged.{StagedLoad, after_lines}
+use Rattle.aq_load.specs.Changes.{with_changes}
+use Rattle.aq_book.specs.Staged.{office_with, Fits}
 use Rattle.aq_loads.specs.KeptLoads.{stored_as, with_kept}
 use Rattle.aq_book.specs.View.{standing}
 use Rattle.aq_book.proofs.Loadless.{after_all_loads, reply_loads, with_loads}
-
-abbrev staged_of : List OfficeRecord → Changes → ℕ → List ℕ → LoadReply → StagedLoad
-staged_of records changes number digest reply = record { records = records; changes = changes; number = number; digest = digest; reply = reply }
-
-pub staged-office : (staging : Staging) (changes : Changes) (number : ℕ) (digest : List ℕ) (reply : LoadReply) (records : List OfficeRecord) (rows : List (ObsKey × Observation)) → staging.observations.before ≡ rows → with_changes changes staging.observations.before ≡ staging.observations.standing → after_lines (staged_of staging.registry changes number digest reply) (office_of records rows) ≡ office_in staging
-staged-office staging changes number digest reply records rows before standing =
-    ap (office_of staging.registry) (ap (with_changes changes) (sym before) ∙ standing)
 
 -- ---- a load that is staged on a book with loads
 
@@ -66,24 +57,24 @@ load-kept stored records rows loads = by (stored.number == 0)
     by true = refl
     by false = refl
 
-module _ (staged : StagedLoad) (office : Office) (records old : List OfficeRecord) (changes : Changes) (number : ℕ) (digest : List ℕ) (reply : LoadReply) (rows : List (ObsKey × Observation)) (loads : List StoredLoad) (seen : staged_of records changes number digest reply ≡ staged) (view : standing old rows loads ≡ office) where
+module _ (staged : StagedLoad) (office : Office) (old : List OfficeRecord) (rows : List (ObsKey × Observation)) (loads : List StoredLoad) (view : standing old rows loads ≡ office) where
   -- the shelf with the changes is not too full
-  pub room-after : Fits staged office → length (with_changes changes rows) ≤ MOST_OBSERVATIONS
+  pub room-after : Fits staged office → length (with_changes staged.changes rows) ≤ MOST_OBSERVATIONS
   unfolding office_with
   room-after fits =
-      subst (λ (o : Office). length (with_changes changes o.observations) ≤ MOST_OBSERVATIONS) (sym view)
-      (subst (λ (s : StagedLoad). length (with_changes s.changes office.observations) ≤ MOST_OBSERVATIONS) (sym seen)
-      (subst (λ (o : List (ObsKey × Observation)). length o ≤ MOST_OBSERVATIONS) (observations-kept (stored_as staged.number staged.digest staged.reply) (after_lines staged office)) fits.few_observations))
+      subst (λ (o : Office). length (with_changes staged.changes o.observations) ≤ MOST_OBSERVATIONS) (sym view)
+      (subst (λ (o : List (ObsKey × Observation)). length o ≤ MOST_OBSERVATIONS) (observations-kept (stored_as staged.number staged.digest staged.reply) (after_lines staged office)) fits.few_observations)
 
-  module _ (new : List (ObsKey × Observation)) (is : new ≡ with_changes changes rows) (kept : List StoredLoad) (kept_is : kept ≡ with_kept (stored_as number digest reply) loads) where
+  module _ (records : List OfficeRecord) (records_are : records ≡ staged.records) (new : List (ObsKey × Observation)) (new_is : new ≡ with_changes staged.changes rows)
+      (number : ℕ) (number_is : number ≡ staged.number) (digest : List ℕ) (digest_is : digest ≡ staged.digest) (reply : LoadReply) (reply_is : reply ≡ staged.reply)
+      (kept : List StoredLoad) (kept_is : kept ≡ with_kept (stored_as number digest reply) loads) where
     -- the shelf after the changes, the records of the load, and the loads with it
     pub taken-office : standing records new kept ≡ office_with staged office
     unfolding office_with
     taken-office =
-        (λ i. standing records (is i) (kept_is i))
-        ∙ load-kept (stored_as number digest reply) records (with_changes changes rows) loads
-        ∙ ap (office_with (staged_of records changes number digest reply)) view
-        ∙ ap (λ (s : StagedLoad). office_with s office) seen
+        (λ i. standing (records_are i) (new_is i) ((kept_is ∙ (λ j. with_kept (stored_as (number_is j) (digest_is j) (reply_is j)) loads)) i))
+        ∙ load-kept (stored_as staged.number staged.digest staged.reply) staged.records (with_changes staged.changes rows) loads
+        ∙ ap (office_with staged) view
 
     pub valid-after : Fits staged office → IsOffice (standing records new kept)
     valid-after fits = subst IsOffice (sym taken-office) fits

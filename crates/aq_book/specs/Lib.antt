@@ -2,8 +2,4 @@
 pub mod View
 pub mod Checks
 pub mod Questions
-pub mod Changes
-pub mod Overlay
 pub mod Staged
-pub mod Refusals
-pub mod Counts

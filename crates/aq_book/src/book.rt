@@ -9,9 +9,8 @@ ghost use Rattle.aq_profile.specs.Office.Load.{New, decide, load, reply};
 ghost use Rattle.aq_profile.specs.Office.Office.{load_at, nothing};
 
 use crate::check::LoadCheck;
-use crate::load::stage_load;
-use crate::staged::Staged;
 use aq_base::{LoadReply, Memory};
+use aq_load::{Staged, stage_load};
 use aq_loads::{Loads, digest_is_32_bytes};
 use aq_profile::office::valid_load::{an_office_of_nothing_is_valid, loads_leave_the_office_valid};
 use aq_registry::Registry;
@@ -120,11 +119,11 @@ impl Book {
         requires { Fits staged self }
         ensures { IfOk result (λ book. book ≡ office_with staged self) }
     {
-        let shelf = staged.changes.onto(self.shelf)?;
-        let loads = self.loads.with(staged.number, staged.digest, staged.reply)?;
+        let taken = staged.onto(self.shelf)?;
+        let loads = self.loads.with(taken.number, taken.digest, taken.reply)?;
         Ok(Book {
-            registry: staged.registry,
-            shelf,
+            registry: taken.registry,
+            shelf: taken.shelf,
             loads,
         })
     }

@@ -3,24 +3,18 @@
 #![tactic(auto)]
 
 mod book;
-mod changes;
 mod check;
 mod design;
 mod fault;
-mod load;
-mod overlay;
 mod ozone;
 mod particles;
 mod question;
-mod reply;
-mod staged;
-mod staging;
 
+pub use aq_load::Staged;
 pub use book::Book;
 pub use check::LoadCheck;
 pub use fault::{AskFault, UnknownSite};
 pub use ozone::OzoneDays;
-pub use staged::Staged;
 
 #[cfg(test)]
 mod tests;

@@ -1,0 +1,7 @@
+-- What a load makes of an office, beside it.
+pub mod OfficeView
+pub mod Changes
+pub mod Overlay
+pub mod Staged
+pub mod Refusals
+pub mod Counts

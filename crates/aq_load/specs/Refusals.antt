@@ -1,0 +1,31 @@
+-- Why a line is refused while a load is staged.
+use Rattle.std.specs.Prelude.{◌≡◌, Option, Some}
+use Rattle.aq_base.specs.declared.rule.Rule.{Rule}
+use Rattle.aq_base.specs.declared.rule.Rule.TheVariants as rules
+use Rattle.aq_shelf.specs.declared.fault.ShelfFault.{ShelfFault}
+use Rattle.aq_shelf.specs.declared.fault.ShelfFault.TheVariants as shelf
+use Rattle.aq_profile.specs.Office.Office.{Office}
+use Rattle.aq_load.specs.OfficeView.{office_of}
+use Rattle.aq_load.specs.declared.overlay.OverlayFault.{OverlayFault}
+use Rattle.aq_load.specs.declared.overlay.OverlayFault.TheVariants as overlay
+use Rattle.aq_load.specs.declared.staging.Refusal.{Refusal}
+use Rattle.aq_load.specs.declared.staging.Refusal.TheVariants.{Broken, Memory}
+use Rattle.aq_load.specs.declared.staging.Staging.{Staging}
+
+-- a line is refused under its rule; want of memory has no cause that is told
+abbrev pub IsRefusal : Option Rule → Refusal → Type 0
+IsRefusal rule (Broken broken) = rule ≡ Some broken
+IsRefusal rule Memory = Unit {0}
+
+abbrev pub refusal_of_put : ShelfFault → Refusal
+refusal_of_put shelf.AlreadyThere = Broken rules.AlreadyThere
+refusal_of_put shelf.Full = Broken rules.ObservationsFull
+refusal_of_put shelf.Memory = Memory
+
+abbrev pub refusal_of_change : OverlayFault → Refusal
+refusal_of_change overlay.NotThere = Broken rules.NotThere
+refusal_of_change overlay.Memory = Memory
+
+-- the office as a load's lines leave it so far
+abbrev pub office_in : Staging → Office
+office_in staging = office_of staging.registry staging.observations.standing
