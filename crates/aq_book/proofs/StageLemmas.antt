@@ -9,7 +9,7 @@ use Rattle.aq_profile.specs.Lines.Lines.{body_lines}
 use Rattle.aq_profile.specs.Office.Load.{New, after_all, decide, load, reply, with_load}
 use Rattle.aq_profile.specs.Office.Office.{IsOffice, Office, StoredLoad, load_rank, with_row}
 use Rattle.aq_series.specs.OfficeView.{office_of}
-use Rattle.aq_load.specs.Staged.{StagedLoad, after_lines}
+use Rattle.aq_load.specs.Staged.{StagedLoad, after_lines, IsStagedOn}
 use Rattle.aq_load.specs.Changes.{with_changes}
 use Rattle.aq_book.specs.Staged.{office_with, Fits}
 use Rattle.aq_loads.specs.KeptLoads.{stored_as, with_kept}
@@ -19,12 +19,15 @@ use Rattle.aq_book.proofs.Loadless.{after_all_loads, reply_loads, with_loads}
 -- ---- a load that is staged on a book with loads
 
 module _ (staged : StagedLoad) (records : List OfficeRecord) (rows : List (ObsKey × Observation)) (loads : List StoredLoad) (office : Office) (view : standing records rows loads ≡ office) (number : ℕ) (digest body : List ℕ) where
+  pub staged_on : IsStagedOn records rows staged → IsStagedOn office.records office.observations staged
+  staged_on on = subst (λ (o : Office). IsStagedOn o.records o.observations staged) view on
+
   module _ (is_reply : staged.reply ≡ reply (office_of records rows) number body) where
     pub reply-is : staged.reply ≡ reply office number body
     reply-is = is_reply ∙ sym (reply_loads loads (office_of records rows) number body) ∙ ap (λ (o : Office). reply o number body) view
 
     module _ (is_load : (staged.number ≡ number) × (staged.digest ≡ digest)) (is_after : after_lines staged (office_of records rows) ≡ after_all (office_of records rows) (body_lines body)) where
-      after-is : after_lines staged office ≡ after_all office (body_lines body)
+      pub after-is : after_lines staged office ≡ after_all office (body_lines body)
       after-is =
           ap (after_lines staged) (sym view) ∙ ap (with_loads loads) is_after
           ∙ sym (after_all_loads loads (body_lines body) (office_of records rows))

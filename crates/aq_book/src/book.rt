@@ -1,11 +1,12 @@
 //! An office with its observations and records.
 ghost use Rattle.std.specs.Prelude.{◌≡◌, ◌≤◌, ◌⊎◌, length, option_map, IfOk};
 ghost use Rattle.aq_book.specs.Checks.{decision_of};
+ghost use Rattle.aq_load.specs.Staged.{after_lines, IsStagedOn};
 ghost use Rattle.aq_loads.specs.KeptLoads.{digest_in, reply_in};
 ghost use Rattle.aq_book.specs.Staged.{office_with, Fits};
 ghost use Rattle.aq_profile.specs.Limits.{MOST_BYTES, MOST_LINES};
-ghost use Rattle.aq_profile.specs.Lines.Lines.{line_count};
-ghost use Rattle.aq_profile.specs.Office.Load.{New, decide, load, reply};
+ghost use Rattle.aq_profile.specs.Lines.Lines.{body_lines, line_count};
+ghost use Rattle.aq_profile.specs.Office.Load.{New, after_all, decide, load, reply};
 ghost use Rattle.aq_profile.specs.Office.Office.{load_at, nothing};
 
 use crate::check::LoadCheck;
@@ -105,6 +106,8 @@ impl Book {
         ensures reply { IfOk result (λ staged. staged.reply ≡ reply self.now number body.now) }
         ensures office { IfOk result (λ staged. office_with staged self.now ≡ load self.now number digest body.now) }
         ensures fits { IfOk result (λ staged. Fits staged self.now) }
+        ensures lines_taken { IfOk result (λ staged. after_lines staged self.now ≡ after_all self.now (body_lines body.now)) }
+        ensures staged_on { IfOk result (IsStagedOn self.now.records self.now.observations) }
     {
         loads_leave_the_office_valid();
         // The proof learns that the digest is 32 bytes.

@@ -3,3 +3,7 @@ pub mod ChangeLemmas
 pub mod OverlayLemmas
 pub mod LoadLaws
 pub mod StageLemmas
+pub mod KeyLemmas
+pub mod EitherLemmas
+pub mod BatchLemmas
+pub mod TouchLemmas

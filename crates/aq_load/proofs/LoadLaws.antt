@@ -2,7 +2,7 @@
 use Rattle.std.proofs.Common.{◌≡◌, ℕ, ◌-◌, ◌<◌, ◌≤◌, min, take, drop, replicate, List, [], ◌∷◌, ◌++◌, length, if◌then◌else◌, Option, Some, None, refl, sym, ap, ◌∙◌, inl, inr, arith}
 use Rattle.std.specs.Option.{is_some}
 use Rattle.std.specs.List.{cons_option, filter_map}
-use Rattle.std.proofs.lemmas.List.{get_or-replicate, length-append, append-nil, take_all, take_min, length-drop, nil_from_length}
+use Rattle.std.proofs.lemmas.List.{append_assoc, get_or-replicate, length-append, append-nil, take_all, take_min, length-drop, nil_from_length}
 use Rattle.std.proofs.lemmas.Bool.{cases_lt}
 use Rattle.std.proofs.Math.Nat.{min_comm}
 use Rattle.aq_base.specs.declared.reply.LoadReply.{LoadReply}
@@ -31,6 +31,14 @@ pub few_refused : (office : Office) (lines : List NumberedLine) → length (refu
 few_refused office [] = omega arith
 few_refused office (line ∷ lines) =
     omega (arith, one_listed line.number (refusal office line.text), few_refused (after office line.text) lines, length-append (listed_for line.number (refusal office line.text)) (refusals (after office line.text) lines))
+
+-- a line that is refused is one of those refused so far
+pub next_refused : (office now : Office) (line : NumberedLine) (rest left : List NumberedLine) (refused more all : List ListedLine) → left ≡ line ∷ rest → more ≡ refused ++ listed_for line.number (refusal office line.text) → now ≡ after office line.text
+    → refused ++ refusals office left ≡ all → more ++ refusals now rest ≡ all
+next_refused office now line rest left refused more all next listed is told =
+    (λ i. listed i ++ refusals (is i) rest)
+    ∙ append_assoc refused (listed_for line.number (refusal office line.text)) (refusals (after office line.text) rest)
+    ∙ ap (λ lines. refused ++ refusals office lines) (sym next) ∙ told
 
 -- at the end of the lines, those refused so far are all
 pub all_refused : (refused all : List ListedLine) (office : Office) (left : List NumberedLine) → left ≡ [] → refused ++ refusals office left ≡ all → refused ≡ all

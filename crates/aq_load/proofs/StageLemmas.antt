@@ -11,9 +11,9 @@ use Rattle.aq_load.specs.OfficeView.{office_of}
 use Rattle.aq_load.specs.Refusals.{office_in}
 use Rattle.aq_load.specs.Staged.{StagedLoad, after_lines}
 
-abbrev pub staged_of : List OfficeRecord → Changes → ℕ → List ℕ → LoadReply → StagedLoad
-staged_of records changes number digest reply = record { records = records; changes = changes; number = number; digest = digest; reply = reply }
+abbrev pub staged_of : List OfficeRecord → List OfficeRecord → Changes → ℕ → List ℕ → LoadReply → StagedLoad
+staged_of records touched changes number digest reply = record { records = records; touched = touched; changes = changes; number = number; digest = digest; reply = reply }
 
-pub staged-office : (staging : Staging) (changes : Changes) (number : ℕ) (digest : List ℕ) (reply : LoadReply) (records : List OfficeRecord) (rows : List (ObsKey × Observation)) → staging.observations.before ≡ rows → with_changes changes staging.observations.before ≡ staging.observations.standing → after_lines (staged_of staging.registry changes number digest reply) (office_of records rows) ≡ office_in staging
+pub staged-office : (staging : Staging) (changes : Changes) (number : ℕ) (digest : List ℕ) (reply : LoadReply) (records : List OfficeRecord) (rows : List (ObsKey × Observation)) → staging.observations.before ≡ rows → with_changes changes staging.observations.before ≡ staging.observations.standing → after_lines (staged_of staging.registry staging.touched changes number digest reply) (office_of records rows) ≡ office_in staging
 staged-office staging changes number digest reply records rows before standing =
     ap (office_of staging.registry) (ap (with_changes changes) (sym before) ∙ standing)

@@ -5,3 +5,6 @@ pub mod Overlay
 pub mod Staged
 pub mod Refusals
 pub mod Counts
+pub mod Touched
+pub mod Keys
+pub mod Batch

@@ -1,11 +1,13 @@
 -- Why a line is refused while a load is staged.
-use Rattle.std.specs.Prelude.{◌≡◌, Option, Some}
+use Rattle.std.specs.Prelude.{◌≡◌, Option, Some, List}
+use Rattle.aq_base.specs.declared.office.OfficeRecord.{OfficeRecord}
 use Rattle.aq_base.specs.declared.rule.Rule.{Rule}
 use Rattle.aq_base.specs.declared.rule.Rule.TheVariants as rules
 use Rattle.aq_shelf.specs.declared.fault.ShelfFault.{ShelfFault}
 use Rattle.aq_shelf.specs.declared.fault.ShelfFault.TheVariants as shelf
 use Rattle.aq_profile.specs.Office.Office.{Office}
 use Rattle.aq_load.specs.OfficeView.{office_of}
+use Rattle.aq_load.specs.Touched.{AreTouched}
 use Rattle.aq_load.specs.declared.overlay.OverlayFault.{OverlayFault}
 use Rattle.aq_load.specs.declared.overlay.OverlayFault.TheVariants as overlay
 use Rattle.aq_load.specs.declared.staging.Refusal.{Refusal}
@@ -26,6 +28,15 @@ abbrev pub refusal_of_change : OverlayFault → Refusal
 refusal_of_change overlay.NotThere = Broken rules.NotThere
 refusal_of_change overlay.Memory = Memory
 
+-- nothing is changed by a refused line; after want of memory nothing is said
+abbrev pub IsAsBefore : Refusal → Staging → Staging → Type 0
+IsAsBefore (Broken rule) old new = new ≡ old
+IsAsBefore Memory old new = Unit {0}
+
 -- the office as a load's lines leave it so far
 abbrev pub office_in : Staging → Office
 office_in staging = office_of staging.registry staging.observations.standing
+
+-- what a line changes is noted: the touched records stay those of the load, whatever stood before it
+abbrev pub AreNoted : Staging → Staging → Type 0
+AreNoted old new = (before : List OfficeRecord) → AreTouched before old.registry old.touched → AreTouched before new.registry new.touched

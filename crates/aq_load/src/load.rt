@@ -1,7 +1,7 @@
 //! A load's lines, taken in their order beside the office.
 ghost use Rattle.std.specs.Prelude.{◌≡◌, ◌≤◌, ◌++◌, length, IfOk, OnOk};
-ghost use Rattle.aq_load.specs.Refusals.{office_in};
-ghost use Rattle.aq_load.specs.Staged.{after_lines};
+ghost use Rattle.aq_load.specs.Refusals.{office_in, AreNoted};
+ghost use Rattle.aq_load.specs.Staged.{after_lines, IsStagedOn};
 ghost use Rattle.aq_profile.specs.Limits.{MOST_BYTES};
 ghost use Rattle.aq_profile.specs.Lines.Lines.{body_lines};
 ghost use Rattle.aq_profile.specs.Office.Load.{after, after_all, listed_for, refusal, reply};
@@ -30,6 +30,7 @@ pub fn stage_load(
     requires { length body.now ≤ MOST_BYTES }
     ensures reply { IfOk result (λ staged. staged.reply ≡ reply (office_of registry.now shelf.now) number body.now) }
     ensures load { IfOk result (λ staged. (staged.number ≡ number) × (staged.digest ≡ digest)) }
+    ensures staged_on { IfOk result (IsStagedOn registry.now shelf.now) }
     ensures office { IfOk result (λ staged. after_lines staged (office_of registry.now shelf.now) ≡ after_all (office_of registry.now shelf.now) (body_lines body.now)) }
 {
     let mut staging = Staging::new(alloc, registry, shelf)?;
@@ -42,6 +43,7 @@ pub fn stage_load(
     let reply = reply_of(alloc, number, count_lines(body), taken, &refused)?;
     Ok(Staged {
         registry: staging.registry,
+        touched: staging.touched,
         changes: staging.observations.into_changes(),
         number,
         digest,
@@ -59,6 +61,7 @@ fn take_line(
     ensures office { OnOk result (office_in staging.new ≡ after (office_in staging.old) text.now) }
     ensures refused { OnOk result (refused.new.items ≡ refused.old.items ++ listed_for number (refusal (office_in staging.old) text.now)) }
     ensures before { staging.new.observations.before ≡ staging.old.observations.before }
+    ensures touched { OnOk result (AreNoted staging.old staging.new) }
 {
     match staging.take(text) {
         Ok(()) => Ok(()),

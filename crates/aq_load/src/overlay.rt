@@ -1,7 +1,7 @@
 //! The observations while a load is staged.
-ghost use Rattle.std.specs.Prelude.{◌≡◌, ◌<◌, None, Some, length, IfErr, IfOk, OnErr, OnOk};
+ghost use Rattle.std.specs.Prelude.{◌≡◌, ◌<◌, ◌≤◌, None, Some, length, IfErr, IfOk, OnErr, OnOk};
 ghost use Rattle.aq_base.specs.Values.{HasValueInRange};
-ghost use Rattle.aq_load.specs.Changes.{with_changes};
+ghost use Rattle.aq_load.specs.Changes.{with_changes, AreChanges};
 ghost use Rattle.aq_load.specs.Overlay.{with_content, without_content, IsOverlayFault};
 ghost use Rattle.aq_profile.specs.Limits.{MOST_OBSERVATIONS};
 ghost use Rattle.aq_shelf.specs.Standing.{content_at, IsInsertFault};
@@ -141,7 +141,9 @@ impl<'a> Overlay<'a> {
 
     /// The changes alone.
     pub(crate) fn into_changes(self) -> Changes
-        ensures { with_changes result self.entry.before ≡ self.entry.standing }
+        ensures standing { with_changes result self.entry.before ≡ self.entry.standing }
+        ensures changes { AreChanges self.entry.before result }
+        ensures few { length self.entry.standing ≤ MOST_OBSERVATIONS }
     {
         self.changes
     }

@@ -5,15 +5,16 @@ ghost use Rattle.aq_profile.specs.Limits.{MOST_OBSERVATIONS};
 
 use crate::changes::Changes;
 use aq_base::{LoadReply, Memory};
-use aq_registry::Registry;
+use aq_registry::{Records, Registry};
 use aq_shelf::Shelf;
 use std::marker::Model;
 
-/// What a load makes of an office, held beside it: the records after it, the observations that it
-/// changed, and its number, the digest of its body and its reply.
+/// What a load makes of an office, held beside it: the records after it, those that its lines put or
+/// dropped, the observations that it changed, and its number, the digest of its body and its reply.
 #[derive(Drop)]
 pub struct Staged {
     pub(crate) registry: Registry,
+    pub(crate) touched: Records,
     pub(crate) changes: Changes,
     pub(crate) number: u32,
     pub(crate) digest: [u8; 32],
@@ -25,7 +26,7 @@ impl Model for Staged {
 
     ghost Value = { StagedLoad };
 
-    ghost view = { λ staged. record { records = staged.registry; changes = staged.changes; number = staged.number; digest = staged.digest; reply = staged.reply } };
+    ghost view = { λ staged. record { records = staged.registry; touched = staged.touched; changes = staged.changes; number = staged.number; digest = staged.digest; reply = staged.reply } };
 }
 
 impl Staged {

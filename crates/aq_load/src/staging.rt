@@ -3,13 +3,14 @@ ghost use Rattle.std.specs.Prelude.{◌≡◌};
 ghost use Rattle.aq_profile.specs.Office.Refusal.{kept_at};
 
 use crate::overlay::{Overlay, OverlayFault};
+use crate::touched::note;
 use aq_base::{
     Duration, Hour, Memory, MonitorId, ObsKey, Observation, OfficeKey, OfficeLine, OfficeRecord,
     Rule,
 };
 use aq_forms::read_office;
 use aq_rd::{RdLine, has_office_tag, read_rd};
-use aq_registry::{Registry, RegistryFault};
+use aq_registry::{Records, Registry, RegistryFault};
 use aq_shelf::{Shelf, ShelfFault};
 use std::alloc::Global;
 
@@ -17,6 +18,8 @@ use std::alloc::Global;
 #[derive(Drop)]
 pub(crate) struct Staging<'a> {
     pub(crate) registry: Registry,
+    /// Under each key of which the lines put, changed or dropped a record, one such record.
+    pub(crate) touched: Records,
     pub(crate) observations: Overlay<'a>,
 }
 
@@ -59,7 +62,8 @@ impl From<OverlayFault> for Refusal {
 impl<'a> Staging<'a> {
     ghost use Rattle.std.specs.Prelude.{◌≡◌, ℕ, None, true, false, IfErr, IfOk, IsTrue, OnErr, OnOk};
     ghost use Rattle.aq_base.specs.Values.{HasValueInRange};
-    ghost use Rattle.aq_load.specs.Refusals.{office_in, IsRefusal};
+    ghost use Rattle.aq_load.specs.Refusals.{office_in, AreNoted, IsAsBefore, IsRefusal};
+    ghost use Rattle.aq_load.specs.Touched.{AreTouched};
     ghost use Rattle.aq_profile.specs.Lines.Canonical.{is_office_line};
     ghost use Rattle.aq_profile.specs.Lines.RdForm.{Put as PutSample, Delete as DeleteSample};
     ghost use Rattle.aq_profile.specs.Lines.Reading.{OfOffice, OfRd};
@@ -80,19 +84,22 @@ impl<'a> Staging<'a> {
     ) -> Result<Staging<'a>, Memory>
         ensures office { IfOk result (λ staging. office_in staging ≡ office_of registry.now shelf.now) }
         ensures before { IfOk result (λ staging. staging.observations.before ≡ shelf.now) }
+        ensures touched { IfOk result (λ staging. AreTouched registry.now staging.registry staging.touched) }
     {
         Ok(Staging {
             registry: registry.copy()?,
+            touched: Records::new(alloc),
             observations: Overlay::new(alloc, shelf),
         })
     }
 
-    /// Takes a line. After a refusal nothing is changed.
+    /// Takes a line, and notes what it touched. After a refusal nothing is changed.
     pub(crate) fn take(&mut self, line: &[u8]) -> Result<(), Refusal>
         ensures unbroken { OnOk result (refusal (office_in self.old) line.now ≡ None) }
         ensures after { OnOk result (office_in self.new ≡ after (office_in self.old) line.now) }
         ensures refused { IfErr result (IsRefusal (refusal (office_in self.old) line.now)) }
-        ensures unchanged { OnErr result (self.new ≡ self.old) }
+        ensures unchanged { IfErr result (λ refusal. IsAsBefore refusal self.old self.new) }
+        ensures touched { OnOk result (AreNoted self.old self.new) }
         ensures before { self.new.observations.before ≡ self.old.observations.before }
     {
         if has_office_tag(line) {
@@ -108,7 +115,8 @@ impl<'a> Staging<'a> {
         ensures unbroken { OnOk result (refusal (office_in self.old) line.now ≡ None) }
         ensures after { OnOk result (office_in self.new ≡ after (office_in self.old) line.now) }
         ensures refused { IfErr result (IsRefusal (refusal (office_in self.old) line.now)) }
-        ensures unchanged { OnErr result (self.new ≡ self.old) }
+        ensures unchanged { IfErr result (λ refusal. IsAsBefore refusal self.old self.new) }
+        ensures touched { OnOk result (AreNoted self.old self.new) }
         ensures before { self.new.observations.before ≡ self.old.observations.before }
     {
         match read_office(line) {
@@ -123,7 +131,8 @@ impl<'a> Staging<'a> {
         ensures unbroken { OnOk result (refusal (office_in self.old) line.now ≡ None) }
         ensures after { OnOk result (office_in self.new ≡ after (office_in self.old) line.now) }
         ensures refused { IfErr result (IsRefusal (refusal (office_in self.old) line.now)) }
-        ensures unchanged { OnErr result (self.new ≡ self.old) }
+        ensures unchanged { IfErr result (λ refusal. IsAsBefore refusal self.old self.new) }
+        ensures touched { OnOk result (AreNoted self.old self.new) }
         ensures before { self.new.observations.before ≡ self.old.observations.before }
     {
         match read_rd(line) {
@@ -138,11 +147,15 @@ impl<'a> Staging<'a> {
         ensures unbroken { OnOk result (broken (office_in self.old) (OfOffice line) ≡ None) }
         ensures after { OnOk result (office_in self.new ≡ changed (office_in self.old) (OfOffice line)) }
         ensures refused { IfErr result (IsRefusal (broken (office_in self.old) (OfOffice line))) }
-        ensures unchanged { OnErr result (self.new ≡ self.old) }
+        ensures unchanged { IfErr result (λ refusal. IsAsBefore refusal self.old self.new) }
+        ensures touched { OnOk result (AreNoted self.old self.new) }
         ensures before { self.new.observations.before ≡ self.old.observations.before }
     {
         match self.registry.apply(line) {
-            Ok(_) => Ok(()),
+            Ok(changes) => match note(&mut self.touched, &changes) {
+                Ok(()) => Ok(()),
+                Err(Memory) => Err(Refusal::Memory),
+            },
             Err(RegistryFault::Broken(rule)) => Err(Refusal::Broken(rule)),
             Err(RegistryFault::Memory) => Err(Refusal::Memory),
         }
@@ -155,7 +168,8 @@ impl<'a> Staging<'a> {
         ensures after { OnOk result (office_in self.new ≡ changed (office_in self.old) (OfRd (value_of line.now))) }
         ensures refused { let value = OfRd (value_of line.now) in
             IfErr result (IsRefusal (broken (office_in self.old) value)) }
-        ensures unchanged { OnErr result (self.new ≡ self.old) }
+        ensures unchanged { IfErr result (λ refusal. IsAsBefore refusal self.old self.new) }
+        ensures touched { OnOk result (AreNoted self.old self.new) }
         ensures before { self.new.observations.before ≡ self.old.observations.before }
     {
         match line {
@@ -200,7 +214,8 @@ impl<'a> Staging<'a> {
         ensures refused { IfErr result (λ refusal. (method : ℕ) →
             let value = OfRd (PutSample update monitor.now duration method hour content.now) in
             IsRefusal (broken (office_in self.old) value) refusal) }
-        ensures unchanged { OnErr result (self.new ≡ self.old) }
+        ensures unchanged { IfErr result (λ refusal. IsAsBefore refusal self.old self.new) }
+        ensures touched { OnOk result (AreNoted self.old self.new) }
         ensures before { self.new.observations.before ≡ self.old.observations.before }
     {
         let Some(registered) = self.duration(monitor) else {
@@ -227,7 +242,8 @@ impl<'a> Staging<'a> {
             OnOk result (office_in self.new ≡ changed (office_in self.old) value) }
         ensures refused { let value = OfRd (DeleteSample monitor.now hour) in
             IfErr result (IsRefusal (broken (office_in self.old) value)) }
-        ensures unchanged { OnErr result (self.new ≡ self.old) }
+        ensures unchanged { IfErr result (λ refusal. IsAsBefore refusal self.old self.new) }
+        ensures touched { OnOk result (AreNoted self.old self.new) }
         ensures before { self.new.observations.before ≡ self.old.observations.before }
     {
         let Some(registered) = self.duration(monitor) else {

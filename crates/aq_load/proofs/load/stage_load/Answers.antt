@@ -1,8 +1,13 @@
-use Rattle.std.proofs.Common.{◌≡◌, length, ap, ◌∙◌, arith}
+use Rattle.std.proofs.Common.{rules, ◌≡◌, ◌≤◌, sym, List, length, ap, subst, ◌∙◌, arith}
+use Rattle.aq_base.specs.declared.observation.ObsKey.{ObsKey}
+use Rattle.aq_base.specs.declared.observation.Observation.{Observation}
+use Rattle.aq_profile.specs.Limits.{MOST_OBSERVATIONS}
 use Rattle.aq_profile.specs.Lines.Lines.{body_lines}
 use Rattle.aq_profile.specs.Office.Load.{refusals}
+use Rattle.aq_load.specs.Changes.{with_changes, AreChanges}
+use Rattle.aq_load.specs.Refusals.{office_in}
 use Rattle.aq_load.specs.OfficeView.{office_of}
-use Rattle.aq_load.proofs.LoadLaws.{all_refused, after_all_lines, few_refused, reply_for-same}
+use Rattle.aq_load.proofs.LoadLaws.{all_refused, after_all_lines, few_refused, next_refused, reply_for-same}
 use Rattle.aq_load.proofs.StageLemmas.{staged-office}
 use Rattle.aq_load.proofs.load.stage_load.Goals as goal
 
@@ -15,7 +20,7 @@ reply_of-requires c =
 
 pub returns-clause-office : goal.returns-clause-office
 returns-clause-office c =
-    staged-office c.loop-line.staging c.into_changes.result c.args.number c.args.digest c.in_ok-reply.reply c.args.registry.now c.args.shelf.now c.loop-line.invariant.before c.into_changes.ensures
+    staged-office c.loop-line.staging c.into_changes.result c.args.number c.args.digest c.in_ok-reply.reply c.args.registry.now c.args.shelf.now c.loop-line.invariant.before c.into_changes.ensures.standing
     ∙ after_all_lines _ _ _ c.in-None.ensures.steps.0 c.loop-line.invariant.office
 
 pub returns-clause-reply : goal.returns-clause-reply
@@ -27,3 +32,23 @@ returns-clause-reply c =
     omega (arith, ap length c.in-None.ensures.steps.0, c.loop-line.invariant.count)
     in
     c.in_ok-reply.ensures ∙ reply_for-same c.args.number c.count_lines.result _ c.loop-line.taken _ c.deref.result.now _ c.count_lines.ensures taken refused
+
+pub returns-clause-staged_on : goal.returns-clause-staged_on
+returns-clause-staged_on c = record {
+  touched = c.loop-line.invariant.touched;
+  changes = subst (λ (rows : List (ObsKey × Observation)). AreChanges rows c.into_changes.result) c.loop-line.invariant.before c.into_changes.ensures.changes;
+  few =
+      subst (λ (rows : List (ObsKey × Observation)). length (with_changes c.into_changes.result rows) ≤ MOST_OBSERVATIONS) c.loop-line.invariant.before
+      (subst (λ (rows : List (ObsKey × Observation)). length rows ≤ MOST_OBSERVATIONS) (sym c.into_changes.ensures.standing) c.into_changes.ensures.few);
+}
+
+pub loop-line-preserved : goal.loop-line-preserved
+loop-line-preserved c = record {
+  before = search rules;
+  touched = c.in_ok-take_line.ensures.touched c.args.registry.now c.loop-line.invariant.touched;
+  office = search rules;
+  refused =
+      next_refused (office_in c.loop-line.staging) (office_in c.take_line.new.staging) (record { number = c.in-Some.line.number; text = c.in-Some.line.text.now }) c.next.new.self c.loop-line.line-iterator c.loop-line.refused.items c.take_line.new.refused.items (refusals (office_of c.args.registry.now c.args.shelf.now) (body_lines c.args.body.now))
+      c.in-Some.ensures.steps c.in_ok-take_line.ensures.refused c.in_ok-take_line.ensures.office c.loop-line.invariant.refused;
+  count = search rules;
+}

@@ -5,5 +5,5 @@ use Rattle.aq_load.proofs.load.take_line.Goals as goal
 
 pub returns-in_ok-push-in-Err-Broken-clause-office : goal.returns-in_ok-push-in-Err-Broken-clause-office
 returns-in_ok-push-in-Err-Broken-clause-office c =
-    ap office_in c.in-Err-Broken.ensures.unchanged
+    ap office_in (rw c.in-Err-Broken.field-0-is at c.in-Err-Broken.ensures.unchanged)
     ∙ sym (after-refused (office_in c.args.staging.now) c.args.text.now c.in-Err-Broken.rule (rw c.in-Err-Broken.field-0-is at c.in-Err-Broken.ensures.refused))

@@ -1,6 +1,6 @@
 use Rattle.std.proofs.Common.{sym, subst, arith}
 use Rattle.aq_profile.specs.Office.Office.{IsOffice}
-use Rattle.aq_book.proofs.StageLemmas.{office-is, reply-is, valid-loaded}
+use Rattle.aq_book.proofs.StageLemmas.{after-is, office-is, reply-is, staged_on, valid-loaded}
 use Rattle.aq_book.proofs.book.Book.stage.Goals as goal
 
 pub returns-clause-reply : goal.returns-clause-reply
@@ -18,3 +18,11 @@ returns-clause-fits c =
     (valid-loaded c.args.self.now c.args.digest c.args.body.now (c.loads_leave_the_office_valid.ensures.not_kept c.args.self.now c.args.digest c.args.body.now valid) c.args.number
     (λ some new. c.loads_leave_the_office_valid.ensures.kept c.args.self.now c.args.number c.args.digest c.args.body.now valid some (omega (arith, c.ranges.number.fits)) c.digest_is_32_bytes.ensures.many c.digest_is_32_bytes.ensures.bytes c.requires.lines new)
     c.requires.number)
+
+pub returns-clause-lines_taken : goal.returns-clause-lines_taken
+returns-clause-lines_taken c =
+    after-is c.in_ok-staged.staged c.self.inside.registry c.self.inside.shelf c.self.inside.loads c.args.self.now c.self.view_is c.args.number c.args.digest c.args.body.now c.in_ok-staged.ensures.reply c.in_ok-staged.ensures.load c.in_ok-staged.ensures.office
+
+pub returns-clause-staged_on : goal.returns-clause-staged_on
+returns-clause-staged_on c =
+    staged_on c.in_ok-staged.staged c.self.inside.registry c.self.inside.shelf c.self.inside.loads c.args.self.now c.self.view_is c.args.number c.args.digest c.args.body.now c.in_ok-staged.ensures.staged_on
