@@ -1,0 +1,2 @@
+-- Which observations can stand.
+pub mod Standing

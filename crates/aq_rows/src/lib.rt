@@ -1,0 +1,13 @@
+//! Rows of the tables: the row of a record, an observation and a load, the key of each, and what a row
+//! says.
+#![tactic(auto)]
+
+mod keys;
+mod loads;
+mod observations;
+mod records;
+
+pub use keys::{observation_key, office_key};
+pub use loads::{load_of, load_row};
+pub use observations::{observation_of, observation_row};
+pub use records::{office_row, record_of};
