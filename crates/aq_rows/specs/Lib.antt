@@ -1,2 +1,5 @@
--- Which observations can stand.
+-- Rows: texts as they are walked, numbers in their ranges, and which observations can stand.
 pub mod Standing
+pub mod Texts
+pub mod Ranges
+pub mod Observed

@@ -5,7 +5,9 @@
 mod keys;
 mod loads;
 mod observations;
+mod ranges;
 mod records;
+mod texts;
 
 pub use keys::{observation_key, office_key};
 pub use loads::{load_of, load_row};
