@@ -26,6 +26,10 @@ pub ends : {A B C : Type 0} (m : Option A) (k : A → Option B) (g : B → Optio
 ends None k g h = refl
 ends (Some x) k g h = h x
 
+pub none_behind : {A B : Type 0} (m : Option A) (next : A → Option B) → ((x : A) → next x ≡ None) → (m >>= next) ≡ None
+none_behind None next h = refl
+none_behind (Some x) next h = h x
+
 pub mapped : {A B C : Type 0} (m : Option A) (f : A → B) (next : B → Option C) → ((m >>= λ x. Some (f x)) >>= next) ≡ (m >>= λ x. next (f x))
 mapped None f next = refl
 mapped (Some x) f next = refl

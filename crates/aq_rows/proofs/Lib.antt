@@ -5,3 +5,5 @@ pub mod Gathered
 pub mod Chains
 pub mod Observed
 pub mod Codes
+pub mod PairTexts
+pub mod Loaded

@@ -3,3 +3,4 @@ pub mod Standing
 pub mod Texts
 pub mod Ranges
 pub mod Observed
+pub mod Loaded

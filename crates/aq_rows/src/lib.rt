@@ -5,6 +5,7 @@
 mod keys;
 mod loads;
 mod observations;
+mod pairs;
 mod ranges;
 mod records;
 mod texts;
