@@ -7,3 +7,11 @@ pub mod Observed
 pub mod Codes
 pub mod PairTexts
 pub mod Loaded
+-- an office from its rows
+pub mod Following
+pub mod LastObservation
+pub mod LastRecord
+pub mod MoreRows
+pub mod PutLast
+pub mod RisingEnds
+pub mod WholeWalk

@@ -73,7 +73,7 @@ fn record_put(line: &OfficeLine) -> Option<OfficeRecord>
 }
 
 /// The line by which a record is kept: an insertion, and of a concurrence a change.
-fn record_line(entry: &OfficeRecord) -> OfficeLine
+pub(crate) fn record_line(entry: &OfficeRecord) -> OfficeLine
     ensures { result ≡ record_line entry.now }
 {
     match *entry {
@@ -91,7 +91,7 @@ fn is_same(a: &OfficeRow, b: &OfficeRow) -> bool
         && a.line.as_slice() == b.line.as_slice()
 }
 
-fn key_of(entry: &OfficeRecord) -> OfficeKey
+pub(crate) fn key_of(entry: &OfficeRecord) -> OfficeKey
     ensures { result ≡ key_of entry.now }
 {
     match *entry {

@@ -1,0 +1,137 @@
+-- An observation or a load behind the others: where it leaves the office valid, and where it does not.
+use Rattle.std.proofs.Common.{◌≡◌, ℕ, ◌<◌, Bool, true, false, cond, ◌&&◌, List, [], ◌∷◌, ◌++◌, length, refl, sym, ◌∙◌, arith, subst, length-append}
+use Rattle.std.specs.Prelude.{Option, Some, None, find, nat_le}
+use Rattle.std.specs.List.{list_all}
+use Rattle.std.proofs.lemmas.Bool.{false≢true, and_from, and_parts}
+use Rattle.aq_base.specs.Site.{Site}
+use Rattle.aq_base.specs.declared.day.TheConstants.{LAST_HOUR}
+use Rattle.aq_base.specs.declared.observation.ObsKey.{ObsKey}
+use Rattle.aq_base.specs.declared.observation.Observation.{Observation}
+use Rattle.aq_base.specs.declared.office.OfficeRecord.{OfficeRecord}
+use Rattle.aq_base.specs.declared.office.OfficeRecord.TheVariants.{Monitor, Primary, Schedule, Season, Makeup, Event, Concurrence, Approved}
+use Rattle.aq_base.specs.declared.office.OfficeKey.TheVariants.{Monitor as MonitorKey}
+use Rattle.aq_profile.specs.Limits.{MOST_OBSERVATIONS, MOST_LOADS}
+use Rattle.aq_profile.specs.Lines.Spellings.{◌>>=◌}
+use Rattle.aq_profile.specs.Office.Office.{Office, StoredLoad, IsOffice, key_of, key_numbers, record_rank, observation_rank, load_rank, is_same, rises, monitor_duration, record_at, duration_at, is_site, is_poc, is_key, is_content_of, is_record, fits_records, has_its_monitor, has_its_event, group_size, most_in_group, is_kept_hour, is_content, fits_monitors, is_load}
+use Rattle.aq_profile.proofs.RowsPlaced.{same_is}
+use Rattle.aq_rows.specs.Standing.{can_stand}
+use Rattle.aq_rows.specs.OneMoreRow.{has_none, EndsAt}
+use Rattle.aq_rows.proofs.RisingEnds.{next-last}
+
+-- ---- lists
+
+last-passes : {X : Type 0} (p : X → Bool) (xs : List X) (x : X) → list_all p (xs ++ x ∷ []) ≡ true → p x ≡ true
+last-passes p [] x h = (and_parts (p x) true h).0
+last-passes p (y ∷ xs) x h = last-passes p xs x (and_parts (p y) (list_all p (xs ++ x ∷ [])) h).1
+
+all-pass : {X : Type 0} (p : X → Bool) (xs : List X) (x : X) → list_all p xs ≡ true → p x ≡ true → list_all p (xs ++ x ∷ []) ≡ true
+all-pass p [] x h k = and_from (p x) true k refl
+all-pass p (y ∷ xs) x h k =
+    let parts = and_parts (p y) (list_all p xs) h in
+    and_from (p y) (list_all p (xs ++ x ∷ [])) parts.0 (all-pass p xs x parts.1 k)
+
+-- what is found passes its own test, and what all pass
+pub found-passes : {X : Type 0} (p q : X → Bool) (xs : List X) (x : X) → list_all q xs ≡ true → find p xs ≡ Some x → (p x ≡ true) × (q x ≡ true)
+found-passes p q [] x all h = cc
+found-passes p q (y ∷ xs) x all h =
+    let parts = and_parts (q y) (list_all q xs) all in
+    choose (p y) refl h (found-passes p q xs x parts.1) parts.0
+  where
+    choose : (b : Bool) → p y ≡ b → cond b (Some y) (find p xs) ≡ Some x → (find p xs ≡ Some x → (p x ≡ true) × (q x ≡ true)) → q y ≡ true → (p x ≡ true) × (q x ≡ true)
+    choose true here is later good = let same : y ≡ x = cc in (subst (λ z. p z ≡ true) same here, subst (λ z. q z ≡ true) same good)
+    choose false here is later good = later is
+
+pub ends-at : {X : Type 0} (rank : X → List ℕ) (rows : List X) (last : X) → rises rank (rows ++ last ∷ []) ≡ true → EndsAt rank (rank last) (rows ++ last ∷ [])
+ends-at rank rows last rising = record { some = some rows; next = λ row. next-last rank rows last row rising }
+  where
+    some : (xs : List _) → has_none (xs ++ last ∷ []) ≡ false
+    some [] = refl
+    some (x ∷ xs) = refl
+
+-- ---- an observation
+
+module _ (office : Office) (entry : ObsKey × Observation) where
+  abbrev with_entry : Office
+  with_entry = record { records = office.records; observations = office.observations ++ entry ∷ []; loads = office.loads }
+
+  pub observation-taken : IsOffice office → rises observation_rank (office.observations ++ entry ∷ []) ≡ true → fits_monitors office entry ≡ true
+      → length office.observations < MOST_OBSERVATIONS → IsOffice with_entry
+  observation-taken is rising fits room = record {
+    keys_rise = record { records = is.keys_rise.records; observations = rising; loads = is.keys_rise.loads };
+    records_fit = is.records_fit;
+    makeup_days_differ = is.makeup_days_differ;
+    few_sites = is.few_sites;
+    observations_fit = all-pass (fits_monitors office) office.observations entry is.observations_fit fits;
+    few_observations = let long = length-append office.observations (entry ∷ []) in omega arith;
+    loads_fit = is.loads_fit;
+    few_loads = is.few_loads;
+  }
+
+  pub observation-rises : IsOffice with_entry → rises observation_rank (office.observations ++ entry ∷ []) ≡ true
+  observation-rises is = is.keys_rise.observations
+
+  pub observation-fits : IsOffice with_entry → fits_monitors office entry ≡ true
+  observation-fits is = last-passes (fits_monitors office) office.observations entry is.observations_fit
+
+  pub observation-room : IsOffice with_entry → length office.observations < MOST_OBSERVATIONS
+  observation-room is = let few = is.few_observations in let long = length-append office.observations (entry ∷ []) in omega arith
+
+  registered : (o : Option OfficeRecord) → record_at office (MonitorKey entry.0.monitor) ≡ o → is_kept_hour (o >>= monitor_duration) entry.0.hour ≡ true
+      → list_all (fits_records office) office.records ≡ true → (is_site entry.0.monitor.site && is_poc entry.0.monitor.poc) ≡ true
+  registered None there kept all = absurd (false≢true kept)
+  registered (Some (Monitor id duration eligible)) there kept all =
+      let r : OfficeRecord = Monitor id duration eligible in
+      let found = found-passes (λ x. is_same (record_rank x) (key_numbers (MonitorKey entry.0.monitor))) (fits_records office) office.records r all there in
+      let few = and_parts (is_record r && has_its_monitor office r && has_its_event office r) (nat_le (group_size office r) (most_in_group r)) found.1 in
+      let event = and_parts (is_record r && has_its_monitor office r) (has_its_event office r) few.0 in
+      let monitor = and_parts (is_record r) (has_its_monitor office r) event.0 in
+      let key = and_parts (is_key (key_of r)) (is_content_of r) monitor.0 in
+      let rank : key_numbers (MonitorKey id) ≡ key_numbers (MonitorKey entry.0.monitor) = same_is _ _ found.0 in
+      moved id.site entry.0.monitor.site id.poc entry.0.monitor.poc (cc) (cc) (cc) (cc) key.0
+    where
+      moved : (s t : Site) (p q : ℕ) → s.state ≡ t.state → s.county ≡ t.county → s.number ≡ t.number → p ≡ q → (is_site s && is_poc p) ≡ true → (is_site t && is_poc q) ≡ true
+      moved s t p q e f g h k =
+          let same : (is_site s && is_poc p) ≡ (is_site t && is_poc q) = λ i. nat_le (e i) 99 && nat_le (f i) 999 && nat_le (g i) 9999 && is_poc (h i) in
+          sym same ∙ k
+  registered (Some (Primary a b c d)) there kept all = absurd (false≢true kept)
+  registered (Some (Schedule a b c d e)) there kept all = absurd (false≢true kept)
+  registered (Some (Season a b c d)) there kept all = absurd (false≢true kept)
+  registered (Some (Makeup a b c)) there kept all = absurd (false≢true kept)
+  registered (Some (Event a b c d e f)) there kept all = absurd (false≢true kept)
+  registered (Some (Concurrence a b)) there kept all = absurd (false≢true kept)
+  registered (Some (Approved a b)) there kept all = absurd (false≢true kept)
+
+  -- one that stands in a valid office can stand
+  pub observation-stands : IsOffice with_entry → can_stand entry ≡ true
+  observation-stands is =
+      let content = and_parts _ (is_content entry.0.monitor.pollutant entry.1) (observation-fits is) in
+      let hour = and_parts (nat_le entry.0.hour LAST_HOUR) (is_kept_hour (duration_at office entry.0.monitor) entry.0.hour) content.0 in
+      let known = registered (record_at office (MonitorKey entry.0.monitor)) refl hour.1 is.records_fit in
+      and_from _ (is_content entry.0.monitor.pollutant entry.1) (and_from _ (nat_le entry.0.hour LAST_HOUR) known hour.0) content.1
+
+-- ---- a load
+
+module _ (office : Office) (load : StoredLoad) where
+  abbrev with_it : Office
+  with_it = record { records = office.records; observations = office.observations; loads = office.loads ++ load ∷ [] }
+
+  pub load-taken : IsOffice office → rises load_rank (office.loads ++ load ∷ []) ≡ true → is_load load ≡ true → length office.loads < MOST_LOADS → IsOffice with_it
+  load-taken is rising fits room = record {
+    keys_rise = record { records = is.keys_rise.records; observations = is.keys_rise.observations; loads = rising };
+    records_fit = is.records_fit;
+    makeup_days_differ = is.makeup_days_differ;
+    few_sites = is.few_sites;
+    observations_fit = is.observations_fit;
+    few_observations = is.few_observations;
+    loads_fit = all-pass is_load office.loads load is.loads_fit fits;
+    few_loads = let long = length-append office.loads (load ∷ []) in omega arith;
+  }
+
+  pub load-rises : IsOffice with_it → rises load_rank (office.loads ++ load ∷ []) ≡ true
+  load-rises is = is.keys_rise.loads
+
+  pub load-fits : IsOffice with_it → is_load load ≡ true
+  load-fits is = last-passes is_load office.loads load is.loads_fit
+
+  pub load-room : IsOffice with_it → length office.loads < MOST_LOADS
+  load-room is = let few = is.few_loads in let long = length-append office.loads (load ∷ []) in omega arith
