@@ -7,3 +7,4 @@ pub mod Observed
 pub mod Codes
 pub mod PairTexts
 pub mod Loaded
+pub mod Fitting
