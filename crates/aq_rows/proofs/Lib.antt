@@ -7,4 +7,3 @@ pub mod Observed
 pub mod Codes
 pub mod PairTexts
 pub mod Loaded
-pub mod Fitting

@@ -4,3 +4,4 @@ pub mod Texts
 pub mod Ranges
 pub mod Observed
 pub mod Loaded
+pub mod Fitting

@@ -14,3 +14,6 @@ pub use keys::{observation_key, office_key};
 pub use loads::{load_of, load_row};
 pub use observations::{fitting_observations_can_stand, observation_of, observation_row};
 pub use records::{office_row, record_of};
+
+#[cfg(test)]
+mod tests;

@@ -61,7 +61,7 @@ pub fn observation_of(row: &ObsRow) -> Option<(ObsKey, Observation)>
 
 /// An observation that fits an office can stand, where the office's records fit: a row that says one
 /// which cannot is no row of an office.
-#[tactic(auto, using(crate::proofs::Fitting::fitting_can_stand))]
+#[tactic(auto, using(crate::specs::Fitting::fitting_can_stand))]
 pub fn fitting_observations_can_stand()
     ensures { (office : Office) (entry : key.ObsKey × content.Observation) → list_all (fits_records office) office.records ≡ true → fits_monitors office entry ≡ true → can_stand entry ≡ true }
 {}
