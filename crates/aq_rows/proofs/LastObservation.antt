@@ -15,6 +15,7 @@ use Rattle.aq_profile.specs.Lines.Spellings.{◌>>=◌}
 use Rattle.aq_profile.specs.Office.Office.{Office, StoredLoad, IsOffice, key_of, key_numbers, record_rank, observation_rank, load_rank, is_same, rises, monitor_duration, record_at, duration_at, is_site, is_poc, is_key, is_content_of, is_record, fits_records, has_its_monitor, has_its_event, group_size, most_in_group, is_kept_hour, is_content, fits_monitors, is_load}
 use Rattle.aq_profile.proofs.RowsPlaced.{same_is}
 use Rattle.aq_rows.specs.Standing.{can_stand}
+use Rattle.aq_rows.specs.Fitting.{fitting_can_stand}
 use Rattle.aq_rows.specs.OneMoreRow.{has_none, EndsAt}
 use Rattle.aq_rows.proofs.RisingEnds.{next-last}
 
@@ -29,17 +30,6 @@ all-pass p [] x h k = and_from (p x) true k refl
 all-pass p (y ∷ xs) x h k =
     let parts = and_parts (p y) (list_all p xs) h in
     and_from (p y) (list_all p (xs ++ x ∷ [])) parts.0 (all-pass p xs x parts.1 k)
-
--- what is found passes its own test, and what all pass
-pub found-passes : {X : Type 0} (p q : X → Bool) (xs : List X) (x : X) → list_all q xs ≡ true → find p xs ≡ Some x → (p x ≡ true) × (q x ≡ true)
-found-passes p q [] x all h = cc
-found-passes p q (y ∷ xs) x all h =
-    let parts = and_parts (q y) (list_all q xs) all in
-    choose (p y) refl h (found-passes p q xs x parts.1) parts.0
-  where
-    choose : (b : Bool) → p y ≡ b → cond b (Some y) (find p xs) ≡ Some x → (find p xs ≡ Some x → (p x ≡ true) × (q x ≡ true)) → q y ≡ true → (p x ≡ true) × (q x ≡ true)
-    choose true here is later good = let same : y ≡ x = cc in (subst (λ z. p z ≡ true) same here, subst (λ z. q z ≡ true) same good)
-    choose false here is later good = later is
 
 pub ends-at : {X : Type 0} (rank : X → List ℕ) (rows : List X) (last : X) → rises rank (rows ++ last ∷ []) ≡ true → EndsAt rank (rank last) (rows ++ last ∷ [])
 ends-at rank rows last rising = record { some = some rows; next = λ row. next-last rank rows last row rising }
@@ -76,38 +66,9 @@ module _ (office : Office) (entry : ObsKey × Observation) where
   pub observation-room : IsOffice with_entry → length office.observations < MOST_OBSERVATIONS
   observation-room is = let few = is.few_observations in let long = length-append office.observations (entry ∷ []) in omega arith
 
-  registered : (o : Option OfficeRecord) → record_at office (MonitorKey entry.0.monitor) ≡ o → is_kept_hour (o >>= monitor_duration) entry.0.hour ≡ true
-      → list_all (fits_records office) office.records ≡ true → (is_site entry.0.monitor.site && is_poc entry.0.monitor.poc) ≡ true
-  registered None there kept all = absurd (false≢true kept)
-  registered (Some (Monitor id duration eligible)) there kept all =
-      let r : OfficeRecord = Monitor id duration eligible in
-      let found = found-passes (λ x. is_same (record_rank x) (key_numbers (MonitorKey entry.0.monitor))) (fits_records office) office.records r all there in
-      let few = and_parts (is_record r && has_its_monitor office r && has_its_event office r) (nat_le (group_size office r) (most_in_group r)) found.1 in
-      let event = and_parts (is_record r && has_its_monitor office r) (has_its_event office r) few.0 in
-      let monitor = and_parts (is_record r) (has_its_monitor office r) event.0 in
-      let key = and_parts (is_key (key_of r)) (is_content_of r) monitor.0 in
-      let rank : key_numbers (MonitorKey id) ≡ key_numbers (MonitorKey entry.0.monitor) = same_is _ _ found.0 in
-      moved id.site entry.0.monitor.site id.poc entry.0.monitor.poc (cc) (cc) (cc) (cc) key.0
-    where
-      moved : (s t : Site) (p q : ℕ) → s.state ≡ t.state → s.county ≡ t.county → s.number ≡ t.number → p ≡ q → (is_site s && is_poc p) ≡ true → (is_site t && is_poc q) ≡ true
-      moved s t p q e f g h k =
-          let same : (is_site s && is_poc p) ≡ (is_site t && is_poc q) = λ i. nat_le (e i) 99 && nat_le (f i) 999 && nat_le (g i) 9999 && is_poc (h i) in
-          sym same ∙ k
-  registered (Some (Primary a b c d)) there kept all = absurd (false≢true kept)
-  registered (Some (Schedule a b c d e)) there kept all = absurd (false≢true kept)
-  registered (Some (Season a b c d)) there kept all = absurd (false≢true kept)
-  registered (Some (Makeup a b c)) there kept all = absurd (false≢true kept)
-  registered (Some (Event a b c d e f)) there kept all = absurd (false≢true kept)
-  registered (Some (Concurrence a b)) there kept all = absurd (false≢true kept)
-  registered (Some (Approved a b)) there kept all = absurd (false≢true kept)
-
   -- one that stands in a valid office can stand
   pub observation-stands : IsOffice with_entry → can_stand entry ≡ true
-  observation-stands is =
-      let content = and_parts _ (is_content entry.0.monitor.pollutant entry.1) (observation-fits is) in
-      let hour = and_parts (nat_le entry.0.hour LAST_HOUR) (is_kept_hour (duration_at office entry.0.monitor) entry.0.hour) content.0 in
-      let known = registered (record_at office (MonitorKey entry.0.monitor)) refl hour.1 is.records_fit in
-      and_from _ (is_content entry.0.monitor.pollutant entry.1) (and_from _ (nat_le entry.0.hour LAST_HOUR) known hour.0) content.1
+  observation-stands is = fitting_can_stand office entry is.records_fit (observation-fits is)
 
 -- ---- a load
 

@@ -1,7 +1,10 @@
 //! The row of an observation, and the observation that a row says.
-ghost use Rattle.std.specs.Prelude.{◌≡◌, IfOk};
+ghost use Rattle.std.specs.Prelude.{◌≡◌, true, IfOk};
+ghost use Rattle.std.specs.List.{list_all};
+ghost use Rattle.aq_base.specs.declared.observation.ObsKey as key;
+ghost use Rattle.aq_base.specs.declared.observation.Observation as content;
 ghost use Rattle.aq_profile.specs.Lines.Spellings.{◌>>=◌ as ◌>>-◌, is_code_byte, is_in_range, qualifier_in};
-ghost use Rattle.aq_profile.specs.Office.Office.{is_measured, is_null_code};
+ghost use Rattle.aq_profile.specs.Office.Office.{Office, fits_monitors, fits_records, is_measured, is_null_code};
 ghost use Rattle.aq_profile.specs.Kept.Rows as book;
 ghost use Rattle.aq_rows.specs.Standing.{can_stand};
 ghost use Rattle.aq_rows.specs.Observed.{observation_in, site_in, pollutant_in, quals_in, content_in};
@@ -55,6 +58,13 @@ pub fn observation_of(row: &ObsRow) -> Option<(ObsKey, Observation)>
 {
     observation_in(row)
 }
+
+/// An observation that fits an office can stand, where the office's records fit: a row that says one
+/// which cannot is no row of an office.
+#[tactic(auto, using(crate::specs::Fitting::fitting_can_stand))]
+pub fn fitting_observations_can_stand()
+    ensures { (office : Office) (entry : key.ObsKey × content.Observation) → list_all (fits_records office) office.records ≡ true → fits_monitors office entry ≡ true → can_stand entry ≡ true }
+{}
 
 #[tactic(auto, unfolding(crate::specs::Observed::observation_in))]
 fn observation_in(row: &ObsRow) -> Option<(ObsKey, Observation)>
