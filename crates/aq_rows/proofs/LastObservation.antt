@@ -1,19 +1,11 @@
 -- An observation or a load behind the others: where it leaves the office valid, and where it does not.
-use Rattle.std.proofs.Common.{◌≡◌, ℕ, ◌<◌, Bool, true, false, cond, ◌&&◌, List, [], ◌∷◌, ◌++◌, length, refl, sym, ◌∙◌, arith, subst, length-append}
-use Rattle.std.specs.Prelude.{Option, Some, None, find, nat_le}
+use Rattle.std.proofs.Common.{◌≡◌, ℕ, ◌<◌, Bool, true, false, List, [], ◌∷◌, ◌++◌, length, refl, arith, length-append}
 use Rattle.std.specs.List.{list_all}
-use Rattle.std.proofs.lemmas.Bool.{false≢true, and_from, and_parts}
-use Rattle.aq_base.specs.Site.{Site}
-use Rattle.aq_base.specs.declared.day.TheConstants.{LAST_HOUR}
+use Rattle.std.proofs.lemmas.Bool.{and_from, and_parts}
 use Rattle.aq_base.specs.declared.observation.ObsKey.{ObsKey}
 use Rattle.aq_base.specs.declared.observation.Observation.{Observation}
-use Rattle.aq_base.specs.declared.office.OfficeRecord.{OfficeRecord}
-use Rattle.aq_base.specs.declared.office.OfficeRecord.TheVariants.{Monitor, Primary, Schedule, Season, Makeup, Event, Concurrence, Approved}
-use Rattle.aq_base.specs.declared.office.OfficeKey.TheVariants.{Monitor as MonitorKey}
 use Rattle.aq_profile.specs.Limits.{MOST_OBSERVATIONS, MOST_LOADS}
-use Rattle.aq_profile.specs.Lines.Spellings.{◌>>=◌}
-use Rattle.aq_profile.specs.Office.Office.{Office, StoredLoad, IsOffice, key_of, key_numbers, record_rank, observation_rank, load_rank, is_same, rises, monitor_duration, record_at, duration_at, is_site, is_poc, is_key, is_content_of, is_record, fits_records, has_its_monitor, has_its_event, group_size, most_in_group, is_kept_hour, is_content, fits_monitors, is_load}
-use Rattle.aq_profile.proofs.RowsPlaced.{same_is}
+use Rattle.aq_profile.specs.Office.Office.{Office, StoredLoad, IsOffice, observation_rank, load_rank, rises, fits_monitors, is_load}
 use Rattle.aq_rows.specs.Standing.{can_stand}
 use Rattle.aq_rows.specs.Fitting.{fitting_can_stand}
 use Rattle.aq_rows.specs.OneMoreRow.{has_none, EndsAt}
