@@ -1,0 +1,61 @@
+//! The rows of an office.
+ghost use Rattle.std.specs.Prelude.{◌≡◌, ◌++◌, map, IfOk, OnOk};
+ghost use Rattle.aq_profile.specs.Kept.Rows as book;
+ghost use Rattle.aq_rows.specs.OfficeRows.{load_row, observation_row, record_row};
+ghost use Rattle.aq_rows.specs.Walking.{office_with};
+
+use crate::loads::load_row;
+use crate::observations::observation_row;
+use crate::records::office_row;
+use aq_base::Memory;
+use aq_keeper::{Row, Rows};
+use aq_loads::Loads;
+use aq_registry::Registry;
+use aq_shelf::Shelf;
+use std::alloc::Global;
+
+/// The rows of the office of these records, observations and loads, in the order of tables and keys, by
+/// one walk over each.
+#[tactic(auto, unfolding(aq_profile::specs::Kept::Rows::rows_of))]
+pub fn rows_of(
+    alloc: Global,
+    registry: &Registry,
+    shelf: &Shelf,
+    loads: &Loads,
+) -> Result<Rows, Memory>
+    ensures { IfOk result (λ rows. rows ≡ book.rows_of (office_with registry.now shelf.now loads.now)) }
+{
+    let mut rows = Rows::new(alloc);
+    add_records(alloc, &mut rows, registry)?;
+    add_observations(alloc, &mut rows, shelf)?;
+    add_loads(alloc, &mut rows, loads)?;
+    Ok(rows)
+}
+
+fn add_records(alloc: Global, rows: &mut Rows, registry: &Registry) -> Result<(), Memory>
+    ensures { OnOk result (rows.new ≡ rows.old ++ map record_row registry.now) }
+{
+    for entry in registry.rows() {
+        rows.push(Row::office(office_row(alloc, &entry)?))?;
+    }
+    Ok(())
+}
+
+fn add_observations(alloc: Global, rows: &mut Rows, shelf: &Shelf) -> Result<(), Memory>
+    ensures { OnOk result (rows.new ≡ rows.old ++ map observation_row shelf.now) }
+{
+    for (key, content) in shelf.rows() {
+        rows.push(Row::observation(observation_row(alloc, &key, &content)?))?;
+    }
+    Ok(())
+}
+
+fn add_loads(alloc: Global, rows: &mut Rows, loads: &Loads) -> Result<(), Memory>
+    ensures { OnOk result (rows.new ≡ rows.old ++ map load_row loads.now) }
+{
+    for (number, kept) in loads.entries() {
+        let row = load_row(alloc, *number, &kept.digest, &kept.reply)?;
+        rows.push(Row::load(row))?;
+    }
+    Ok(())
+}
