@@ -1,4 +1,5 @@
 pub mod StageLemmas
+pub mod BatchLemmas
 pub mod OzoneLemmas
 pub mod DesignLemmas
 pub mod Loadless

@@ -1,7 +1,9 @@
 -- What a staged load makes of an office.
-use Rattle.aq_profile.specs.Office.Load.{with_load}
+use Rattle.std.specs.Prelude.{◌≡◌, ℕ, List}
+use Rattle.aq_profile.specs.Lines.Lines.{body_lines}
+use Rattle.aq_profile.specs.Office.Load.{after_all, reply, with_load}
 use Rattle.aq_profile.specs.Office.Office.{IsOffice, Office}
-use Rattle.aq_load.specs.Staged.{StagedLoad, after_lines}
+use Rattle.aq_load.specs.Staged.{StagedLoad, after_lines, IsStagedOn}
 use Rattle.aq_loads.specs.KeptLoads.{stored_as}
 
 -- the office after the load: its lines are taken, and it is kept
@@ -11,3 +13,11 @@ office_with staged office = with_load (stored_as staged.number staged.digest sta
 -- a staged load fits an office: with it the office is a valid one
 abbrev pub Fits : StagedLoad → Office → Type 0
 Fits staged office = IsOffice (office_with staged office)
+
+-- a load that was staged on an office: the lines of this body, under this number and digest
+pub record IsStageOf (office : Office) (number : ℕ) (digest body : List ℕ) (staged : StagedLoad) : Type 0 where
+  pub number_is : staged.number ≡ number
+  pub digest_is : staged.digest ≡ digest
+  pub reply_is : staged.reply ≡ reply office number body
+  pub lines_taken : after_lines staged office ≡ after_all office (body_lines body)
+  pub on : IsStagedOn office.records office.observations staged

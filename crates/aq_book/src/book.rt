@@ -1,14 +1,16 @@
 //! An office with its observations and records.
-ghost use Rattle.std.specs.Prelude.{◌≡◌, ◌≤◌, ◌⊎◌, length, option_map, IfOk};
+ghost use Rattle.std.specs.Prelude.{◌≡◌, ◌≤◌, ◌⊎◌, ℕ, List, length, option_map, IfOk};
 ghost use Rattle.aq_book.specs.Checks.{decision_of};
-ghost use Rattle.aq_load.specs.Staged.{after_lines, IsStagedOn};
+ghost use Rattle.aq_load.specs.Staged.{IsStagedOn};
 ghost use Rattle.aq_loads.specs.KeptLoads.{digest_in, reply_in};
-ghost use Rattle.aq_book.specs.Staged.{office_with, Fits};
+ghost use Rattle.aq_book.specs.Staged.{office_with, Fits, IsStageOf};
+ghost use Rattle.aq_profile.specs.Kept.RowChanges.{row_batch};
 ghost use Rattle.aq_profile.specs.Limits.{MOST_BYTES, MOST_LINES};
-ghost use Rattle.aq_profile.specs.Lines.Lines.{body_lines, line_count};
-ghost use Rattle.aq_profile.specs.Office.Load.{New, after_all, decide, load, reply};
+ghost use Rattle.aq_profile.specs.Lines.Lines.{line_count};
+ghost use Rattle.aq_profile.specs.Office.Load.{New, decide, load, reply};
 ghost use Rattle.aq_profile.specs.Office.Office.{load_at, nothing};
 
+use crate::batch::{RowChanges, batch_of};
 use crate::check::LoadCheck;
 use aq_base::{LoadReply, Memory};
 use aq_load::{Staged, stage_load};
@@ -106,14 +108,26 @@ impl Book {
         ensures reply { IfOk result (λ staged. staged.reply ≡ reply self.now number body.now) }
         ensures office { IfOk result (λ staged. office_with staged self.now ≡ load self.now number digest body.now) }
         ensures fits { IfOk result (λ staged. Fits staged self.now) }
-        ensures lines_taken { IfOk result (λ staged. after_lines staged self.now ≡ after_all self.now (body_lines body.now)) }
-        ensures staged_on { IfOk result (IsStagedOn self.now.records self.now.observations) }
+        ensures staged { IfOk result (IsStageOf self.now number digest body.now) }
     {
         loads_leave_the_office_valid();
         // The proof learns that the digest is 32 bytes.
         digest_is_32_bytes(&digest);
         let staged = stage_load(alloc, &self.registry, &self.shelf, number, digest, body)?;
         Ok(staged)
+    }
+
+    /// The changes of rows that a load staged on this book makes, in the order of tables and keys and its own
+    /// row last, as a keeper takes them. A row that is the same after the load is not among them. It costs two
+    /// or three searches for each record and observation that the load touched.
+    pub fn batch(&self, alloc: Global, staged: &Staged) -> Result<RowChanges, Memory>
+        requires { IsStagedOn self.now.records self.now.observations staged.now }
+        ensures { IfOk result (λ batch. (number : ℕ) (digest body : List ℕ) → IsStageOf self.now number digest body staged.now → batch ≡ row_batch self.now number digest body) }
+    {
+        let changes = staged.changes(alloc, &self.registry, &self.shelf)?;
+        let (number, digest, reply) = (staged.number(), staged.digest(), staged.reply());
+        let batch = batch_of(alloc, &changes, number, digest, reply)?;
+        Ok(batch)
     }
 
     /// The book after a load that fits it: one that was staged on this book. It costs a search of the

@@ -2,18 +2,23 @@
 //! beside what stands, and takes it. Contracts see the office of the book of rules.
 #![tactic(auto)]
 
+mod batch;
 mod book;
 mod check;
 mod design;
 mod fault;
+mod opening;
 mod ozone;
 mod particles;
 mod question;
 
 pub use aq_load::Staged;
+pub use aq_rows::{OpenFault, Place};
+pub use batch::RowChanges;
 pub use book::Book;
 pub use check::LoadCheck;
 pub use fault::{AskFault, UnknownSite};
+pub use opening::{book_of, rows_of};
 pub use ozone::OzoneDays;
 
 #[cfg(test)]

@@ -37,6 +37,20 @@ impl Staged {
         &self.reply
     }
 
+    /// The number of the load.
+    pub fn number(&self) -> u32
+        ensures { result ≡ self.now.number }
+    {
+        self.number
+    }
+
+    /// The digest of the load's body.
+    pub fn digest(&self) -> &[u8; 32]
+        ensures { result.now ≡ self.now.digest }
+    {
+        &self.digest
+    }
+
     /// What a load leaves of the office whose observations stand on this shelf. It costs a search of the
     /// shelf for each observation that the load changed, or two. After want of memory the shelf is gone.
     pub fn onto(self, shelf: Shelf) -> Result<Taken, Memory>

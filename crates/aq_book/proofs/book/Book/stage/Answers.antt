@@ -19,10 +19,11 @@ returns-clause-fits c =
     (λ some new. c.loads_leave_the_office_valid.ensures.kept c.args.self.now c.args.number c.args.digest c.args.body.now valid some (omega (arith, c.ranges.number.fits)) c.digest_is_32_bytes.ensures.many c.digest_is_32_bytes.ensures.bytes c.requires.lines new)
     c.requires.number)
 
-pub returns-clause-lines_taken : goal.returns-clause-lines_taken
-returns-clause-lines_taken c =
-    after-is c.in_ok-staged.staged c.self.inside.registry c.self.inside.shelf c.self.inside.loads c.args.self.now c.self.view_is c.args.number c.args.digest c.args.body.now c.in_ok-staged.ensures.reply c.in_ok-staged.ensures.load c.in_ok-staged.ensures.office
-
-pub returns-clause-staged_on : goal.returns-clause-staged_on
-returns-clause-staged_on c =
-    staged_on c.in_ok-staged.staged c.self.inside.registry c.self.inside.shelf c.self.inside.loads c.args.self.now c.self.view_is c.args.number c.args.digest c.args.body.now c.in_ok-staged.ensures.staged_on
+pub returns-clause-staged : goal.returns-clause-staged
+returns-clause-staged c = record {
+  number_is = c.in_ok-staged.ensures.load.0;
+  digest_is = c.in_ok-staged.ensures.load.1;
+  reply_is = returns-clause-reply c;
+  lines_taken = after-is c.in_ok-staged.staged c.self.inside.registry c.self.inside.shelf c.self.inside.loads c.args.self.now c.self.view_is c.args.number c.args.digest c.args.body.now c.in_ok-staged.ensures.reply c.in_ok-staged.ensures.load c.in_ok-staged.ensures.office;
+  on = staged_on c.in_ok-staged.staged c.self.inside.registry c.self.inside.shelf c.self.inside.loads c.args.self.now c.self.view_is c.args.number c.args.digest c.args.body.now c.in_ok-staged.ensures.staged_on;
+}
