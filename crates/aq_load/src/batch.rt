@@ -21,8 +21,8 @@ use std::alloc::Global;
 impl Staged {
     /// The changes that a load makes to the records and observations that it was staged on, in the order of
     /// their tables and keys. A record or an observation that is the same after the load is not among them.
-    /// It costs two or three searches for each record and observation that the load touched, and no walk
-    /// over those that it did not.
+    /// It costs a few searches for each record and observation that the load touched, and no walk over those
+    /// that it did not.
     pub fn changes(
         &self,
         alloc: Global,
