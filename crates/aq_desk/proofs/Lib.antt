@@ -1,4 +1,11 @@
 pub mod Fronts
 pub mod Outcomes
-pub mod Messages
+pub mod Tables
+pub mod Unread
+pub mod Printing
+pub mod Opening
+pub mod Posting
+pub mod Showing
+pub mod TableNames
+pub mod Telling
 pub mod Causes

@@ -19,13 +19,13 @@ use Rattle.aq_profile.specs.Shown.Sheet.{Sheet, text_of}
 use Rattle.aq_profile.specs.Shown.Sheets.{load_sheet, windows_answer, windows_sheet}
 use Rattle.aq_desk.proofs.Fronts.{behind_nothing}
 use Rattle.aq_desk.specs.Body.{excess, is_within}
-use Rattle.aq_desk.specs.Command.{IsWhole, Outcome, after_text, printed, unwritten}
+use Rattle.aq_desk.specs.Command.{IsWhole, Printout, after_text, printed, unwritten}
 use Rattle.aq_desk.specs.Ending.{Ending, no_site, too_many_bytes, too_many_lines}
 use Rattle.aq_desk.specs.Scan.{scan_answer, scan_outcome, sheet_or_no_site}
-use Rattle.aq_desk.specs.Stop.{IsCutShort, Obeys, ending_of, status_of}
+use Rattle.aq_desk.specs.Stop.{IsCutShort, Obeys, ending_at, ending_of, status_of}
 use Rattle.aq_desk.specs.Writing.{WritesFront}
 use Rattle.aq_desk.specs.declared.stop.Stop.{Stop}
-use Rattle.aq_desk.specs.declared.stop.Stop.TheVariants.{InputFailed, Memory, TooManyBytes}
+use Rattle.aq_desk.specs.declared.stop.Stop.TheVariants.{InputFailed, Memory}
 use Rattle.aq_desk.specs.declared.stop.Stop.TheVariants as stops
 
 -- ---- texts and their fronts
@@ -59,26 +59,28 @@ front_behind before between after first second written front = record {
 
 -- ---- a command that was cut short, or that writes nothing
 
-pub cut_short : (outcome : Outcome) (stop : Stop) (before after : Option (List ℕ)) → (IsWhole (status_of (Err stop)) → ⊥) → WritesFront before after outcome.output → Obeys outcome (Err stop) before after
-cut_short outcome stop before after cut front = record {
+pub cut_short : (outcome : Printout) (stop : Stop) (before after : Option (List ℕ)) → (IsWhole (ending_at stop).status → ⊥) → WritesFront before after outcome.output → ((ending_at stop).status ≡ 4 → 0 < length outcome.output) → Obeys outcome (Err stop) before after
+cut_short outcome stop before after cut front written = record {
   ending = λ whole. absurd (cut whole);
   whole = λ whole. absurd (cut whole);
   front = front;
+  written = written;
 }
 
-pub without_memory : (outcome : Outcome) (stop : Stop) (written : Option (List ℕ)) → stop ≡ Memory → Obeys outcome (Err stop) written written
+pub without_memory : (outcome : Printout) (stop : Stop) (written : Option (List ℕ)) → stop ≡ Memory → Obeys outcome (Err stop) written written
 without_memory outcome stop written is =
     let P = λ (s : Stop). Obeys outcome (Err s) written written in
-    subst P (sym is) (cut_short outcome Memory written written (λ whole. omega arith) (nothing_written written outcome.output))
+    subst P (sym is) (cut_short outcome Memory written written (λ whole. omega arith) (nothing_written written outcome.output) (λ four. absurd (omega arith)))
 
-pub without_input : (outcome : Outcome) (written : Option (List ℕ)) → Obeys outcome (Err InputFailed) written written
-without_input outcome written = cut_short outcome InputFailed written written (λ whole. omega arith) (nothing_written written outcome.output)
+pub without_input : (outcome : Printout) (written : Option (List ℕ)) → Obeys outcome (Err InputFailed) written written
+without_input outcome written = cut_short outcome InputFailed written written (λ whole. omega arith) (nothing_written written outcome.output) (λ four. absurd (omega arith))
 
-writes_nothing : (ending : Ending) (answer : Result Unit Stop) (written : Option (List ℕ)) → ending_of answer ≡ ending → Obeys (unwritten ending) answer written written
-writes_nothing ending answer written is = record {
+pub writes_nothing : (ending : Ending) (answer : Result Unit Stop) (written : Option (List ℕ)) → ending_of answer ≡ ending → (status_of answer ≡ 4 → ⊥) → Obeys (unwritten ending) answer written written
+writes_nothing ending answer written is other = record {
   ending = λ _. is;
   whole = λ _. sym (behind_nothing written);
   front = nothing_written written [];
+  written = λ four. absurd (other four);
 }
 
 -- ---- the limits of a body
@@ -89,26 +91,27 @@ is_within-few body bytes lines = grind (arith, nat_tests)
 pub is_within-bytes : (body : List ℕ) → MOST_BYTES < length body → is_within body ≡ false
 is_within-bytes body many = grind (arith, nat_tests)
 
--- a body within the limits is answered, and another is not taken
-within : (site : Site) (day : ℕ) (body : List ℕ) (answer : Result Unit Stop) (before after : Option (List ℕ)) → is_within body ≡ true → Obeys (scan_answer site day body) answer before after → Obeys (scan_outcome site day body) answer before after
-within site day body answer before after is obeys =
-    let P = λ (few : Bool). Obeys (if few then scan_answer site day body else unwritten (excess body)) answer before after in
-    subst P (sym is) obeys
-
-beyond : (site : Site) (day : ℕ) (body : List ℕ) (answer : Result Unit Stop) (written : Option (List ℕ)) → is_within body ≡ false → ending_of answer ≡ excess body → Obeys (scan_outcome site day body) answer written written
-beyond site day body answer written is ending =
-    let P = λ (few : Bool). Obeys (if few then scan_answer site day body else unwritten (excess body)) answer written written in
-    subst P (sym is) (writes_nothing (excess body) answer written ending)
+pub is_within-lines : (body : List ℕ) → MOST_LINES < line_count body → is_within body ≡ false
+is_within-lines body many = grind (arith, nat_tests)
 
 many_bytes : (body : List ℕ) → MOST_BYTES < length body → nat_le (length body) MOST_BYTES ≡ false
 many_bytes body many = grind (arith, nat_tests)
 
-excess-bytes : (body : List ℕ) → MOST_BYTES < length body → excess body ≡ too_many_bytes
+few_bytes : (body : List ℕ) → length body ≤ MOST_BYTES → nat_le (length body) MOST_BYTES ≡ true
+few_bytes body few = grind (arith, nat_tests)
+
+pub excess-bytes : (body : List ℕ) → MOST_BYTES < length body → excess body ≡ too_many_bytes
 excess-bytes body many = ap (λ (b : Bool). if b then too_many_lines (line_count body) else too_many_bytes) (many_bytes body many)
 
-pub beyond_bytes : (site : Site) (day : ℕ) (body : List ℕ) (written : Option (List ℕ)) → MOST_BYTES < length body → Obeys (scan_outcome site day body) (Err TooManyBytes) written written
-beyond_bytes site day body written many =
-    beyond site day body (Err TooManyBytes) written (is_within-bytes body many) (sym (excess-bytes body many))
+pub excess-lines : (body : List ℕ) → length body ≤ MOST_BYTES → excess body ≡ too_many_lines (line_count body)
+excess-lines body few = ap (λ (b : Bool). if b then too_many_lines (line_count body) else too_many_bytes) (few_bytes body few)
+
+-- a body within the limits is answered, and another is not taken
+pub scan_within : (site : Site) (day : ℕ) (body : List ℕ) → is_within body ≡ true → scan_outcome site day body ≡ scan_answer site day body
+scan_within site day body is = ap (λ (few : Bool). if few then scan_answer site day body else unwritten (excess body)) is
+
+pub scan_beyond : (site : Site) (day : ℕ) (body : List ℕ) → is_within body ≡ false → scan_outcome site day body ≡ unwritten (excess body)
+scan_beyond site day body is = ap (λ (few : Bool). if few then scan_answer site day body else unwritten (excess body)) is
 
 -- ---- the answer to a body
 
@@ -130,38 +133,44 @@ registered_answer office site day rows sheet answer before after registered same
 
 pub unregistered_answer : (office : Office) (site : Site) (day : ℕ) (written : Option (List ℕ)) → is_registered office site ≡ false → Obeys (sheet_or_no_site site (book.answer office (Windows site day))) (Err (stops.NoSite site)) written written
 unregistered_answer office site day written unregistered =
-    answered office site day false (Err (stops.NoSite site)) written written unregistered (writes_nothing (no_site site) (Err (stops.NoSite site)) written refl)
+    answered office site day false (Err (stops.NoSite site)) written written unregistered (writes_nothing (no_site site) (Err (stops.NoSite site)) written refl (λ four. absurd (omega (arith, four))))
+
+pub more_bytes : (first second : List ℕ) → 0 < length first → 0 < length (first ++ second)
+more_bytes first second some = omega (arith, some, length-append first second)
+
+pub bytes_behind : (first second : List ℕ) → 0 < length second → 0 < length (first ++ second)
+bytes_behind first second some = omega (arith, some, length-append first second)
 
 -- a text that was printed whole, and then what follows it
-obeys_behind : (text : List ℕ) (outcome : Outcome) (answer : Result Unit Stop) (before between after : Option (List ℕ)) → between ≡ option_map (λ bytes. bytes ++ text) before → Obeys outcome answer between after → Obeys (after_text text outcome) answer before after
+obeys_behind : (text : List ℕ) (outcome : Printout) (answer : Result Unit Stop) (before between after : Option (List ℕ)) → between ≡ option_map (λ bytes. bytes ++ text) before → Obeys outcome answer between after → Obeys (after_text text outcome) answer before after
 obeys_behind text outcome answer before between after written obeys = record {
   ending = obeys.ending;
   whole = λ whole. obeys.whole whole ∙ ap (option_map (λ bytes. bytes ++ outcome.output)) written ∙ join before text outcome.output;
   front = front_behind before between after text outcome.output written obeys.front;
+  written = λ four. bytes_behind text outcome.output (obeys.written four);
 }
 
-pub taken_behind : (text : List ℕ) (outcome : Outcome) (first : Unit) (answer : Result Unit Stop) (before between after : Option (List ℕ))
+pub taken_behind : (text : List ℕ) (outcome : Printout) (first : Unit) (answer : Result Unit Stop) (before between after : Option (List ℕ))
     → Obeys (printed text) (Ok first) before between → Obeys outcome answer between after → Obeys (after_text text outcome) answer before after
 taken_behind text outcome first answer before between after told obeys = obeys_behind text outcome answer before between after (told.whole (inl refl)) obeys
 
 -- and a text of which a front was printed
-pub cut_behind : (text : List ℕ) (outcome : Outcome) (stop : Stop) (answer : Result Unit Stop) (before after : Option (List ℕ)) → answer ≡ Err stop → IsCutShort stop → WritesFront before after text → Obeys (after_text text outcome) answer before after
-cut_behind text outcome stop answer before after is cut front =
+pub cut_behind : (text : List ℕ) (outcome : Printout) (stop : Stop) (answer : Result Unit Stop) (before after : Option (List ℕ)) → answer ≡ Err stop → IsCutShort stop → Obeys (printed text) (Err stop) before after → Obeys (after_text text outcome) answer before after
+cut_behind text outcome stop answer before after is cut told =
     let P = λ (r : Result Unit Stop). Obeys (after_text text outcome) r before after in
-    subst P (sym is) (cut_short (after_text text outcome) stop before after (λ whole. omega (arith, cut, whole)) (front_of_more before after text outcome.output front))
+    subst P (sym is) (cut_short (after_text text outcome) stop before after (λ whole. omega (arith, cut, whole)) (front_of_more before after text outcome.output told.front) (λ four. more_bytes text outcome.output (told.written four)))
 
 -- the reply and the office are those of the body
 scanned : (site : Site) (day : ℕ) (body : List ℕ) → after_text (text_of (load_sheet (reply nothing 0 body))) (sheet_or_no_site site (book.answer (load nothing 0 [] body) (Windows site day))) ≡ scan_answer site day body
 unfolding scan_answer
 scanned site day body = refl
 
-pub answers : (site : Site) (day : ℕ) (body : List ℕ) (start : Office) (told : LoadReply) (office : Office) (answer : Result Unit Stop) (before after : Option (List ℕ)) → is_within body ≡ true → start ≡ nothing → told ≡ reply start 0 body → office ≡ load start 0 [] body
-    → Obeys (after_text (text_of (load_sheet told)) (sheet_or_no_site site (book.answer office (Windows site day)))) answer before after → Obeys (scan_outcome site day body) answer before after
-answers site day body start told office answer before after few empty same_reply same_office obeys =
+pub answers : (site : Site) (day : ℕ) (body : List ℕ) (start : Office) (told : LoadReply) (office : Office) (answer : Result Unit Stop) (before after : Option (List ℕ)) → start ≡ nothing → told ≡ reply start 0 body → office ≡ load start 0 [] body
+    → Obeys (after_text (text_of (load_sheet told)) (sheet_or_no_site site (book.answer office (Windows site day)))) answer before after → Obeys (scan_answer site day body) answer before after
+answers site day body start told office answer before after empty same_reply same_office obeys =
     let P = λ (r : LoadReply). Obeys (after_text (text_of (load_sheet r)) (sheet_or_no_site site (book.answer office (Windows site day)))) answer before after in
     let Q = λ (o : Office). Obeys (after_text (text_of (load_sheet (reply nothing 0 body))) (sheet_or_no_site site (book.answer o (Windows site day)))) answer before after in
-    let R = λ (outcome : Outcome). Obeys outcome answer before after in
-    within site day body answer before after few
-    (subst R (scanned site day body)
+    let R = λ (outcome : Printout). Obeys outcome answer before after in
+    subst R (scanned site day body)
     (subst Q (same_office ∙ ap (λ (o : Office). load o 0 [] body) empty)
-    (subst P (same_reply ∙ ap (λ (o : Office). reply o 0 body) empty) obeys)))
+    (subst P (same_reply ∙ ap (λ (o : Office). reply o 0 body) empty) obeys))

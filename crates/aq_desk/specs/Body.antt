@@ -1,12 +1,13 @@
 -- The body of a load as it is read from a source.
-use Rattle.std.specs.Prelude.{◌≡◌, ℕ, ◌+◌, ◌<◌, Bool, ◌&&◌, nat_le, if◌then◌else◌, List, [], ◌++◌, length, Option, IfSome}
+use Rattle.std.specs.Prelude.{◌≡◌, ℕ, ◌+◌, ◌<◌, ◌≤◌, Bool, ◌&&◌, nat_le, if◌then◌else◌, List, [], ◌++◌, length, Option, IfSome}
 use Rattle.std.specs.Option.{option_map}
 use Rattle.aq_profile.specs.Limits.{MOST_BYTES, MOST_LINES}
 use Rattle.aq_profile.specs.Lines.Lines.{line_count}
 use Rattle.aq_desk.specs.Ending.{Ending, too_many_bytes, too_many_lines}
+use Rattle.aq_desk.specs.Outside.{Over}
 use Rattle.aq_base.specs.Faults.{HasRisen}
 use Rattle.aq_desk.specs.declared.body.BodyFault.{BodyFault}
-use Rattle.aq_desk.specs.declared.body.BodyFault.TheVariants.{InputFailed, Memory, TooManyBytes}
+use Rattle.aq_desk.specs.declared.body.BodyFault.TheVariants.{InputFailed, Memory, TooManyBytes, TooManyLines}
 
 -- a body within the limits of bytes and of lines
 abbrev pub is_within : List ℕ → Bool
@@ -25,22 +26,22 @@ pub record Extends (before after : Option (List ℕ)) (body longer : List ℕ) (
   pub moved : option_map (λ left. body ++ left) before ≡ option_map (λ left. longer ++ left) after
   pub end : n ≡ 0 → IfSome before (λ left. left ≡ [])
 
--- all that the source tells
-abbrev pub IsBody : Option (List ℕ) → List ℕ → Type 0
-IsBody left body = IfSome left (λ bytes. bytes ≡ body)
-
--- a fact about the input: about all of its bytes where the source tells them, and else about some bytes
-pub record Over (left : Option (List ℕ)) (Says : List ℕ → Type 0) : Type 0 where
-  pub body : List ℕ
-  pub told : IsBody left body
-  pub says : Says body
-
 -- there are more bytes than a body may have
-abbrev pub HasTooMany : Option (List ℕ) → Type 0
-HasTooMany left = Over left (λ body. MOST_BYTES < length body)
+abbrev pub HasTooManyBytes : Option (List ℕ) → Type 0
+HasTooManyBytes left = Over left (λ body. MOST_BYTES < length body)
 
--- why a body is not read: the source's count rose, or, where it did not, there are too many bytes; want of memory has no cause that is told
-abbrev pub IsBodyFault : ℕ → ℕ → Type 0 → BodyFault → Type 0
-IsBodyFault before after too_many InputFailed = HasRisen before after
-IsBodyFault before after too_many Memory = after ≡ before
-IsBodyFault before after too_many TooManyBytes = (after ≡ before) × too_many
+-- there are so many lines, more than a body may have
+pub record IsTooLong (lines : ℕ) (body : List ℕ) : Type 0 where
+  pub bytes : length body ≤ MOST_BYTES
+  pub counted : lines ≡ line_count body
+  pub many : MOST_LINES < lines
+
+abbrev pub HasTooManyLines : Option (List ℕ) → ℕ → Type 0
+HasTooManyLines left lines = Over left (IsTooLong lines)
+
+-- why a body is not read: the source's count rose, or, where it did not, there are too many bytes or lines; want of memory has no cause that is told
+abbrev pub IsBodyFault : ℕ → ℕ → Type 0 → (ℕ → Type 0) → BodyFault → Type 0
+IsBodyFault before after bytes lines InputFailed = HasRisen before after
+IsBodyFault before after bytes lines Memory = after ≡ before
+IsBodyFault before after bytes lines TooManyBytes = (after ≡ before) × bytes
+IsBodyFault before after bytes lines (TooManyLines count) = (after ≡ before) × lines count

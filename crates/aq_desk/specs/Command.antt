@@ -1,45 +1,76 @@
--- What a command is: how it ends and what it writes, over its words and its input; and what a run may do with it (own).
-use Rattle.std.specs.Prelude.{◌≡◌, ℕ, ◌⊎◌, ◌==◌, if◌then◌else◌, List, [], ◌++◌, Option}
+-- What a command is: how it ends, what it writes, and what it leaves in the keeper's tables, over its words, these tables and its input; and what a run may do with it (own).
+use Rattle.std.specs.Prelude.{◌≡◌, ℕ, ◌<◌, ◌⊎◌, ◌==◌, if◌then◌else◌, List, [], ◌++◌, length, Option}
 use Rattle.std.specs.Option.{option_map}
-use Rattle.aq_desk.specs.Ending.{Ending, done, input_failed, output_failed, no_memory}
+use Rattle.aq_profile.specs.Kept.Rows.{Row}
+use Rattle.aq_desk.specs.Ending.{Ending, done, input_failed, output_failed, keeper_failed, no_memory}
 use Rattle.aq_base.specs.Faults.{HasRisen}
 use Rattle.aq_desk.specs.Writing.{WritesFront}
 
--- what a command gives, with no fault: how it ends, and what it writes on the output
-pub record Outcome : Type 0 where
+-- how a command ends, and what it writes on the output
+pub record Printout : Type 0 where
   pub ending : Ending
   pub output : List ℕ
 
 -- a command that writes nothing
-abbrev pub unwritten : Ending → Outcome
+abbrev pub unwritten : Ending → Printout
 unwritten ending = record { ending = ending; output = [] }
 
 -- one that prints a text, and has then done all
-abbrev pub printed : List ℕ → Outcome
+abbrev pub printed : List ℕ → Printout
 printed text = record { ending = done; output = text }
 
--- a text, and then what else a command gives
-abbrev pub after_text : List ℕ → Outcome → Outcome
-after_text text outcome = record { ending = outcome.ending; output = text ++ outcome.output }
+-- a text, and then what else a command writes
+abbrev pub after_text : List ℕ → Printout → Printout
+after_text text printout = record { ending = printout.ending; output = text ++ printout.output }
+
+-- what a command gives, with no fault: how it ends, what it writes on the output, and the rows of the tables after it
+pub record Outcome : Type 0 where
+  pub ending : Ending
+  pub output : List ℕ
+  pub rows : List Row
+
+abbrev pub printout_of : Outcome → Printout
+printout_of outcome = record { ending = outcome.ending; output = outcome.output }
+
+-- with these rows in the tables
+abbrev pub leaving : List Row → Printout → Outcome
+leaving rows printout = record { ending = printout.ending; output = printout.output; rows = rows }
 
 -- ---- what a run may do with it
 
 -- the statuses of a run that did all of its command; the others are those of one that was cut short
 abbrev pub IsWhole : ℕ → Type 0
-IsWhole status = (status ≡ 0) ⊎ (status ≡ 2) ⊎ (status ≡ 10) ⊎ (status ≡ 12)
+IsWhole status = (status ≡ 0) ⊎ (status ≡ 2) ⊎ (status ≡ 6) ⊎ (status ≡ 9) ⊎ (status ≡ 10) ⊎ (status ≡ 11) ⊎ (status ≡ 12)
 
--- a run does all of the command, or, where a count rose or memory ran out, a front of its output
-pub record Follows (outcome : Outcome) (status : ℕ) (before after : Option (List ℕ)) : Type 0 where
+-- the statuses with which the tables are those of the command: it did all, or only its output failed
+abbrev pub IsKept : ℕ → Type 0
+IsKept status = IsWhole status ⊎ (status ≡ 4)
+
+-- those with which the tables are as before: the input failed, or the keeper did
+abbrev pub IsUndone : ℕ → Type 0
+IsUndone status = (status ≡ 3) ⊎ (status ≡ 5)
+
+-- the tables after a run, where they are told: what they were, or those of the command, the one or the other by the status unless memory ran out
+pub record Keeps (rows : List Row) (status : ℕ) (before after : Option (List Row)) : Type 0 where
+  pub kept : IsKept status → after ≡ option_map (λ _. rows) before
+  pub undone : IsUndone status → after ≡ before
+  pub either : (after ≡ before) ⊎ (after ≡ option_map (λ _. rows) before)
+
+-- a run does all of the command, or, where a count rose or memory ran out, a front of its output; the output fails only where there is something to write
+pub record Follows (outcome : Outcome) (status : ℕ) (before after : Option (List ℕ)) (tables_before tables_after : Option (List Row)) : Type 0 where
   pub answered : IsWhole status → status ≡ outcome.ending.status
   pub whole : IsWhole status → after ≡ option_map (λ bytes. bytes ++ outcome.output) before
   pub front : WritesFront before after outcome.output
+  pub written : status ≡ 4 → 0 < length outcome.output
+  pub tables : Keeps outcome.rows status tables_before tables_after
 
 -- the message of a run with this status
 abbrev pub message_for : Outcome → ℕ → List ℕ
 message_for outcome status =
-    if status == 3
-    then input_failed.message
-    else (if status == 4 then output_failed.message else (if status == 7 then no_memory.message else outcome.ending.message))
+    if status == 3 then input_failed.message
+    else (if status == 4 then output_failed.message
+    else (if status == 5 then keeper_failed.message
+    else (if status == 7 then no_memory.message else outcome.ending.message)))
 
 -- a message goes behind what was written, all of it or, where the stream's count of faults rose, a front
 pub record Tells (message : List ℕ) (count_before count_after : ℕ) (before after : Option (List ℕ)) : Type 0 where
@@ -53,12 +84,12 @@ pub record RisesAt (wanted status : ℕ) (before after : ℕ) : Type 0 where
 
 -- the statuses that a run may have
 abbrev pub IsStatus : ℕ → Type 0
-IsStatus status = (status ≡ 0) ⊎ (status ≡ 2) ⊎ (status ≡ 3) ⊎ (status ≡ 4) ⊎ (status ≡ 7) ⊎ (status ≡ 10) ⊎ (status ≡ 12)
+IsStatus status = IsWhole status ⊎ (status ≡ 3) ⊎ (status ≡ 4) ⊎ (status ≡ 5) ⊎ (status ≡ 7)
 
--- the statuses of a run that read its input to the end, within the limits
+-- the statuses of a run that read its input to the end, within the limits, where its command reads it
 abbrev pub ReadsWhole : ℕ → Type 0
-ReadsWhole status = (status ≡ 0) ⊎ (status ≡ 4) ⊎ (status ≡ 12)
+ReadsWhole status = (status ≡ 0) ⊎ (status ≡ 4) ⊎ (status ≡ 5) ⊎ (status ≡ 6) ⊎ (status ≡ 9) ⊎ (status ≡ 11) ⊎ (status ≡ 12)
 
 -- the statuses of one that wrote nothing on the output
 abbrev pub WritesNothing : ℕ → Type 0
-WritesNothing status = (status ≡ 2) ⊎ (status ≡ 3) ⊎ (status ≡ 10)
+WritesNothing status = (status ≡ 2) ⊎ (status ≡ 3) ⊎ (status ≡ 5) ⊎ (status ≡ 6) ⊎ (status ≡ 9) ⊎ (status ≡ 10) ⊎ (status ≡ 11)

@@ -2,6 +2,9 @@
 use Rattle.std.specs.Prelude.{ℕ, List, [], ◌++◌, codes, decimal}
 use Rattle.aq_base.specs.Site.{Site}
 use Rattle.aq_profile.specs.Limits.{MOST_BYTES}
+use Rattle.aq_profile.specs.Kept.RowChanges.{table_name}
+use Rattle.aq_profile.specs.Kept.Rows.{Place}
+use Rattle.aq_profile.specs.Shown.OtherSheets.{digest_text}
 use Rattle.aq_profile.specs.Shown.Sheet.{site_text}
 
 pub record Ending : Type 0 where
@@ -25,8 +28,20 @@ input_failed = ends 3 (codes "input failed")
 abbrev pub output_failed : Ending
 output_failed = ends 4 (codes "output failed")
 
+abbrev pub keeper_failed : Ending
+keeper_failed = ends 5 (codes "keeper failed")
+
+-- with the table of the first damaged row, and its place among that table's rows from 0
+abbrev pub damaged : Place → Ending
+damaged place = ends 6 (codes "damaged " ++ table_name place.table ++ codes " " ++ decimal place.index)
+
 abbrev pub no_memory : Ending
 no_memory = ends 7 (codes "memory")
+
+-- with the load's number, the digest that is kept, and the one that was sent
+abbrev pub conflict : ℕ → List ℕ → List ℕ → Ending
+conflict number kept sent =
+    ends 9 (codes "load " ++ decimal number ++ codes " kept " ++ digest_text kept ++ codes " sent " ++ digest_text sent)
 
 abbrev pub too_many_bytes : Ending
 too_many_bytes = ends 10 (codes "more than " ++ decimal MOST_BYTES ++ codes " bytes")
@@ -34,6 +49,9 @@ too_many_bytes = ends 10 (codes "more than " ++ decimal MOST_BYTES ++ codes " by
 -- with how many lines there are
 abbrev pub too_many_lines : ℕ → Ending
 too_many_lines lines = ends 10 (decimal lines ++ codes " lines")
+
+abbrev pub loads_full : Ending
+loads_full = ends 11 (codes "loads full")
 
 -- with the site that was asked for
 abbrev pub no_site : Site → Ending

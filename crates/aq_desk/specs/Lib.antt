@@ -6,5 +6,8 @@ pub mod Writing
 pub mod Words
 pub mod Command
 pub mod Stop
+pub mod Office
 pub mod Scan
+pub mod Load
+pub mod Show
 pub mod Run

@@ -3,6 +3,16 @@ use Rattle.std.specs.Prelude.{◌≡◌, ℕ, ◌<◌, ◌≤◌, List, [], ◌+
 use Rattle.std.specs.Option.{option_map}
 use Rattle.aq_base.specs.Faults.{HasRisen, next}
 
+-- all that an object tells
+abbrev pub IsAll : {A : Type 0} → Option (List A) → List A → Type 0
+IsAll told all = IfSome told (λ items. items ≡ all)
+
+-- a fact about all that an object tells, where it tells it, and else about some
+pub record Over {A : Type 0} (told : Option (List A)) (Says : List A → Type 0) : Type 0 where
+  pub all : List A
+  pub is_all : IsAll told all
+  pub says : Says all
+
 -- a count rises at a call that answers with a fault, and at no other
 abbrev pub HasCause : {A E : Type 0} → ℕ → ℕ → Result A E → Type 0
 HasCause before after (Ok answer) = after ≡ before

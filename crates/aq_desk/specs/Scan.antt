@@ -7,22 +7,22 @@ use Rattle.aq_profile.specs.Shown.Answer.{Answer, OfSheet, Windows, answer}
 use Rattle.aq_profile.specs.Shown.Sheet.{text_of}
 use Rattle.aq_profile.specs.Shown.Sheets.{load_sheet}
 use Rattle.aq_desk.specs.Body.{excess, is_within}
-use Rattle.aq_desk.specs.Command.{Outcome, after_text, printed, unwritten}
+use Rattle.aq_desk.specs.Command.{Printout, after_text, printed, unwritten}
 use Rattle.aq_desk.specs.Ending.{no_site}
 
 -- the text of the sheet where there is one, and else the site is not registered
-abbrev pub sheet_or_no_site : Site → Answer → Outcome
+abbrev pub sheet_or_no_site : Site → Answer → Printout
 sheet_or_no_site site (OfSheet sheet) = printed (text_of sheet)
 sheet_or_no_site site _ = unwritten (no_site site)
 
 -- the sheet of the load, and then the windows over the office after it; a load with the number 0 is not kept, whatever its digest
-unfoldable pub scan_answer : Site → ℕ → List ℕ → Outcome
+unfoldable pub scan_answer : Site → ℕ → List ℕ → Printout
 scan_answer site day body =
     after_text (text_of (load_sheet (reply nothing 0 body)))
     (sheet_or_no_site site (answer (load nothing 0 [] body) (Windows site day)))
 
 -- a body of too many bytes or lines is not taken
-abbrev pub scan_outcome : Site → ℕ → List ℕ → Outcome
+abbrev pub scan_outcome : Site → ℕ → List ℕ → Printout
 scan_outcome site day body =
     if is_within body
     then scan_answer site day body

@@ -1,41 +1,73 @@
 -- What stops a command, the ending of each cause, and what a command does that was stopped so.
-use Rattle.std.specs.Prelude.{◌≡◌, ◌⊎◌, ℕ, true, false, List, ◌++◌, Option, Result, Ok, Err}
+use Rattle.std.specs.Prelude.{◌≡◌, ◌⊎◌, ℕ, ◌<◌, true, false, List, [], ◌++◌, length, Option, Result, Ok, Err, IfOk, IsErr}
 use Rattle.std.specs.Option.{option_map}
-use Rattle.aq_desk.specs.Body.{Over, is_within}
-use Rattle.aq_desk.specs.Command.{IsWhole, Outcome, ReadsWhole, RisesAt}
-use Rattle.aq_desk.specs.Ending.{Ending, done, input_failed, output_failed, no_memory, too_many_bytes, too_many_lines, no_site}
+use Rattle.aq_profile.specs.Kept.Rows.{Row}
+use Rattle.aq_desk.specs.Body.{is_within}
+use Rattle.aq_desk.specs.Command.{IsWhole, Keeps, Outcome, Printout, ReadsWhole, RisesAt, printout_of}
+use Rattle.aq_desk.specs.Ending.{Ending, done, input_failed, output_failed, keeper_failed, damaged, no_memory, conflict, too_many_bytes, too_many_lines, loads_full, no_site}
+use Rattle.aq_desk.specs.Outside.{Over}
 use Rattle.aq_desk.specs.Writing.{WritesFront}
+use Rattle.aq_book.specs.declared.opening.BookFault.{BookFault}
+use Rattle.aq_book.specs.declared.opening.BookFault.TheVariants as book
+use Rattle.aq_keeper.specs.declared.keeper.KeeperFault.{KeeperFault}
+use Rattle.aq_keeper.specs.declared.keeper.KeeperFault.TheVariants as keeper
 use Rattle.aq_desk.specs.declared.body.BodyFault.{BodyFault}
 use Rattle.aq_desk.specs.declared.body.BodyFault.TheVariants as fault
 use Rattle.aq_desk.specs.declared.stop.Stop.{Stop}
-use Rattle.aq_desk.specs.declared.stop.Stop.TheVariants.{InputFailed, OutputFailed, Memory, TooManyBytes, TooManyLines, NoSite}
+use Rattle.aq_desk.specs.declared.stop.Stop.TheVariants.{InputFailed, OutputFailed, KeeperFailed, Damaged, Memory, Conflict, TooManyBytes, TooManyLines, LoadsFull, NoSite}
 
 abbrev pub ending_at : Stop → Ending
 ending_at InputFailed = input_failed
 ending_at OutputFailed = output_failed
+ending_at KeeperFailed = keeper_failed
+ending_at (Damaged place) = damaged (record { table = place.table; index = place.index })
 ending_at Memory = no_memory
+ending_at (Conflict number kept sent) = conflict number kept sent
 ending_at TooManyBytes = too_many_bytes
 ending_at (TooManyLines lines) = too_many_lines lines
+ending_at LoadsFull = loads_full
 ending_at (NoSite site) = no_site site
 
 -- a command that was done, or stopped
-abbrev pub ending_of : Result Unit Stop → Ending
-ending_of (Ok nothing) = done
+abbrev pub ending_of : {A : Type 0} → Result A Stop → Ending
+ending_of (Ok answer) = done
 ending_of (Err stop) = ending_at stop
 
-abbrev pub status_of : Result Unit Stop → ℕ
+abbrev pub status_of : {A : Type 0} → Result A Stop → ℕ
 status_of answer = (ending_of answer).status
 
 abbrev pub stop_of : BodyFault → Stop
 stop_of fault.InputFailed = InputFailed
 stop_of fault.Memory = Memory
 stop_of fault.TooManyBytes = TooManyBytes
+stop_of (fault.TooManyLines lines) = TooManyLines lines
 
--- it does all of its outcome, or, where it was cut short, a front of the output
-pub record Obeys (outcome : Outcome) (answer : Result Unit Stop) (before after : Option (List ℕ)) : Type 0 where
+abbrev pub stop_of_keeper : KeeperFault → Stop
+stop_of_keeper keeper.Failed = KeeperFailed
+stop_of_keeper keeper.Memory = Memory
+
+abbrev pub stop_of_book : BookFault → Stop
+stop_of_book (book.Damaged place) = Damaged place
+stop_of_book book.Memory = Memory
+
+-- it does all of its printout, or, where it was cut short, a front of the output; the output fails only where there is something to write
+pub record Obeys (printout : Printout) (answer : Result Unit Stop) (before after : Option (List ℕ)) : Type 0 where
+  pub ending : IsWhole (status_of answer) → ending_of answer ≡ printout.ending
+  pub whole : IsWhole (status_of answer) → after ≡ option_map (λ bytes. bytes ++ printout.output) before
+  pub front : WritesFront before after printout.output
+  pub written : status_of answer ≡ 4 → 0 < length printout.output
+
+-- the same of an outcome, with the tables
+pub record Performs (outcome : Outcome) (answer : Result Unit Stop) (before after : Option (List ℕ)) (tables_before tables_after : Option (List Row)) : Type 0 where
+  pub obeys : Obeys (printout_of outcome) answer before after
+  pub tables : Keeps outcome.rows (status_of answer) tables_before tables_after
+
+-- the text of an outcome that has still to be printed, and its tables; or what stopped the command before its output failed
+pub record Gives (outcome : Outcome) (answer : Result (List ℕ) Stop) (tables_before tables_after : Option (List Row)) : Type 0 where
+  pub text : IfOk answer (λ text. text ≡ outcome.output)
   pub ending : IsWhole (status_of answer) → ending_of answer ≡ outcome.ending
-  pub whole : IsWhole (status_of answer) → after ≡ option_map (λ bytes. bytes ++ outcome.output) before
-  pub front : WritesFront before after outcome.output
+  pub nothing : IsErr answer → IsWhole (status_of answer) → outcome.output ≡ []
+  pub tables : Keeps outcome.rows (status_of answer) tables_before tables_after
 
 -- the statuses of a command whose body was taken
 abbrev pub IsTaken : ℕ → Type 0
@@ -44,6 +76,12 @@ IsTaken status = (status ≡ 0) ⊎ (status ≡ 4) ⊎ (status ≡ 7) ⊎ (statu
 -- cut short while it printed: the output failed, or memory ran out
 abbrev pub IsCutShort : Stop → Type 0
 IsCutShort stop = ((ending_at stop).status ≡ 4) ⊎ ((ending_at stop).status ≡ 7)
+
+-- stopped before it printed: the office was not opened, the load not taken, or the site is not registered
+abbrev pub IsUnprinted : Stop → Type 0
+IsUnprinted stop =
+    let status = (ending_at stop).status in
+    (status ≡ 5) ⊎ (status ≡ 6) ⊎ (status ≡ 7) ⊎ (status ≡ 9) ⊎ (status ≡ 11) ⊎ (status ≡ 12)
 
 -- why it ended so: a count of faults rose, or the input is beyond the limits or within them
 pub record HasCauses (left : Option (List ℕ)) (status input_before input_after output_before output_after : ℕ) : Type 0 where

@@ -1,5 +1,5 @@
 -- A text as it is written to a sink.
-use Rattle.std.specs.Prelude.{◌≡◌, ℕ, ◌≤◌, List, ◌++◌, length, take, Option, Result, OnOk}
+use Rattle.std.specs.Prelude.{◌≡◌, ℕ, ◌<◌, ◌≤◌, List, ◌++◌, length, take, Option, Result, OnOk, OnErr}
 use Rattle.std.specs.Option.{option_map}
 use Rattle.aq_desk.specs.Outside.{HasCause}
 
@@ -9,8 +9,9 @@ pub record WritesFront (before after : Option (List ℕ)) (text : List ℕ) : Ty
   pub within : count ≤ length text
   pub written : after ≡ option_map (λ bytes. bytes ++ take count text) before
 
--- all of the text did, or, where the count of faults rose, a front
+-- all of the text did, or, where the count of faults rose, a front of a text with bytes
 pub record Writes {A E : Type 0} (text : List ℕ) (before after : Option (List ℕ)) (count_before count_after : ℕ) (answer : Result A E) : Type 0 where
   pub whole : OnOk answer (after ≡ option_map (λ bytes. bytes ++ text) before)
   pub front : WritesFront before after text
+  pub some : OnErr answer (0 < length text)
   pub cause : HasCause count_before count_after answer

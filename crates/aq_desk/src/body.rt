@@ -1,9 +1,12 @@
 //! The body of a load, read from a source to its end.
 ghost use Rattle.std.specs.Prelude.{◌≡◌, ◌<◌, ◌≤◌, length, vec_len, [], IfOk, IfErr, OnOk};
-ghost use Rattle.aq_desk.specs.Body.{Extends, HasTooMany, IsBody, IsBodyFault};
+ghost use Rattle.aq_profile.specs.Lines.Lines.{line_count};
+ghost use Rattle.aq_desk.specs.Body.{Extends, HasTooManyBytes, HasTooManyLines, IsBodyFault};
+ghost use Rattle.aq_desk.specs.Outside.{IsAll};
 
 use crate::outside::Source;
-use aq_base::{Failed, MOST_BYTES};
+use aq_base::{Failed, MOST_BYTES, MOST_LINES};
+use aq_forms::count_lines;
 use std::alloc::{AllocError, Global};
 
 const PIECE: usize = 65_536;
@@ -14,6 +17,8 @@ pub(crate) enum BodyFault {
     InputFailed,
     Memory,
     TooManyBytes,
+    /// With the number of lines.
+    TooManyLines(u32),
 }
 
 impl From<Failed> for BodyFault {
@@ -48,7 +53,7 @@ fn read_piece<S: Source>(
     ensures count { IfOk result (λ n. Extends (S.left input.old) (S.left input.new) body.old.items body.new.items n) }
     ensures within { IfOk result (λ n. n ≤ length buffer.old) }
     ensures steady { OnOk result (S.faults input.new ≡ S.faults input.old) }
-    ensures fault { IfErr result (λ fault. IsBodyFault (S.faults input.old) (S.faults input.new) ⊥ fault) }
+    ensures fault { IfErr result (λ fault. IsBodyFault (S.faults input.old) (S.faults input.new) ⊥ (λ _. ⊥) fault) }
 {
     let n = input.read(buffer)?;
     body.extend_from_slice(&buffer[..n])?;
@@ -59,10 +64,10 @@ fn read_piece<S: Source>(
 fn fill<S: Source>(input: &mut S, buffer: &mut [u8], body: &mut Vec<u8>) -> Result<(), BodyFault>
     requires room { 0 < length buffer.old }
     requires empty { body.old.items ≡ [] }
-    ensures body { OnOk result (IsBody (S.left input.old) body.new.items) }
+    ensures body { OnOk result (IsAll (S.left input.old) body.new.items) }
     ensures few { OnOk result (vec_len body.new ≤ MOST_BYTES) }
     ensures steady { OnOk result (S.faults input.new ≡ S.faults input.old) }
-    ensures fault { IfErr result (λ fault. IsBodyFault (S.faults input.old) (S.faults input.new) (HasTooMany (S.left input.old)) fault) }
+    ensures fault { IfErr result (λ fault. IsBodyFault (S.faults input.old) (S.faults input.new) (HasTooManyBytes (S.left input.old)) (λ _. ⊥) fault) }
 {
     while body.len() <= MOST_BYTES {
         let room = buffer.len().min(MOST_BYTES + 1 - body.len());
@@ -74,15 +79,21 @@ fn fill<S: Source>(input: &mut S, buffer: &mut [u8], body: &mut Vec<u8>) -> Resu
     Err(BodyFault::TooManyBytes)
 }
 
-/// Reads a source to its end, or as far as one byte beyond what a body may have.
+/// Reads a source to its end, or as far as one byte beyond what a body may have. More lines than a body
+/// may have are refused, too.
 pub(crate) fn read_body<S: Source>(alloc: Global, input: &mut S) -> Result<Vec<u8>, BodyFault>
-    ensures body { IfOk result (λ body. IsBody (S.left input.old) body.items) }
-    ensures few { IfOk result (λ body. vec_len body ≤ MOST_BYTES) }
+    ensures body { IfOk result (λ body. IsAll (S.left input.old) body.items) }
+    ensures bytes { IfOk result (λ body. length body.items ≤ MOST_BYTES) }
+    ensures lines { IfOk result (λ body. line_count body.items ≤ MOST_LINES) }
     ensures steady { OnOk result (S.faults input.new ≡ S.faults input.old) }
-    ensures fault { IfErr result (λ fault. IsBodyFault (S.faults input.old) (S.faults input.new) (HasTooMany (S.left input.old)) fault) }
+    ensures fault { IfErr result (λ fault. IsBodyFault (S.faults input.old) (S.faults input.new) (HasTooManyBytes (S.left input.old)) (HasTooManyLines (S.left input.old)) fault) }
 {
     let mut buffer = vec![in alloc; 0; PIECE]?;
     let mut body = Vec::new(alloc);
     fill(input, &mut buffer, &mut body)?;
+    let lines = count_lines(&body);
+    if lines > MOST_LINES {
+        return Err(BodyFault::TooManyLines(lines));
+    }
     Ok(body)
 }

@@ -3,10 +3,14 @@
 
 mod body;
 mod command;
+mod load;
 mod memory_sink;
 mod memory_source;
+mod messages;
+mod office;
 mod outside;
 mod scan;
+mod show;
 mod stop;
 mod words;
 mod writing;
@@ -17,6 +21,8 @@ pub use memory_source::MemorySource;
 pub use outside::{Sink, Source};
 pub use words::{Command, read_words};
 
+#[cfg(test)]
+mod load_tests;
 #[cfg(test)]
 mod office_tests;
 #[cfg(test)]

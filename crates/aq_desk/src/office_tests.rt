@@ -1,5 +1,6 @@
 //! Scans of bodies in the agency's own forms.
 use crate::*;
+use aq_keeper::SteadyKeeper;
 use std::alloc::Global;
 use std::process::Abort;
 use std::test::Fail;
@@ -93,7 +94,15 @@ impl Body {
         let mut input = MemorySource::new(self.text.as_bytes().to_vec(alloc)?, Vec::new(alloc));
         let mut output = MemorySink::new(alloc, 10_000, Vec::new(alloc))?;
         let mut errors = MemorySink::new(alloc, 1_000, Vec::new(alloc))?;
-        let status = run(alloc, &words, &mut input, &mut output, &mut errors);
+        let mut keeper = SteadyKeeper::new(alloc);
+        let status = run(
+            alloc,
+            &words,
+            &mut keeper,
+            &mut input,
+            &mut output,
+            &mut errors,
+        );
         Ok((status, String::from_utf8_lossy(alloc, output.written())?))
     }
 

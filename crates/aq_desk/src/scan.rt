@@ -1,23 +1,23 @@
 //! The command `scan`.
-ghost use Rattle.std.specs.Prelude.{◌≡◌, ◌≤◌, true, false, length, IfErr};
+ghost use Rattle.std.specs.Prelude.{◌≡◌, ◌≤◌, length, IfErr};
 ghost use Rattle.aq_book.specs.Staged.{office_with, Fits};
-ghost use Rattle.aq_profile.specs.Limits.{MOST_BYTES};
+ghost use Rattle.aq_profile.specs.Limits.{MOST_BYTES, MOST_LINES};
+ghost use Rattle.aq_profile.specs.Lines.Lines.{line_count};
 ghost use Rattle.aq_profile.specs.Shown.Answer as questions;
 ghost use Rattle.aq_profile.specs.Shown.Answer.{Windows};
 ghost use Rattle.aq_profile.specs.Shown.Sheet.{text_of};
 ghost use Rattle.aq_profile.specs.Shown.Sheets.{load_sheet};
-ghost use Rattle.aq_desk.specs.Body.{Over, is_within};
-ghost use Rattle.aq_desk.specs.Command.{after_text, printed, ReadsWhole, RisesAt, WritesNothing};
-ghost use Rattle.aq_desk.specs.Scan.{scan_outcome, sheet_or_no_site};
+ghost use Rattle.aq_desk.specs.Command.{after_text, printed, RisesAt, WritesNothing};
+ghost use Rattle.aq_desk.specs.Outside.{Over};
+ghost use Rattle.aq_desk.specs.Scan.{scan_answer, scan_outcome, sheet_or_no_site};
 ghost use Rattle.aq_desk.specs.Stop.{HasCauses, IsCutShort, IsTaken, Obeys, status_of};
 
 use crate::body::read_body;
 use crate::outside::{Sink, Source};
 use crate::stop::Stop;
 use crate::writing::print_sheet;
-use aq_base::{Day, MOST_LINES, SiteId};
+use aq_base::{Day, SiteId};
 use aq_book::{Book, Staged};
-use aq_forms::count_lines;
 use aq_reports::{load_sheet, windows_sheet};
 use std::alloc::Global;
 
@@ -32,13 +32,14 @@ pub(crate) fn scan<S: Source, O: Sink>(
 ) -> Result<(), Stop>
     ensures told { Over (S.left input.old) (λ body. Obeys (scan_outcome site day body) result (O.written output.old) (O.written output.new)) }
     ensures causes { HasCauses (S.left input.old) (status_of result) (S.faults input.old) (S.faults input.new) (O.faults output.old) (O.faults output.new) }
+    ensures no_keeper { status_of result ≡ 5 → ⊥ }
     ensures silent { WritesNothing (status_of result) → output.new ≡ output.old }
 {
     let body = read_body(alloc, input)?;
     answer(alloc, site, day, &body, output)
 }
 
-/// Answers to a body within the limit of bytes.
+/// Answers to a body within the limits.
 fn answer<O: Sink>(
     alloc: Global,
     site: SiteId,
@@ -46,18 +47,12 @@ fn answer<O: Sink>(
     body: &[u8],
     output: &mut O,
 ) -> Result<(), Stop>
-    requires { length body.now ≤ MOST_BYTES }
-    ensures told { Obeys (scan_outcome site day body.now) result (O.written output.old) (O.written output.new) }
-    ensures input_read { status_of result ≡ 3 → ⊥ }
+    requires bytes { length body.now ≤ MOST_BYTES }
+    requires lines { line_count body.now ≤ MOST_LINES }
+    ensures told { Obeys (scan_answer site day body.now) result (O.written output.old) (O.written output.new) }
+    ensures taken { IsTaken (status_of result) }
     ensures output_failed { RisesAt 4 (status_of result) (O.faults output.old) (O.faults output.new) }
-    ensures too_many { status_of result ≡ 10 → is_within body.now ≡ false }
-    ensures few { ReadsWhole (status_of result) → is_within body.now ≡ true }
-    ensures silent { WritesNothing (status_of result) → output.new ≡ output.old }
 {
-    let lines = count_lines(body);
-    if lines > MOST_LINES {
-        return Err(Stop::TooManyLines(lines));
-    }
     // A load with this number is not kept, and its digest is not looked at.
     let book = Book::new(alloc);
     let staged = book.stage(alloc, 0, [0; 32], body)?;

@@ -1,24 +1,35 @@
 //! What stops a command: the exit status of each cause, and its message on the errors stream.
-ghost use Rattle.std.specs.Prelude.{◌≡◌, decimal};
+ghost use Rattle.std.specs.Prelude.{◌≡◌};
 ghost use Rattle.aq_desk.specs.Stop.{ending_at};
-ghost use Rattle.aq_desk.specs.Ending.{no_site, too_many_lines};
 ghost use Rattle.aq_desk.specs.Writing.{Writes};
 
 use crate::body::BodyFault;
+use crate::messages::{write_conflict, write_damaged, write_lines, write_no_site};
 use crate::outside::Sink;
 use crate::writing::write_all;
 use aq_base::{Failed, SiteId};
-use aq_reports::site_text;
+use aq_book::{BookFault, Place};
+use aq_keeper::KeeperFault;
 
 /// What stops a command before it has done all.
 #[derive(Clone, Copy, Debug, PartialEq, Eq)]
 pub(crate) enum Stop {
     InputFailed,
     OutputFailed,
+    KeeperFailed,
+    /// With the first damaged row.
+    Damaged(Place),
     Memory,
+    /// A load's number is kept with another digest.
+    Conflict {
+        number: u32,
+        kept: [u8; 32],
+        sent: [u8; 32],
+    },
     TooManyBytes,
     /// With the number of lines.
     TooManyLines(u32),
+    LoadsFull,
     NoSite(SiteId),
 }
 
@@ -30,8 +41,12 @@ impl Stop {
         match self {
             Stop::InputFailed => 3,
             Stop::OutputFailed => 4,
+            Stop::KeeperFailed => 5,
+            Stop::Damaged(_) => 6,
             Stop::Memory => 7,
+            Stop::Conflict { .. } => 9,
             Stop::TooManyBytes | Stop::TooManyLines(_) => 10,
+            Stop::LoadsFull => 11,
             Stop::NoSite(_) => 12,
         }
     }
@@ -43,9 +58,13 @@ impl Stop {
         match self {
             Stop::InputFailed => write_all(errors, b"airdv: 3 input failed\n"),
             Stop::OutputFailed => write_all(errors, b"airdv: 4 output failed\n"),
+            Stop::KeeperFailed => write_all(errors, b"airdv: 5 keeper failed\n"),
+            Stop::Damaged(place) => write_damaged(place, errors),
             Stop::Memory => write_all(errors, b"airdv: 7 memory\n"),
+            Stop::Conflict { number, kept, sent } => write_conflict(*number, kept, sent, errors),
             Stop::TooManyBytes => write_all(errors, b"airdv: 10 more than 8388608 bytes\n"),
             Stop::TooManyLines(lines) => write_lines(*lines, errors),
+            Stop::LoadsFull => write_all(errors, b"airdv: 11 loads full\n"),
             Stop::NoSite(site) => write_no_site(*site, errors),
         }
     }
@@ -62,6 +81,7 @@ impl From<BodyFault> for Stop {
             BodyFault::InputFailed => Stop::InputFailed,
             BodyFault::Memory => Stop::Memory,
             BodyFault::TooManyBytes => Stop::TooManyBytes,
+            BodyFault::TooManyLines(lines) => Stop::TooManyLines(lines),
         }
     }
 }
@@ -77,30 +97,30 @@ impl From<aq_base::Memory> for Stop {
     }
 }
 
-fn write_lines<E: Sink>(lines: u32, errors: &mut E) -> Result<(), Failed>
-    ensures { let ending = too_many_lines lines in Writes ending.message (E.written errors.old) (E.written errors.new) (E.faults errors.old) (E.faults errors.new) result }
-{
-    write_all(errors, b"airdv: 10 ")?;
-    write_number(lines, errors)?;
-    write_all(errors, b" lines\n")
-}
+impl From<KeeperFault> for Stop {
+    ghost use Rattle.std.specs.Prelude.{◌≡◌};
+    ghost use Rattle.aq_desk.specs.Stop.{stop_of_keeper};
 
-fn write_no_site<E: Sink>(site: SiteId, errors: &mut E) -> Result<(), Failed>
-    ensures { let ending = no_site site in Writes ending.message (E.written errors.old) (E.written errors.new) (E.faults errors.old) (E.faults errors.new) result }
-{
-    write_all(errors, b"airdv: 12 no site ")?;
-    write_all(errors, &site_text(site))?;
-    write_all(errors, b"\n")
-}
+    ghost from_gives = { λ fault stop. stop ≡ stop_of_keeper fault };
 
-/// Writes a number without taking memory.
-fn write_number<E: Sink>(number: u32, errors: &mut E) -> Result<(), Failed>
-    ensures { Writes (decimal number) (E.written errors.old) (E.written errors.new) (E.faults errors.old) (E.faults errors.new) result }
-{
-    let last = [b'0' + (number % 10) as u8];
-    if number < 10 {
-        return write_all(errors, &last);
+    fn from(fault: KeeperFault) -> Self {
+        match fault {
+            KeeperFault::Failed => Stop::KeeperFailed,
+            KeeperFault::Memory => Stop::Memory,
+        }
     }
-    write_number(number / 10, errors)?;
-    write_all(errors, &last)
+}
+
+impl From<BookFault> for Stop {
+    ghost use Rattle.std.specs.Prelude.{◌≡◌};
+    ghost use Rattle.aq_desk.specs.Stop.{stop_of_book};
+
+    ghost from_gives = { λ fault stop. stop ≡ stop_of_book fault };
+
+    fn from(fault: BookFault) -> Self {
+        match fault {
+            BookFault::Damaged(place) => Stop::Damaged(place),
+            BookFault::Memory => Stop::Memory,
+        }
+    }
 }

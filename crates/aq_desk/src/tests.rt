@@ -1,5 +1,6 @@
 //! The top call over sources and sinks in memory.
 use crate::*;
+use aq_keeper::SteadyKeeper;
 use std::alloc::Global;
 use std::test::Fail;
 
@@ -30,7 +31,15 @@ fn run_over(
     let mut input = MemorySource::new(body.to_vec(alloc)?, failing_reads.to_vec(alloc)?);
     let mut output = MemorySink::new(alloc, 100_000, failing_writes.to_vec(alloc)?)?;
     let mut errors = MemorySink::new(alloc, 1_000, Vec::new(alloc))?;
-    let status = run(alloc, &list, &mut input, &mut output, &mut errors);
+    let mut keeper = SteadyKeeper::new(alloc);
+    let status = run(
+        alloc,
+        &list,
+        &mut keeper,
+        &mut input,
+        &mut output,
+        &mut errors,
+    );
     Ok(Outcome {
         status,
         output: output.written().to_vec(alloc)?,

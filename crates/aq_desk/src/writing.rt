@@ -1,14 +1,16 @@
 //! Texts and sheets, written until a sink has all of them.
-ghost use Rattle.std.specs.Prelude.{◌≡◌, IfErr};
+ghost use Rattle.std.specs.Prelude.{◌≡◌, IfErr, IfOk};
 ghost use Rattle.aq_profile.specs.Shown.Sheet.{text_of};
+ghost use Rattle.aq_profile.specs.Shown.Sheets.{load_sheet};
 ghost use Rattle.aq_desk.specs.Command.{RisesAt, printed};
 ghost use Rattle.aq_desk.specs.Stop.{IsCutShort, Obeys, status_of};
 ghost use Rattle.aq_desk.specs.Writing.{Writes};
+ghost use Rattle.aq_desk.specs.declared.stop.Stop.TheVariants.{OutputFailed};
 
 use crate::outside::Sink;
 use crate::stop::Stop;
-use aq_base::Failed;
-use aq_reports::{Sheet, text_of};
+use aq_base::{Bytes, Failed, LoadReply, Memory};
+use aq_reports::{Sheet, load_sheet, text_of};
 use std::alloc::Global;
 
 /// Writes all bytes of a text. After `Failed` a front of them was written.
@@ -22,6 +24,18 @@ pub(crate) fn write_all<O: Sink>(sink: &mut O, text: &[u8]) -> Result<(), Failed
     Ok(())
 }
 
+/// Prints a text on the output of a command.
+pub(crate) fn print_text<O: Sink>(text: &[u8], output: &mut O) -> Result<(), Stop>
+    ensures told { Obeys (printed text.now) result (O.written output.old) (O.written output.new) }
+    ensures cut { IfErr result (λ stop. stop ≡ OutputFailed) }
+    ensures output_failed { RisesAt 4 (status_of result) (O.faults output.old) (O.faults output.new) }
+{
+    match write_all(output, text) {
+        Ok(()) => Ok(()),
+        Err(Failed) => Err(Stop::OutputFailed),
+    }
+}
+
 /// Prints a sheet on the output of a command.
 pub(crate) fn print_sheet<O: Sink>(alloc: Global, sheet: &Sheet, output: &mut O) -> Result<(), Stop>
     ensures told { Obeys (printed (text_of sheet.now)) result (O.written output.old) (O.written output.new) }
@@ -29,8 +43,13 @@ pub(crate) fn print_sheet<O: Sink>(alloc: Global, sheet: &Sheet, output: &mut O)
     ensures output_failed { RisesAt 4 (status_of result) (O.faults output.old) (O.faults output.new) }
 {
     let text = text_of(alloc, sheet)?;
-    match write_all(output, &text) {
-        Ok(()) => Ok(()),
-        Err(Failed) => Err(Stop::OutputFailed),
-    }
+    print_text(&text, output)
+}
+
+/// The text of the sheet of a reply.
+pub(crate) fn text_of_load(alloc: Global, reply: &LoadReply) -> Result<Bytes, Memory>
+    ensures { IfOk result (λ text. text ≡ text_of (load_sheet reply.now)) }
+{
+    let sheet = load_sheet(alloc, reply)?;
+    Ok(Bytes::from_vec(text_of(alloc, &sheet)?))
 }

@@ -1,20 +1,19 @@
-use Rattle.std.specs.Prelude.{ℕ, List}
-use Rattle.aq_desk.specs.Body.{Over}
-use Rattle.aq_desk.specs.Command.{Outcome}
-use Rattle.aq_desk.specs.Run.{outcome_of}
+use Rattle.aq_desk.proofs.Causes.{by_kind, without_keeper, without_reading}
+use Rattle.aq_desk.proofs.Unread.{stays_at}
+use Rattle.aq_desk.specs.Run.{ask_outcome}
 use Rattle.aq_desk.specs.Scan.{scan_outcome}
-use Rattle.aq_desk.specs.Stop.{Obeys}
-use Rattle.aq_desk.specs.declared.words.Command.{Command}
 use Rattle.aq_desk.specs.declared.words.Command.TheVariants.{Scan}
-use Rattle.aq_desk.specs.contracts.words.Command.{enum}
-use borrow.Enum.Known.{ValuesAt}
-use borrow.Enum.Total.{values_d}
 use Rattle.aq_desk.proofs.command.perform.Goals as goal
 
-pub returns-clause-told : goal.returns-clause-told
-returns-clause-told g c =
-    let told_by = λ (outcome : List ℕ → Outcome). Over (g.S.Source.left c.args.input.now) (λ body. Obeys (outcome body) c.scan.result (g.O.Sink.written c.args.output.now) (g.O.Sink.written c.scan.new.output)) in
-    let by_command : (p q : ValuesAt enum.parts 0) (command : Command) → told_by (scan_outcome (values_d enum 0 p command).0 (values_d enum 0 q command).1.0) → told_by (outcome_of command) =
-    λ p q. elim [ (Scan site day) ↦ λ told. told ]
-    in
-    by_command _ _ c.args.command.now c.scan.ensures.told
+pub returns-in-Scan-clause-told : goal.returns-in-Scan-clause-told
+returns-in-Scan-clause-told g c =
+    by_kind c.args.command.now (Scan c.in-Scan.site c.in-Scan.day) c.in-Scan.is _ c.scan.result _ _ _ _
+    (without_keeper (scan_outcome c.in-Scan.site c.in-Scan.day) _ c.scan.result _ _ _ c.scan.ensures.told)
+
+pub returns-in-Scan-clause-keeper_failed : goal.returns-in-Scan-clause-keeper_failed
+returns-in-Scan-clause-keeper_failed g c = stays_at 5 _ _ c.scan.ensures.no_keeper
+
+pub returns-in-Ask-clause-told : goal.returns-in-Ask-clause-told
+returns-in-Ask-clause-told g c =
+    by_kind c.args.command.now _ c.in-Ask.is _ c.answer.result _ _ _ _
+    (without_reading (ask_outcome _) _ c.answer.result _ _ _ _ c.answer.ensures.told)

@@ -1,4 +1,6 @@
-use Rattle.aq_desk.proofs.Causes.{unread_causes, unread_told}
+use Rattle.std.proofs.Common.{arith}
+use Rattle.aq_desk.proofs.Outcomes.{is_within-few}
+use Rattle.aq_desk.proofs.Unread.{read_causes, read_scan, unread_causes, unread_status, unread_told}
 use Rattle.aq_desk.proofs.scan.scan.Goals as goal
 
 pub returns-in_err-body-clause-told : goal.returns-in_err-body-clause-told
@@ -8,3 +10,23 @@ returns-in_err-body-clause-told g c =
 pub returns-in_err-body-clause-causes : goal.returns-in_err-body-clause-causes
 returns-in_err-body-clause-causes g c =
     unread_causes _ _ _ _ c.in_err-body.field-0.0 c.from_residual.result c.from_residual.ensures.1 c.in_err-body.ensures.fault
+
+pub returns-clause-told : goal.returns-clause-told
+returns-clause-told g c =
+    let within = is_within-few c.in_ok-body.body.items c.in_ok-body.ensures.bytes c.in_ok-body.ensures.lines in
+    read_scan c.args.site c.args.day _ c.in_ok-body.body.items c.deref.result.now c.answer.result _ _ c.in_ok-body.ensures.body c.deref.ensures.value within c.answer.ensures.told
+
+pub returns-clause-causes : goal.returns-clause-causes
+returns-clause-causes g c =
+    let within = is_within-few c.in_ok-body.body.items c.in_ok-body.ensures.bytes c.in_ok-body.ensures.lines in
+    let taken = c.answer.ensures.taken in
+    read_causes _ c.in_ok-body.body.items _ _ _ _ _ c.in_ok-body.ensures.body within c.in_ok-body.ensures.steady (λ three. omega (arith, three, taken)) (λ ten. omega (arith, ten, taken)) c.answer.ensures.output_failed
+
+pub returns-clause-silent : goal.returns-clause-silent
+returns-clause-silent g c = let taken = c.answer.ensures.taken in λ nothing. absurd (omega (arith, taken, nothing))
+
+pub returns-in_err-body-clause-no_keeper : goal.returns-in_err-body-clause-no_keeper
+returns-in_err-body-clause-no_keeper g c = unread_status c.in_err-body.field-0.0 c.from_residual.result c.from_residual.ensures.1
+
+pub returns-clause-no_keeper : goal.returns-clause-no_keeper
+returns-clause-no_keeper g c = let taken = c.answer.ensures.taken in λ five. omega (arith, taken, five)

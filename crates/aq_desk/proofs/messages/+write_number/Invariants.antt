@@ -1,4 +1,4 @@
-use Rattle.aq_desk.proofs.stop.+write_number.Given as goal
+use Rattle.aq_desk.proofs.messages.+write_number.Given as goal
 
 abbrev pub decreases-write_number : goal.decreases-write_number
 decreases-write_number g l = l.number

@@ -1,7 +1,7 @@
 use Rattle.std.proofs.Common.{◌+◌, ◌/◌, ◌%◌, [], ◌∷◌}
 use Rattle.std.specs.Prelude.{decimal}
-use Rattle.aq_desk.proofs.Messages.{first_digit, last_digit, writes_cut, writes_same, writes_then}
-use Rattle.aq_desk.proofs.stop.+write_number.Goals as goal
+use Rattle.aq_desk.proofs.Telling.{first_digit, last_digit, writes_cut, writes_same, writes_then}
+use Rattle.aq_desk.proofs.messages.+write_number.Goals as goal
 
 pub returns-then-number-lt10 : goal.returns-then-number-lt10
 returns-then-number-lt10 g t c =

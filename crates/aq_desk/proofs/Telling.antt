@@ -6,9 +6,11 @@ use Rattle.std.specs.Fmt.{digits}
 use Rattle.std.proofs.lemmas.Fmt.{decimal_digit, decimal_step}
 use Rattle.aq_base.specs.Site.{Site}
 use Rattle.aq_profile.specs.Shown.Sheet.{site_text}
-use Rattle.aq_desk.proofs.Outcomes.{front_behind, front_of_more, join}
+use Rattle.aq_desk.proofs.Outcomes.{bytes_behind, front_behind, front_of_more, join, more_bytes}
 use Rattle.aq_desk.specs.Command.{Tells}
-use Rattle.aq_desk.specs.Ending.{input_failed, no_command, no_memory, no_site, output_failed, too_many_bytes, too_many_lines}
+use Rattle.aq_profile.specs.Kept.RowChanges.{table_name}
+use Rattle.aq_profile.specs.Shown.OtherSheets.{digest_text, hex_digit}
+use Rattle.aq_desk.specs.Ending.{conflict, damaged, input_failed, keeper_failed, loads_full, no_command, no_memory, no_site, output_failed, too_many_bytes, too_many_lines}
 use Rattle.aq_base.specs.Faults.{HasRisen}
 use Rattle.aq_desk.specs.Stop.{ending_at}
 use Rattle.aq_desk.specs.declared.stop.Stop.{Stop}
@@ -21,6 +23,7 @@ module _ {A E : Type 0} where
   writes_cut first second before after m n fault (Err other) failed writes = record {
     whole = tt;
     front = front_of_more before after first second writes.front;
+    some = more_bytes first second writes.some;
     cause = writes.cause;
   }
 
@@ -29,11 +32,13 @@ module _ {A E : Type 0} where
   writes_then first second before between after l m n done (Ok went) one two = record {
     whole = two.whole ∙ ap (option_map (λ bytes. bytes ++ second)) one.whole ∙ join before first second;
     front = front_behind before between after first second one.whole two.front;
+    some = tt;
     cause = two.cause ∙ one.cause;
   }
   writes_then first second before between after l m n done (Err fault) one two = record {
     whole = tt;
     front = front_behind before between after first second one.whole two.front;
+    some = bytes_behind first second two.some;
     cause = subst (λ (k : ℕ). HasRisen k n) one.cause two.cause;
   }
 
@@ -60,6 +65,22 @@ three = refl
 four : decimal 4 ≡ codes "4"
 unfolding digits
 four = refl
+
+five : decimal 5 ≡ codes "5"
+unfolding digits
+five = refl
+
+six : decimal 6 ≡ codes "6"
+unfolding digits
+six = refl
+
+nine : decimal 9 ≡ codes "9"
+unfolding digits
+nine = refl
+
+eleven : decimal 11 ≡ codes "11"
+unfolding digits
+eleven = refl
 
 seven : decimal 7 ≡ codes "7"
 unfolding digits
@@ -90,6 +111,37 @@ input_message = rw three refl
 pub output_message : codes "airdv: 4 output failed\n" ≡ output_failed.message
 output_message = rw four refl
 
+pub keeper_message : codes "airdv: 5 keeper failed\n" ≡ keeper_failed.message
+keeper_message = rw five refl
+
+pub full_message : codes "airdv: 11 loads full\n" ≡ loads_full.message
+full_message = rw eleven refl
+
+pub damaged_message : (table index : ℕ) → (codes "airdv: 6 damaged " ++ table_name table) ++ ((codes " " ++ decimal index) ++ codes "\n") ≡ (damaged (record { table = table; index = index })).message
+damaged_message table index =
+    let name = table_name table in
+    let front = codes "airdv: 6 damaged " in
+    rw six
+    (sym (append_assoc (front ++ name) (codes " " ++ decimal index) (codes "\n"))
+    ∙ ap (λ text. text ++ codes "\n") (sym (append_assoc (front ++ name) (codes " ") (decimal index))))
+
+pub conflict_message : (number : ℕ) (kept sent : List ℕ) → ((codes "airdv: 9 load " ++ decimal number) ++ codes " kept ") ++ (digest_text kept ++ (codes " sent " ++ (digest_text sent ++ codes "\n"))) ≡ (conflict number kept sent).message
+conflict_message number kept sent =
+    let front = (codes "airdv: 9 load " ++ decimal number) ++ codes " kept " in
+    let one = digest_text kept in
+    let two = digest_text sent in
+    let between = codes " sent " in
+    let end = codes "\n" in
+    rw nine
+    (sym (append_assoc front one (between ++ (two ++ end))) ∙ sym (append_assoc (front ++ one) between (two ++ end)) ∙ sym (append_assoc ((front ++ one) ++ between) two end))
+
+-- a byte's two digits, and then those of the others
+pub digest_split : (bytes rest : List ℕ) (first tens ones : ℕ) → bytes ≡ first ∷ rest → tens ≡ hex_digit (first / 16) → ones ≡ hex_digit (first % 16) → (tens ∷ ones ∷ []) ++ digest_text rest ≡ digest_text bytes
+digest_split bytes rest first tens ones split is_tens is_ones =
+    ap (λ (n : ℕ). (n ∷ ones ∷ []) ++ digest_text rest) is_tens
+    ∙ ap (λ (n : ℕ). (hex_digit (first / 16) ∷ n ∷ []) ++ digest_text rest) is_ones
+    ∙ ap digest_text (sym split)
+
 pub memory_message : codes "airdv: 7 memory\n" ≡ no_memory.message
 memory_message = rw seven refl
 
@@ -105,5 +157,5 @@ site_message site = rw twelve refl
 pub first_digit : (n : ℕ) → n < 10 → (48 + n % 10) ∷ [] ≡ decimal n
 first_digit n small = let same : n % 10 ≡ n = omega arith in ap (λ k. (48 + k) ∷ []) same ∙ sym (decimal_digit n small)
 
-pub last_digit : (n : ℕ) → 10 ≤ n → n < 2 ^ 32 → decimal (n / 10) ++ ((48 + n % 10) ∷ []) ≡ decimal n
+pub last_digit : (n : ℕ) → 10 ≤ n → n < 2 ^ 64 → decimal (n / 10) ++ ((48 + n % 10) ∷ []) ≡ decimal n
 last_digit n more fits = sym (decimal_step n more (omega arith))

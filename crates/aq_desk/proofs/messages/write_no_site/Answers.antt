@@ -1,7 +1,7 @@
 use Rattle.std.proofs.Common.{◌++◌, codes, refl}
 use Rattle.aq_profile.specs.Shown.Sheet.{site_text}
-use Rattle.aq_desk.proofs.Messages.{site_message, writes_cut, writes_same, writes_then}
-use Rattle.aq_desk.proofs.stop.write_no_site.Goals as goal
+use Rattle.aq_desk.proofs.Telling.{site_message, writes_cut, writes_same, writes_then}
+use Rattle.aq_desk.proofs.messages.write_no_site.Goals as goal
 
 pub returns-in_err-write_all : goal.returns-in_err-write_all
 returns-in_err-write_all g c =

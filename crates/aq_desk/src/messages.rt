@@ -1,0 +1,125 @@
+//! The messages on the errors stream that have a number or a name in them. They take no memory.
+ghost use Rattle.std.specs.Prelude.{◌≡◌, ◌<◌, ◌++◌, codes, decimal};
+ghost use Rattle.aq_profile.specs.Kept.RowChanges.{table_name};
+ghost use Rattle.aq_profile.specs.Shown.OtherSheets.{digest_text, hex_digit};
+ghost use Rattle.aq_desk.specs.Ending.{conflict, damaged, no_site, too_many_lines};
+ghost use Rattle.aq_desk.specs.Writing.{Writes};
+
+use crate::outside::Sink;
+use crate::writing::write_all;
+use aq_base::{Failed, SiteId};
+use aq_book::Place;
+use aq_reports::site_text;
+
+/// Writes the place of the first damaged row.
+pub(crate) fn write_damaged<E: Sink>(place: &Place, errors: &mut E) -> Result<(), Failed>
+    ensures { let ending = damaged (record { table = place.now.table; index = place.now.index }) in Writes ending.message (E.written errors.old) (E.written errors.new) (E.faults errors.old) (E.faults errors.new) result }
+{
+    write_all(errors, b"airdv: 6 damaged ")?;
+    write_all(errors, table_name(place.table).as_bytes())?;
+    write_counted(b" ", place.index, b"\n", errors)
+}
+
+/// The name of a table by its number.
+#[tactic(auto, using(crate::proofs::TableNames::records_name, crate::proofs::TableNames::observations_name, crate::proofs::TableNames::loads_name, crate::proofs::TableNames::no_name))]
+fn table_name(table: u8) -> &'static str
+    ensures { result.now ≡ table_name table }
+{
+    if table == 0 {
+        return "records";
+    }
+    if table == 1 {
+        return "observations";
+    }
+    if table == 2 {
+        return "loads";
+    }
+    ""
+}
+
+/// Writes that a load's number is kept with another digest than the one that was sent.
+pub(crate) fn write_conflict<E: Sink>(
+    number: u32,
+    kept: &[u8; 32],
+    sent: &[u8; 32],
+    errors: &mut E,
+) -> Result<(), Failed>
+    ensures { let ending = conflict number kept.now sent.now in Writes ending.message (E.written errors.old) (E.written errors.new) (E.faults errors.old) (E.faults errors.new) result }
+{
+    write_counted(b"airdv: 9 load ", number as u64, b" kept ", errors)?;
+    write_digests(kept, sent, errors)
+}
+
+fn write_digests<E: Sink>(kept: &[u8], sent: &[u8], errors: &mut E) -> Result<(), Failed>
+    ensures { Writes (digest_text kept.now ++ (codes " sent " ++ (digest_text sent.now ++ codes "\n"))) (E.written errors.old) (E.written errors.new) (E.faults errors.old) (E.faults errors.new) result }
+{
+    write_digest(kept, errors)?;
+    write_all(errors, b" sent ")?;
+    write_digest(sent, errors)?;
+    write_all(errors, b"\n")
+}
+
+/// Writes how many lines a body has that has too many.
+pub(crate) fn write_lines<E: Sink>(lines: u32, errors: &mut E) -> Result<(), Failed>
+    ensures { let ending = too_many_lines lines in Writes ending.message (E.written errors.old) (E.written errors.new) (E.faults errors.old) (E.faults errors.new) result }
+{
+    write_counted(b"airdv: 10 ", lines as u64, b" lines\n", errors)
+}
+
+/// Writes the site that is not registered.
+pub(crate) fn write_no_site<E: Sink>(site: SiteId, errors: &mut E) -> Result<(), Failed>
+    ensures { let ending = no_site site in Writes ending.message (E.written errors.old) (E.written errors.new) (E.faults errors.old) (E.faults errors.new) result }
+{
+    write_all(errors, b"airdv: 12 no site ")?;
+    write_all(errors, &site_text(site))?;
+    write_all(errors, b"\n")
+}
+
+/// Writes a number between two texts.
+fn write_counted<E: Sink>(
+    before: &[u8],
+    number: u64,
+    behind: &[u8],
+    errors: &mut E,
+) -> Result<(), Failed>
+    ensures { Writes ((before.now ++ decimal number) ++ behind.now) (E.written errors.old) (E.written errors.new) (E.faults errors.old) (E.faults errors.new) result }
+{
+    write_all(errors, before)?;
+    write_number(number, errors)?;
+    write_all(errors, behind)
+}
+
+/// Writes a number.
+fn write_number<E: Sink>(number: u64, errors: &mut E) -> Result<(), Failed>
+    ensures { Writes (decimal number) (E.written errors.old) (E.written errors.new) (E.faults errors.old) (E.faults errors.new) result }
+{
+    let last = [b'0' + (number % 10) as u8];
+    if number < 10 {
+        return write_all(errors, &last);
+    }
+    write_number(number / 10, errors)?;
+    write_all(errors, &last)
+}
+
+/// Writes bytes as two hexadecimal digits each.
+fn write_digest<E: Sink>(bytes: &[u8], errors: &mut E) -> Result<(), Failed>
+    ensures { Writes (digest_text bytes.now) (E.written errors.old) (E.written errors.new) (E.faults errors.old) (E.faults errors.new) result }
+{
+    let Some((first, rest)) = bytes.split_first() else {
+        return Ok(());
+    };
+    write_all(errors, &[hex_digit(*first / 16), hex_digit(*first % 16)])?;
+    write_digest(rest, errors)
+}
+
+/// A hexadecimal digit in lower case.
+fn hex_digit(number: u8) -> u8
+    requires { number < 16 }
+    ensures { result ≡ hex_digit number }
+{
+    if number < 10 {
+        b'0' + number
+    } else {
+        b'a' + (number - 10)
+    }
+}
