@@ -7,8 +7,8 @@ use Rattle.aq_desk.specs.Command.{IsWhole, Keeps, Outcome, Printout, ReadsWhole,
 use Rattle.aq_desk.specs.Ending.{Ending, done, input_failed, output_failed, keeper_failed, damaged, no_memory, conflict, too_many_bytes, too_many_lines, loads_full, no_site}
 use Rattle.aq_desk.specs.Outside.{Over}
 use Rattle.aq_desk.specs.Writing.{WritesFront}
-use Rattle.aq_book.specs.declared.opening.BookFault.{BookFault}
-use Rattle.aq_book.specs.declared.opening.BookFault.TheVariants as book
+use Rattle.aq_rows.specs.declared.opening.OpenFault.{OpenFault}
+use Rattle.aq_rows.specs.declared.opening.OpenFault.TheVariants as book
 use Rattle.aq_keeper.specs.declared.keeper.KeeperFault.{KeeperFault}
 use Rattle.aq_keeper.specs.declared.keeper.KeeperFault.TheVariants as keeper
 use Rattle.aq_desk.specs.declared.body.BodyFault.{BodyFault}
@@ -46,7 +46,7 @@ abbrev pub stop_of_keeper : KeeperFault → Stop
 stop_of_keeper keeper.Failed = KeeperFailed
 stop_of_keeper keeper.Memory = Memory
 
-abbrev pub stop_of_book : BookFault → Stop
+abbrev pub stop_of_book : OpenFault → Stop
 stop_of_book (book.Damaged place) = Damaged place
 stop_of_book book.Memory = Memory
 

@@ -22,8 +22,8 @@ use crate::office::open;
 use crate::outside::{Sink, Source};
 use crate::stop::Stop;
 use crate::writing::{print_text, text_of_load};
-use aq_base::{Bytes, Memory};
-use aq_book::{Book, LoadCheck, Staged};
+use aq_base::{Bytes, LoadReply, Memory};
+use aq_book::{Book, LoadCheck, RowChanges};
 use aq_keeper::Keeper;
 use aq_profile::kept::row_changes::{batch_gives_the_rows_after, batch_is_in_order};
 use sha2::{Digest, Sha256};
@@ -147,20 +147,26 @@ fn commit<K: Keeper>(
 {
     batch_is_in_order();
     let staged = book.stage(alloc, number, digest, body)?;
-    commit_staged(alloc, &staged, keeper)
+    let batch = book.batch(alloc, &staged)?;
+    commit_batch(alloc, staged.reply(), &batch, keeper)
 }
 
-/// Commits a staged load. The text of its sheet is made before, so that memory cannot run out behind the
-/// commit.
-fn commit_staged<K: Keeper>(alloc: Global, staged: &Staged, keeper: &mut K) -> Result<Bytes, Stop>
-    requires rising { keys_rise (map changed_key staged.now.batch) ≡ true }
-    ensures text { IfOk result (λ text. text ≡ text_of (load_sheet staged.now.reply)) }
-    ensures done { OnOk result (K.tables keeper.new ≡ option_map (λ told. with_row_changes told staged.now.batch) (K.tables keeper.old)) }
+/// Commits the batch of a load. The text of its sheet is made before, so that memory cannot run out behind
+/// the commit.
+fn commit_batch<K: Keeper>(
+    alloc: Global,
+    reply: &LoadReply,
+    batch: &RowChanges,
+    keeper: &mut K,
+) -> Result<Bytes, Stop>
+    requires rising { keys_rise (map changed_key batch.now) ≡ true }
+    ensures text { IfOk result (λ text. text ≡ text_of (load_sheet reply.now)) }
+    ensures done { OnOk result (K.tables keeper.new ≡ option_map (λ told. with_row_changes told batch.now) (K.tables keeper.old)) }
     ensures undone { OnErr result (K.tables keeper.new ≡ K.tables keeper.old) }
     ensures steady { OnOk result (K.faults keeper.new ≡ K.faults keeper.old) }
     ensures fault { IfErr result (IsUncommitted (K.faults keeper.old) (K.faults keeper.new)) }
 {
-    let text = text_of_load(alloc, staged.reply())?;
-    keeper.commit(alloc, staged.batch())?;
+    let text = text_of_load(alloc, reply)?;
+    keeper.commit(alloc, batch.as_slice())?;
     Ok(text)
 }

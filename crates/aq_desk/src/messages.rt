@@ -11,13 +11,13 @@ use aq_base::{Failed, SiteId};
 use aq_book::Place;
 use aq_reports::site_text;
 
-/// Writes the place of the first damaged row.
-pub(crate) fn write_damaged<E: Sink>(place: &Place, errors: &mut E) -> Result<(), Failed>
-    ensures { let ending = damaged (record { table = place.now.table; index = place.now.index }) in Writes ending.message (E.written errors.old) (E.written errors.new) (E.faults errors.old) (E.faults errors.new) result }
+/// Writes the place of the first damaged row, by its table's number and its index there.
+pub(crate) fn write_damaged<E: Sink>(table: u8, index: u64, errors: &mut E) -> Result<(), Failed>
+    ensures { let ending = damaged (record { table = table; index = index }) in Writes ending.message (E.written errors.old) (E.written errors.new) (E.faults errors.old) (E.faults errors.new) result }
 {
     write_all(errors, b"airdv: 6 damaged ")?;
-    write_all(errors, table_name(place.table).as_bytes())?;
-    write_counted(b" ", place.index, b"\n", errors)
+    write_all(errors, table_name(table).as_bytes())?;
+    write_counted(b" ", index, b"\n", errors)
 }
 
 /// The name of a table by its number.

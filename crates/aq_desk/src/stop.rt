@@ -8,7 +8,7 @@ use crate::messages::{write_conflict, write_damaged, write_lines, write_no_site}
 use crate::outside::Sink;
 use crate::writing::write_all;
 use aq_base::{Failed, SiteId};
-use aq_book::{BookFault, Place};
+use aq_book::{OpenFault, Place};
 use aq_keeper::KeeperFault;
 
 /// What stops a command before it has done all.
@@ -59,7 +59,7 @@ impl Stop {
             Stop::InputFailed => write_all(errors, b"airdv: 3 input failed\n"),
             Stop::OutputFailed => write_all(errors, b"airdv: 4 output failed\n"),
             Stop::KeeperFailed => write_all(errors, b"airdv: 5 keeper failed\n"),
-            Stop::Damaged(place) => write_damaged(place, errors),
+            Stop::Damaged(place) => write_damaged(place.table, place.index, errors),
             Stop::Memory => write_all(errors, b"airdv: 7 memory\n"),
             Stop::Conflict { number, kept, sent } => write_conflict(*number, kept, sent, errors),
             Stop::TooManyBytes => write_all(errors, b"airdv: 10 more than 8388608 bytes\n"),
@@ -111,16 +111,16 @@ impl From<KeeperFault> for Stop {
     }
 }
 
-impl From<BookFault> for Stop {
+impl From<OpenFault> for Stop {
     ghost use Rattle.std.specs.Prelude.{◌≡◌};
     ghost use Rattle.aq_desk.specs.Stop.{stop_of_book};
 
     ghost from_gives = { λ fault stop. stop ≡ stop_of_book fault };
 
-    fn from(fault: BookFault) -> Self {
+    fn from(fault: OpenFault) -> Self {
         match fault {
-            BookFault::Damaged(place) => Stop::Damaged(place),
-            BookFault::Memory => Stop::Memory,
+            OpenFault::Damaged(place) => Stop::Damaged(place),
+            OpenFault::Memory => Stop::Memory,
         }
     }
 }

@@ -1,5 +1,5 @@
 use Rattle.aq_desk.proofs.Posting.{not_committed}
-use Rattle.aq_desk.proofs.load.commit_staged.Goals as goal
+use Rattle.aq_desk.proofs.load.commit_batch.Goals as goal
 
 pub returns-in_err-commit-clause-fault : goal.returns-in_err-commit-clause-fault
 returns-in_err-commit-clause-fault g c =
