@@ -13,3 +13,4 @@ pub mod DayMeans
 pub mod SiteDay
 pub mod DaySpans
 pub mod SiteSpans
+pub mod NoCodes

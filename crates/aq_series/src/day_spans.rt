@@ -7,6 +7,7 @@ ghost use Rattle.aq_base.specs.declared.monitor.Duration.TheVariants.{Hour as Ho
 ghost use Rattle.aq_profile.specs.Office.Office.{IsOffice};
 ghost use Rattle.aq_profile.specs.Office.Questions.{registration_of};
 ghost use Rattle.aq_profile.specs.Ozone.SiteHour.{Cell};
+ghost use Rattle.aq_profile.specs.Office.Exclusion.{excluded};
 ghost use Rattle.aq_profile.specs.Particles.ParticleDay as book;
 ghost use Rattle.aq_profile.specs.Particles.ParticleDay.{day_cell};
 ghost use Rattle.aq_registry.specs.Registry.{office_with, pair_of};
@@ -17,7 +18,7 @@ ghost use Rattle.aq_series.specs.declared.day_tally.DayTally.{DayTally};
 use crate::day_tally::DayTally;
 use crate::days::cell_at;
 use crate::hours::Cell;
-use aq_base::{Day, Duration, Hour, MonitorId, ObsKey, Observation, Pollutant, Steps};
+use aq_base::{Day, Duration, Hour, MonitorId, ObsKey, Observation, Pollutant, Quals, Steps};
 use aq_registry::Registry;
 use aq_shelf::Shelf;
 use std::sync::ledger::Ledger;
@@ -43,7 +44,7 @@ pub(crate) fn day_tallies<L: Ledger>(
     for (hour, content) in shelf.span(*monitor, Hour::new(start), 24 * MOST_DAYS as u32, steps) {
         let cell = particle_of(registry, monitor, hour, &content);
         let place = ((hour.number() - start) / 24) as usize;
-        days[place] = days[place].with(cell);
+        days[place].add(cell);
     }
     days
 }
@@ -61,14 +62,32 @@ fn particle_of(
     ensures range { IfSome result (λ cell. IsParticle cell.value) }
 {
     let value = content.value?;
+    Some(Cell {
+        value,
+        excluded: is_excluded(registry, monitor, hour, &content.quals),
+    })
+}
+
+/// Whether an observation with these codes is excluded. Without one the events are not asked.
+#[tactic(auto, using(crate::proofs::NoCodes::excluded_without_codes))]
+fn is_excluded(registry: &Registry, monitor: &MonitorId, hour: Hour, quals: &Quals) -> bool
+    ensures { result ≡ excluded registry.now (key_at monitor.now hour) quals.now }
+{
+    if quals.codes().is_empty() {
+        return false;
+    }
+    excluded_by_codes(registry, monitor, hour, *quals)
+}
+
+/// Whether an observation with these codes is excluded.
+fn excluded_by_codes(registry: &Registry, monitor: &MonitorId, hour: Hour, quals: Quals) -> bool
+    ensures { result ≡ excluded registry.now (key_at monitor.now hour) quals }
+{
     let key = ObsKey {
         monitor: *monitor,
         hour,
     };
-    Some(Cell {
-        value,
-        excluded: registry.excluded(key, &content.quals),
-    })
+    registry.excluded(key, &quals)
 }
 
 /// What a monitor has for so many days from the first one on, where its samples last so long and its

@@ -15,8 +15,8 @@ const LEAST_HIGH_SUM: i32 = 24 * 355;
 /// Values in tenths of a µg/m3: how many, their sum, and whether one of them is excluded.
 #[derive(Clone, Copy)]
 pub(crate) struct DayTally {
-    count: u8,
     sum: i32,
+    count: u8,
     excluded: bool,
 }
 
@@ -35,8 +35,8 @@ impl DayTally {
         ensures values { IsOfParticles result }
     {
         DayTally {
-            count: 0,
             sum: 0,
+            count: 0,
             excluded: false,
         }
     }
@@ -52,11 +52,27 @@ impl DayTally {
     {
         match cell {
             Some(cell) => DayTally {
-                count: self.count + 1,
                 sum: self.sum + cell.value,
+                count: self.count + 1,
                 excluded: self.excluded || cell.excluded,
             },
             None => self,
+        }
+    }
+
+    /// Adds one more value, if there is one, where the tally stands.
+    pub(crate) fn add(&mut self, cell: Option<Cell>)
+        requires values { IsOfParticles self.old }
+        requires count { self.old.count < 24 }
+        requires value { IfSome cell (λ cell. IsParticle cell.value) }
+        ensures tally { (before : List Cell) → IsTallyOf before self.old → IsTallyOf (before ++ option_to_list cell) self.new }
+        ensures count { self.new.count ≤ self.old.count + 1 }
+        ensures values { IsOfParticles self.new }
+    {
+        if let Some(cell) = cell {
+            self.sum += cell.value;
+            self.count += 1;
+            self.excluded = self.excluded || cell.excluded;
         }
     }
 

@@ -54,18 +54,18 @@ loop-hour-preserved g c =
     record {
       can_next = tt;
       is_finite = tt;
-      many = length-set c.loop-hour.days place c.with.result ∙ before.many;
+      many = length-set c.loop-hour.days place c.add.new.self ∙ before.many;
       start = before.start;
       ranges = (subst (λ (is : List Item). AllByRecursion (λ (item : Item). HasValueInRange monitor.pollutant item.1) is) items before.ranges).1;
       rising = rising.1;
       within = within.1;
       reads =
-          reads-next c.args.registry.now monitor c.args.first (c.in-Some.hour, c.in-Some.content) c.next.new.self all rising.0 c.loop-hour.days place at many small reads c.with.result
+          reads-next c.args.registry.now monitor c.args.first (c.in-Some.hour, c.in-Some.content) c.next.new.self all rising.0 c.loop-hour.days place at many small reads c.add.new.self
           (λ d cells is.
-          subst (λ o. IsTallyOf (cells ++ option_to_list o) c.with.result) c.particle_of-cell.ensures.value
-          (c.with.ensures.tally cells (subst (λ (t : DayTally). IsTallyOf cells t) (get_or_default c.loop-hour.days place d _ many) is)))
-          (λ d. subst (λ (t : DayTally). c.with.result.count ≤ t.count + 1) (get_or_default c.loop-hour.days place _ d many) c.with.ensures.count);
-      values = particles-next c.args.registry.now monitor c.args.first (c.in-Some.hour, c.in-Some.content) c.next.new.self all rising.0 c.loop-hour.days place at many small reads c.with.result before.values c.with.ensures.values;
+          subst (λ o. IsTallyOf (cells ++ option_to_list o) c.add.new.self) c.particle_of-cell.ensures.value
+          (c.add.ensures.tally cells (subst (λ (t : DayTally). IsTallyOf cells t) (get_or_default c.loop-hour.days place d _ many) is)))
+          (λ d. subst (λ (t : DayTally). c.add.new.self.count ≤ t.count + 1) (get_or_default c.loop-hour.days place _ d many) c.add.ensures.count);
+      values = particles-next c.args.registry.now monitor c.args.first (c.in-Some.hour, c.in-Some.content) c.next.new.self all rising.0 c.loop-hour.days place at many small reads c.add.new.self before.values c.add.ensures.values;
     }
 
 pub returns-clause-tallies : goal.returns-clause-tallies
