@@ -1,15 +1,21 @@
 //! A program for measures alone. `cut` and `bytes` count the lines and fields of a body on standard input,
 //! and `bench/scan` holds a scan beside them: `cut` cuts the body as a scan does, and does nothing else with
-//! it, and `bytes` looks at each byte once in a plain loop. `ozone MONITORS RUNS` computes the design value
-//! of a site whose hours are made up, for `bench/ozone`.
+//! it, and `bytes` looks at each byte once in a plain loop. `ozone MONITORS RUNS` and `pm25 MONITORS RUNS`
+//! compute the design values of a site whose hours are made up, for `bench/ozone` and `bench/pm25`.
 #![tactic(auto)]
+
+ghost use Rattle.std.specs.Prelude.{◌≤◌};
 
 mod counts;
 mod designs;
+mod made_up;
+mod particles;
 
 use aq_forms::MOST_BYTES;
 use counts::{bars_in, fields_in};
-use designs::{MOST_MONITORS, ozone_designs};
+use designs::ozone_designs;
+use made_up::MOST_MONITORS;
+use particles::pm25_designs;
 use std::io::{ErrorKind, Read};
 use std::{env, io};
 
@@ -17,13 +23,17 @@ fn main(rt: HostRuntime) -> io::Result<()> {
     let words: Vec<String> = env::args(&rt)?.skip(1).collect(rt.alloc())?;
     if let [word, monitors, runs] = words.as_slice() {
         let refused = io::Error::from(ErrorKind::InvalidInput);
-        if word.as_str() != "ozone" {
-            return Err(refused);
-        }
         let (Ok(monitors), Ok(runs)) = (monitors.parse::<u8>(), runs.parse::<u32>()) else {
             return Err(refused);
         };
-        return print_designs(&rt, monitors, runs);
+        if monitors > MOST_MONITORS {
+            return Err(refused);
+        }
+        return match word.as_str() {
+            "ozone" => print_ozone(&rt, monitors, runs),
+            "pm25" => print_pm25(&rt, monitors, runs),
+            _ => Err(refused),
+        };
     }
     let mut body = Vec::new(rt.alloc());
     rt.reader().read_to_end(&mut body)?;
@@ -46,16 +56,28 @@ fn main(rt: HostRuntime) -> io::Result<()> {
     }
 }
 
-/// Computes and prints the sums of so many design values.
-fn print_designs(rt: &HostRuntime, monitors: u8, runs: u32) -> io::Result<()> {
-    if monitors > MOST_MONITORS {
-        return Err(io::Error::from(ErrorKind::InvalidInput));
-    }
+/// Computes and prints the sums of so many design values of ozone.
+fn print_ozone(rt: &HostRuntime, monitors: u8, runs: u32) -> io::Result<()>
+    requires { monitors ≤ MOST_MONITORS }
+{
     let Ok(sums) = ozone_designs(rt.alloc(), monitors, runs) else {
         return Err(io::Error::from(ErrorKind::OutOfMemory));
     };
     println!(rt;
         "valid {}\nranked {}\nfourths {}\nvalues {}\nunmet {}",
         sums.valid, sums.ranked, sums.fourths, sums.values, sums.unmet
+    )
+}
+
+/// Computes and prints the sums of so many design values of PM2.5.
+fn print_pm25(rt: &HostRuntime, monitors: u8, runs: u32) -> io::Result<()>
+    requires { monitors ≤ MOST_MONITORS }
+{
+    let Ok(sums) = pm25_designs(rt.alloc(), monitors, runs) else {
+        return Err(io::Error::from(ErrorKind::OutOfMemory));
+    };
+    println!(rt;
+        "creditable {}\ndays {}\nsum {}\neighths {}\nannual {}\ndaily {}\nmet {}",
+        sums.creditable, sums.days, sums.sum, sums.eighths, sums.annual, sums.daily, sums.met
     )
 }
