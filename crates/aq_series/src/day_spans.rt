@@ -41,9 +41,10 @@ pub(crate) fn day_tallies<L: Ledger>(
 {
     let start = 24 * u32::from(first.number());
     let mut days = [DayTally::new(); MOST_DAYS];
-    for (hour, content) in shelf.span(*monitor, Hour::new(start), 24 * MOST_DAYS as u32, steps) {
-        let cell = particle_of(registry, monitor, hour, &content);
-        let place = ((hour.number() - start) / 24) as usize;
+    let mut span = shelf.span(*monitor, Hour::new(start), 24 * MOST_DAYS as u32, steps);
+    while let Some(item) = span.next_standing() {
+        let cell = particle_of(registry, monitor, item.0, &item.1);
+        let place = ((item.0.number() - start) / 24) as usize;
         days[place].add(cell);
     }
     days

@@ -72,7 +72,9 @@ impl DayTally {
         if let Some(cell) = cell {
             self.sum += cell.value;
             self.count += 1;
-            self.excluded = self.excluded || cell.excluded;
+            if cell.excluded {
+                self.excluded = true;
+            }
         }
     }
 

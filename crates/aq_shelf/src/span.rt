@@ -32,7 +32,7 @@ impl<'a> Model for Span<'a> {
 }
 
 impl<'a> Span<'a> {
-    ghost use Rattle.std.specs.Prelude.{◌≡◌};
+    ghost use Rattle.std.specs.Prelude.{◌≡◌, ◌∷◌, [], IfNone, IfSome};
     ghost use Rattle.aq_shelf.specs.Stretches.{hours_between};
 
     /// What starts at `from` or later and before `end` in some stretches, which are latest first.
@@ -50,6 +50,21 @@ impl<'a> Span<'a> {
             end,
         }
     }
+
+    /// The next observation with its hour, where it stands: the iterator copies it.
+    pub fn next_standing(&mut self) -> Option<&'a (Hour, Observation)>
+        ensures some { IfSome result (λ first. self.old ≡ first.now ∷ self.new) }
+        ensures none { IfNone result (self.old ≡ []) }
+        ensures end { IfNone result (self.new ≡ []) }
+    {
+        while self.hours.is_empty() {
+            let (_, hours) = self.behind.next_back()?;
+            self.hours = hours.between(self.from, self.end);
+        }
+        let first = &self.hours[0];
+        self.hours = &self.hours[1..];
+        Some(first)
+    }
 }
 
 impl<'a> Iterator for Span<'a> {
@@ -60,12 +75,9 @@ impl<'a> Iterator for Span<'a> {
     ghost remaining = { item_count (λ rest. rest) };
 
     fn next(&mut self) -> Option<(Hour, Observation)> {
-        while self.hours.is_empty() {
-            let (_, hours) = self.behind.next_back()?;
-            self.hours = hours.between(self.from, self.end);
+        match self.next_standing() {
+            Some(first) => Some((first.0, first.1)),
+            None => None,
         }
-        let first = &self.hours[0];
-        self.hours = &self.hours[1..];
-        Some((first.0, first.1))
     }
 }

@@ -12,23 +12,21 @@ use Rattle.aq_series.proofs.Rising.{Rising}
 use Rattle.aq_series.proofs.Spans.{Item, hour_of, span-rises}
 use Rattle.aq_series.proofs.day_spans.day_tallies.Goals as goal
 
-pub loop-hour-init : goal.loop-hour-init
-loop-hour-init g c =
+pub loop-item-init : goal.loop-item-init
+loop-item-init g c =
     let monitor = c.args.monitor.now in
     let rows = c.args.shelf.now in
     let from = 24 * c.args.first in
-    let rising = c.span-hour-items.ensures.shelf.rising in
+    let rising = c.span-span.ensures.shelf.rising in
     let first : 24 * c.from-start.result ≡ from = omega (arith, c.from-start.ensures, c.number.ensures.value) in
-    let items : c.into_iter-hour-iterator.result ≡ observations_in monitor from 2208 rows =
-    c.into_iter-hour-iterator.ensures.into_iter_gives ∙ c.span-hour-items.ensures.observations
+    let items : c.span-span.result ≡ observations_in monitor from 2208 rows =
+    c.span-span.ensures.observations
     ∙ ap (λ (n : ℕ). observations_in monitor n 2208 rows) (c.new.ensures ∙ first)
     in
     record {
-      can_next = tt;
-      is_finite = tt;
       many = refl;
       start = first;
-      ranges = rw c.into_iter-hour-iterator.ensures.into_iter_gives c.span-hour-items.ensures.ranges;
+      ranges = c.span-span.ensures.ranges;
       rising = rw items (span-rises monitor from 2208 rows rising);
       within = rw items (span-within monitor from 2208 rows);
       reads =
@@ -38,40 +36,38 @@ loop-hour-init g c =
       values = λ k d within. subst IsOfParticles (sym (get_or-replicate 92 k c.new-days.result d within)) c.new-days.ensures.values;
     }
 
-pub loop-hour-preserved : goal.loop-hour-preserved
-loop-hour-preserved g c =
-    let before = c.loop-hour.invariant in
-    let items = c.in-Some.ensures.steps in
+pub loop-item-preserved : goal.loop-item-preserved
+loop-item-preserved g c =
+    let before = c.loop-item.invariant in
+    let items = c.in-Some.ensures.some in
     let monitor = c.args.monitor.now in
     let all = observations_in monitor (24 * c.args.first) 2208 c.args.shelf.now in
     let rising = subst (λ (is : List Item). Rising hour_of is) items before.rising in
     let within = subst (λ (is : List Item). Within (24 * c.args.first) (24 * c.args.first + 2208) is) items before.within in
-    let reads = subst (λ (is : List Item). Reads c.args.registry.now monitor c.args.first all is c.loop-hour.days) items before.reads in
-    let place = (c.number-in-loop-hour.result - 24 * c.from-start.result) / 24 in
-    let small : place < 92 = omega (arith, before.start, within.0.0, within.0.1, c.number-in-loop-hour.ensures.value) in
-    let many : place < length c.loop-hour.days = omega (arith, before.many, small) in
-    let at : c.in-Some.hour / 24 ≡ c.args.first + place = omega (arith, before.start, within.0.0, c.number-in-loop-hour.ensures.value) in
+    let reads = subst (λ (is : List Item). Reads c.args.registry.now monitor c.args.first all is c.loop-item.days) items before.reads in
+    let place = (c.number-in-Some.result - 24 * c.from-start.result) / 24 in
+    let small : place < 92 = omega (arith, before.start, within.0.0, within.0.1, c.number-in-Some.ensures.value) in
+    let many : place < length c.loop-item.days = omega (arith, before.many, small) in
+    let at : c.in-Some.item.now.0 / 24 ≡ c.args.first + place = omega (arith, before.start, within.0.0, c.number-in-Some.ensures.value) in
     record {
-      can_next = tt;
-      is_finite = tt;
-      many = length-set c.loop-hour.days place c.add.new.self ∙ before.many;
+      many = length-set c.loop-item.days place c.add.new.self ∙ before.many;
       start = before.start;
       ranges = (subst (λ (is : List Item). AllByRecursion (λ (item : Item). HasValueInRange monitor.pollutant item.1) is) items before.ranges).1;
       rising = rising.1;
       within = within.1;
       reads =
-          reads-next c.args.registry.now monitor c.args.first (c.in-Some.hour, c.in-Some.content) c.next.new.self all rising.0 c.loop-hour.days place at many small reads c.add.new.self
+          reads-next c.args.registry.now monitor c.args.first c.in-Some.item.now c.next_standing.new.self all rising.0 c.loop-item.days place at many small reads c.add.new.self
           (λ d cells is.
           subst (λ o. IsTallyOf (cells ++ option_to_list o) c.add.new.self) c.particle_of-cell.ensures.value
-          (c.add.ensures.tally cells (subst (λ (t : DayTally). IsTallyOf cells t) (get_or_default c.loop-hour.days place d _ many) is)))
-          (λ d. subst (λ (t : DayTally). c.add.new.self.count ≤ t.count + 1) (get_or_default c.loop-hour.days place _ d many) c.add.ensures.count);
-      values = particles-next c.args.registry.now monitor c.args.first (c.in-Some.hour, c.in-Some.content) c.next.new.self all rising.0 c.loop-hour.days place at many small reads c.add.new.self before.values c.add.ensures.values;
+          (c.add.ensures.tally cells (subst (λ (t : DayTally). IsTallyOf cells t) (get_or_default c.loop-item.days place d _ many) is)))
+          (λ d. subst (λ (t : DayTally). c.add.new.self.count ≤ t.count + 1) (get_or_default c.loop-item.days place _ d many) c.add.ensures.count);
+      values = particles-next c.args.registry.now monitor c.args.first c.in-Some.item.now c.next_standing.new.self all rising.0 c.loop-item.days place at many small reads c.add.new.self before.values c.add.ensures.values;
     }
 
 pub returns-clause-tallies : goal.returns-clause-tallies
 returns-clause-tallies g c =
-    let before = c.loop-hour.invariant in
+    let before = c.loop-item.invariant in
     let rows = c.args.shelf.now in
     let all = observations_in c.args.monitor.now (24 * c.args.first) 2208 rows in
-    reads-done c.args.registry.now c.args.monitor.now c.args.first rows c.span-hour-items.ensures.shelf.rising c.loop-hour.days
-    (subst (λ (is : List Item). Reads c.args.registry.now c.args.monitor.now c.args.first all is c.loop-hour.days) c.in-None.ensures.steps.0 before.reads)
+    reads-done c.args.registry.now c.args.monitor.now c.args.first rows c.span-span.ensures.shelf.rising c.loop-item.days
+    (subst (λ (is : List Item). Reads c.args.registry.now c.args.monitor.now c.args.first all is c.loop-item.days) c.in_default.ensures.none before.reads)

@@ -2,7 +2,7 @@ use Rattle.std.proofs.Common.{◌∙◌, ap, sym, List, ℕ, ◌++◌}
 use Rattle.aq_base.specs.declared.observation.Observation.{Observation}
 use Rattle.aq_shelf.specs.Stretches.{hours_between}
 use Rattle.aq_shelf.proofs.StretchLemmas.{hours-begun}
-use Rattle.aq_shelf.proofs.span.SpanIterator.next.Goals as goal
+use Rattle.aq_shelf.proofs.span.Span.next_standing.Goals as goal
 
 pub loop-self-preserved : goal.loop-self-preserved
 loop-self-preserved c =

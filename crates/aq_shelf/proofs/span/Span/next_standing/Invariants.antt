@@ -1,6 +1,6 @@
 use Rattle.std.proofs.Common.{◌≡◌, ◌++◌, length}
 use Rattle.aq_shelf.specs.Stretches.{hours_between}
-use Rattle.aq_shelf.proofs.span.SpanIterator.next.Given as goal
+use Rattle.aq_shelf.proofs.span.Span.next_standing.Given as goal
 
 -- what is left stays as it was
 abbrev pub invariant-loop-self : goal.invariant-loop-self
