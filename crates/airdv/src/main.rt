@@ -1,48 +1,66 @@
-//! The program: the standard streams and the top call.
+//! The program: the standard streams, the file of the tables, and the top call.
 #![tactic(auto)]
 
-ghost use Rattle.std.specs.Prelude.{◌≡◌, ◌↔◌, IfOk, IsNone, OnErr, map, string_bytes};
+ghost use Rattle.std.specs.Prelude.{◌≡◌, ◌↔◌, false, IfOk, IsNone, OnErr, map, string_bytes};
 ghost use Rattle.std.specs.Process.{exit_status};
-ghost use Rattle.aq_desk.specs.Body.{Over};
 ghost use Rattle.aq_desk.specs.Command.{Follows, Tells, message_for};
 ghost use Rattle.aq_desk.specs.Ending.{no_memory};
-ghost use Rattle.aq_desk.specs.Run.{outcome_for};
+ghost use Rattle.aq_desk.specs.Outside.{Over};
+ghost use Rattle.aq_desk.specs.Run.{outcome_for, uses, uses_keeper};
 ghost use Rattle.aq_desk.specs.Words.{command_of};
 
 mod streams;
 
 use aq_base::Memory;
 use aq_desk::{Sink, Source, end_without_memory, run};
+use aq_keeper::Keeper;
+use aq_sqlite::FileKeeper;
 use std::alloc::Global;
 use std::io::ErrorKind;
 use std::process::ExitCode;
 use std::{env, io};
 use streams::{Reading, Writing};
 
+/// The file of the tables, in the working folder. It is made at the keeper's first call.
+const FILE: &str = "airdv.sqlite";
+
 fn main(rt: HostRuntime) -> ExitCode {
     let words = words_of(&rt);
     let mut input = Reading::new(rt.reader());
     let mut output = Writing::new(io::writer(&rt));
     let mut errors = Writing::new(rt.stderr());
-    obey(rt.alloc(), words, &mut input, &mut output, &mut errors)
+    let Ok(path) = String::from_str(rt.alloc(), FILE) else {
+        return ExitCode::from(end_without_memory(&mut errors));
+    };
+    let mut keeper = FileKeeper::at_path(&rt, path);
+    obey(
+        rt.alloc(),
+        words,
+        &mut keeper,
+        &mut input,
+        &mut output,
+        &mut errors,
+    )
 }
 
 /// Runs the command of the words, where there was memory to read them.
-fn obey<S: Source, O: Sink, E: Sink>(
+fn obey<K: Keeper, S: Source, O: Sink, E: Sink>(
     alloc: Global,
     words: Result<Vec<String>, Memory>,
+    keeper: &mut K,
     input: &mut S,
     output: &mut O,
     errors: &mut E,
 ) -> ExitCode
-    ensures headline { IfOk words (λ words. Over (S.left input.old) (λ body. Follows (outcome_for (command_of (map string_bytes words.items)) body) (exit_status result) (O.written output.old) (O.written output.new))) }
-    ensures messages { IfOk words (λ words. Over (S.left input.old) (λ body. Tells (message_for (outcome_for (command_of (map string_bytes words.items)) body) (exit_status result)) (E.faults errors.old) (E.faults errors.new) (E.written errors.old) (E.written errors.new))) }
+    ensures headline { IfOk words (λ words. Over (K.tables keeper.old) (λ rows. Over (S.left input.old) (λ body. Follows (outcome_for (command_of (map string_bytes words.items)) rows body) (exit_status result) (O.written output.old) (O.written output.new) (K.tables keeper.old) (K.tables keeper.new)))) }
+    ensures messages { IfOk words (λ words. Over (K.tables keeper.old) (λ rows. Over (S.left input.old) (λ body. Tells (message_for (outcome_for (command_of (map string_bytes words.items)) rows body) (exit_status result)) (E.faults errors.old) (E.faults errors.new) (E.written errors.old) (E.written errors.new)))) }
     ensures no_command { IfOk words (λ words. (exit_status result ≡ 2) ↔ IsNone (command_of (map string_bytes words.items))) }
+    ensures unused_keeper { IfOk words (λ words. uses uses_keeper (command_of (map string_bytes words.items)) ≡ false → keeper.new ≡ keeper.old) }
     ensures no_memory { OnErr words (exit_status result ≡ 7) }
     ensures no_memory_told { let ending = no_memory in OnErr words (Tells ending.message (E.faults errors.old) (E.faults errors.new) (E.written errors.old) (E.written errors.new)) }
 {
     match words {
-        Ok(words) => ExitCode::from(run(alloc, &words, input, output, errors)),
+        Ok(words) => ExitCode::from(run(alloc, &words, keeper, input, output, errors)),
         Err(Memory) => ExitCode::from(end_without_memory(errors)),
     }
 }
