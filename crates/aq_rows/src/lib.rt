@@ -21,4 +21,6 @@ pub use opening::{OpenFault, Opened, Place, open};
 pub use records::{office_row, record_of};
 
 #[cfg(test)]
+mod opening_tests;
+#[cfg(test)]
 mod tests;
