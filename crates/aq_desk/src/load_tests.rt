@@ -22,7 +22,7 @@ fn keeper_of(rows: Vec<Row>, failing: Vec<u64>) -> Result<MemoryKeeper, Fail> {
     if are_in_order(&rows) {
         Ok(MemoryKeeper::new(rows, failing))
     } else {
-        Err(Fail)
+        Err(Fail::new("the rows are not in order"))
     }
 }
 
