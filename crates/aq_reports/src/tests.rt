@@ -1,6 +1,4 @@
 //! Sheets as they print, worked out by hand.
-ghost use Rattle.std.specs.Prelude.{◌≤◌};
-
 use crate::list::{list, names};
 use crate::*;
 use aq_base::{
@@ -196,36 +194,16 @@ fn ozone_value_prints(rt: HostRuntime) -> Result<(), Fail> {
     Ok(())
 }
 
-/// A PM2.5 quarter of so many scheduled days, all but one of them at 13.0 µg/m3.
-fn quarter_of(scheduled: u8) -> PmQuarter
-    requires some { 2 ≤ scheduled }
-    requires most { scheduled ≤ 90 }
-{
-    let samples = scheduled - 1;
-    let value = Some(130);
-    PmQuarter::new(
-        scheduled,
-        samples,
-        samples,
-        samples,
-        130 * i32::from(samples),
-        value,
-        value,
-    )
-}
-
+/// Quarters of 3 and of 30 scheduled days, all days but one of each at 13.0 µg/m3.
 #[test]
 fn pm25_year_and_value_print(rt: HostRuntime) -> Result<(), Fail> {
     let alloc = rt.alloc();
     let site = SiteId::new(6, 37, 1103).expect(&rt, "a site");
     let top = Some(130);
+    let first = PmQuarter::new(3, 2, 2, 2, 260, top, top);
+    let other = PmQuarter::new(30, 29, 29, 29, 3770, top, top);
     let year = PmYear::new(
-        [
-            quarter_of(3),
-            quarter_of(30),
-            quarter_of(30),
-            quarter_of(30),
-        ],
+        [first, other, other, other],
         [top, top, top, top, top, top, top, top],
     );
     let text = text_of(alloc, &pm25_sheet(alloc, site, 2024, &year)?)?;
