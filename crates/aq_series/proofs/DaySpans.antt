@@ -6,7 +6,7 @@ use Rattle.std.specs.Option.{option_to_list}
 use Rattle.std.proofs.lemmas.Bool.{false≢true, and_parts}
 use Rattle.std.proofs.lemmas.Bool.Decides.{nat_tests}
 use Rattle.std.proofs.lemmas.Grind.{get_or-set_at}
-use Rattle.std.proofs.lemmas.List.{append-nil, get_or-set_other}
+use Rattle.std.proofs.lemmas.List.{append-nil, get_or-set_other, get_or-set_same, set-set}
 use Rattle.aq_base.specs.declared.monitor.Duration.TheVariants.{Hour}
 use Rattle.aq_base.specs.declared.monitor.MonitorId.{MonitorId}
 use Rattle.aq_base.specs.declared.observation.ObsKey.{ObsKey}
@@ -21,6 +21,7 @@ use Rattle.aq_profile.specs.Particles.ParticleDay.{starts_on}
 use Rattle.aq_shelf.specs.Standing.{hour_content, in_span, observations_in}
 use Rattle.aq_series.specs.declared.day_tally.DayTally.{DayTally}
 use Rattle.aq_series.specs.DayCells.{cell_of, cells_in, hours_of, key_at, IsOfParticles, IsParticle, IsTallyOf}
+use Rattle.aq_series.proofs.DaySteps.{Within}
 use Rattle.aq_series.proofs.MonitorDay.{cells-of_day, give_cell}
 use Rattle.aq_series.proofs.Rising.{Later}
 use Rattle.aq_series.proofs.Spans.{Item, hour_of}
@@ -176,6 +177,20 @@ module _ (records : List OfficeRecord) (monitor : MonitorId) (first : ℕ) where
   reads-done rows rising now reads k d within =
       let read = reads k d within in
       subst (λ cells. IsTallyOf cells (get_or now k d)) (sym (append-nil read.before) ∙ read.whole ∙ all-read rows rising k within) read.tallied
+
+-- ---- the day at hand
+
+-- what comes after an hour lies within what begins with it or before it
+pub within-on : (low before hour high : ℕ) → low ≤ hour → (items : List Item) → Later hour_of hour items → Within before high items → Within low high items
+within-on low before hour high first [] later within = tt
+within-on low before hour high first (item ∷ items) later within = ((omega (arith, first, later.0), within.0.1), within-on low before hour high first items later.1 within.1)
+
+module _ (days whole : List DayTally) (place : ℕ) (tally : DayTally) (same : set days place tally ≡ whole) where
+  pub at-hand : (d : DayTally) → place < length days → get_or whole place d ≡ tally
+  at-hand d many = ap (λ (now : List DayTally). get_or now place d) (sym same) ∙ get_or-set_same days place tally d many
+
+  pub put-over : (after : DayTally) → set whole place after ≡ set days place after
+  put-over after = ap (λ (now : List DayTally). set now place after) (sym same) ∙ set-set days place tally after
 
 -- ---- days without a value
 

@@ -1,5 +1,5 @@
 //! The PM2.5 and PM10 values of a monitor for the days of a quarter, with one span of its hours.
-ghost use Rattle.std.specs.Prelude.{◌≡◌, ℕ, ◌+◌, ◌<◌, ◌≤◌, true, List, Some, None, option_map, IfSome, get_or, length};
+ghost use Rattle.std.specs.Prelude.{◌≡◌, ℕ, ◌+◌, ◌<◌, ◌≤◌, true, List, Some, None, option_map, IfSome, get_or, length, set};
 ghost use Rattle.aq_base.specs.Calendar.{hour_number};
 ghost use Rattle.aq_base.specs.Values.{HasValueInRange};
 ghost use Rattle.aq_base.specs.declared.day.TheConstants.{LAST_DAY};
@@ -27,6 +27,7 @@ use std::sync::ledger::Ledger;
 pub const MOST_DAYS: usize = 92;
 
 /// The values that a monitor has for the hours of each day from the first one on.
+#[inline(never)]
 pub(crate) fn day_tallies<L: Ledger>(
     shelf: &Shelf,
     registry: &Registry,
@@ -41,13 +42,54 @@ pub(crate) fn day_tallies<L: Ledger>(
 {
     let start = 24 * u32::from(first.number());
     let mut days = [DayTally::new(); MOST_DAYS];
+    let mut at_hand = DayAtHand {
+        place: 0,
+        end: start + 24,
+        tally: days[0],
+    };
     let mut span = shelf.span(*monitor, Hour::new(start), 24 * MOST_DAYS as u32, steps);
     while let Some(item) = span.next_standing() {
+        at_hand.turn(&mut days, start, item.0.number());
         let cell = particle_of(registry, monitor, item.0, &item.1);
-        let place = ((item.0.number() - start) / 24) as usize;
-        days[place].add(cell);
+        at_hand.tally.add(cell);
     }
+    days[at_hand.place] = at_hand.tally;
     days
+}
+
+/// The day whose hours are read: its place, the hour that ends it, and the tally of its hours so far, which
+/// is put into its place only when another day comes.
+#[derive(Drop)]
+struct DayAtHand {
+    place: usize,
+    end: u32,
+    tally: DayTally,
+}
+
+impl DayAtHand {
+    ghost use Rattle.std.specs.Prelude.{◌≡◌, ◌+◌, ◌-◌, ◌*◌, ◌/◌, ◌<◌, ◌≤◌, length, set};
+    ghost use Rattle.aq_base.specs.declared.day.TheConstants.{LAST_HOUR};
+
+    /// Turns to the day of an hour, which is no earlier day. In the same day nothing is moved.
+    fn turn(&mut self, days: &mut [DayTally; MOST_DAYS], start: u32, hour: u32)
+        requires start { start ≤ LAST_HOUR }
+        requires place { self.old.place < 92 }
+        requires end { self.old.end ≡ start + 24 * self.old.place + 24 }
+        requires low { start + 24 * self.old.place ≤ hour }
+        requires high { hour < start + 2208 }
+        ensures many { length days.new ≡ 92 }
+        ensures place { self.new.place ≡ (hour - start) / 24 }
+        ensures end { self.new.end ≡ start + 24 * self.new.place + 24 }
+        ensures same { set days.new self.new.place self.new.tally ≡ set days.old self.old.place self.old.tally }
+    {
+        if hour >= self.end {
+            days[self.place] = self.tally;
+            let place = (hour - start) / 24;
+            self.place = place as usize;
+            self.end = start + 24 * place + 24;
+            self.tally = days[self.place];
+        }
+    }
 }
 
 /// The cell of what a monitor has for an hour, if there is a value.
@@ -80,7 +122,10 @@ fn is_excluded(registry: &Registry, monitor: &MonitorId, hour: Hour, quals: &Qua
     excluded_by_codes(registry, monitor, hour, *quals)
 }
 
-/// Whether an observation with these codes is excluded.
+/// Whether an observation with these codes is excluded. It stands apart, so that the loop over a quarter's
+/// hours, which mostly have no code, is short.
+#[cold]
+#[inline(never)]
 fn excluded_by_codes(registry: &Registry, monitor: &MonitorId, hour: Hour, quals: Quals) -> bool
     ensures { result ≡ excluded registry.now (key_at monitor.now hour) quals }
 {
