@@ -1,0 +1,304 @@
+-- One connection after the other.
+use Rattle.std.proofs.Common.{◌≡◌, ℕ, ◌+◌, ◌⊎◌, inl, inr, false, List, [], ◌∷◌, ◌++◌, length, map, refl, sym, ap, ◌∙◌, subst, arith, append_assoc, Result, Ok, Err, Option, Some, None}
+use Rattle.std.specs.Prelude.{◌==◌}
+use Rattle.std.proofs.lemmas.List.{append-nil}
+use Rattle.aq_base.specs.Faults.{HasRisen}
+use Rattle.aq_base.specs.declared.refusal.Memory.{Memory}
+use Rattle.aq_profile.specs.Office.Office.{Office}
+use Rattle.aq_serve.specs.Door.{Both, DoorView, Ends, Exchange, HasSameTransfers, IsDry, IsIdle, Nobody, Passes, TakesNext, Wire}
+use Rattle.aq_serve.specs.Service.{AreOfOffice, Counts, Keeps, ServiceView}
+use Rattle.aq_serve.specs.Session.{IsFront, IsSession, Turn, failed_commits, office_behind}
+use Rattle.aq_serve.specs.Serving.{AreAll, AreVisits, EndsBy, HavePassed, IsVisitBy, NobodyComes, Rises, Serves, StandsBehind, Visit, World, all_turns, bytes_of, cuts_by_read, cuts_by_write, is_cut_by_read, is_cut_by_write, line_of, office_left}
+use Rattle.aq_serve.specs.Talking.{IsAll, Talks, TalksBy, Visited}
+use Rattle.aq_serve.specs.declared.ending.End.{End}
+use Rattle.aq_serve.specs.declared.ending.End.TheVariants.{Whole, CutByRead, CutByWrite}
+use Rattle.aq_serve.specs.declared.ending.ServeFault.{ServeFault}
+use Rattle.aq_serve.specs.declared.ending.ServeFault.TheVariants as fault
+use Rattle.aq_serve.proofs.Counts.{count-append, count_first, rises_by, rises_join, rises_same}
+use Rattle.aq_serve.proofs.Tables.{become_join, become_same, keeps_join, told_after}
+
+-- ---- the door
+
+abbrev left_of : Option Wire → List ℕ
+left_of None = []
+left_of (Some w) = w.line.left
+
+passed_one : (a b c d : Wire) (visit : Visit) → TakesNext a b → Passes visit.got visit.sent b c → Ends c d → visit.left ≡ c.line.left
+    → HavePassed (visit ∷ []) a d
+passed_one a b c d visit takes passes ends left = record {
+  coming = takes.coming
+      ∙ (λ i. (passes.left ∙ ap (λ l. visit.got ++ l) (sym left)) i ∷ (sym passes.coming ∙ sym ends.coming) i);
+  past = ends.past
+      ∙ (λ i. (passes.past ∙ takes.past) i ++ record { left = sym left i; written = (passes.written ∙ ap (λ w. w ++ visit.sent) takes.written) i } ∷ []);
+}
+
+passed : (a b c d : Option Wire) (visit : Visit) → Both TakesNext a b → Exchange visit.got visit.sent b c → Both Ends c d → visit.left ≡ left_of c
+    → Both (HavePassed (visit ∷ [])) a d
+passed None None None None visit takes passes ends left = tt
+passed (Some a) (Some b) (Some c) (Some d) visit takes passes ends left = passed_one a b c d visit takes passes ends left
+passed None None None (Some d) visit takes passes ends left = absurd ends
+passed None None (Some c) d visit takes passes ends left = absurd passes
+passed None (Some b) c d visit takes passes ends left = absurd takes
+passed (Some a) None c d visit takes passes ends left = absurd takes
+passed (Some a) (Some b) None d visit takes passes ends left = absurd passes
+passed (Some a) (Some b) (Some c) None visit takes passes ends left = absurd ends
+
+none_passed : (a : Option Wire) → Both (HavePassed []) a a
+none_passed None = tt
+none_passed (Some w) = record { coming = refl; past = sym (append-nil w.past) }
+
+idle_passed : (a b : Option Wire) → Both Nobody a b → Both (HavePassed []) a b
+idle_passed None None idle = tt
+idle_passed (Some a) (Some b) idle = record { coming = sym (ap (λ (w : Wire). w.coming) idle.same); past = ap (λ (w : Wire). w.past) idle.same ∙ sym (append-nil a.past) }
+idle_passed None (Some b) idle = absurd idle
+idle_passed (Some a) None idle = absurd idle
+
+nobody_comes : (a b : Option Wire) → Both Nobody a b → NobodyComes b
+nobody_comes None None idle = tt
+nobody_comes (Some a) (Some b) idle = ap (λ (w : Wire). w.coming) idle.same ∙ idle.none
+nobody_comes None (Some b) idle = absurd idle
+nobody_comes (Some a) None idle = absurd idle
+
+passed_join : (a b c : Option Wire) (visit : Visit) (visits : List Visit)
+    → Both (HavePassed (visit ∷ [])) a b → Both (HavePassed visits) b c → Both (HavePassed (visit ∷ visits)) a c
+passed_join None None None visit visits one more = tt
+passed_join (Some a) (Some b) (Some c) visit visits one more = record {
+  coming = one.coming ∙ ap (λ l. bytes_of visit ∷ l) more.coming;
+  past = more.past ∙ ap (λ l. l ++ map line_of visits) one.past ∙ append_assoc a.past (line_of visit ∷ []) (map line_of visits);
+}
+passed_join None None (Some c) visit visits one more = absurd more
+passed_join None (Some b) c visit visits one more = absurd one
+passed_join (Some a) None c visit visits one more = absurd one
+passed_join (Some a) (Some b) None visit visits one more = absurd more
+
+-- ---- a connection
+
+-- what is known of the door from before a connection to behind it
+pub record IsRound (a b c d : DoorView) : Type 0 where
+  pub takes : Both TakesNext a.wire b.wire
+  pub ends : Both Ends c.wire d.wire
+  pub listens : d.listens ≡ a.listens
+  pub is_open : d.is_open ≡ a.is_open
+  pub accepts : d.accepts ≡ a.accepts
+  pub taken : HasSameTransfers a b
+  pub ended : HasSameTransfers c d
+
+all_bytes : (office : Office) (got : List ℕ) (turns : List Turn) (c : DoorView) → IsSession office got turns → IsAll 0 office got turns c
+    → IsSession office (got ++ left_of c.wire) turns
+all_bytes office got turns c session (inl dry) = subst (λ i. IsSession office i turns) (sym (ap (λ l. got ++ l) (none_left c.wire dry) ∙ append-nil got)) session
+  where
+    none_left : (w : Option Wire) → IsDry w → left_of w ≡ []
+    none_left None dry = refl
+    none_left (Some w) dry = dry
+all_bytes office got turns c session (inr any) = any (left_of c.wire)
+
+visit_by : (end : End) (b c : World) (got sent : List ℕ) (turns : List Turn) → TalksBy (Ok end) 0 b c got sent turns
+    → IsVisitBy end b.service.office (record { got = got; left = left_of c.door.wire; turns = turns; sent = sent; end = end })
+visit_by Whole b c got sent turns t = record { session = all_bytes b.service.office got turns c.door t.session t.whole; sent = t.all }
+visit_by CutByRead b c got sent turns t = record { session = t.session; sent = t.all }
+visit_by CutByWrite b c got sent turns t = record { front = t.front; cut = t.cut }
+
+reads_by : (end : End) (b c : World) (got sent : List ℕ) (turns : List Turn) → TalksBy (Ok end) 0 b c got sent turns
+    → Counts (is_cut_by_read end) b.door.reads c.door.reads
+reads_by Whole b c got sent turns t = t.reads
+reads_by CutByRead b c got sent turns t = t.reads
+reads_by CutByWrite b c got sent turns t = t.reads
+
+writes_by : (end : End) (b c : World) (got sent : List ℕ) (turns : List Turn) → TalksBy (Ok end) 0 b c got sent turns
+    → Counts (is_cut_by_write end) b.door.writes c.door.writes
+writes_by Whole b c got sent turns t = t.writes
+writes_by CutByRead b c got sent turns t = t.writes
+writes_by CutByWrite b c got sent turns t = t.writes
+
+office_by : (end : End) (b c : World) (got sent : List ℕ) (turns : List Turn) → TalksBy (Ok end) 0 b c got sent turns
+    → c.service.office ≡ office_behind b.service.office turns
+office_by Whole b c got sent turns t = t.office
+office_by CutByRead b c got sent turns t = t.office
+office_by CutByWrite b c got sent turns t = t.office
+
+tables_by : (end : End) (b c : World) (got sent : List ℕ) (turns : List Turn) → TalksBy (Ok end) 0 b c got sent turns
+    → Keeps b.service c.service
+tables_by Whole b c got sent turns t = t.tables
+tables_by CutByRead b c got sent turns t = t.tables
+tables_by CutByWrite b c got sent turns t = t.tables
+
+pub visited : (a b c d : DoorView) (s t : ServiceView) (end : End)
+    → IsRound a b c d → Talks 0 (record { door = b; service = s }) (record { door = c; service = t }) [] (Ok end)
+    → Visited (record { door = a; service = s }) (record { door = d; service = t })
+visited a b c d s t end round talk = record {
+  visit = visit;
+  is = visit_by end before after talk.got talk.sent talk.turns talk.ends;
+  wire = passed a.wire b.wire c.wire d.wire visit round.takes talk.wire round.ends refl;
+  door = record { listens = round.listens; is_open = round.is_open; accepts = round.accepts };
+  office = office_by end before after talk.got talk.sent talk.turns talk.ends;
+  tables = tables_by end before after talk.got talk.sent talk.turns talk.ends;
+  faults = talk.faults;
+  reads = subst (λ n. Rises n d.reads (cuts_by_read (visit ∷ []))) round.taken.reads
+      (subst (λ n. Rises b.reads n (cuts_by_read (visit ∷ []))) (sym round.ended.reads)
+      (rises_by (λ (v : Visit). is_cut_by_read v.end) visit b.reads c.reads (reads_by end before after talk.got talk.sent talk.turns talk.ends)));
+  writes = subst (λ n. Rises n d.writes (cuts_by_write (visit ∷ []))) round.taken.writes
+      (subst (λ n. Rises b.writes n (cuts_by_write (visit ∷ []))) (sym round.ended.writes)
+      (rises_by (λ (v : Visit). is_cut_by_write v.end) visit b.writes c.writes (writes_by end before after talk.got talk.sent talk.turns talk.ends)));
+}
+  where
+    before : World
+    before = record { door = b; service = s }
+
+    after : World
+    after = record { door = c; service = t }
+
+    visit : Visit
+    visit = record { got = talk.got; left = left_of c.wire; turns = talk.turns; sent = talk.sent; end = end }
+
+-- memory was not to be had in it
+pub visit_lost : (a b c d : DoorView) (s t : ServiceView) (memory : Memory)
+    → IsRound a b c d → Talks 0 (record { door = b; service = s }) (record { door = c; service = t }) [] (Err memory)
+    → (n : ℕ) → Serves n (record { door = a; service = s }) (record { door = d; service = t }) (Err fault.Memory)
+visit_lost a b c d s t memory round talk n = record {
+  visits = [];
+  lost = visit ∷ [];
+  few = omega arith;
+  are = tt;
+  wire = passed a.wire b.wire c.wire d.wire visit round.takes talk.wire round.ends refl;
+  listens = round.listens;
+  is_open = round.is_open;
+  faults = subst (λ l. Rises s.faults t.faults (failed_commits l)) (sym (append-nil talk.turns)) talk.faults;
+  reads = rises_same a.reads d.reads (round.ended.reads ∙ talk.ends.reads ∙ round.taken.reads);
+  writes = rises_same a.writes d.writes (round.ended.writes ∙ talk.ends.writes ∙ round.taken.writes);
+  ends = record {
+    visit = visit;
+    one = refl;
+    is = record { front = talk.ends.front; sent = talk.ends.all; tables = stands };
+    accepts = round.accepts;
+  };
+}
+  where
+    visit : Visit
+    visit = record { got = talk.got; left = left_of c.wire; turns = talk.turns; sent = talk.sent; end = Whole }
+
+    stands : AreOfOffice s → StandsBehind s.office talk.got talk.turns s t
+    stands told =
+        let stores = talk.ends.tables told in
+        record { more = stores.more; one = stores.one; front = stores.front; tables = stores.tables }
+
+-- ---- all connections
+
+pub nothing_served : (w : World) → Serves 0 w w (Ok tt)
+nothing_served w = record {
+  visits = [];
+  lost = [];
+  few = omega arith;
+  are = tt;
+  wire = none_passed w.door.wire;
+  listens = refl;
+  is_open = refl;
+  faults = rises_same w.service.faults w.service.faults refl;
+  reads = rises_same w.door.reads w.door.reads refl;
+  writes = rises_same w.door.writes w.door.writes refl;
+  ends = record {
+    all = record { none = refl; office = refl; tables = λ told. become_same w.service told };
+    accepts = refl;
+    last = inl refl;
+  };
+}
+
+pub nobody_served : (a b : DoorView) (s : ServiceView) → IsIdle a b → b.listens ≡ a.listens → a.is_open ≡ false → b.accepts ≡ a.accepts → HasSameTransfers a b
+    → (n : ℕ) → Serves n (record { door = a; service = s }) (record { door = b; service = s }) (Ok tt)
+nobody_served a b s idle listens shut accepts transfers n = record {
+  visits = [];
+  lost = [];
+  few = omega arith;
+  are = tt;
+  wire = idle_passed a.wire b.wire idle.wire;
+  listens = listens;
+  is_open = idle.is_open ∙ sym shut;
+  faults = rises_same s.faults s.faults refl;
+  reads = rises_same a.reads b.reads transfers.reads;
+  writes = rises_same a.writes b.writes transfers.writes;
+  ends = record {
+    all = record { none = refl; office = refl; tables = λ told. become_same s told };
+    accepts = accepts;
+    last = inr (nobody_comes a.wire b.wire idle.wire);
+  };
+}
+
+pub door_failed : (a b : DoorView) (s : ServiceView) → b.wire ≡ a.wire → b.listens ≡ a.listens → b.is_open ≡ a.is_open → HasRisen a.accepts b.accepts → HasSameTransfers a b
+    → (n : ℕ) → Serves n (record { door = a; service = s }) (record { door = b; service = s }) (Err fault.DoorFailed)
+door_failed a b s wire listens open_too risen transfers n = record {
+  visits = [];
+  lost = [];
+  few = omega arith;
+  are = tt;
+  wire = subst (λ w. Both (HavePassed []) a.wire w) (sym wire) (none_passed a.wire);
+  listens = listens;
+  is_open = open_too;
+  faults = rises_same s.faults s.faults refl;
+  reads = rises_same a.reads b.reads transfers.reads;
+  writes = rises_same a.writes b.writes transfers.writes;
+  ends = record {
+    all = record { none = refl; office = refl; tables = λ told. become_same s told };
+    accepts = risen;
+  };
+}
+
+all_more : (b m a : World) (v : Visited b m) (visits lost : List Visit) → AreAll visits lost m.service a.service → AreAll (v.visit ∷ visits) lost b.service a.service
+all_more b m a v visits lost all = record {
+  none = all.none;
+  office = all.office ∙ ap (λ o. office_left o visits) v.office;
+  tables = keeps_join b.service m.service a.service v.tables all.tables;
+}
+
+ends_more : (ending : Result Unit ServeFault) (n k : ℕ) (b m a : World) (v : Visited b m) (visits lost : List Visit) → n ≡ k + 1
+    → EndsBy ending k visits lost m a → EndsBy ending n (v.visit ∷ visits) lost b a
+ends_more (Ok nothing) n k b m a v visits lost one e = record {
+  all = all_more b m a v visits lost e.all;
+  accepts = e.accepts ∙ v.door.accepts;
+  last = by_last e.last;
+}
+  where
+    by_last : (length visits ≡ k) ⊎ NobodyComes a.door.wire → (length (v.visit ∷ visits) ≡ n) ⊎ NobodyComes a.door.wire
+    by_last (inl all) = inl (omega (arith, one, all))
+    by_last (inr nobody) = inr nobody
+ends_more (Err fault.DoorFailed) n k b m a v visits lost one e = record {
+  all = all_more b m a v visits lost e.all;
+  accepts = subst (λ c. HasRisen c a.door.accepts) v.door.accepts e.accepts;
+}
+ends_more (Err fault.Memory) n k b m a v visits lost one e = record {
+  visit = e.visit;
+  one = e.one;
+  is = record {
+    front = subst (λ o. IsFront (office_left o visits) e.visit.got e.visit.turns) v.office e.is.front;
+    sent = e.is.sent;
+    tables = stands;
+  };
+  accepts = e.accepts ∙ v.door.accepts;
+}
+  where
+    stands : AreOfOffice b.service → StandsBehind (office_left (office_behind b.service.office v.visit.turns) visits) e.visit.got e.visit.turns b.service a.service
+    stands told =
+        let s = e.is.tables (told_after b.service m.service v.tables told) in
+        subst (λ o. StandsBehind (office_left o visits) e.visit.got e.visit.turns b.service a.service) v.office (record {
+          more = s.more;
+          one = s.one;
+          front = s.front;
+          tables = become_join b.service m.service a.service _ told v.tables s.tables;
+        })
+
+-- whatever ends the serving behind a connection ends all of it
+pub one_more : (n k : ℕ) (b m a : World) (ending : Result Unit ServeFault) → n ≡ k + 1 → Visited b m → Serves k m a ending → Serves n b a ending
+one_more n k b m a ending one v s = record {
+  visits = v.visit ∷ s.visits;
+  lost = s.lost;
+  few = omega (arith, one, s.few);
+  are = (v.is, subst (λ o. AreVisits o s.visits) v.office s.are);
+  wire = passed_join b.door.wire m.door.wire a.door.wire v.visit (s.visits ++ s.lost) v.wire s.wire;
+  listens = s.listens ∙ v.door.listens;
+  is_open = s.is_open ∙ v.door.is_open;
+  faults = subst (Rises b.service.faults a.service.faults) (sym (count-append (λ (t : Turn). t.status == 503) v.visit.turns (all_turns (s.visits ++ s.lost))))
+      (rises_join b.service.faults m.service.faults a.service.faults _ _ v.faults s.faults);
+  reads = subst (Rises b.door.reads a.door.reads) (sym (count_first (λ (x : Visit). is_cut_by_read x.end) v.visit s.visits))
+      (rises_join b.door.reads m.door.reads a.door.reads _ _ v.reads s.reads);
+  writes = subst (Rises b.door.writes a.door.writes) (sym (count_first (λ (x : Visit). is_cut_by_write x.end) v.visit s.visits))
+      (rises_join b.door.writes m.door.writes a.door.writes _ _ v.writes s.writes);
+  ends = ends_more ending n k b m a v s.visits s.lost one s.ends;
+}

@@ -1,0 +1,83 @@
+-- What a whole request is answered with over an office: the status and body of the reply, and the office behind it (own).
+use Rattle.std.specs.Prelude.{ℕ, ◌==◌, Bool, true, false, if◌then◌else◌, List, [], codes}
+use Rattle.sha2.specs.Sha256.{sha256}
+use Rattle.aq_profile.specs.Office.Office.{Office}
+use Rattle.aq_profile.specs.Office.Load.{Posted, TooManyLines, Repeated, Differing, NoRoom, Taken, posted}
+use Rattle.aq_profile.specs.Shown.Answer.{Answer, OfSheet, OfExport, NoSite, NoLoad, answer}
+use Rattle.aq_profile.specs.Shown.Json.{json_of}
+use Rattle.aq_profile.specs.Shown.OtherSheets.{conflict_sheet, error_sheet}
+use Rattle.aq_profile.specs.Shown.Sheet.{Sheet}
+use Rattle.aq_profile.specs.Shown.Sheets.{load_sheet}
+use Rattle.aq_http.specs.Reply.{reply_text}
+use Rattle.aq_http.specs.Routes.{found}
+use Rattle.aq_http.specs.declared.routes.Found.{Found}
+use Rattle.aq_http.specs.declared.routes.Found.TheVariants as asks
+use Rattle.aq_http.specs.declared.verb.Verb.{Verb}
+
+pub record Answered : Type 0 where
+  pub status : ℕ
+  -- the methods that a 405 allows
+  pub allow : List ℕ
+  -- in JSON
+  pub body : List ℕ
+  pub office : Office
+
+-- what the body of a reply names that is not 200 or 409
+abbrev pub error_name : ℕ → List ℕ
+error_name status =
+    if status == 400 then codes "BadRequest"
+    else (if status == 404 then codes "NotFound"
+    else (if status == 405 then codes "MethodNotAllowed"
+    else (if status == 411 then codes "LengthRequired"
+    else (if status == 413 then codes "TooLarge"
+    else (if status == 431 then codes "HeadTooLarge"
+    else (if status == 501 then codes "NotImplemented"
+    else (if status == 503 then codes "KeeperFailed"
+    else codes "LoadsFull")))))))
+
+unfoldable pub error_body : ℕ → List ℕ
+error_body status = json_of (error_sheet (error_name status))
+
+-- an error, which changes nothing
+abbrev pub refused : ℕ → Office → Answered
+refused status office = record { status = status; allow = []; body = error_body status; office = office }
+
+abbrev pub not_allowed : List ℕ → Office → Answered
+not_allowed allow office = record { status = 405; allow = allow; body = error_body 405; office = office }
+
+-- a sheet, with a status and the office behind it
+abbrev pub shown : ℕ → Sheet → Office → Answered
+shown status sheet office = record { status = status; allow = []; body = json_of sheet; office = office }
+
+-- a question; no route asks for an export
+abbrev pub to_question : Office → Answer → Answered
+to_question office (OfSheet sheet) = shown 200 sheet office
+to_question office (OfExport text) = refused 404 office
+to_question office NoSite = refused 404 office
+to_question office NoLoad = refused 404 office
+
+-- a load with this number. Where it would be taken and the keeper fails, nothing changes.
+abbrev pub to_load : ℕ → Office → Bool → Posted → Answered
+to_load number office fails TooManyLines = refused 413 office
+to_load number office fails (Repeated kept) = shown 200 (load_sheet kept) office
+to_load number office fails (Differing kept sent) = shown 409 (conflict_sheet number kept sent) office
+to_load number office fails NoRoom = refused 507 office
+to_load number office true (Taken reply now) = refused 503 office
+to_load number office false (Taken reply now) = shown 200 (load_sheet reply) now
+
+-- the digest of a load is the SHA-256 of its body as it was sent (FIPS 180-4)
+abbrev pub to_found : Office → Found → List ℕ → Bool → Answered
+to_found office (asks.Ask question) body fails = to_question office (answer office question)
+to_found office (asks.Load number) body fails = to_load number office fails (posted office number (sha256 body) body)
+to_found office (asks.Status status) body fails = refused status office
+to_found office (asks.NotAllowed true) body fails = not_allowed (codes "GET, POST") office
+to_found office (asks.NotAllowed false) body fails = not_allowed (codes "GET") office
+
+-- a request with this verb, target and body; `fails` says whether the keeper fails if it is to take a load
+unfoldable pub answered : Office → Verb → List ℕ → List ℕ → Bool → Answered
+answered office verb target body fails = to_found office (found verb target) body fails
+
+-- the bytes of the reply
+abbrev pub reply_of : Answered → Bool → List ℕ
+reply_of answer close =
+    reply_text (record { status = answer.status; allow = answer.allow; close = close; body = answer.body })

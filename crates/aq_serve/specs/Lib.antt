@@ -1,0 +1,7 @@
+pub mod Door
+pub mod Memories
+pub mod Answered
+pub mod Service
+pub mod Session
+pub mod Serving
+pub mod Talking
