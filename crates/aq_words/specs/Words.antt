@@ -1,0 +1,193 @@
+-- The words of the command line, and the command that they name (own).
+use Rattle.std.specs.Prelude.{ℕ, ◌==◌, Bool, true, false, ◌&&◌, nat_le, List, [], ◌∷◌, ◌++◌, length, take, drop, Option, Some, None, if◌then◌else◌, codes, bytes_eq, find}
+use Rattle.aq_base.specs.Standard.{standards, standard_name}
+use Rattle.aq_base.specs.Calendar.{is_year}
+use Rattle.aq_base.specs.declared.ask.Ask.{Ask}
+use Rattle.aq_base.specs.declared.ask.Ask.TheVariants.{Value, Report, Export}
+use Rattle.aq_base.specs.declared.standard.Standard.{Standard}
+use Rattle.aq_profile.specs.Limits.{LAST_LOAD_NUMBER}
+use Rattle.aq_profile.specs.Lines.Spellings.{◌>>=◌, parameter_in, year_in}
+use Rattle.aq_profile.specs.Shown.Answer.{is_design_year, is_load_number}
+use Rattle.aq_rd.specs.Words.{site_word, day_word, number_to}
+use Rattle.aq_words.specs.declared.words.Command.{Command}
+use Rattle.aq_words.specs.declared.words.Command.TheVariants.{Scan, Load, Serve, Simulate}
+use Rattle.aq_words.specs.declared.words.Command.TheVariants as command
+
+abbrev pub LAST_PORT : ℕ
+LAST_PORT = 65535
+
+abbrev pub MOST_CONNECTIONS : ℕ
+MOST_CONNECTIONS = 1000000
+
+abbrev pub LAST_START : ℕ
+LAST_START = 18446744073709551615
+
+abbrev pub MOST_SITES : ℕ
+MOST_SITES = 32
+
+abbrev pub FEWEST_YEARS : ℕ
+FEWEST_YEARS = 3
+
+abbrev pub MOST_YEARS : ℕ
+MOST_YEARS = 10
+
+-- `scan SITE DAY`
+unfoldable pub scan_of : List (List ℕ) → Option Command
+scan_of (site ∷ day ∷ []) = do
+  at ← site_word site
+  on ← day_word day
+  Some (Scan at on)
+scan_of _ = None
+
+-- `load NUMBER`, a number without a leading zero
+unfoldable pub load_of : List (List ℕ) → Option Command
+load_of (text ∷ []) = do
+  number ← number_to LAST_LOAD_NUMBER text
+  Some (Load number)
+load_of _ = None
+
+abbrev pub standard_in : List ℕ → Option Standard
+standard_in text = find (λ standard. bytes_eq (standard_name standard) text) standards
+
+-- a year that ends three years of the profile
+unfoldable pub design_year : List ℕ → Option ℕ
+design_year text = do
+  year ← year_in text
+  if is_design_year year then Some year else None
+
+-- `show STANDARD SITE YEAR`
+unfoldable pub show_of : List (List ℕ) → Option Command
+show_of (standard ∷ site ∷ year ∷ []) = do
+  named ← standard_in standard
+  at ← site_word site
+  last ← design_year year
+  Some (command.Ask (Value named at last))
+show_of _ = None
+
+-- `report STANDARD YEAR`
+unfoldable pub report_of : List (List ℕ) → Option Command
+report_of (standard ∷ year ∷ []) = do
+  named ← standard_in standard
+  last ← design_year year
+  Some (command.Ask (Report named last))
+report_of _ = None
+
+-- `export SITE PARAMETER YEAR`
+unfoldable pub export_of : List (List ℕ) → Option Command
+export_of (site ∷ parameter ∷ year ∷ []) = do
+  at ← site_word site
+  pollutant ← parameter_in parameter
+  of ← year_in year
+  Some (command.Ask (Export at pollutant of))
+export_of _ = None
+
+-- ---- `serve --port P --connections N`
+
+-- an option's value, and the words behind it
+pub record Taken : Type 0 where
+  pub value : List ℕ
+  pub rest : List (List ℕ)
+
+-- the value in a word of its own
+abbrev pub taken_next : List (List ℕ) → Option Taken
+taken_next [] = None
+taken_next (value ∷ rest) = Some (record { value = value; rest = rest })
+
+-- what stands behind the front of a text
+abbrev pub behind : List ℕ → List ℕ → Option (List ℕ)
+behind front text = if bytes_eq (take (length front) text) front then Some (drop (length front) text) else None
+
+-- the value behind an equals sign
+unfoldable pub taken_here : List ℕ → List ℕ → List (List ℕ) → Option Taken
+taken_here name word rest = do
+  sign ← behind name word
+  value ← behind (codes "=") sign
+  Some (record { value = value; rest = rest })
+
+unfoldable pub option_of : List ℕ → List (List ℕ) → Option Taken
+option_of name [] = None
+option_of name (word ∷ rest) = if bytes_eq word name then taken_next rest else taken_here name word rest
+
+-- the values of two options in this order, and no more words
+pub record Pair : Type 0 where
+  pub first : List ℕ
+  pub second : List ℕ
+
+unfoldable pub pair_of : List ℕ → List ℕ → List (List ℕ) → Option Pair
+pair_of first second words = do
+  one ← option_of first words
+  two ← option_of second one.rest
+  if length two.rest == 0 then Some (record { first = one.value; second = two.value }) else None
+
+abbrev pub PORT : List ℕ
+PORT = codes "--port"
+
+abbrev pub CONNECTIONS : List ℕ
+CONNECTIONS = codes "--connections"
+
+unfoldable pub served_by : List ℕ → List ℕ → Option Command
+served_by port connections = do
+  at ← number_to LAST_PORT port
+  most ← number_to MOST_CONNECTIONS connections
+  Some (Serve at most)
+
+abbrev pub served_in : Option Pair → Option Pair → Option Command
+served_in (Some given) other = served_by given.first given.second
+served_in None (Some given) = served_by given.second given.first
+served_in None None = None
+
+-- the options in either order
+unfoldable pub serve_of : List (List ℕ) → Option Command
+serve_of words = served_in (pair_of PORT CONNECTIONS words) (pair_of CONNECTIONS PORT words)
+
+-- ---- `simulate START SITES YEARS`
+
+-- a number without a leading zero, or 0 alone
+unfoldable pub start_in : List ℕ → Option ℕ
+start_in text = if bytes_eq text (codes "0") then Some 0 else number_to LAST_START text
+
+unfoldable pub years_in : List ℕ → Option ℕ
+years_in text = do
+  years ← number_to MOST_YEARS text
+  if nat_le FEWEST_YEARS years then Some years else None
+
+unfoldable pub simulate_of : List (List ℕ) → Option Command
+simulate_of (start ∷ sites ∷ years ∷ []) = do
+  from ← start_in start
+  count ← number_to MOST_SITES sites
+  over ← years_in years
+  Some (Simulate from count over)
+simulate_of _ = None
+
+-- ---- all words
+
+abbrev pub command_in : List ℕ → List (List ℕ) → Option Command
+command_in name words =
+    if bytes_eq name (codes "scan") then scan_of words
+    else (if bytes_eq name (codes "load") then load_of words
+    else (if bytes_eq name (codes "show") then show_of words
+    else (if bytes_eq name (codes "report") then report_of words
+    else (if bytes_eq name (codes "export") then export_of words
+    else (if bytes_eq name (codes "serve") then serve_of words
+    else (if bytes_eq name (codes "simulate") then simulate_of words
+    else None))))))
+
+-- the command of the words, which are all required, and none more
+abbrev pub command_of : List (List ℕ) → Option Command
+command_of [] = None
+command_of (name ∷ words) = command_in name words
+
+-- ---- what words may ask
+
+abbrev pub is_question : Ask → Bool
+is_question (Value standard site year) = is_design_year year
+is_question (Report standard year) = is_design_year year
+is_question (Export site pollutant year) = is_year year
+is_question _ = false
+
+abbrev pub is_command : Command → Bool
+is_command (Scan site day) = true
+is_command (Load number) = is_load_number number
+is_command (command.Ask ask) = is_question ask
+is_command (Serve port connections) = true
+is_command (Simulate start sites years) = nat_le 1 sites && nat_le sites MOST_SITES && nat_le FEWEST_YEARS years && nat_le years MOST_YEARS

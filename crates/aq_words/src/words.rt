@@ -1,0 +1,250 @@
+//! The words of the command line.
+ghost use Rattle.std.specs.Prelude.{◌≡◌, ◌≤◌, bytes_eq, find, map, string_bytes, IfSome, IsTrue};
+ghost use Rattle.std.specs.Option.{option_map};
+ghost use Rattle.aq_base.specs.Standard.{standard_name};
+ghost use Rattle.aq_profile.specs.Shown.Answer.{is_design_year};
+ghost use Rattle.aq_words.specs.Words.{command_of, is_command, design_year, load_of, option_of, pair_of, scan_of, serve_of, served_by, show_of, simulate_of, start_in, report_of, export_of, years_in};
+
+use aq_base::{Ask, Day, FIRST_YEAR, LAST_LOAD_NUMBER, SiteId, Standard};
+use aq_rd::{day_word, number_to, parameter_in, site_word, year_in};
+
+/// The most connections that `serve` takes.
+const MOST_CONNECTIONS: u64 = 1_000_000;
+
+/// The most sites of a simulated office.
+const MOST_SITES: u64 = 32;
+
+/// The fewest and the most years of one.
+const FEWEST_YEARS: u64 = 3;
+
+const MOST_YEARS: u64 = 10;
+
+/// What the program is asked to do.
+#[derive(Clone, Copy, Debug, PartialEq, Eq)]
+pub enum Command {
+    /// Takes the input as a load over an empty office, and prints the reply and a day's windows.
+    Scan { site: SiteId, day: Day },
+    /// Takes the input as the load with this number over the office of the tables.
+    Load(u32),
+    /// Answers a question about the office of the tables: for a design value, a report or an export.
+    Ask(Ask),
+    /// Listens on this port of the machine, and serves so many connections at most.
+    Serve { port: u16, connections: u32 },
+    /// Takes generated loads of so many sites and years over an empty office, and prints a summary.
+    Simulate { start: u64, sites: u8, years: u8 },
+}
+
+#[tactic(auto, unfolding(crate::specs::Words::scan_of))]
+fn scan(words: &[String]) -> Option<Command>
+    ensures command { result ≡ scan_of (map string_bytes words.now) }
+    ensures range { IfSome result (λ command. IsTrue (is_command command)) }
+{
+    let [site, day] = words else {
+        return None;
+    };
+    let site = site_word(site.as_bytes())?;
+    let day = day_word(day.as_bytes())?;
+    Some(Command::Scan { site, day })
+}
+
+#[tactic(auto, unfolding(crate::specs::Words::load_of))]
+fn load(words: &[String]) -> Option<Command>
+    ensures command { result ≡ load_of (map string_bytes words.now) }
+    ensures range { IfSome result (λ command. IsTrue (is_command command)) }
+{
+    let [number] = words else {
+        return None;
+    };
+    let number = number_to(u64::from(LAST_LOAD_NUMBER), number.as_bytes())?;
+    Some(Command::Load(number as u32))
+}
+
+#[tactic(auto, unfolding(crate::specs::Words::show_of))]
+fn show(words: &[String]) -> Option<Command>
+    ensures command { result ≡ show_of (map string_bytes words.now) }
+    ensures range { IfSome result (λ command. IsTrue (is_command command)) }
+{
+    let [standard, site, year] = words else {
+        return None;
+    };
+    let standard = first_named(&Standard::all(), standard.as_bytes())?;
+    let site = site_word(site.as_bytes())?;
+    let year = design_year(year.as_bytes())?;
+    Some(Command::Ask(Ask::Value(standard, site, year)))
+}
+
+#[tactic(auto, unfolding(crate::specs::Words::report_of))]
+fn report(words: &[String]) -> Option<Command>
+    ensures command { result ≡ report_of (map string_bytes words.now) }
+    ensures range { IfSome result (λ command. IsTrue (is_command command)) }
+{
+    let [standard, year] = words else {
+        return None;
+    };
+    let standard = first_named(&Standard::all(), standard.as_bytes())?;
+    let year = design_year(year.as_bytes())?;
+    Some(Command::Ask(Ask::Report(standard, year)))
+}
+
+#[tactic(auto, unfolding(crate::specs::Words::export_of))]
+fn export(words: &[String]) -> Option<Command>
+    ensures command { result ≡ export_of (map string_bytes words.now) }
+    ensures range { IfSome result (λ command. IsTrue (is_command command)) }
+{
+    let [site, parameter, year] = words else {
+        return None;
+    };
+    let site = site_word(site.as_bytes())?;
+    let pollutant = parameter_in(parameter.as_bytes())?;
+    let year = year_in(year.as_bytes())?;
+    Some(Command::Ask(Ask::Export(site, pollutant, year)))
+}
+
+#[tactic(auto, unfolding(crate::specs::Words::serve_of))]
+fn serve(words: &[String]) -> Option<Command>
+    ensures command { result ≡ serve_of (map string_bytes words.now) }
+    ensures range { IfSome result (λ command. IsTrue (is_command command)) }
+{
+    if let Some((port, connections)) = pair_of(b"--port", b"--connections", words) {
+        return served_by(port, connections);
+    }
+    let (connections, port) = pair_of(b"--connections", b"--port", words)?;
+    served_by(port, connections)
+}
+
+#[tactic(auto, unfolding(crate::specs::Words::served_by))]
+fn served_by(port: &[u8], connections: &[u8]) -> Option<Command>
+    ensures command { result ≡ served_by port.now connections.now }
+    ensures range { IfSome result (λ command. IsTrue (is_command command)) }
+{
+    let port = number_to(u64::from(u16::MAX), port)?;
+    let connections = number_to(MOST_CONNECTIONS, connections)?;
+    Some(Command::Serve {
+        port: port as u16,
+        connections: connections as u32,
+    })
+}
+
+/// The values of two options in this order, behind which no word stands.
+#[tactic(auto, unfolding(crate::specs::Words::pair_of))]
+fn pair_of<'a>(first: &[u8], second: &[u8], words: &'a [String]) -> Option<(&'a [u8], &'a [u8])>
+    ensures { option_map (λ pair. record { first = pair.0.now; second = pair.1.now }) result ≡ pair_of first.now second.now (map string_bytes words.now) }
+{
+    let (one, rest) = option_of(first, words)?;
+    let (two, rest) = option_of(second, rest)?;
+    if rest.is_empty() {
+        Some((one, two))
+    } else {
+        None
+    }
+}
+
+/// An option's value and the words behind it: the value is a word of its own, or stands behind an equals
+/// sign.
+#[tactic(auto, unfolding(crate::specs::Words::option_of, crate::specs::Words::taken_here))]
+fn option_of<'a>(name: &[u8], words: &'a [String]) -> Option<(&'a [u8], &'a [String])>
+    ensures { option_map (λ taken. record { value = taken.0.now; rest = map string_bytes taken.1.now }) result ≡ option_of name.now (map string_bytes words.now) }
+{
+    let [word, rest @ ..] = words else {
+        return None;
+    };
+    let word = word.as_bytes();
+    if word == name {
+        let [value, rest @ ..] = rest else {
+            return None;
+        };
+        return Some((value.as_bytes(), rest));
+    }
+    let value = word.strip_prefix(name)?.strip_prefix(b"=")?;
+    Some((value, rest))
+}
+
+#[tactic(auto, unfolding(crate::specs::Words::simulate_of))]
+fn simulate(words: &[String]) -> Option<Command>
+    ensures command { result ≡ simulate_of (map string_bytes words.now) }
+    ensures range { IfSome result (λ command. IsTrue (is_command command)) }
+{
+    let [start, sites, years] = words else {
+        return None;
+    };
+    let start = start_in(start.as_bytes())?;
+    let sites = number_to(MOST_SITES, sites.as_bytes())?;
+    let years = years_in(years.as_bytes())?;
+    Some(Command::Simulate {
+        start,
+        sites: sites as u8,
+        years,
+    })
+}
+
+/// A number that loads may start from.
+#[tactic(auto, unfolding(crate::specs::Words::start_in))]
+fn start_in(text: &[u8]) -> Option<u64>
+    ensures { result ≡ start_in text.now }
+{
+    if text == b"0".as_slice() {
+        Some(0)
+    } else {
+        number_to(u64::MAX, text)
+    }
+}
+
+/// A number of simulated years.
+#[tactic(auto, unfolding(crate::specs::Words::years_in))]
+fn years_in(text: &[u8]) -> Option<u8>
+    ensures years { result ≡ years_in text.now }
+    ensures least { IfSome result (λ years. 3 ≤ years) }
+    ensures most { IfSome result (λ years. years ≤ 10) }
+{
+    let years = number_to(MOST_YEARS, text)?;
+    if years >= FEWEST_YEARS {
+        Some(years as u8)
+    } else {
+        None
+    }
+}
+
+/// A year for whose design value the profile has the two years before, too.
+#[tactic(auto, unfolding(crate::specs::Words::design_year))]
+fn design_year(text: &[u8]) -> Option<u16>
+    ensures year { result ≡ design_year text.now }
+    ensures range { IfSome result (λ year. IsTrue (is_design_year year)) }
+{
+    let year = year_in(text)?;
+    if year >= FIRST_YEAR + 2 {
+        Some(year)
+    } else {
+        None
+    }
+}
+
+fn first_named(standards: &[Standard], name: &[u8]) -> Option<Standard>
+    ensures { result ≡ find (λ standard. bytes_eq (standard_name standard) name.now) standards.now }
+{
+    for standard in standards {
+        if standard.name().as_bytes() == name {
+            return Some(*standard);
+        }
+    }
+    None
+}
+
+/// The command that the words name, the program's name left out. It takes no memory.
+pub fn read_words(words: &[String]) -> Option<Command>
+    ensures command { result ≡ command_of (map string_bytes words.now) }
+    ensures range { IfSome result (λ command. IsTrue (is_command command)) }
+{
+    let [name, words @ ..] = words else {
+        return None;
+    };
+    match name.as_str() {
+        "scan" => scan(words),
+        "load" => load(words),
+        "show" => show(words),
+        "report" => report(words),
+        "export" => export(words),
+        "serve" => serve(words),
+        "simulate" => simulate(words),
+        _ => None,
+    }
+}
