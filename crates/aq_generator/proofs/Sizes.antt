@@ -1,0 +1,380 @@
+-- How many bytes and lines a load has at most.
+use Rattle.std.proofs.Common.{◌≡◌, ℕ, zero, suc, ◌+◌, ◌-◌, ◌*◌, ◌/◌, ◌%◌, ◌^◌, ◌<◌, ◌≤◌, Bool, true, false, cond, List, [], ◌∷◌, ◌++◌, length, take, drop, Some, None, Option, refl, sym, ap, ◌∙◌, arith, subst, append_assoc, append-nil, length-append, length-drop, map, filter, count_by}
+use Rattle.std.specs.Prelude.{◌==◌, ◌||◌, nat_lt, codes, decimal, pos, int_lt, if◌then◌else◌, flat_map, bytes_eq, slice_get}
+use Rattle.std.specs.List.{list_all, range_with_len}
+use Rattle.std.specs.Fmt.{digits}
+use Rattle.std.proofs.lemmas.Bool.{and_parts}
+use Rattle.std.proofs.lemmas.Bool.Decides.{nat_tests}
+use Rattle.std.proofs.lemmas.Fmt.{length-decimal-le}
+use Rattle.std.proofs.lemmas.List.{length-map, map-append}
+use Rattle.std.proofs.lemmas.List.FromFn.{length-range_with_len}
+use Rattle.std.proofs.lemmas.List.Sums.{sum_by-cons, sum_by-append, length-filter, count_by-le-length}
+use Rattle.std.proofs.lemmas.Grind.{flat_map-append}
+use Rattle.aq_base.specs.Calendar.{days_in_year, day_of_hour, hour_number, year_first}
+use Rattle.aq_base.specs.Decimal.{last_digits, fixed}
+use Rattle.aq_base.specs.Site.{Site}
+use Rattle.aq_base.specs.declared.monitor.Pollutant.{Pollutant}
+use Rattle.aq_base.specs.declared.monitor.Pollutant.TheVariants.{Ozone, Pm25, Pm10}
+use Rattle.aq_base.specs.declared.monitor.Duration.{Duration}
+use Rattle.aq_base.specs.declared.monitor.Duration.TheVariants.{Hour, Day}
+use Rattle.aq_base.specs.declared.office.OfficeRecord.{OfficeRecord}
+use Rattle.aq_base.specs.declared.office.OfficeRecord.TheVariants.{Monitor, Primary, Schedule, Season}
+use Rattle.aq_profile.specs.Lines.Spellings.{is_in_range}
+use Rattle.aq_profile.specs.Lines.Reading.{is_plain, is_plain_byte}
+use Rattle.aq_profile.specs.Lines.Lines.{line_count, without_mark, without_return, cut_at_ends, BYTE_ORDER_MARK}
+use Rattle.aq_profile.specs.Lines.Canonical.{parameter_text, duration_text, unit_text, date_text, time_text, value_text, value_places, code_text, joined, rd_texts, office_texts}
+use Rattle.aq_profile.specs.Ozone.OzoneYear.{days_of}
+use Rattle.aq_profile.specs.Shown.Generator.{next_state, drawn, null_an, Drawn, observed, generated_site, generated_monitor, generated_season, generated_years, generated_start, generated_records, record_text, office_load, Wanted, every, wanted_hour, wanted_day, wanted_in, sample_text, samples_from, load_count, generated_load, generate, FIRST_GENERATED_YEAR}
+use Rattle.aq_profile.proofs.JoinedFields.{is_clean, plain-some}
+use Rattle.aq_profile.proofs.RoundTrip.{also, one, site_with, clean-site, clean-parameter, clean-decimal, clean-duration, clean-digits, clean-date, clean-time}
+use Rattle.aq_profile.proofs.Values.{value_text_is}
+use Rattle.aq_generator.specs.Sizes.{IsSmall}
+use Rattle.aq_forms.proofs.Cuts.{is_end, unended, lines_are_counted}
+
+-- ---- texts of so many lines at most
+
+abbrev pub ends_in : List ℕ → ℕ
+ends_in text = count_by is_end text
+
+pub record HasLines (lines : ℕ) (text : List ℕ) : Type 0 where
+  pub bytes : length text ≤ 64 * lines
+  pub ends : ends_in text ≤ lines
+
+none : HasLines 0 []
+none = record { bytes = omega arith; ends = omega arith }
+
+abbrev end_of : ℕ → ℕ
+end_of byte = cond (is_end byte) 1 0
+
+two : (a b : ℕ) (xs ys : List ℕ) → HasLines a xs → HasLines b ys → HasLines (a + b) (xs ++ ys)
+two a b xs ys h k = record {
+  bytes = omega (arith, h.bytes, k.bytes, length-append xs ys);
+  ends = omega (arith, h.ends, k.ends, sum_by-append end_of xs ys);
+}
+
+more : (a b : ℕ) (text : List ℕ) → a ≤ b → HasLines a text → HasLines b text
+more a b text low h = record {
+  bytes = omega (arith, low, h.bytes);
+  ends = omega (arith, low, h.ends);
+}
+
+not_end : (byte : ℕ) → is_plain_byte byte ≡ true → end_of byte ≡ 0
+not_end byte h = grind (arith, nat_tests)
+
+no_ends : (line : List ℕ) → is_plain line ≡ true → ends_in line ≡ 0
+no_ends [] h = refl
+no_ends (byte ∷ line) h =
+    let parts = and_parts (is_plain_byte byte) (is_plain line) h in
+    omega (arith, sum_by-cons end_of byte line, not_end byte parts.0, no_ends line parts.1)
+
+-- the bytes of fields, each with one more behind it
+abbrev room : List (List ℕ) → ℕ
+room [] = 0
+room (text ∷ texts) = length text + 1 + room texts
+
+joined-room : (text : List ℕ) (texts : List (List ℕ)) → length (joined (text ∷ texts)) + 1 ≡ room (text ∷ texts)
+joined-room text [] = omega arith
+joined-room text (next ∷ texts) = omega (arith, length-append text (124 ∷ joined (next ∷ texts)), joined-room next texts)
+
+a_line : (text : List ℕ) (texts : List (List ℕ)) → list_all is_clean (text ∷ texts) ≡ true → room (text ∷ texts) ≤ 64
+    → HasLines 1 (joined (text ∷ texts) ++ 10 ∷ [])
+a_line text texts clean short =
+    let line = joined (text ∷ texts) in
+    record {
+      bytes = omega (arith, short, joined-room text texts, length-append line (10 ∷ []));
+      ends = omega (arith, no_ends line (plain-some text texts clean), sum_by-append end_of line (10 ∷ []));
+    }
+
+-- ---- fields
+
+length-digits : (w n : ℕ) → length (last_digits w n) ≡ w
+unfolding last_digits
+length-digits zero n = refl
+length-digits (suc w) n = omega (arith, length-append (last_digits w (n / 10)) ((48 + n % 10) ∷ []), length-digits w (n / 10))
+
+length-date : (day : ℕ) → length (date_text day) ≡ 8
+unfolding last_digits
+length-date day = refl
+
+length-time : (hour : ℕ) → length (time_text hour) ≡ 5
+unfolding last_digits
+length-time hour = refl
+
+length-parameter : (p : Pollutant) → length (parameter_text p) ≡ 5
+length-parameter Ozone = refl
+length-parameter Pm25 = refl
+length-parameter Pm10 = refl
+
+length-duration : (d : Duration) → length (duration_text d) ≡ 1
+length-duration Hour = refl
+length-duration Day = refl
+
+length-unit : (p : Pollutant) → length (unit_text p) ≡ 3
+length-unit Ozone = refl
+length-unit Pm25 = refl
+length-unit Pm10 = refl
+
+clean-unit : (p : Pollutant) → is_clean (unit_text p) ≡ true
+clean-unit Ozone = refl
+clean-unit Pm25 = refl
+clean-unit Pm10 = refl
+
+room-site : (s : Site) (rest : List (List ℕ)) → room (site_with s rest) ≡ 12 + room rest
+room-site s rest = omega (arith, length-digits 2 s.state, length-digits 3 s.county, length-digits 4 s.number)
+
+-- ---- samples
+
+value_in_range : (p : Pollutant) (v : ℕ) → v ≤ 1599 → is_in_range p (pos v) ≡ true
+value_in_range Ozone v h = grind (arith, nat_tests)
+value_in_range Pm25 v h = grind (arith, nat_tests)
+value_in_range Pm10 v h = grind (arith, nat_tests)
+
+not_below : (v : ℕ) → int_lt (pos v) (pos 0) ≡ false
+not_below v = grind (arith, nat_tests)
+
+three_places : (v : ℕ) → fixed (pos v) 3 ≡ decimal (v / 1000) ++ (46 ∷ last_digits 3 v)
+three_places v = ap (λ b. (if b then 45 ∷ [] else []) ++ decimal (v / 1000) ++ (46 ∷ last_digits 3 v)) (not_below v)
+
+one_place : (v : ℕ) → fixed (pos v) 1 ≡ decimal (v / 10) ++ (46 ∷ last_digits 1 v)
+one_place v = ap (λ b. (if b then 45 ∷ [] else []) ++ decimal (v / 10) ++ (46 ∷ last_digits 1 v)) (not_below v)
+
+length-three : (v : ℕ) → v ≤ 1599 → length (fixed (pos v) 3) ≤ 5
+length-three v h =
+    omega (arith, ap length (three_places v), length-append (decimal (v / 1000)) (46 ∷ last_digits 3 v), length-digits 3 v, length-decimal-le 1 (v / 1000) (omega arith) (omega (arith, h)) (omega (arith, h)))
+
+length-one : (v : ℕ) → v ≤ 1599 → length (fixed (pos v) 1) ≤ 5
+length-one v h =
+    omega (arith, ap length (one_place v), length-append (decimal (v / 10)) (46 ∷ last_digits 1 v), length-digits 1 v, length-decimal-le 3 (v / 10) (omega arith) (omega (arith, h)) (omega (arith, h)))
+
+length-value : (p : Pollutant) (v : ℕ) → v ≤ 1599 → length (value_text p (Some (pos v))) ≤ 5
+length-value Ozone v h = length-three v h
+length-value Pm25 v h = length-one v h
+length-value Pm10 v h = length-one v h
+
+-- the fields of a sample, from the monitor's on
+abbrev front : Site → Pollutant → Duration → ℕ → List (List ℕ) → List (List ℕ)
+front s p d hour rest =
+    codes "I" ∷ site_with s (parameter_text p ∷ decimal 1 ∷ duration_text d ∷ unit_text p ∷ last_digits 3 0
+    ∷ date_text (day_of_hour hour) ∷ time_text hour ∷ rest)
+
+clean-front : (s : Site) (p : Pollutant) (d : Duration) (hour : ℕ) (rest : List (List ℕ)) → list_all is_clean rest ≡ true
+    → list_all is_clean (codes "RD" ∷ front s p d hour rest) ≡ true
+clean-front s p d hour rest h =
+    let timed = time_text hour ∷ rest in
+    let dated = date_text (day_of_hour hour) ∷ timed in
+    let method = last_digits 3 0 ∷ dated in
+    let unit = unit_text p ∷ method in
+    let duration = duration_text d ∷ unit in
+    let poc = decimal 1 ∷ duration in
+    let parameter = parameter_text p ∷ poc in
+    also (codes "RD") (codes "I" ∷ site_with s parameter) refl
+    (also (codes "I") (site_with s parameter) refl
+    (clean-site s parameter
+    (also (parameter_text p) poc (clean-parameter p)
+    (also (decimal 1) duration (clean-decimal 1 (omega arith))
+    (also (duration_text d) unit (clean-duration d)
+    (also (unit_text p) method (clean-unit p)
+    (also (last_digits 3 0) dated (clean-digits 3 0)
+    (also (date_text (day_of_hour hour)) timed (clean-date (day_of_hour hour))
+    (also (time_text hour) rest (clean-time hour) h)))))))))
+
+room-front : (s : Site) (p : Pollutant) (d : Duration) (hour : ℕ) (rest : List (List ℕ)) → room (codes "RD" ∷ front s p d hour rest) ≤ 50 + room rest
+room-front s p d hour rest =
+    omega (
+      arith,
+      room-site s (parameter_text p ∷ decimal 1 ∷ duration_text d ∷ unit_text p ∷ last_digits 3 0 ∷ date_text (day_of_hour hour) ∷ time_text hour ∷ rest),
+      length-parameter p,
+      length-decimal-le 1 1 (omega arith) (omega arith) (omega arith),
+      length-duration d,
+      length-unit p,
+      length-digits 3 0,
+      length-date (day_of_hour hour),
+      length-time hour,
+    )
+
+abbrev sample_of : Site → Pollutant → Duration → ℕ → ℕ → ℕ → Wanted
+sample_of s p d hour base span =
+    record { monitor = record { site = s; pollutant = p; poc = 1 }; duration = d; hour = hour; base = base; span = span }
+
+null_line : (s : Site) (p : Pollutant) (d : Duration) (hour base span : ℕ)
+    → HasLines 1 (sample_text (sample_of s p d hour base span) (record { value = None; null = Some null_an; quals = [] }))
+unfolding rd_texts
+null_line s p d hour base span =
+    a_line (codes "RD") (front s p d hour ([] ∷ codes "AN" ∷ []))
+    (clean-front s p d hour ([] ∷ codes "AN" ∷ []) refl)
+    (omega (arith, room-front s p d hour ([] ∷ codes "AN" ∷ [])))
+
+value_line : (s : Site) (p : Pollutant) (d : Duration) (hour base span v : ℕ) → v ≤ 1599
+    → HasLines 1 (sample_text (sample_of s p d hour base span) (record { value = Some (pos v); null = None; quals = [] }))
+unfolding rd_texts
+value_line s p d hour base span v h =
+    let text = value_text p (Some (pos v)) in
+    a_line (codes "RD") (front s p d hour (text ∷ []))
+    (clean-front s p d hour (text ∷ []) (one text (value_text_is p (pos v) (value_in_range p v h)).clean))
+    (omega (arith, room-front s p d hour (text ∷ []), length-value p v h))
+
+either : (b : Bool) (w : Wanted) (here there : Drawn) → HasLines 1 (sample_text w here.content) → HasLines 1 (sample_text w there.content)
+    → HasLines 1 (sample_text w (cond b here there).content)
+either true w here there h k = h
+either false w here there h k = k
+
+abbrev IsShort : Wanted → Type 0
+IsShort w = (x : ℕ) → HasLines 1 (sample_text w (observed w.base w.span x).content)
+
+short : (s : Site) (p : Pollutant) (d : Duration) (hour base span : ℕ) → 0 < span → base + span ≤ 1600 → IsShort (sample_of s p d hour base span)
+short s p d hour base span some small x =
+    either (drawn x 20 == 0) (sample_of s p d hour base span) _ _ (null_line s p d hour base span)
+    (value_line s p d hour base span (base + drawn (next_state x) span) (below base span _ some small))
+  where
+    below : (base span draw : ℕ) → 0 < span → base + span ≤ 1600 → base + draw % span ≤ 1599
+    below base span draw some small = grind arith
+
+-- the samples of a list, and then others
+samples-lines : (f : ℕ → Wanted) → ((k : ℕ) → IsShort (f k)) → (rest : List Wanted) (n : ℕ) → ((x : ℕ) → HasLines n (samples_from x rest))
+    → (ks : List ℕ) (x : ℕ) → HasLines (length ks + n) (samples_from x (map f ks ++ rest))
+unfolding samples_from
+samples-lines f each rest n behind [] x = more n (0 + n) _ (omega arith) (behind x)
+samples-lines f each rest n behind (k ∷ ks) x =
+    let w = f k in
+    let d = observed w.base w.span (next_state x) in
+    more (1 + (length ks + n)) (length (k ∷ ks) + n) _ (omega arith)
+    (two 1 (length ks + n) (sample_text w d.content) _ (each k (next_state x)) (samples-lines f each rest n behind ks d.state))
+
+few_days : (b : Bool) → cond b 366 365 ≤ 366
+few_days true = omega arith
+few_days false = omega arith
+
+few_of : (f : ℕ → Bool) (first n : ℕ) → length (filter f (range_with_len first n)) ≤ n
+few_of f first n = omega (arith, length-filter f (range_with_len first n), count_by-le-length f (range_with_len first n), length-range_with_len first n)
+
+no_samples : (x : ℕ) → HasLines 0 (samples_from x [])
+unfolding samples_from
+no_samples x = none
+
+-- at most 24 hours of 366 days, and twice 366 days
+year-lines : (n year x : ℕ) → HasLines 9516 (samples_from x (wanted_in n year))
+unfolding wanted_in days_of
+year-lines n year x =
+    let hours = range_with_len (hour_number (year_first year) 0) (24 * days_in_year year) in
+    let coarse = samples-lines (wanted_day n Pm10 100 1500) (λ day. short (generated_site n) Pm10 Day (hour_number day 0) 100 1500 (omega arith) (omega arith)) [] 0 no_samples (every 6 year) in
+    let fine = samples-lines (wanted_day n Pm25 40 200) (λ day. short (generated_site n) Pm25 Day (hour_number day 0) 40 200 (omega arith) (omega arith)) (map (wanted_day n Pm10 100 1500) (every 6 year) ++ []) _ coarse (every 3 year) in
+    let all = samples-lines (wanted_hour n) (λ hour. short (generated_site n) Ozone Hour hour 20 60 (omega arith) (omega arith)) _ _ fine hours x in
+    let same : map (wanted_hour n) hours ++ (map (wanted_day n Pm25 40 200) (every 3 year) ++ (map (wanted_day n Pm10 100 1500) (every 6 year) ++ [])) ≡ wanted_in n year = simp (append_assoc, append-nil) in
+    subst (λ ws. HasLines 9516 (samples_from x ws)) same
+    (more (length hours + (length (every 3 year) + (length (every 6 year) + 0))) 9516 _
+    (omega (arith, length-range_with_len (hour_number (year_first year) 0) (24 * days_in_year year), few_days (year % 4 == 0), few_of (λ day. (day - generated_start) % 3 == 0) (year_first year) (days_in_year year), few_of (λ day. (day - generated_start) % 6 == 0) (year_first year) (days_in_year year)))
+    all)
+
+-- ---- the office
+
+abbrev of_record : List ℕ → Site → List (List ℕ) → List (List ℕ)
+of_record tag s rest = tag ∷ codes "I" ∷ site_with s rest
+
+record_line : (tag : List ℕ) (s : Site) (rest : List (List ℕ)) → is_clean tag ≡ true → length tag ≡ 2 → list_all is_clean rest ≡ true → room rest ≤ 47
+    → HasLines 1 (joined (of_record tag s rest) ++ 10 ∷ [])
+record_line tag s rest clean two clean-rest short =
+    a_line tag (codes "I" ∷ site_with s rest) (also tag (codes "I" ∷ site_with s rest) clean (also (codes "I") (site_with s rest) refl (clean-site s rest clean-rest)))
+    (omega (arith, two, short, room-site s rest))
+
+one_digit : (n : ℕ) → n < 10 → length (decimal n) ≤ 1
+one_digit n h = length-decimal-le 1 n (omega arith) (omega (arith, h)) (omega (arith, h))
+
+monitor_line : (s : Site) (p : Pollutant) (d : Duration) → HasLines 1 (record_text (Monitor (record { site = s; pollutant = p; poc = 1 }) d true))
+unfolding office_texts
+monitor_line s p d =
+    record_line (codes "XM") s (parameter_text p ∷ decimal 1 ∷ duration_text d ∷ codes "Y" ∷ []) refl refl
+    (also (parameter_text p) (decimal 1 ∷ duration_text d ∷ codes "Y" ∷ []) (clean-parameter p)
+    (also (decimal 1) (duration_text d ∷ codes "Y" ∷ []) (clean-decimal 1 (omega arith)) (also (duration_text d) (codes "Y" ∷ []) (clean-duration d) refl)))
+    (omega (arith, length-parameter p, one_digit 1 (omega arith), length-duration d))
+
+primary_line : (s : Site) (p : Pollutant) (from : ℕ) → HasLines 1 (record_text (Primary s p from 1))
+unfolding office_texts
+primary_line s p from =
+    record_line (codes "XP") s (parameter_text p ∷ date_text from ∷ decimal 1 ∷ []) refl refl
+    (also (parameter_text p) (date_text from ∷ decimal 1 ∷ []) (clean-parameter p)
+    (also (date_text from) (decimal 1 ∷ []) (clean-date from) (one (decimal 1) (clean-decimal 1 (omega arith)))))
+    (omega (arith, length-parameter p, one_digit 1 (omega arith), length-date from))
+
+schedule_line : (s : Site) (p : Pollutant) (from interval : ℕ) → interval < 10 → HasLines 1 (record_text (Schedule s p from interval from))
+unfolding office_texts
+schedule_line s p from interval small =
+    record_line (codes "XS") s (parameter_text p ∷ date_text from ∷ decimal interval ∷ date_text from ∷ []) refl refl
+    (also (parameter_text p) (date_text from ∷ decimal interval ∷ date_text from ∷ []) (clean-parameter p)
+    (also (date_text from) (decimal interval ∷ date_text from ∷ []) (clean-date from)
+    (also (decimal interval) (date_text from ∷ []) (clean-decimal interval (omega (arith, small))) (one (date_text from) (clean-date from)))))
+    (omega (arith, length-parameter p, one_digit interval small, length-date from))
+
+season_line : (s : Site) (year first last : ℕ) → HasLines 1 (record_text (Season s year first last))
+unfolding office_texts
+season_line s year first last =
+    record_line (codes "XO") s (last_digits 4 year ∷ date_text first ∷ date_text last ∷ []) refl refl
+    (also (last_digits 4 year) (date_text first ∷ date_text last ∷ []) (clean-digits 4 year) (also (date_text first) (date_text last ∷ []) (clean-date first) (one (date_text last) (clean-date last))))
+    (omega (arith, length-digits 4 year, length-date first, length-date last))
+
+seasons-lines : (n : ℕ) (years : List ℕ) → HasLines (length years) (flat_map record_text (map (generated_season n) years))
+seasons-lines n [] = none
+seasons-lines n (year ∷ years) =
+    more (1 + length years) (length (year ∷ years)) _ (omega arith)
+    (two 1 (length years) (record_text (generated_season n year)) _ (season_line (generated_site n) year _ _) (seasons-lines n years))
+
+site-lines : (years n : ℕ) → years ≤ 10 → HasLines 18 (flat_map record_text (generated_records years n))
+unfolding generated_years
+site-lines years n few =
+    let s = generated_site n in
+    more _ 18 _ (omega (arith, few, length-range_with_len FIRST_GENERATED_YEAR years))
+    (two 1 _ _ _ (monitor_line s Ozone Hour) (two 1 _ _ _ (monitor_line s Pm25 Day) (two 1 _ _ _ (monitor_line s Pm10 Day)
+    (two 1 _ _ _ (primary_line s Ozone generated_start) (two 1 _ _ _ (primary_line s Pm25 generated_start) (two 1 _ _ _ (primary_line s Pm10 generated_start)
+    (two 1 _ _ _ (schedule_line s Pm25 generated_start 3 (omega arith)) (two 1 _ _ _ (schedule_line s Pm10 generated_start 6 (omega arith))
+    (seasons-lines n (generated_years years))))))))))
+
+sites-lines : (years first n : ℕ) → years ≤ 10 → HasLines (18 * n) (flat_map record_text (flat_map (generated_records years) (range_with_len first n)))
+sites-lines years first zero few = none
+sites-lines years first (suc n) few =
+    let rest = range_with_len (first + 1) n in
+    subst (λ text. HasLines (18 * suc n) text) (sym (flat_map-append record_text (generated_records years first) (flat_map (generated_records years) rest)))
+    (more (18 + 18 * n) (18 * suc n) _ (omega arith) (two 18 (18 * n) _ _ (site-lines years first few) (sites-lines years (first + 1) n few)))
+
+office-lines : (sites years : ℕ) → sites ≤ 32 → years ≤ 10 → HasLines 576 (office_load sites years)
+unfolding office_load
+office-lines sites years few_sites few = more (18 * sites) 576 _ (omega (arith, few_sites)) (sites-lines years 1 sites few)
+
+-- ---- the lines of a body
+
+last_line : (last : Option ℕ) → unended last ≤ 1
+last_line None = omega arith
+last_line (Some byte) = by_test (byte == 10)
+  where
+    by_test : (b : Bool) → cond b 0 1 ≤ 1
+    by_test true = omega arith
+    by_test false = omega arith
+
+fewer_ends : (n : ℕ) (text : List ℕ) → ends_in (drop n text) ≤ ends_in text
+fewer_ends zero text = omega arith
+fewer_ends (suc n) [] = omega arith
+fewer_ends (suc n) (byte ∷ text) = omega (arith, fewer_ends n text, sum_by-cons end_of byte text)
+
+without_mark-ends : (marked : Bool) (body : List ℕ) → ends_in (cond marked (drop 3 body) body) ≤ ends_in body
+without_mark-ends true body = fewer_ends 3 body
+without_mark-ends false body = omega arith
+
+lines_of-ends : (body : List ℕ) → line_count body ≤ ends_in body + 1
+lines_of-ends body =
+    let rest = without_mark body in
+    omega (
+      arith,
+      lines_are_counted rest,
+      last_line (slice_get rest (length rest - 1)),
+      without_mark-ends (bytes_eq (take 3 body) BYTE_ORDER_MARK) body,
+    )
+
+small : (n : ℕ) (body : List ℕ) → n ≤ 9516 → HasLines n body → IsSmall body
+small n body few h = record {
+  bytes = omega (arith, few, h.bytes);
+  lines = omega (arith, few, h.ends, lines_of-ends body);
+}
+
+pub office_small : (sites years : ℕ) (text : List ℕ) → sites ≤ 32 → years ≤ 10 → text ≡ office_load sites years → IsSmall text
+office_small sites years text few_sites few is = subst IsSmall (sym is) (small 576 _ (omega arith) (office-lines sites years few_sites few))
+
+pub samples_small : (x n year : ℕ) (text : List ℕ) → text ≡ samples_from x (wanted_in n year) → IsSmall text
+samples_small x n year text is = subst IsSmall (sym is) (small 9516 _ (omega arith) (year-lines n year x))

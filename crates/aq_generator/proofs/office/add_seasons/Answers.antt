@@ -1,0 +1,20 @@
+use Rattle.std.proofs.Common.{◌≡◌, ◌+◌, ◌-◌, ◌++◌, ◌∙◌, ℕ, List, ap, sym, arith, refl, map}
+use Rattle.std.specs.Prelude.{flat_map}
+use Rattle.std.specs.List.{range_with_len}
+use Rattle.aq_profile.specs.Shown.Generator.{generated_season, generated_years, record_text}
+use Rattle.aq_generator.proofs.Walks.{walk-step, walk-end}
+use Rattle.aq_generator.proofs.office.add_seasons.Goals as goal
+
+pub loop-year-preserved : goal.loop-year-preserved
+loop-year-preserved c =
+    walk-step (λ years. flat_map record_text (map (generated_season c.args.number) years)) (λ year. record_text (generated_season c.args.number year)) (λ year rest. refl)
+    c.loop-year.year _ _ _ c.loop-year-test.true c.in_ok-add_season.ensures
+    ∙ c.loop-year.invariant
+
+pub returns : goal.returns
+unfolding generated_years
+returns c =
+    let seasons = λ (years : List ℕ). flat_map record_text (map (generated_season c.args.number) years) in
+    let count : (2021 + c.from-year-end.result) - 2021 ≡ c.args.years = omega (arith, c.from-year-end.ensures) in
+    sym (walk-end seasons refl c.loop-year.year (2021 + c.from-year-end.result) c.loop-year.text.items c.loop-year-test.false)
+    ∙ c.loop-year.invariant ∙ ap (λ (n : ℕ). c.args.text.now.items ++ seasons (range_with_len 2021 n)) count

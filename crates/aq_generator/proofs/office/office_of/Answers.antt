@@ -1,0 +1,21 @@
+use Rattle.std.proofs.Common.{◌≡◌, ◌+◌, ◌-◌, ◌∙◌, ℕ, List, ap, sym, arith, refl}
+use Rattle.std.specs.Prelude.{flat_map}
+use Rattle.std.specs.List.{range_with_len}
+use Rattle.aq_profile.specs.Shown.Generator.{generated_records, record_text, office_load}
+use Rattle.aq_generator.proofs.Walks.{walk-step, walk-end}
+use Rattle.aq_generator.proofs.Written.{records-of-sites}
+use Rattle.aq_generator.proofs.office.office_of.Goals as goal
+
+pub loop-number-preserved : goal.loop-number-preserved
+loop-number-preserved c =
+    walk-step (λ numbers. flat_map record_text (flat_map (generated_records c.args.years) numbers)) (λ number. flat_map record_text (generated_records c.args.years number)) (records-of-sites c.args.years)
+    c.loop-number.number _ _ _ c.loop-number-test.true c.in_ok-add_site.ensures
+    ∙ c.loop-number.invariant
+
+pub returns : goal.returns
+unfolding office_load
+returns c =
+    let sites = λ (numbers : List ℕ). flat_map record_text (flat_map (generated_records c.args.years) numbers) in
+    let count : (c.from-number-end.result + 1) - 1 ≡ c.args.sites = omega (arith, c.from-number-end.ensures) in
+    sym (walk-end sites refl c.loop-number.number (c.from-number-end.result + 1) c.loop-number.text.items c.loop-number-test.false)
+    ∙ c.loop-number.invariant ∙ ap (λ (n : ℕ). sites (range_with_len 1 n)) count
