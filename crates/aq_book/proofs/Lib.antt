@@ -4,3 +4,6 @@ pub mod OzoneLemmas
 pub mod DesignLemmas
 pub mod Loadless
 pub mod LoadlessAnswers
+pub mod RisingSites
+pub mod ShownLemmas
+pub mod ReportLemmas

@@ -1,6 +1,7 @@
 -- What is asked of an office does not hang on its loads.
 use Rattle.std.proofs.Common.{◌≡◌, ℕ, List, refl}
 use Rattle.aq_base.specs.Site.{Site}
+use Rattle.aq_base.specs.declared.monitor.Pollutant.{Pollutant}
 use Rattle.aq_base.specs.declared.observation.ObsKey.{ObsKey}
 use Rattle.aq_base.specs.declared.observation.Observation.{Observation}
 use Rattle.aq_base.specs.declared.office.OfficeRecord.{OfficeRecord}
@@ -16,6 +17,7 @@ use Rattle.aq_profile.specs.Particles.ParticleDay.{monitor_day, site_day}
 use Rattle.aq_profile.specs.Particles.QuarterCounts.{credits, pm25_year, quarter_counts, quarter_values}
 use Rattle.aq_profile.specs.Particles.Pm10Estimate.{pm10_quarter, pm10_year}
 use Rattle.aq_profile.specs.Particles.Strata.{first_days, strata_of}
+use Rattle.aq_profile.specs.Shown.Export.{shown_of}
 use Rattle.aq_series.specs.OfficeView.{office_of}
 use Rattle.aq_book.specs.View.{standing}
 
@@ -51,3 +53,7 @@ module _ (records : List OfficeRecord) (rows : List (ObsKey × Observation)) (lo
   pub pm10_year_is : (year : ℕ) → pm10_year (office_of records rows) site year ≡ pm10_year (standing records rows loads) site year
   unfolding pm10_year pm10_quarter strata_of first_days site_day monitor_day
   pm10_year_is year = refl
+
+  pub shown_are : (pollutant : Pollutant) (year : ℕ) → shown_of (office_of records rows) site pollutant year ≡ shown_of (standing records rows loads) site pollutant year
+  unfolding shown_of
+  shown_are pollutant year = refl

@@ -1,5 +1,15 @@
--- Why a question of a site has no answer.
+-- Why a question of a site has no answer, and the rows of an export and of a report.
 use Rattle.std.specs.Prelude.{◌≡◌, ℕ, Bool, true, false, List, codes}
+use Rattle.aq_base.specs.Site.{Site}
+use Rattle.aq_base.specs.declared.ask.Shown.{Shown}
+use Rattle.aq_base.specs.declared.monitor.MonitorId.{MonitorId}
+use Rattle.aq_base.specs.declared.observation.ObsKey.{ObsKey}
+use Rattle.aq_base.specs.declared.observation.Observation.{Observation}
+use Rattle.aq_base.specs.declared.office.OfficeRecord.{OfficeRecord}
+use Rattle.aq_profile.specs.Office.Exclusion.{excluded}
+use Rattle.aq_profile.specs.Shown.OtherSheets.{Judged, judged_by}
+use Rattle.aq_verdict.specs.Designs.{design_of}
+use Rattle.aq_verdict.specs.declared.design_value.DesignValue.{DesignValue}
 use Rattle.aq_book.specs.declared.fault.AskFault.{AskFault}
 use Rattle.aq_book.specs.declared.fault.AskFault.TheVariants.{UnknownSite, Memory}
 
@@ -14,3 +24,19 @@ ask_fault_text Memory = codes "memory"
 abbrev pub IsAskFault : AskFault → Bool → Type 0
 IsAskFault UnknownSite registered = registered ≡ false
 IsAskFault Memory registered = registered ≡ true
+
+-- where an observation of a monitor stands
+abbrev pub key_at : MonitorId → ℕ → ObsKey
+key_at monitor hour = record { monitor = monitor; hour = hour }
+
+-- an observation of a monitor, beside its hour, as an export shows it
+abbrev pub shown_at : List OfficeRecord → MonitorId → ℕ × Observation → Shown
+shown_at records monitor item = record {
+  key = key_at monitor item.0;
+  content = item.1;
+  excluded = excluded records (key_at monitor item.0) item.1.quals;
+}
+
+-- a site and its design value, as a report judges it
+abbrev pub judged_in : Site × DesignValue → Judged
+judged_in row = judged_by row.0 (design_of row.1)

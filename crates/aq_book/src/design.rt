@@ -29,7 +29,6 @@ impl Book {
     /// kept of these and the verdict (40 CFR Part 50, Appendix U, 3(e) and 4, Appendix N, 4 and 5, and
     /// Appendix K, 2.1). It takes no memory. For ozone it makes at most 200 steps a day. The year is 2002
     /// to 2049.
-    #[tactic(auto, unfolding(aq_profile::specs::DesignValues::design_value))]
     pub fn design_value<L: Ledger>(
         &self,
         standard: Standard,
@@ -44,13 +43,30 @@ impl Book {
         ensures steps { standard ≡ Ozone2015 → steps.new ≤ steps.old + 3 * (200 * 367) }
     {
         self.find(site)?;
-        Ok(match standard {
+        Ok(self.value_of(standard, site, year, steps))
+    }
+
+    /// The same, whether or not the site is registered.
+    #[tactic(auto, unfolding(aq_profile::specs::DesignValues::design_value))]
+    pub(crate) fn value_of<L: Ledger>(
+        &self,
+        standard: Standard,
+        site: SiteId,
+        year: u16,
+        steps: &mut Steps<L>,
+    ) -> DesignValue
+        requires first { FIRST_YEAR + 2 ≤ year }
+        requires last { year ≤ LAST_YEAR }
+        ensures value { design_of result ≡ design_value standard self.now site year }
+        ensures steps { standard ≡ Ozone2015 → steps.new ≤ steps.old + 3 * (200 * 367) }
+    {
+        match standard {
             Standard::Ozone2015 => self.ozone_value(site, year, steps),
             Standard::Annual2012 => self.annual_value(ANNUAL_LEVEL, site, year, steps),
             Standard::AnnualSecondary => self.annual_value(SECONDARY_LEVEL, site, year, steps),
             Standard::Daily2006 => self.daily_value(site, year, steps),
             Standard::Pm10Of1987 => self.pm10_value(site, year, steps),
-        })
+        }
     }
 
     /// The ozone design value.

@@ -6,20 +6,32 @@ mod batch;
 mod book;
 mod check;
 mod design;
+mod export;
 mod fault;
 mod opening;
 mod ozone;
 mod particles;
 mod question;
+mod report;
 
 pub use aq_load::Staged;
 pub use aq_rows::{OpenFault, Place};
 pub use batch::RowChanges;
 pub use book::Book;
 pub use check::LoadCheck;
+pub use export::ShownRows;
 pub use fault::{AskFault, UnknownSite};
 pub use opening::{book_of, rows_of};
 pub use ozone::OzoneDays;
+pub use report::SiteValues;
 
+#[cfg(test)]
+mod coarse_tests;
+#[cfg(test)]
+mod particle_tests;
+#[cfg(test)]
+mod question_tests;
+#[cfg(test)]
+mod test_office;
 #[cfg(test)]
 mod tests;

@@ -1,5 +1,5 @@
 //! Questions of a site.
-ghost use Rattle.std.specs.Prelude.{◌≡◌, ◌+◌, ◌*◌, ◌≤◌, true, is_ok, IfErr, IfOk, OnOk};
+ghost use Rattle.std.specs.Prelude.{◌≡◌, ◌+◌, ◌*◌, ◌≤◌, true, is_ok, IfErr, IfOk, OnOk, length};
 ghost use Rattle.aq_base.specs.declared.day.TheConstants.{FIRST_YEAR, LAST_YEAR};
 ghost use Rattle.aq_profile.specs.Kept.Summaries.{pm25_summary};
 ghost use Rattle.aq_profile.specs.Particles.Pm10Estimate.{pm10_year};
@@ -8,19 +8,28 @@ ghost use Rattle.aq_profile.specs.Office.Season as seasons;
 ghost use Rattle.aq_profile.specs.Ozone.OzoneDay as ozone;
 ghost use Rattle.aq_profile.specs.Ozone.OzoneYear as years;
 ghost use Rattle.aq_profile.specs.Shown.Answer.{is_registered};
+ghost use Rattle.aq_profile.specs.Shown.Export as exports;
 ghost use Rattle.aq_book.specs.Questions.{IsAskFault};
 ghost use Rattle.aq_registry.specs.Registry.{days_of};
 
 use crate::book::Book;
+use crate::export::{ShownRows, shown_of};
 use crate::fault::{AskFault, UnknownSite};
 use crate::ozone::{OzoneDays, days_of_year};
-use aq_base::{Day, SiteId, Steps};
+use aq_base::{Day, Pollutant, SiteId, Steps};
 use aq_ozone::{DayWindows, day_windows, uncounted_windows};
 use aq_verdict::{OzoneYear, Pm10Year, PmYear};
 use std::alloc::Global;
 use std::sync::ledger::Ledger;
 
 impl Book {
+    /// How many observations stand.
+    pub fn observation_count(&self) -> u32
+        ensures { result ≡ length self.now.observations }
+    {
+        self.shelf.count()
+    }
+
     /// The seventeen 8-hour averages of a day of a site (40 CFR Part 50, Appendix U, 3(b)), in at most
     /// 192 steps. It takes no memory.
     pub fn windows<L: Ledger>(
@@ -144,6 +153,27 @@ impl Book {
         self.find(site)?;
         let summary = aq_pm10::year(&self.shelf, &self.registry, site, year, steps);
         Ok(summary)
+    }
+
+    /// The observations of a site and pollutant in a year, each with whether it is excluded (40 CFR
+    /// 50.14): of every registered monitor, eligible or not, also those without a value, in the order of
+    /// POC and hour. It costs two searches of the observations for each monitor. The year is 2000 to 2049.
+    pub fn observations(
+        &self,
+        alloc: Global,
+        site: SiteId,
+        pollutant: Pollutant,
+        year: u16,
+    ) -> Result<ShownRows, AskFault>
+        requires first { FIRST_YEAR ≤ year }
+        requires last { year ≤ LAST_YEAR }
+        ensures rows { IfOk result (λ rows. rows ≡ exports.shown_of self.now site pollutant year) }
+        ensures registered { OnOk result (is_registered self.now site ≡ true) }
+        ensures refused { IfErr result (λ fault. IsAskFault fault (is_registered self.now site)) }
+    {
+        self.find(site)?;
+        let rows = shown_of(alloc, &self.shelf, &self.registry, site, pollutant, year)?;
+        Ok(rows)
     }
 
     /// Finds a site among those that have a registered monitor, by one search of the records.

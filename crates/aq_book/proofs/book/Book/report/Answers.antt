@@ -1,0 +1,91 @@
+use Rattle.std.proofs.Common.{◌≡◌, Some, None, cond, List, [], ◌∷◌, ◌++◌, length, map, ap, sym, subst, ◌∙◌, arith}
+use Rattle.std.proofs.lemmas.List.{append-nil}
+use Rattle.aq_base.specs.Site.{Site}
+use Rattle.aq_profile.specs.Office.Office.{IsOffice, Office, has_monitor}
+use Rattle.aq_profile.specs.Office.Questions.{next_site}
+use Rattle.aq_profile.specs.Shown.OtherSheets.{judged}
+use Rattle.aq_profile.specs.Standards.{pollutant_of}
+use Rattle.aq_verdict.specs.declared.design_value.DesignValue.{DesignValue}
+use Rattle.aq_book.specs.Questions.{judged_in}
+use Rattle.aq_book.proofs.ReportLemmas.{judged-more}
+use Rattle.aq_book.proofs.RisingSites.{sites-next, sites_above, with_all, with_monitor, with_next, with_none}
+use Rattle.aq_book.proofs.book.Book.report.Goals as goal
+use Rattle.aq_book.proofs.book.Book.report.Goals.{then-measures+in_ok-push, else-measures}
+
+pub loop-site-init : goal.loop-site-init
+loop-site-init g c =
+    let office = c.args.self.now in
+    let pollutant = pollutant_of c.args.standard in
+    record {
+      values =
+          ap (λ (l : List (Site × DesignValue)). map judged_in l ++ map (judged c.args.standard office c.args.year) (with_monitor office pollutant (sites_above office.records None))) c.new-values.ensures
+          ∙ ap (map (judged c.args.standard office c.args.year)) (with_all office pollutant);
+      steps = λ ozone. let many = ap length (with_all office pollutant) in omega (arith, many);
+    }
+
+pub returns-in_err-push-clause-steps : goal.returns-in_err-push-clause-steps
+returns-in_err-push-clause-steps g c ozone =
+    let office = c.args.self.now in
+    let pollutant = pollutant_of c.args.standard in
+    let site = c.in-Some.site in
+    let behind = with_monitor office pollutant (sites_above office.records (Some site)) in
+    let next = ap (λ (o : Office). next_site o.records c.loop-site.after) (sym c.self.view_is) ∙ sym c.next_site.ensures ∙ c.in-Some.is in
+    let there = c.measures.ensures ∙ ap (has_monitor office site) c.pollutant_of.ensures in
+    let here =
+    ap length
+    (with_next office pollutant c.loop-site.after site (subst IsOffice c.self.view_is c.self.invariant) next c.measures.result there
+    ∙ ap (λ b. cond b (site ∷ behind) behind) c.if-measures.true)
+    in
+    omega (arith, here, c.value_of-value.ensures.steps ozone, c.loop-site.invariant.steps ozone)
+
+pub loop-site-smaller : goal.loop-site-smaller
+loop-site-smaller g c =
+    let office = c.args.self.now in
+    let next = ap (λ (o : Office). next_site o.records c.loop-site.after) (sym c.self.view_is) ∙ sym c.next_site.ensures ∙ c.in-Some.is in
+    let fewer = ap length (sites-next office.records c.loop-site.after c.in-Some.site (subst IsOffice c.self.view_is c.self.invariant).keys_rise.records next) in
+    omega (arith, fewer)
+
+pub loop-site-preserved : goal.loop-site-preserved
+loop-site-preserved g c =
+    let office = c.args.self.now in
+    let pollutant = pollutant_of c.args.standard in
+    let site = c.in-Some.site in
+    let judge = judged c.args.standard office c.args.year in
+    let behind = with_monitor office pollutant (sites_above office.records (Some site)) in
+    let next = ap (λ (o : Office). next_site o.records c.loop-site.after) (sym c.self.view_is) ∙ sym c.next_site.ensures ∙ c.in-Some.is in
+    let there = c.measures.ensures ∙ ap (has_monitor office site) c.pollutant_of.ensures in
+    let walk = with_next office pollutant c.loop-site.after site (subst IsOffice c.self.view_is c.self.invariant) next c.measures.result there in
+    elim c.if-measures.branch [
+      | then-measures+in_ok-push w ↦
+          let here : with_monitor office pollutant (sites_above office.records c.loop-site.after) ≡ site ∷ behind = walk ∙ ap (λ b. cond b (site ∷ behind) behind) w.if-measures.true in
+          let values : c.if-measures.values ≡ c.loop-site.values ++ (site, w.value_of-value.result) ∷ [] = w.values-is ∙ w.in_ok-push.ensures.ok in
+          let steps : c.if-measures.steps ≡ w.value_of-value.new.steps = w.steps-is in
+          record {
+            values =
+                ap (λ (l : List (Site × DesignValue)). map judged_in l ++ map judge behind) values
+                ∙ judged-more c.args.standard office c.args.year c.loop-site.values site w.value_of-value.result behind w.value_of-value.ensures.value
+                ∙ ap (λ (l : List Site). map judged_in c.loop-site.values ++ map judge l) (sym here)
+                ∙ c.loop-site.invariant.values;
+            steps = λ ozone. let many = ap length here in omega (arith, many, steps, w.value_of-value.ensures.steps ozone, c.loop-site.invariant.steps ozone);
+          }
+      | else-measures w ↦
+          let here : with_monitor office pollutant (sites_above office.records c.loop-site.after) ≡ behind = walk ∙ ap (λ b. cond b (site ∷ behind) behind) w.if-measures.false in
+          let values : c.if-measures.values ≡ c.loop-site.values = w.values-is in
+          let steps : c.if-measures.steps ≡ c.loop-site.steps = w.steps-is in
+          record {
+            values =
+                ap (λ (l : List (Site × DesignValue)). map judged_in l ++ map judge behind) values
+                ∙ ap (λ (l : List Site). map judged_in c.loop-site.values ++ map judge l) (sym here)
+                ∙ c.loop-site.invariant.values;
+            steps = λ ozone. let many = ap length here in omega (arith, many, steps, c.loop-site.invariant.steps ozone);
+          }
+    ]
+
+pub returns-clause-values : goal.returns-clause-values
+returns-clause-values g c =
+    let office = c.args.self.now in
+    let pollutant = pollutant_of c.args.standard in
+    let last = ap (λ (o : Office). next_site o.records c.loop-site.after) (sym c.self.view_is) ∙ sym c.next_site.ensures ∙ c.in_default.is in
+    sym (append-nil (map judged_in c.loop-site.values))
+    ∙ ap (λ (l : List Site). map judged_in c.loop-site.values ++ map (judged c.args.standard office c.args.year) l) (sym (with_none office pollutant c.loop-site.after (subst IsOffice c.self.view_is c.self.invariant) last))
+    ∙ c.loop-site.invariant.values
