@@ -8,12 +8,30 @@ use std::alloc::Global;
 
 /// A keeper over a file, which it opens at its first call. After a refused open or preparation the
 /// next call tries again. It tells nothing of its tables.
-#[derive(Drop)]
+///
+/// From then on until it is dropped nobody else has the file: every call of another keeper of it, in
+/// this program or another one, is refused, for reading too.
 pub struct FileKeeper<'a> {
     rt: &'a HostRuntime,
     path: String,
     keeper: Option<SqliteKeeper<FileStore<File>>>,
     faults: u64,
+}
+
+/// The log is copied into the file, which can then be copied by itself. Where that is refused the log
+/// beside the file still has what was committed.
+impl<'a> Drop for FileKeeper<'a> {
+    fn drop(self) {
+        let FileKeeper {
+            rt: _,
+            path: _,
+            keeper,
+            faults: _,
+        } = self;
+        if let Some(keeper) = keeper {
+            let _ = keeper.close();
+        }
+    }
 }
 
 impl<'a> FileKeeper<'a> {

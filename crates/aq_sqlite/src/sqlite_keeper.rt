@@ -1,9 +1,10 @@
+ghost use Rattle.std.specs.Prelude.{◌≡◌};
 ghost use Rattle.aq_keeper.specs.Told.{HasCause};
 
 use crate::reading::read_tables;
 use crate::writing::{make_changes, make_tables};
 use aq_keeper::{Keeper, KeeperFault, RowChange, Rows};
-use sqlite::{Alter, Connection, Error, ErrorCode};
+use sqlite::{Alter, Connection, Error, ErrorCode, File, FileStore};
 use std::alloc::Global;
 
 /// A keeper over a connection of `sqlite`, whatever its store is. It tells nothing of its tables. Each
@@ -36,6 +37,18 @@ impl<S: Alter + Drop> SqliteKeeper<S> {
     {
         let made = make_tables(&mut self.connection);
         counted(&mut self.faults, made)
+    }
+}
+
+impl SqliteKeeper<FileStore<File>> {
+    /// Copies the log into the file, which then stands for itself, and closes both. Where that is
+    /// refused the log keeps what was committed, and the next open finds it.
+    pub(crate) fn close(self) -> Result<(), Error> {
+        let SqliteKeeper {
+            connection,
+            faults: _,
+        } = self;
+        connection.close()
     }
 }
 
@@ -74,7 +87,9 @@ fn counted<T>(faults: &mut u64, answer: Result<T, Error>) -> Result<T, KeeperFau
 }
 
 /// What a refusal is: want of memory, or a failure.
-pub(crate) fn fault_of(error: &Error) -> KeeperFault {
+pub(crate) fn fault_of(error: &Error) -> KeeperFault
+    ensures { error.now ≡ Error.SqliteFailure ErrorCode.OutOfMemory → result ≡ KeeperFault.Memory }
+{
     match error {
         Error::SqliteFailure(ErrorCode::OutOfMemory) => KeeperFault::Memory,
         _ => KeeperFault::Failed,

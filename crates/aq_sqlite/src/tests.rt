@@ -3,10 +3,11 @@ use crate::*;
 use aq_base::Bytes;
 use aq_keeper::{
     Keeper, KeeperFault, LoadRow, ObsRow, OfficeRow, Row, RowChange, RowContent, RowKey,
-    do_keys_rise,
+    are_in_order, do_keys_rise,
 };
 use sqlite::Connection;
 use std::alloc::Global;
+use std::fs;
 use std::process::Abort;
 use std::test::Fail;
 
@@ -14,37 +15,39 @@ fn bytes(alloc: Global, text: &str) -> Result<Bytes, Fail> {
     Ok(Bytes::from_vec(text.as_bytes().to_vec(alloc)?))
 }
 
-/// A monitor, a sample without a value, and a load.
-fn batch(alloc: Global) -> Result<[RowChange; 3], Fail> {
-    let record = Row::office(OfficeRow {
+fn monitor(alloc: Global, line: &str) -> Result<RowChange, Fail> {
+    Ok(RowChange::put(Row::office(OfficeRow {
         kind: 1,
         key: bytes(alloc, "06|037|1103|44201|01")?,
-        line: bytes(alloc, "XM|I|06|037|1103|44201|1|1|Y")?,
-    });
-    let sample = Row::observation(ObsRow {
+        line: bytes(alloc, line)?,
+    })))
+}
+
+/// A sample without a value.
+fn sample(alloc: Global, hour: i64) -> Result<RowChange, Fail> {
+    Ok(RowChange::put(Row::observation(ObsRow {
         site: 60_371_103,
         pollutant: 1,
         poc: 1,
-        hour: 214_764,
+        hour,
         value: None,
         null: bytes(alloc, "AN")?,
         quals: Bytes::new(alloc),
-    });
-    let load = Row::load(LoadRow {
+    })))
+}
+
+fn load(alloc: Global) -> Result<RowChange, Fail> {
+    Ok(RowChange::put(Row::load(LoadRow {
         number: 5,
-        digest: Bytes::from_vec(vec![in alloc; 0xe3; 32]?),
+        digest: bytes(alloc, "01234567890123456789012345678901")?,
         lines: 2,
         accepted: 2,
         listed: Bytes::new(alloc),
         rest: Bytes::new(alloc),
-    });
-    Ok([
-        RowChange::put(record),
-        RowChange::put(sample),
-        RowChange::put(load),
-    ])
+    })))
 }
 
+/// Commits a batch, of which the keys are seen to rise.
 fn commit<K: Keeper>(
     rt: &impl Abort,
     alloc: Global,
@@ -55,39 +58,110 @@ fn commit<K: Keeper>(
     keeper.commit(alloc, batch)
 }
 
-/// How many rows a keeper reads, and what the last column of the first record says.
-fn count<K: Keeper>(alloc: Global, keeper: &mut K) -> Result<(usize, bool), KeeperFault> {
+/// The last byte of a record's line, the hour of a sample, the number of a load.
+fn mark(row: &Row) -> i64 {
+    match &row.content {
+        RowContent::Office(row) => match row.line.as_slice().last() {
+            Some(byte) => i64::from(*byte),
+            None => 0,
+        },
+        RowContent::Observation(row) => row.hour,
+        RowContent::Load(row) => row.number,
+    }
+}
+
+/// How many rows a keeper reads, which are seen to be in order, and the marks of the first two.
+fn read<K: Keeper>(
+    rt: &impl Abort,
+    alloc: Global,
+    keeper: &mut K,
+) -> Result<(usize, i64, i64), KeeperFault> {
     let rows = keeper.read_all(alloc)?;
     let rows = rows.as_slice();
-    let is_monitor = match rows.first() {
-        Some(row) => match &row.content {
-            RowContent::Office(row) => row.line.as_slice()
-                == b"XM|I|06|037|1103|44201|1|1|Y".as_slice(),
-            _ => false,
-        },
-        None => false,
-    };
-    Ok((rows.len(), is_monitor))
+    assert!(rt; are_in_order(rows));
+    let first = rows.first().map_or(0, mark);
+    let second = rows.get(1).map_or(0, mark);
+    Ok((rows.len(), first, second))
+}
+
+/// What a keeper does with batches that put rows, put others in their places, and drop them.
+fn keep<K: Keeper>(rt: &impl Abort, alloc: Global, keeper: &mut K) -> Result<(), Fail> {
+    let first = [
+        monitor(alloc, "XM|Y")?,
+        sample(alloc, 214_764)?,
+        load(alloc)?,
+    ];
+    assert!(rt; commit(rt, alloc, keeper, &first).is_ok());
+    assert!(rt; read(rt, alloc, keeper) == Ok((3, i64::from(b'Y'), 214_764)));
+    let second = [
+        monitor(alloc, "XM|N")?,
+        sample(alloc, 214_763)?,
+        load(alloc)?,
+    ];
+    assert!(rt; commit(rt, alloc, keeper, &second).is_ok());
+    assert!(rt; read(rt, alloc, keeper) == Ok((4, i64::from(b'N'), 214_763)));
+    let third = [
+        RowChange::drop(RowKey::observation(60_371_103, 1, 1, 214_763)),
+        RowChange::drop(RowKey::load(5)),
+    ];
+    assert!(rt; commit(rt, alloc, keeper, &third).is_ok());
+    assert!(rt; read(rt, alloc, keeper) == Ok((2, i64::from(b'N'), 214_764)));
+    Ok(())
+}
+
+/// What a keeper does whose tables cannot be reached.
+fn refuse<K: Keeper>(rt: &impl Abort, alloc: Global, keeper: &mut K) -> Result<(), Fail> {
+    let batch = [load(alloc)?];
+    assert!(rt; read(rt, alloc, keeper) == Err(KeeperFault::Failed));
+    assert!(rt; commit(rt, alloc, keeper, &batch) == Err(KeeperFault::Failed));
+    Ok(())
 }
 
 #[test]
-fn tables_in_memory_take_a_batch_and_give_it_back(rt: HostRuntime) -> Result<(), Fail> {
+fn tables_in_memory_take_batches_once_they_are_made(rt: HostRuntime) -> Result<(), Fail> {
     let alloc = rt.alloc();
     let mut keeper = SqliteKeeper::adopt(Connection::open_in_memory(alloc)?);
-    let batch = batch(alloc)?;
-    assert!(rt; count(alloc, &mut keeper) == Err(KeeperFault::Failed));
-    assert!(rt; commit(&rt, alloc, &mut keeper, &batch) == Err(KeeperFault::Failed));
+    refuse(&rt, alloc, &mut keeper)?;
     assert!(rt; keeper.prepare().is_ok());
-    assert!(rt; count(alloc, &mut keeper) == Ok((0, false)));
-    assert!(rt; commit(&rt, alloc, &mut keeper, &batch).is_ok());
     assert!(rt; keeper.prepare().is_ok());
-    assert!(rt; commit(&rt, alloc, &mut keeper, &batch).is_ok());
-    assert!(rt; count(alloc, &mut keeper) == Ok((3, true)));
-    let dropped = [
-        RowChange::drop(RowKey::observation(60_371_103, 1, 1, 214_764)),
-        RowChange::drop(RowKey::load(5)),
-    ];
-    assert!(rt; commit(&rt, alloc, &mut keeper, &dropped).is_ok());
-    assert!(rt; count(alloc, &mut keeper) == Ok((1, true)));
+    keep(&rt, alloc, &mut keeper)
+}
+
+const FOLDER: &str = "aq_sqlite_test";
+
+const PATH: &str = "aq_sqlite_test/airdv.sqlite";
+
+fn at<'a>(rt: &'a HostRuntime, path: &str) -> Result<FileKeeper<'a>, Fail> {
+    Ok(FileKeeper::at_path(rt, String::from_str(rt.alloc(), path)?))
+}
+
+#[test]
+fn a_file_has_one_keeper_at_a_time(rt: HostRuntime) -> Result<(), Fail> {
+    let alloc = rt.alloc();
+    let _ = fs::remove_dir_all(&rt, FOLDER);
+    fs::create_dir(&rt, FOLDER)?;
+    let mut first = at(&rt, PATH)?;
+    let mut second = at(&rt, PATH)?;
+    assert!(rt; read(&rt, alloc, &mut first) == Ok((0, 0, 0)));
+    refuse(&rt, alloc, &mut second)?;
+    keep(&rt, alloc, &mut first)?;
+    refuse(&rt, alloc, &mut second)?;
+    drop(first);
+    // The file stands for itself.
+    fs::remove_file(&rt, "aq_sqlite_test/airdv.sqlite-wal")?;
+    assert!(rt; read(&rt, alloc, &mut second) == Ok((2, i64::from(b'N'), 214_764)));
+    fs::remove_dir_all(&rt, FOLDER)?;
+    Ok(())
+}
+
+#[test]
+fn a_file_that_is_no_database_is_refused_and_stays(rt: HostRuntime) -> Result<(), Fail> {
+    let path = "aq_sqlite_no_database";
+    fs::write(&rt, path, b"not a database".as_slice())?;
+    let mut keeper = at(&rt, path)?;
+    refuse(&rt, rt.alloc(), &mut keeper)?;
+    let left = fs::read(&rt, path)?;
+    assert_eq!(rt; left.as_slice(), b"not a database".as_slice());
+    fs::remove_file(&rt, path)?;
     Ok(())
 }
