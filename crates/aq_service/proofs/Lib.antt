@@ -1,0 +1,5 @@
+-- Lemmas of the service of an office.
+pub mod Asked
+pub mod PostedLoads
+pub mod Taking
+pub mod Replied

@@ -1,0 +1,63 @@
+-- A load that is staged, committed and taken.
+use Rattle.std.proofs.Common.{◌≡◌, ℕ, ◌≤◌, inl, inr, List, Option, Some, None, sym, ap, ◌∙◌, subst}
+use Rattle.std.specs.Prelude.{IfOk, IfSome, IsTrue, OnErr, Result, Ok, Err, map, true}
+use Rattle.std.specs.Option.{option_map}
+use Rattle.aq_profile.specs.Kept.RowChanges.{GivesRowsAfter, RowChange, changed_key, keys_rise, row_batch, with_row_changes}
+use Rattle.aq_profile.specs.Kept.Rows.{Row, rows_of}
+use Rattle.aq_profile.specs.Limits.{MOST_LINES}
+use Rattle.aq_profile.specs.Lines.Lines.{line_count}
+use Rattle.aq_profile.specs.Office.Load.{New, decide, load}
+use Rattle.aq_profile.specs.Office.Office.{Office}
+use Rattle.aq_serve.proofs.Tables.{become_same}
+use Rattle.aq_service.proofs.PostedLoads.{post_new}
+use Rattle.aq_service.specs.Posting.{LosesLoad, TakenBy}
+use Rattle.aq_service.specs.declared.posting.Posted.TheVariants.{Done}
+
+pub in_order : (changes batch : List RowChange) → changes ≡ batch → IsTrue (keys_rise (map changed_key batch)) → keys_rise (map changed_key changes) ≡ true
+in_order changes batch same rises = subst (λ (cs : List RowChange). keys_rise (map changed_key cs) ≡ true) (sym same) rises
+
+rows-after : (office : Office) (number : ℕ) (digest body : List ℕ) → GivesRowsAfter office number digest body → with_row_changes (rows_of office) (row_batch office number digest body) ≡ rows_of (load office number digest body)
+unfolding GivesRowsAfter
+rows-after office number digest body gives = gives
+
+module _ (office : Office) (number : ℕ) (digest body : List ℕ) (batch : List RowChange) (gives : GivesRowsAfter office number digest body) (same : batch ≡ row_batch office number digest body) where
+  -- the tables behind the commit
+  committed : (t u : Option (List Row)) → u ≡ option_map (λ told. with_row_changes told batch) t → IfSome t (λ told. told ≡ rows_of office) → u ≡ option_map (λ _. rows_of (load office number digest body)) t
+  committed None u is told = is
+  committed (Some all) u is told =
+      is ∙ ap (λ (rows : List Row). Some (with_row_changes rows batch)) told
+      ∙ ap (λ (b : List RowChange). Some (with_row_changes (rows_of office) b)) same
+      ∙ ap Some (rows-after office number digest body gives)
+
+  module _ (t u : Option (List Row)) (m n : ℕ) (is : u ≡ option_map (λ told. with_row_changes told batch) t) (steady : n ≡ m) where
+    pub taken : (now : Office) → now ≡ load office number digest body
+        → TakenBy Done (load office number digest body) (record { office = office; tables = t; faults = m }) (record { office = now; tables = u; faults = n })
+    taken now same_office =
+        (same_office, steady, λ told. committed t u is told ∙ ap (λ (o : Office). option_map (λ _. rows_of o) t) (sym same_office))
+
+    pub lost_behind : line_count body ≤ MOST_LINES → decide office number digest ≡ New
+        → LosesLoad number digest body (record { office = office; tables = t; faults = m }) (record { office = office; tables = u; faults = n })
+    lost_behind few new = record {
+      faults = steady;
+      tables = λ told. inr (committed t u is told ∙ ap (λ (o : Office). option_map (λ _. rows_of o) t) (sym (post_new office number digest body few new)));
+    }
+
+-- nothing was committed
+pub lost_before : (office : Office) (number : ℕ) (digest body : List ℕ) (t u : Option (List Row)) (m n : ℕ) → u ≡ t → n ≡ m
+    → LosesLoad number digest body (record { office = office; tables = t; faults = m }) (record { office = office; tables = u; faults = n })
+lost_before office number digest body t u m n same steady = record {
+  faults = steady;
+  tables = λ told. inl (same ∙ become_same (record { office = office; tables = t; faults = m }) told);
+}
+
+pub on_err : {A E : Type 0} (P : Type 0) (r : Result A E) → P → OnErr r P
+on_err P (Ok value) holds = tt
+on_err P (Err fault) holds = holds
+
+pub if_ok : {A E : Type 0} {P Q : A → Type 0} (r : Result A E) → ((a : A) → P a → Q a) → IfOk r P → IfOk r Q
+if_ok (Ok value) implies holds = implies value holds
+if_ok (Err fault) implies holds = tt
+
+pub if_err : {A E P Q : Type 0} (r : Result A E) → (P → Q) → OnErr r P → OnErr r Q
+if_err (Ok value) implies holds = tt
+if_err (Err fault) implies holds = implies holds

@@ -1,0 +1,25 @@
+use Rattle.std.proofs.Common.{subst}
+use Rattle.aq_service.proofs.Replied.{answers_found, loses_found}
+use Rattle.aq_service.proofs.Taking.{if_err, if_ok}
+use Rattle.aq_serve.specs.Answered.{to_found}
+use Rattle.aq_serve.specs.Service.{ServiceView}
+use Rattle.aq_service.specs.Replies.{AnswersBy, LosesBy}
+use Rattle.aq_service.proofs.service.OfficeServiceService.answer.Goals as goal
+
+pub returns-clause-answered : goal.returns-clause-answered
+returns-clause-answered g c =
+    let before : ServiceView = record { office = c.args.self.now; tables = g.K.Keeper.tables c.args.keeper.now; faults = g.K.Keeper.faults c.args.keeper.now } in
+    let after : ServiceView = record { office = c.answer_found.new.self; tables = g.K.Keeper.tables c.answer_found.new.keeper; faults = g.K.Keeper.faults c.answer_found.new.keeper } in
+    if_ok c.answer_found.result
+    (λ reply is. answers_found c.args.verb c.args.target.now c.args.body.now c.args.close reply.items before after
+    (subst (λ f. AnswersBy (to_found c.args.self.now f c.args.body.now) c.args.close reply.items before after) c.find-found.ensures.value is))
+    c.answer_found.ensures.answered
+
+pub returns-clause-lost : goal.returns-clause-lost
+returns-clause-lost g c =
+    let before : ServiceView = record { office = c.args.self.now; tables = g.K.Keeper.tables c.args.keeper.now; faults = g.K.Keeper.faults c.args.keeper.now } in
+    let after : ServiceView = record { office = c.answer_found.new.self; tables = g.K.Keeper.tables c.answer_found.new.keeper; faults = g.K.Keeper.faults c.answer_found.new.keeper } in
+    if_err c.answer_found.result
+    (λ is. loses_found c.args.verb c.args.target.now c.args.body.now before after
+    (subst (λ f. LosesBy (to_found c.args.self.now f c.args.body.now) before after) c.find-found.ensures.value is))
+    c.answer_found.ensures.lost

@@ -1,0 +1,16 @@
+//! The service of an office: the answers to its questions, loads taken over a keeper, and the reply to
+//! a whole request.
+#![tactic(auto)]
+
+mod answers;
+mod days;
+mod posting;
+mod replies;
+mod service;
+
+pub use answers::{Unanswered, export_of, sheet_of};
+pub use posting::{Posted, post};
+pub use service::OfficeService;
+
+#[cfg(test)]
+mod tests;

@@ -1,0 +1,112 @@
+//! The service of an office: what it answers a whole request with, over a keeper that is lent for it.
+ghost use Rattle.std.specs.Prelude.{◌≡◌, ◌≤◌, length, IfOk, IsTrue, OnErr};
+ghost use Rattle.sha2.specs.Sha256.{sha256};
+ghost use Rattle.aq_http.specs.Routes.{IsFound};
+ghost use Rattle.aq_profile.specs.Limits.{MOST_BYTES};
+ghost use Rattle.aq_profile.specs.Office.Load.{posted};
+ghost use Rattle.aq_profile.specs.Office.Office.{IsOffice};
+ghost use Rattle.aq_profile.specs.Shown.Answer.{is_load_number};
+ghost use Rattle.aq_serve.specs.Answered.{to_found, to_load};
+ghost use Rattle.aq_service.specs.Replies.{AnswersBy, LosesBy};
+
+use crate::posting::post;
+use crate::replies::{error_reply, load_reply, methods, question_reply};
+use aq_base::Memory;
+use aq_book::Book;
+use aq_http::{Found, Routes, Verb};
+use aq_keeper::Keeper;
+use aq_profile::office::valid_load::an_office_of_nothing_is_valid;
+use aq_serve::Service;
+use std::alloc::Global;
+use std::marker::Model;
+use std::mem;
+
+/// An office, and the routes by which it is asked. Contracts see the valid office.
+#[derive(Drop)]
+pub struct OfficeService {
+    book: Book,
+    routes: Routes,
+}
+
+impl Model for OfficeService {
+    ghost use Rattle.aq_profile.specs.Office.Office.{IsOffice, Office};
+
+    ghost Value = { Office };
+
+    ghost view = { λ service. service.book };
+
+    ghost invariant = { λ service. IsOffice service.book };
+}
+
+impl OfficeService {
+    /// The service of a book.
+    pub fn new(alloc: Global, book: Book) -> Result<OfficeService, Memory>
+        requires { IsOffice book }
+        ensures { IfOk result (λ service. service ≡ book) }
+    {
+        let routes = Routes::new(alloc)?;
+        Ok(OfficeService { book, routes })
+    }
+
+    /// Answers what was found that a request asks.
+    fn answer_found<K: Keeper>(
+        &mut self,
+        alloc: Global,
+        keeper: &mut K,
+        found: Found,
+        body: &[u8],
+        close: bool,
+    ) -> Result<Vec<u8>, Memory>
+        requires bytes { length body.now ≤ MOST_BYTES }
+        requires found { IsFound found }
+        ensures answered { IfOk result (λ reply. AnswersBy (to_found self.old found body.now) close reply.items (record { office = self.old; tables = K.tables keeper.old; faults = K.faults keeper.old }) (record { office = self.new; tables = K.tables keeper.new; faults = K.faults keeper.new })) }
+        ensures lost { OnErr result (LosesBy (to_found self.old found body.now) (record { office = self.old; tables = K.tables keeper.old; faults = K.faults keeper.old }) (record { office = self.new; tables = K.tables keeper.new; faults = K.faults keeper.new })) }
+    {
+        match found {
+            Found::Ask(ask) => question_reply(alloc, &self.book, &ask, close),
+            Found::Load(number) => self.answer_load(alloc, keeper, number, body, close),
+            Found::Status(status) => error_reply(alloc, status, b"", close),
+            Found::NotAllowed { post } => error_reply(alloc, 405, methods(post), close),
+        }
+    }
+
+    /// Posts a load, and answers it.
+    fn answer_load<K: Keeper>(
+        &mut self,
+        alloc: Global,
+        keeper: &mut K,
+        number: u32,
+        body: &[u8],
+        close: bool,
+    ) -> Result<Vec<u8>, Memory>
+        requires bytes { length body.now ≤ MOST_BYTES }
+        requires number { IsTrue (is_load_number number) }
+        ensures answered { IfOk result (λ reply. AnswersBy (λ fails. to_load number self.old fails (posted self.old number (sha256 body.now) body.now)) close reply.items (record { office = self.old; tables = K.tables keeper.old; faults = K.faults keeper.old }) (record { office = self.new; tables = K.tables keeper.new; faults = K.faults keeper.new })) }
+        ensures lost { OnErr result (LosesBy (λ fails. to_load number self.old fails (posted self.old number (sha256 body.now) body.now)) (record { office = self.old; tables = K.tables keeper.old; faults = K.faults keeper.old }) (record { office = self.new; tables = K.tables keeper.new; faults = K.faults keeper.new })) }
+    {
+        an_office_of_nothing_is_valid();
+        let book = mem::replace(&mut self.book, Book::new(alloc));
+        let (book, posted) = post(alloc, book, keeper, number, body)?;
+        self.book = book;
+        load_reply(alloc, &self.book, number, posted, close)
+    }
+}
+
+impl<K: Keeper> Service<K> for OfficeService {
+    ghost use Rattle.std.specs.Prelude.{◌≤◌, length, IfOk, OnErr};
+
+    ghost seen = { λ service keeper. record { office = service; tables = K.tables keeper; faults = K.faults keeper } };
+
+    fn answer(
+        &mut self,
+        alloc: Global,
+        keeper: &mut K,
+        verb: Verb,
+        target: &[u8],
+        body: &[u8],
+        close: bool,
+    ) -> Result<Vec<u8>, Memory> {
+        let found = self.routes.find(verb, target);
+        self.answer_found(alloc, keeper, found, body, close)
+    }
+}
