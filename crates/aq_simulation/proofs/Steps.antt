@@ -1,0 +1,142 @@
+-- Loads that are taken one after the other.
+use Rattle.std.proofs.Common.{◌≡◌, ℕ, suc, ◌+◌, ◌-◌, ◌*◌, ◌≤◌, ◌<◌, ◌⊎◌, inl, inr, Bool, false, List, ◌++◌, length, flat_map, Vec, Global, Option, Some, None, refl, sym, ap, subst, ◌∙◌, arith}
+use Rattle.std.specs.Prelude.{◌||◌, ◌==◌, nat_lt, if◌then◌else◌, fold, Result, IfOk}
+use Rattle.std.specs.List.{range_with_len}
+use Rattle.std.proofs.lemmas.Bool.Decides.{nat_tests}
+use Rattle.std.proofs.lemmas.Nat.{mul-le}
+use Rattle.sha2.specs.Sha256.{sha256}
+use Rattle.aq_base.specs.Standard.{standards}
+use Rattle.aq_base.specs.declared.standard.Standard.{Standard}
+use Rattle.aq_profile.specs.Limits.{MOST_LINES}
+use Rattle.aq_profile.specs.Lines.Lines.{line_count}
+use Rattle.aq_profile.specs.Office.Office.{Office, nothing}
+use Rattle.aq_profile.specs.Office.Load.{post}
+use Rattle.aq_profile.specs.Shown.Answer.{Answer, OfSheet, NoSite, NoLoad, Report, answer}
+use Rattle.aq_profile.specs.Shown.Generator.{generate, generated_lines, generated_load, generated_office, load_count, loads_to_take, simulation, FIRST_GENERATED_YEAR}
+use Rattle.aq_profile.specs.Shown.OtherSheets.{report_answer, summary_sheet}
+use Rattle.aq_profile.specs.Shown.Sheet.{Sheet, text_of}
+
+-- ---- the load that is taken
+
+-- there is one
+pub generated_is : (start sites years load : ℕ) → 1 ≤ load → load ≤ load_count sites years → generate start sites years load ≡ Some (generated_load start sites years load)
+unfolding generate
+generated_is start sites years load first last = ap (λ (b : Bool). if b then None else Some (generated_load start sites years load)) (within load (load_count sites years) first last)
+  where
+    within : (n count : ℕ) → 1 ≤ n → n ≤ count → ((n == 0) || nat_lt count n) ≡ false
+    within n count one last = grind (arith, nat_tests)
+
+none-some : {A : Type 0} (a : A) → None ≡ Some a → ⊥
+none-some a is = absurd (cc)
+
+same-some : {A : Type 0} (a b : A) → Some a ≡ Some b → a ≡ b
+same-some a b is = cc
+
+module _ (start sites years load : ℕ) (first : 1 ≤ load) (last : load ≤ load_count sites years) (found : Option (List ℕ)) (is : found ≡ generate start sites years load) where
+  pub not_none : found ≡ None → ⊥
+  not_none none = none-some (generated_load start sites years load) (sym none ∙ is ∙ generated_is start sites years load first last)
+
+  pub body_is : (body : List ℕ) → found ≡ Some body → body ≡ generated_load start sites years load
+  body_is body some = same-some body (generated_load start sites years load) (sym some ∙ is ∙ generated_is start sites years load first last)
+
+-- ---- the report of a standard
+
+pub report_is : (office : Office) (standard : Standard) (year : ℕ) → answer office (Report standard year) ≡ OfSheet (report_answer standard office year)
+unfolding answer
+report_is office standard year = refl
+
+same-sheet : (a b : Sheet) → OfSheet a ≡ OfSheet b → a ≡ b
+same-sheet a b is = cc
+
+no-sheet : (sheet : Sheet) (a : Answer) → a ≡ OfSheet sheet → (a ≡ NoSite) ⊎ (a ≡ NoLoad) → ⊥
+no-sheet sheet a is (inl none) = absurd (cc)
+no-sheet sheet a is (inr none) = absurd (cc)
+
+pub report_sheet_is : (office : Office) (standard : Standard) (year : ℕ) (sheet : Sheet) → answer office (Report standard year) ≡ OfSheet sheet → sheet ≡ report_answer standard office year
+report_sheet_is office standard year sheet is = same-sheet sheet (report_answer standard office year) (sym is ∙ report_is office standard year)
+
+pub has_report : (office : Office) (standard : Standard) (year : ℕ) → (answer office (Report standard year) ≡ NoSite) ⊎ (answer office (Report standard year) ≡ NoLoad) → ⊥
+has_report office standard year none = no-sheet (report_answer standard office year) (answer office (Report standard year)) (report_is office standard year) none
+
+-- ---- all of them
+
+pub few_loads : (sites years : ℕ) → sites ≤ 32 → years ≤ 10 → load_count sites years ≤ 321
+few_loads sites years few short = omega (arith, mul-le sites years 32 10 few short)
+
+module _ (start sites years : ℕ) where
+  abbrev step : Office → ℕ → Office
+  step office load = post office load (sha256 (generated_load start sites years load)) (generated_load start sites years load)
+
+  abbrev add : ℕ → ℕ → ℕ
+  add lines load = lines + line_count (generated_load start sites years load)
+
+  -- what is still to be taken completes all
+  pub record TakesOn (load lines : ℕ) (office : Office) : Type 0 where
+    pub first : 1 ≤ load
+    pub last : load ≤ load_count sites years + 1
+    pub loads : load_count sites years ≤ 321
+    pub few : lines + MOST_LINES ≤ load * MOST_LINES
+    pub taken : fold step office (range_with_len load (load_count sites years + 1 - load)) ≡ generated_office sha256 start sites years
+    pub count : fold add lines (range_with_len load (load_count sites years + 1 - load)) ≡ generated_lines start sites years
+
+  pub takes_first : (office : Office) → office ≡ nothing → sites ≤ 32 → years ≤ 10 → TakesOn 1 0 office
+  unfolding generated_office generated_lines loads_to_take
+  takes_first office none few short = record {
+    first = omega arith;
+    last = omega arith;
+    loads = few_loads sites years few short;
+    few = omega arith;
+    taken = ap (λ o. fold step o (range_with_len 1 (load_count sites years + 1 - 1))) none ∙ ap (λ k. fold step nothing (range_with_len 1 k)) all;
+    count = ap (λ k. fold add 0 (range_with_len 1 k)) all;
+  }
+    where
+      all : load_count sites years + 1 - 1 ≡ load_count sites years
+      all = omega arith
+
+  pub takes_next : (load lines more : ℕ) (office now : Office) → load ≤ load_count sites years → TakesOn load lines office → now ≡ step office load → more ≡ add lines load → more ≤ lines + MOST_LINES → TakesOn (load + 1) more now
+  takes_next load lines more office now is_there on is counts few = record {
+    first = omega arith;
+    last = omega (arith, is_there);
+    loads = on.loads;
+    few = omega (arith, on.few, few);
+    taken = ap (fold step now) rest ∙ ap (λ o. fold step o (range_with_len (load + 1) left)) is ∙ ap (λ k. fold step office (range_with_len load k)) (sym here) ∙ on.taken;
+    count = ap (fold add more) rest ∙ ap (λ k. fold add k (range_with_len (load + 1) left)) counts ∙ ap (λ k. fold add lines (range_with_len load k)) (sym here) ∙ on.count;
+  }
+    where
+      left : ℕ
+      left = load_count sites years - load
+
+      here : load_count sites years + 1 - load ≡ suc left
+      here = omega (arith, is_there)
+
+      rest : range_with_len (load + 1) (load_count sites years + 1 - (load + 1)) ≡ range_with_len (load + 1) left
+      rest = ap (range_with_len (load + 1)) (omega (arith, is_there))
+
+  pub takes_all : (load lines : ℕ) (office : Office) → load_count sites years < load → TakesOn load lines office → (office ≡ generated_office sha256 start sites years) × (lines ≡ generated_lines start sites years)
+  takes_all load lines office past on =
+      (sym (ap (λ k. fold step office (range_with_len load k)) none) ∙ on.taken, sym (ap (λ k. fold add lines (range_with_len load k)) none) ∙ on.count)
+    where
+      none : load_count sites years + 1 - load ≡ 0
+      none = omega (arith, past)
+
+  pub room_left : (load lines : ℕ) (office : Office) → load ≤ load_count sites years → TakesOn load lines office → lines ≤ 400 * MOST_LINES
+  room_left load lines office is_there on = omega (arith, is_there, on.few, on.loads)
+
+-- ---- the text
+
+pub text_is : {E : Type 0} (answer : Result (Vec ℕ Global) E) (made sheet : Sheet) → made ≡ sheet → IfOk answer (λ text. text.items ≡ text_of made) → IfOk answer (λ text. text.items ≡ text_of sheet)
+text_is answer made sheet same is = subst (λ (s : Sheet). IfOk answer (λ text. text.items ≡ text_of s)) same is
+
+pub simulation_is : (start sites years year loads lines : ℕ) (office : Office) (summary text : List ℕ)
+    → loads ≡ load_count sites years → office ≡ generated_office sha256 start sites years → lines ≡ generated_lines start sites years → year ≡ FIRST_GENERATED_YEAR + years - 1
+    → summary ≡ text_of (summary_sheet loads lines (length office.observations)) → text ≡ summary ++ flat_map (λ standard. text_of (report_answer standard office year)) standards
+    → text ≡ simulation sha256 start sites years
+unfolding simulation
+simulation_is start sites years year loads lines office summary text all is counts last front whole =
+    whole
+    ∙ ap (λ t. t ++ flat_map (λ standard. text_of (report_answer standard office year)) standards) (front ∙ ap (λ k. text_of (summary_sheet k lines (length office.observations))) all ∙ ap (λ k. text_of (summary_sheet (load_count sites years) k (length office.observations))) counts)
+    ∙ ap (over office) last
+    ∙ ap (λ o. over o (FIRST_GENERATED_YEAR + years - 1)) is
+  where
+    over : Office → ℕ → List ℕ
+    over o y = text_of (summary_sheet (load_count sites years) (generated_lines start sites years) (length o.observations)) ++ flat_map (λ standard. text_of (report_answer standard o y)) standards

@@ -1,0 +1,94 @@
+//! Generated loads, taken one after the other.
+ghost use Rattle.std.specs.Prelude.{◌≡◌, ◌+◌, ◌-◌, ◌*◌, ◌≤◌, length, IfOk, OnOk};
+ghost use Rattle.sha2.specs.Sha256.{sha256};
+ghost use Rattle.aq_profile.specs.Limits.{MOST_BYTES, MOST_LINES};
+ghost use Rattle.aq_profile.specs.Lines.Lines.{line_count};
+ghost use Rattle.aq_profile.specs.Office.Load.{post};
+ghost use Rattle.aq_profile.specs.Shown.Generator.{generated_lines, generated_load, generated_office, load_count};
+
+use aq_base::Memory;
+use aq_book::Book;
+use aq_forms::count_lines;
+use aq_generator::{generate, load_count};
+use aq_keeper::SteadyKeeper;
+use aq_service::post;
+use std::alloc::Global;
+use std::mem;
+
+/// An office of the loads that were taken, and how many lines they have in all.
+#[derive(Drop)]
+pub(crate) struct Taken {
+    pub(crate) book: Book,
+    pub(crate) lines: u32,
+}
+
+/// Takes all loads of a simulation.
+pub(crate) fn take_all(alloc: Global, start: u64, sites: u8, years: u8) -> Result<Taken, Memory>
+    requires some_sites { 1 ≤ sites }
+    requires few_sites { sites ≤ 32 }
+    requires some_years { 3 ≤ years }
+    requires few_years { years ≤ 10 }
+    ensures office { IfOk result (λ taken. taken.book ≡ generated_office sha256 start sites years) }
+    ensures lines { IfOk result (λ taken. taken.lines ≡ generated_lines start sites years) }
+{
+    let mut keeper = SteadyKeeper::new(alloc);
+    let mut taken = Taken {
+        book: Book::new(alloc),
+        lines: 0,
+    };
+    let count = load_count(sites, years);
+    let mut load = 1;
+    while load <= count {
+        take_load(alloc, start, sites, years, load, &mut keeper, &mut taken)?;
+        load += 1;
+    }
+    Ok(taken)
+}
+
+/// Takes one load of a simulation.
+fn take_load(
+    alloc: Global,
+    start: u64,
+    sites: u8,
+    years: u8,
+    load: u32,
+    keeper: &mut SteadyKeeper,
+    taken: &mut Taken,
+) -> Result<(), Memory>
+    requires some_sites { 1 ≤ sites }
+    requires few_sites { sites ≤ 32 }
+    requires some_years { 3 ≤ years }
+    requires few_years { years ≤ 10 }
+    requires first { 1 ≤ load }
+    requires last { load ≤ load_count sites years }
+    requires room { taken.old.lines ≤ 400 * MOST_LINES }
+    ensures book { OnOk result (taken.new.book ≡ post taken.old.book load (sha256 (generated_load start sites years load)) (generated_load start sites years load)) }
+    ensures lines { OnOk result (taken.new.lines ≡ taken.old.lines + line_count (generated_load start sites years load)) }
+    ensures few_lines { OnOk result (taken.new.lines ≤ taken.old.lines + MOST_LINES) }
+{
+    match generate(alloc, start, sites, years, load)? {
+        Some(body) => take(alloc, load, &body, keeper, taken),
+        None => unreachable!(),
+    }
+}
+
+/// Takes a body as the load with a number. A number that was taken before changes nothing.
+fn take(
+    alloc: Global,
+    number: u32,
+    body: &[u8],
+    keeper: &mut SteadyKeeper,
+    taken: &mut Taken,
+) -> Result<(), Memory>
+    requires bytes { length body.now ≤ MOST_BYTES }
+    requires lines { line_count body.now ≤ MOST_LINES }
+    requires room { taken.old.lines ≤ 400 * MOST_LINES }
+    ensures book { OnOk result (taken.new.book ≡ post taken.old.book number (sha256 body.now) body.now) }
+    ensures lines { OnOk result (taken.new.lines ≡ taken.old.lines + line_count body.now) }
+{
+    let book = mem::replace(&mut taken.book, Book::new(alloc));
+    let (book, _) = post(alloc, book, keeper, number, body)?;
+    taken.book = book;
+    taken.lines += count_lines(body);
+    Ok(())
+}
