@@ -5,7 +5,8 @@ pub mod Unread
 pub mod Printing
 pub mod Opening
 pub mod Posting
-pub mod Showing
+pub mod Asking
+pub mod Serving
 pub mod TableNames
 pub mod Telling
 pub mod Causes

@@ -12,7 +12,7 @@ use Rattle.aq_desk.specs.Office.{IsOpened, IsUnopened, over_damage, over_office}
 use Rattle.aq_desk.specs.Outside.{IsAll, Over}
 use Rattle.aq_desk.specs.Stop.{Gives, IsUnprinted, ending_at, status_of}
 use Rattle.aq_desk.specs.declared.stop.Stop.{Stop}
-use Rattle.aq_desk.specs.declared.stop.Stop.TheVariants.{InputFailed, OutputFailed, KeeperFailed, Damaged, Memory, Conflict, TooManyBytes, TooManyLines, LoadsFull, NoSite}
+use Rattle.aq_desk.specs.declared.stop.Stop.TheVariants.{InputFailed, OutputFailed, KeeperFailed, DoorFailed, Damaged, Memory, Conflict, TooManyBytes, TooManyLines, LoadsFull, NoSite}
 
 -- rows that give an office are its own
 office-found : (b : Bool) (found office : Office) → cond b (Some found) None ≡ Some office → (b ≡ true) × (found ≡ office)
@@ -39,7 +39,7 @@ pub over_opened : (rows : List Row) (office : Office) (next : Office → Outcome
 unfolding over_office
 over_opened rows office next opened = ap (λ place. over_damage place rows next) opened.undamaged ∙ ap next opened.is_office
 
-over_damaged : (rows : List Row) (place : Place) (next : Office → Outcome) → damage rows ≡ Some place → over_office rows next ≡ leaving rows (unwritten (damaged place))
+pub over_damaged : (rows : List Row) (place : Place) (next : Office → Outcome) → damage rows ≡ Some place → over_office rows next ≡ leaving rows (unwritten (damaged place))
 unfolding over_office
 over_damaged rows place next found = ap (λ place. over_damage place rows next) found
 
@@ -60,6 +60,7 @@ unopened-gives tables m n (Damaged place) next cause =
     }
 unopened-gives tables m n InputFailed next cause = absurd cause
 unopened-gives tables m n OutputFailed next cause = absurd cause
+unopened-gives tables m n DoorFailed next cause = absurd cause
 unopened-gives tables m n (Conflict number kept sent) next cause = absurd cause
 unopened-gives tables m n TooManyBytes next cause = absurd cause
 unopened-gives tables m n (TooManyLines lines) next cause = absurd cause
@@ -82,6 +83,7 @@ unopened-fault tables m n Memory cause = inr (inr refl, cause)
 unopened-fault tables m n (Damaged place) cause = inr (inl refl, cause.0)
 unopened-fault tables m n InputFailed cause = absurd cause
 unopened-fault tables m n OutputFailed cause = absurd cause
+unopened-fault tables m n DoorFailed cause = absurd cause
 unopened-fault tables m n (Conflict number kept sent) cause = absurd cause
 unopened-fault tables m n TooManyBytes cause = absurd cause
 unopened-fault tables m n (TooManyLines lines) cause = absurd cause

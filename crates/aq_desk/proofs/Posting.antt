@@ -1,53 +1,44 @@
 -- A load over the office of the tables.
-use Rattle.std.proofs.Common.{◌≡◌, ℕ, ◌≤◌, inl, inr, Bool, true, false, cond, List, length, Option, Some, None, refl, sym, ap, subst, ◌∙◌, arith}
-use Rattle.std.specs.Prelude.{Result, Ok, Err, IfErr, IfOk, IfSome, IsTrue, IsErrAnd, OnErr, OnOk, nat_le, nat_lt, bytes_eq, map, if◌then◌else◌}
+use Rattle.std.proofs.Common.{◌≡◌, ℕ, ◌≤◌, ◌⊎◌, inl, inr, Bool, true, false, cond, List, Option, Some, None, refl, sym, ap, subst, ◌∙◌, arith}
+use Rattle.std.specs.Prelude.{⊤, Result, Ok, Err, IfErr, IfSome, IsSome, IsErrAnd, IsTrue, ◌==◌}
 use Rattle.std.specs.Option.{option_map}
-use Rattle.std.proofs.lemmas.Bool.Decides.{nat_tests}
 use Rattle.sha2.specs.Sha256.{sha256}
+use Rattle.aq_base.specs.Faults.{HasRisen}
 use Rattle.aq_base.specs.declared.reply.LoadReply.{LoadReply}
-use Rattle.aq_loads.specs.KeptLoads.{digest_in, reply_in}
-use Rattle.aq_profile.specs.Kept.RowChanges.{GivesRowsAfter, RowChange, changed_key, keys_rise, row_batch, with_row_changes}
+use Rattle.aq_profile.proofs.Loads.{posted-few}
 use Rattle.aq_profile.specs.Kept.Rows.{Row, rows_of}
-use Rattle.aq_profile.specs.Limits.{MOST_LINES, MOST_LOADS}
+use Rattle.aq_profile.specs.Limits.{MOST_LINES}
 use Rattle.aq_profile.specs.Lines.Lines.{line_count}
-use Rattle.aq_profile.specs.Office.Load.{Repeat, Conflict, Full, New, Posted, TooManyLines, Repeated, Differing, NoRoom, Taken, decide, decide_known, load, posted, posted_beside, reply}
+use Rattle.aq_profile.specs.Office.Load.{Posted, TooManyLines, Repeated, Differing, NoRoom, Taken, load, office_after, posted, posted_beside, reply}
+use Rattle.aq_profile.specs.Office.Load as book
 use Rattle.aq_profile.specs.Office.Office.{Office, StoredLoad, load_at}
+use Rattle.aq_profile.specs.Shown.Answer.{is_load_number}
 use Rattle.aq_profile.specs.Shown.Sheet.{text_of}
 use Rattle.aq_profile.specs.Shown.Sheets.{load_sheet}
-use Rattle.aq_desk.proofs.Opening.{IsFault, fault-rises, fault-unprinted, over_opened, unopened_gives}
-use Rattle.aq_desk.proofs.Tables.{cut_gives, printed_gives, stopped_gives}
-use Rattle.aq_desk.proofs.Unread.{stopped_by}
+use Rattle.aq_serve.specs.Service.{Become, Keeps, ServiceView}
+use Rattle.aq_service.proofs.PostedLoads.{IsKept, Tells, is_numbered, load_stands, tells}
+use Rattle.aq_service.specs.Posting.{IsPosted, LosesLoad, TakenBy}
+use Rattle.aq_service.specs.declared.posting.Posted as answers
+use Rattle.aq_service.specs.declared.posting.Posted.TheVariants as answered
+use Rattle.aq_desk.proofs.Opening.{over_opened, unopened_gives}
+use Rattle.aq_desk.proofs.Tables.{cut_gives, keeps_same, same_tables, stopped_gives}
+use Rattle.aq_desk.proofs.Unread.{stays_at_from, stopped_by}
 use Rattle.aq_desk.specs.Command.{Outcome, RisesAt, leaving, printed, unwritten}
+use Rattle.aq_desk.specs.Command as commands
 use Rattle.aq_desk.specs.Ending.{loads_full}
-use Rattle.aq_desk.specs.Load.{load_answer, posted_outcome}
-use Rattle.aq_desk.specs.Office.{IsOpened, IsUncommitted, IsUnopened}
+use Rattle.aq_desk.specs.Load.{IsAnswered, IsKeptText, IsTextOf, load_answer, posted_outcome}
+use Rattle.aq_desk.specs.Office.{IsOpened, IsUnopened}
 use Rattle.aq_desk.specs.Outside.{IsAll, Over}
-use Rattle.aq_keeper.specs.Told.{HasCause}
-use Rattle.aq_keeper.specs.declared.keeper.KeeperFault.{KeeperFault}
-use Rattle.aq_keeper.specs.declared.keeper.KeeperFault.TheVariants as keeper
-use Rattle.aq_desk.specs.Stop.{Gives, IsUnprinted, ending_at, status_of, stop_of_keeper}
+use Rattle.aq_desk.specs.Stop.{Gives, IsUnprinted, ending_at, status_of}
 use Rattle.aq_desk.specs.declared.stop.Stop.{Stop}
 use Rattle.aq_desk.specs.declared.stop.Stop.TheVariants as stops
 
 -- ---- the office is opened
 
-load_opened : (number : ℕ) (body : List ℕ) (rows : List Row) (office : Office) → IsOpened rows office → load_answer number body rows ≡ posted_outcome number (rows_of office) body (posted office number (sha256 body) body)
+load_opened : (number : ℕ) (body : List ℕ) (rows : List Row) (office : Office) → IsOpened rows office → load_answer number body rows ≡ posted_outcome number rows body (posted office number (sha256 body) body)
 unfolding load_answer
 load_opened number body rows office opened =
     over_opened rows office (λ o. posted_outcome number rows body (posted o number (sha256 body) body)) opened
-    ∙ ap (λ (rs : List Row). posted_outcome number rs body (posted office number (sha256 body) body)) (sym opened.are_rows)
-
-pub opened_gives : (number : ℕ) (body : List ℕ) (office : Office) (answer : Result (List ℕ) Stop) (before between after : Option (List Row)) → Over before (λ rows. IsOpened rows office) → between ≡ before → Gives (posted_outcome number (rows_of office) body (posted office number (sha256 body) body)) answer between after → Over before (λ rows. Gives (load_answer number body rows) answer before after)
-opened_gives number body office answer before between after over same gives =
-    let P = λ (o : Outcome). Gives o answer before after in
-    let Q = λ (t : Option (List Row)). Gives (posted_outcome number (rows_of office) body (posted office number (sha256 body) body)) answer t after in
-    record { all = over.all; is_all = over.is_all; says = subst P (sym (load_opened number body over.all office over.says)) (subst Q same gives) }
-
-pub rows_stand : (office : Office) (before between : Option (List Row)) → Over before (λ rows. IsOpened rows office) → between ≡ before → IsAll between (rows_of office)
-rows_stand office before between over same =
-    let P = λ (t : Option (List Row)). IsAll t (rows_of office) in
-    let Q = λ (rows : List Row). IsAll before rows in
-    subst P (sym same) (subst Q (sym over.says.are_rows) over.is_all)
 
 pub unopened_load : (number : ℕ) (body : List ℕ) (before after : Option (List Row)) (m n : ℕ) (stop : Stop) (answer : Result (List ℕ) Stop) → IsErrAnd answer (λ why. why ≡ stop) → after ≡ before → IsUnopened before m n stop → Over before (λ rows. Gives (load_answer number body rows) answer before after)
 unfolding load_answer
@@ -56,198 +47,274 @@ unopened_load number body before after m n stop answer is same cause =
 
 -- ---- what becomes of a load
 
-few-lines : (lines : ℕ) → lines ≤ MOST_LINES → nat_lt MOST_LINES lines ≡ false
-few-lines lines few = grind (arith, nat_tests)
+-- one that no answer of too many lines is given to
+abbrev IsFew : book.Posted → Type 0
+IsFew TooManyLines = ⊥
+IsFew (Repeated kept) = ⊤
+IsFew (Differing kept sent) = ⊤
+IsFew NoRoom = ⊤
+IsFew (Taken reply now) = ⊤
 
-posted-few : (office : Office) (number : ℕ) (digest body : List ℕ) → line_count body ≤ MOST_LINES → posted office number digest body ≡ posted_beside (load_at office number) office number digest body
-posted-few office number digest body few = ap (λ many. if many then TooManyLines else posted_beside (load_at office number) office number digest body) (few-lines (line_count body) few)
+-- the tables after it, where they were those of the office
+rows-after : (number : ℕ) (rows : List Row) (body : List ℕ) (office : Office) (p : book.Posted) → rows_of office ≡ rows → rows_of (office_after p office) ≡ (posted_outcome number rows body p).rows
+rows-after number rows body office TooManyLines are = are
+rows-after number rows body office (Repeated kept) are = are
+rows-after number rows body office (Differing kept sent) are = are
+rows-after number rows body office NoRoom are = are
+rows-after number rows body office (Taken reply now) are = refl
 
-again-repeat : (b : Bool) (kept : LoadReply) (digest sent : List ℕ) → cond b Repeat Conflict ≡ Repeat → cond b (Repeated kept) (Differing digest sent) ≡ Repeated kept
-again-repeat true kept digest sent is = refl
-again-repeat false kept digest sent is = absurd (cc)
+of-office : (tables : Option (List Row)) (rows : List Row) (office : Office) → IsAll tables rows → rows_of office ≡ rows → IfSome tables (λ told. told ≡ rows_of office)
+of-office None rows office told are = tt
+of-office (Some all) rows office told are = told ∙ sym are
 
-again-conflict : (b : Bool) (kept : LoadReply) (digest sent : List ℕ) → cond b Repeat Conflict ≡ Conflict → cond b (Repeated kept) (Differing digest sent) ≡ Differing digest sent
-again-conflict true kept digest sent is = absurd (cc)
-again-conflict false kept digest sent is = refl
+is-few : (office : Office) (number : ℕ) (digest body : List ℕ) → line_count body ≤ MOST_LINES → IsFew (posted office number digest body)
+is-few office number digest body few = subst IsFew (sym (posted-few office number digest body few)) (by_found (load_at office number))
+  where
+    by_room : (b : Bool) → IsFew (cond b NoRoom (Taken (reply office number body) (load office number digest body)))
+    by_room true = tt
+    by_room false = tt
 
-anew-full : (b : Bool) (taken : Posted) → cond b Full New ≡ Full → cond b NoRoom taken ≡ NoRoom
-anew-full true taken is = refl
-anew-full false taken is = absurd (cc)
+    by_digest : (kept : StoredLoad) (b : Bool) → IsFew (cond b (Repeated kept.reply) (Differing kept.digest digest))
+    by_digest kept true = tt
+    by_digest kept false = tt
 
-anew-new : (b : Bool) (taken : Posted) → cond b Full New ≡ New → cond b NoRoom taken ≡ taken
-anew-new true taken is = absurd (cc)
-anew-new false taken is = refl
+    by_found : (found : Option StoredLoad) → IsFew (posted_beside found office number digest body)
+    by_found None = by_room _
+    by_found (Some kept) = by_digest kept _
 
-not-full : (b : Bool) → cond b Repeat Conflict ≡ Full → ⊥
-not-full true is = absurd (cc)
-not-full false is = absurd (cc)
+-- ---- the text of the load that is kept
 
-not-new : (b : Bool) → cond b Repeat Conflict ≡ New → ⊥
-not-new true is = absurd (cc)
-not-new false is = absurd (cc)
+same-some : {A : Type 0} (a b : A) → Some a ≡ Some b → a ≡ b
+same-some a b is = cc
 
-not-repeat : (b : Bool) → cond b Full New ≡ Repeat → ⊥
-not-repeat true is = absurd (cc)
-not-repeat false is = absurd (cc)
-
-not-conflict : (b : Bool) → cond b Full New ≡ Conflict → ⊥
-not-conflict true is = absurd (cc)
-not-conflict false is = absurd (cc)
-
-abbrev kept_text : LoadReply → List ℕ
-kept_text reply = text_of (load_sheet reply)
-
-repeat-is : (found : Option StoredLoad) (office : Office) (number : ℕ) (digest body : List ℕ) (rows : List Row) (text : List ℕ) → decide_known found digest (nat_le MOST_LOADS (length office.loads)) ≡ Repeat → Some text ≡ option_map kept_text (option_map reply_in found) → posted_outcome number rows body (posted_beside found office number digest body) ≡ leaving rows (printed text)
-repeat-is None office number digest body rows text is same = absurd (not-repeat (nat_le MOST_LOADS (length office.loads)) is)
-repeat-is (Some kept) office number digest body rows text is same =
-    let here : text ≡ text_of (load_sheet kept.reply) = cc in
-    ap (posted_outcome number rows body) (again-repeat (bytes_eq kept.digest digest) kept.reply kept.digest digest is)
-    ∙ ap (λ t. leaving rows (printed t)) (sym here)
-
-conflict-is : (found : Option StoredLoad) (office : Office) (number : ℕ) (digest body : List ℕ) (rows : List Row) (stop : Stop) → decide_known found digest (nat_le MOST_LOADS (length office.loads)) ≡ Conflict → IfSome (option_map digest_in found) (λ kept. stop ≡ stops.Conflict number kept digest) → posted_outcome number rows body (posted_beside found office number digest body) ≡ leaving rows (unwritten (ending_at stop))
-conflict-is None office number digest body rows stop is same = absurd (not-conflict (nat_le MOST_LOADS (length office.loads)) is)
-conflict-is (Some kept) office number digest body rows stop is same =
-    ap (posted_outcome number rows body) (again-conflict (bytes_eq kept.digest digest) kept.reply kept.digest digest is)
-    ∙ ap (λ s. leaving rows (unwritten (ending_at s))) (sym same)
-
-full-is : (found : Option StoredLoad) (office : Office) (number : ℕ) (digest body : List ℕ) → decide_known found digest (nat_le MOST_LOADS (length office.loads)) ≡ Full → posted_beside found office number digest body ≡ NoRoom
-full-is None office number digest body is = anew-full (nat_le MOST_LOADS (length office.loads)) (Taken (reply office number body) (load office number digest body)) is
-full-is (Some kept) office number digest body is = absurd (not-full (bytes_eq kept.digest digest) is)
-
-new-is : (found : Option StoredLoad) (office : Office) (number : ℕ) (digest body : List ℕ) → decide_known found digest (nat_le MOST_LOADS (length office.loads)) ≡ New → posted_beside found office number digest body ≡ Taken (reply office number body) (load office number digest body)
-new-is None office number digest body is = anew-new (nat_le MOST_LOADS (length office.loads)) (Taken (reply office number body) (load office number digest body)) is
-new-is (Some kept) office number digest body is = absurd (not-new (bytes_eq kept.digest digest) is)
-
--- ---- a load that is committed
-
-rows-after : (office : Office) (number : ℕ) (digest body : List ℕ) → GivesRowsAfter office number digest body → with_row_changes (rows_of office) (row_batch office number digest body) ≡ rows_of (load office number digest body)
-unfolding GivesRowsAfter
-rows-after office number digest body gives = gives
-
-tables-after : (rows : List Row) (batch : List RowChange) (now : List Row) (before after : Option (List Row)) → IsAll before rows → with_row_changes rows batch ≡ now → after ≡ option_map (λ told. with_row_changes told batch) before → after ≡ option_map (λ _. now) before
-tables-after rows batch now None after told gives committed = committed
-tables-after rows batch now (Some all) after told gives committed = committed ∙ ap (λ rs. Some (with_row_changes rs batch)) told ∙ ap Some gives
-
-commit_gives : (rows : List Row) (batch : List RowChange) (now : List Row) (text sheet : List ℕ) (before after : Option (List Row)) → IsAll before rows → with_row_changes rows batch ≡ now → text ≡ sheet → after ≡ option_map (λ told. with_row_changes told batch) before → Gives (leaving now (printed sheet)) (Ok text) before after
-commit_gives rows batch now text sheet before after told gives is committed = record {
-  text = is;
-  ending = λ _. refl;
-  nothing = λ failed _. absurd (cc);
-  tables = record {
-    kept = λ _. tables-after rows batch now before after told gives committed;
-    undone = λ undone. absurd (omega (arith, undone));
-    either = inr (tables-after rows batch now before after told gives committed);
-  };
+cut-keeps : (rows : List Row) (before after : Option (List Row)) → commands.Keeps rows 0 before after → commands.Keeps rows 7 before after
+cut-keeps rows before after keeps = record {
+  kept = λ kept. absurd (omega (arith, kept));
+  undone = λ undone. absurd (omega (arith, undone));
+  either = keeps.either;
 }
 
--- ---- what is given then
+kept-gives : (found : Option StoredLoad) (made : LoadReply) (rows : List Row) (answer : Result (List ℕ) Stop) (before after : Option (List Row)) → IsKept (λ kept. kept.reply ≡ made) found → IsKeptText found answer → commands.Keeps rows 0 before after → Gives (leaving rows (printed (text_of (load_sheet made)))) answer before after
+kept-gives None made rows answer before after none text keeps = absurd none
+kept-gives (Some kept) made rows (Ok text) before after is same keeps = record {
+  text = same-some text (text_of (load_sheet kept.reply)) same ∙ ap (λ (r : LoadReply). text_of (load_sheet r)) is;
+  ending = λ _. refl;
+  nothing = λ failed _. absurd (cc);
+  tables = keeps;
+}
+kept-gives (Some kept) made rows (Err stop) before after is same keeps =
+    let P = λ (s : Stop). Gives (leaving rows (printed (text_of (load_sheet made)))) (Err s) before after in
+    subst P (sym same) (record {
+      text = tt;
+      ending = λ whole. absurd (omega (arith, whole));
+      nothing = λ _ whole. absurd (omega (arith, whole));
+      tables = cut-keeps rows before after keeps;
+    })
 
-module _ (office : Office) (number : ℕ) (digest body : List ℕ) (same : digest ≡ sha256 body) (few : line_count body ≤ MOST_LINES) (tables : Option (List Row)) (stand : IsAll tables (rows_of office)) where
-  outcome-is : (outcome : Outcome) → posted_outcome number (rows_of office) body (posted_beside (load_at office number) office number digest body) ≡ outcome → outcome ≡ posted_outcome number (rows_of office) body (posted office number (sha256 body) body)
-  outcome-is outcome is =
-      sym is ∙ ap (posted_outcome number (rows_of office) body) (sym (posted-few office number digest body few))
-      ∙ ap (λ (d : List ℕ). posted_outcome number (rows_of office) body (posted office number d body)) same
+conflict-gives : (found : Option StoredLoad) (number : ℕ) (kept digest sent : List ℕ) (rows : List Row) (answer : Result (List ℕ) Stop) (tables : Option (List Row)) → IsAll tables rows → IsKept (λ load. (load.digest ≡ kept) × (sent ≡ digest)) found → IfSome found (λ load. answer ≡ Err (stops.Conflict number load.digest sent)) → Gives (leaving rows (unwritten (ending_at (stops.Conflict number kept sent)))) answer tables tables
+conflict-gives None number kept digest sent rows answer tables told none is = absurd none
+conflict-gives (Some load) number kept digest sent rows answer tables told same is =
+    let outcome = leaving rows (unwritten (ending_at (stops.Conflict number kept sent))) in
+    let P = λ (r : Result (List ℕ) Stop). Gives outcome r tables tables in
+    subst P (sym (is ∙ ap (λ (d : List ℕ). Err (stops.Conflict number d sent)) same.0)) (stopped_gives rows (stops.Conflict number kept sent) tables told)
 
-  pub repeat_gives : (text : List ℕ) → Repeat ≡ decide office number digest → Some text ≡ option_map kept_text (option_map reply_in (load_at office number)) → Gives (posted_outcome number (rows_of office) body (posted office number (sha256 body) body)) (Ok text) tables tables
-  repeat_gives text is kept =
-      let P = λ (o : Outcome). Gives o (Ok text) tables tables in
-      subst P (outcome-is (leaving (rows_of office) (printed text)) (repeat-is (load_at office number) office number digest body (rows_of office) text (sym is) kept))
-      (printed_gives (rows_of office) text tables stand)
+-- ---- and over the rows of the office
 
-  pub conflict_gives : (stop : Stop) → Conflict ≡ decide office number digest → IfSome (option_map digest_in (load_at office number)) (λ kept. stop ≡ stops.Conflict number kept digest) → Gives (posted_outcome number (rows_of office) body (posted office number (sha256 body) body)) (Err stop) tables tables
-  conflict_gives stop is kept =
-      let P = λ (o : Outcome). Gives o (Err stop) tables tables in
-      subst P (outcome-is (leaving (rows_of office) (unwritten (ending_at stop))) (conflict-is (load_at office number) office number digest body (rows_of office) stop (sym is) kept))
-      (stopped_gives (rows_of office) stop tables stand)
+module _ (number : ℕ) (rows : List Row) (body : List ℕ) (before after : ServiceView) (told : IsAll before.tables rows) (are : rows_of before.office ≡ rows) (some : (number == 0) ≡ false) where
+  abbrev digest : List ℕ
+  digest = sha256 body
 
-  pub full_gives : Full ≡ decide office number digest → Gives (posted_outcome number (rows_of office) body (posted office number (sha256 body) body)) (Err stops.LoadsFull) tables tables
-  full_gives is =
-      let P = λ (o : Outcome). Gives o (Err stops.LoadsFull) tables tables in
-      subst P (outcome-is (leaving (rows_of office) (unwritten loads_full)) (ap (posted_outcome number (rows_of office) body) (full-is (load_at office number) office number digest body (sym is))))
-      (stopped_gives (rows_of office) stops.LoadsFull tables stand)
+  stored-reply : (made : LoadReply) (now : Office) → (made ≡ reply before.office number body) × (now ≡ load before.office number digest body) → after.office ≡ now → IsKept (λ kept. kept.reply ≡ made) (load_at after.office number)
+  stored-reply made now is same =
+      let P = λ (found : Option StoredLoad). IsKept (λ kept. kept.reply ≡ made) found in
+      subst P (sym (ap (λ o. load_at o number) (same ∙ is.1) ∙ load_stands before.office number digest body some)) (sym is.0)
 
-  module _ (is : New ≡ decide office number digest) (after : Option (List Row)) where
-    taken-is : leaving (rows_of (load office number digest body)) (printed (text_of (load_sheet (reply office number body)))) ≡ posted_outcome number (rows_of office) body (posted office number (sha256 body) body)
-    taken-is = outcome-is (leaving (rows_of (load office number digest body)) (printed (text_of (load_sheet (reply office number body))))) (ap (posted_outcome number (rows_of office) body) (new-is (load_at office number) office number digest body (sym is)))
+  taken-keeps : (now : Office) → after.office ≡ now → Keeps before after → commands.Keeps (rows_of now) 0 before.tables after.tables
+  taken-keeps now same keeps =
+      let become = keeps (of-office before.tables rows before.office told are) ∙ ap (λ o. option_map (λ _. rows_of o) before.tables) same in
+      record { kept = λ _. become; undone = λ undone. absurd (omega (arith, undone)); either = inr become }
 
-    pub new_gives : (text : List ℕ) → GivesRowsAfter office number digest body → text ≡ text_of (load_sheet (reply office number body)) → after ≡ option_map (λ told. with_row_changes told (row_batch office number digest body)) tables → Gives (posted_outcome number (rows_of office) body (posted office number (sha256 body) body)) (Ok text) tables after
-    new_gives text rows is_text committed =
-        let P = λ (o : Outcome). Gives o (Ok text) tables after in
-        subst P taken-is (commit_gives (rows_of office) (row_batch office number digest body) (rows_of (load office number digest body)) text (text_of (load_sheet (reply office number body))) tables after stand (rows-after office number digest body rows) is_text committed)
+  -- where nothing changed
+  same-answer : (ans kind : answers.Posted) (answer : Result (List ℕ) Stop) → (ans ≡ kind) × (after ≡ before) → IsTextOf ans number (load_at after.office number) answer → IsTextOf kind number (load_at before.office number) answer
+  same-answer ans kind answer is text =
+      let P = λ (a : answers.Posted). IsTextOf a number (load_at before.office number) answer in
+      let Q = λ (v : ServiceView). IsTextOf ans number (load_at v.office number) answer in
+      subst P is.0 (subst Q is.1 text)
 
--- ---- a load that is not committed
+  same-tables : (outcome : Outcome) (answer : Result (List ℕ) Stop) → after ≡ before → Gives outcome answer before.tables before.tables → Gives outcome answer before.tables after.tables
+  same-tables outcome answer is gives =
+      let P = λ (v : ServiceView). Gives outcome answer before.tables v.tables in
+      subst P (sym is) gives
 
-uncommitted-gives : (outcome : Outcome) (tables : Option (List Row)) (m n : ℕ) (stop : Stop) → IsUncommitted m n stop → Gives outcome (Err stop) tables tables
-uncommitted-gives outcome tables m n stops.KeeperFailed cause = cut_gives outcome stops.KeeperFailed tables (λ kept. omega (arith, kept))
-uncommitted-gives outcome tables m n stops.Memory cause = cut_gives outcome stops.Memory tables (λ kept. omega (arith, kept))
-uncommitted-gives outcome tables m n (stops.Damaged place) cause = absurd cause
-uncommitted-gives outcome tables m n stops.InputFailed cause = absurd cause
-uncommitted-gives outcome tables m n stops.OutputFailed cause = absurd cause
-uncommitted-gives outcome tables m n (stops.Conflict number kept sent) cause = absurd cause
-uncommitted-gives outcome tables m n stops.TooManyBytes cause = absurd cause
-uncommitted-gives outcome tables m n (stops.TooManyLines lines) cause = absurd cause
-uncommitted-gives outcome tables m n stops.LoadsFull cause = absurd cause
-uncommitted-gives outcome tables m n (stops.NoSite site) cause = absurd cause
+  taken-gives : (ans : answers.Posted) (answer : Result (List ℕ) Stop) (made : LoadReply) (now : Office) → (made ≡ reply before.office number body) × (now ≡ load before.office number digest body) → TakenBy ans now before after → IsTextOf ans number (load_at after.office number) answer → Gives (leaving (rows_of now) (printed (text_of (load_sheet made)))) answer before.tables after.tables
+  taken-gives answered.Done answer made now is taken text =
+      kept-gives (load_at after.office number) made (rows_of now) answer before.tables after.tables (stored-reply made now is taken.0) text (taken-keeps now taken.0 taken.2)
+  taken-gives answered.Failed answer made now is taken text =
+      let outcome = leaving (rows_of now) (printed (text_of (load_sheet made))) in
+      let P = λ (r : Result (List ℕ) Stop). Gives outcome r before.tables after.tables in
+      let Q = λ (t : Option (List Row)). Gives outcome (Err stops.KeeperFailed) before.tables t in
+      subst P (sym text) (subst Q (sym taken.1) (cut_gives outcome stops.KeeperFailed before.tables (λ kept. omega (arith, kept))))
+  taken-gives (answered.Lines lines) answer made now is taken text = absurd taken
+  taken-gives (answered.Conflict sent) answer made now is taken text = absurd taken
+  taken-gives answered.Full answer made now is taken text = absurd taken
 
-pub uncommitted_gives : (outcome : Outcome) (before after : Option (List Row)) (m n : ℕ) (stop : Stop) → after ≡ before → IsUncommitted m n stop → Gives outcome (Err stop) before after
-uncommitted_gives outcome before after m n stop same cause =
-    let Q = λ (t : Option (List Row)). Gives outcome (Err stop) before t in
-    subst Q (sym same) (uncommitted-gives outcome before m n stop cause)
+  pub posted_gives : (p : book.Posted) (ans : answers.Posted) (answer : Result (List ℕ) Stop) → IsFew p → Tells before.office number digest body p → IsPosted p (line_count body) before after ans → IsTextOf ans number (load_at after.office number) answer → Gives (posted_outcome number rows body p) answer before.tables after.tables
+  posted_gives TooManyLines ans answer few is posted text = absurd few
+  posted_gives (Repeated made) ans answer few is posted text =
+      same-tables _ answer posted.1
+      (kept-gives (load_at before.office number) made rows answer before.tables before.tables is (same-answer ans answered.Done answer posted text) (keeps_same rows 0 before.tables told))
+  posted_gives (Differing kept sent) ans answer few is posted text =
+      same-tables _ answer posted.1
+      (conflict-gives (load_at before.office number) number kept digest sent rows answer before.tables told is (same-answer ans (answered.Conflict sent) answer posted text))
+  posted_gives NoRoom ans answer few is posted text =
+      let outcome = leaving rows (unwritten loads_full) in
+      let P = λ (r : Result (List ℕ) Stop). Gives outcome r before.tables before.tables in
+      same-tables outcome answer posted.1 (subst P (sym (same-answer ans answered.Full answer posted text)) (stopped_gives rows stops.LoadsFull before.tables told))
+  posted_gives (Taken made now) ans answer few is posted text = taken-gives ans answer made now is posted text
 
-uncommitted-is : (A : Type 0) (m n : ℕ) (fault : KeeperFault) → HasCause {A = A} m n (Err fault) → IsUncommitted m n (stop_of_keeper fault)
-uncommitted-is A m n keeper.Failed cause = cause
-uncommitted-is A m n keeper.Memory cause = cause
+  -- memory ran out: the tables are as before, or those with the load
+  pub lost_gives : (answer : Result (List ℕ) Stop) → IsErrAnd answer (λ stop. stop ≡ stops.Memory) → LosesLoad number digest body before after → Gives (posted_outcome number rows body (posted before.office number digest body)) answer before.tables after.tables
+  lost_gives answer is lost =
+      let outcome = posted_outcome number rows body (posted before.office number digest body) in
+      let P = λ (r : Result (List ℕ) Stop). Gives outcome r before.tables after.tables in
+      subst P (sym (stopped_by answer stops.Memory is)) (record {
+        text = tt;
+        ending = λ whole. absurd (omega (arith, whole));
+        nothing = λ _ whole. absurd (omega (arith, whole));
+        tables = record {
+          kept = λ kept. absurd (omega (arith, kept));
+          undone = λ undone. absurd (omega (arith, undone));
+          either = either (lost.tables (of-office before.tables rows before.office told are));
+        };
+      })
+    where
+      either : Become before before.office after ⊎ Become before (book.post before.office number digest body) after → (after.tables ≡ before.tables) ⊎ (after.tables ≡ option_map (λ _. (posted_outcome number rows body (posted before.office number digest body)).rows) before.tables)
+      either (inl same) = inl (same ∙ ap (λ rs. option_map (λ _. rs) before.tables) are ∙ sym (same_tables before.tables rows told))
+      either (inr load) = inr (load ∙ ap (λ rs. option_map (λ _. rs) before.tables) (rows-after number rows body before.office (posted before.office number digest body) are))
 
-pub not_committed : (A : Type 0) (m n : ℕ) (fault : KeeperFault) (answer : Result (List ℕ) Stop) → IsErrAnd answer (λ why. why ≡ stop_of_keeper fault) → HasCause {A = A} m n (Err fault) → IfErr answer (IsUncommitted m n)
-not_committed A m n fault answer is cause =
-    let P = λ (r : Result (List ℕ) Stop). IfErr r (IsUncommitted m n) in
-    subst P (sym (stopped_by answer (stop_of_keeper fault) is)) (uncommitted-is A m n fault cause)
+-- ---- what it is answered with
 
-pub no_memory_to_commit : (m : ℕ) (answer : Result (List ℕ) Stop) → IsErrAnd answer (λ why. why ≡ stops.Memory) → IfErr answer (IsUncommitted m m)
-no_memory_to_commit m answer is =
-    let P = λ (r : Result (List ℕ) Stop). IfErr r (IsUncommitted m m) in
-    subst P (sym (stopped_by answer stops.Memory is)) refl
+-- what a text, or a stop, needs
+module _ (number : ℕ) (digest body : List ℕ) (lines : ℕ) (before after : ServiceView) (some : (number == 0) ≡ false) where
+  answered-same : (ans kind : answers.Posted) → (ans ≡ kind) × (after ≡ before) → IsAnswered kind (load_at before.office number) → IsAnswered ans (load_at after.office number)
+  answered-same ans kind is kept =
+      let P = λ (a : answers.Posted). IsAnswered a (load_at after.office number) in
+      let Q = λ (v : ServiceView). IsAnswered kind (load_at v.office number) in
+      subst P (sym is.0) (subst Q (sym is.1) kept)
 
-pub keys-rise : (changes batch : List RowChange) → changes ≡ batch → IsTrue (keys_rise (map changed_key batch)) → keys_rise (map changed_key changes) ≡ true
-keys-rise changes batch same rises =
-    let P = λ (cs : List RowChange). keys_rise (map changed_key cs) ≡ true in
-    subst P (sym same) rises
+  is-some : (P : StoredLoad → Type 0) (found : Option StoredLoad) → IsKept P found → IsSome found
+  is-some P None none = absurd none
+  is-some P (Some kept) is = refl
 
--- ---- a new load
+  answered-taken : (ans : answers.Posted) (made : LoadReply) (now : Office) → (made ≡ reply before.office number body) × (now ≡ load before.office number digest body) → TakenBy ans now before after → IsAnswered ans (load_at after.office number)
+  answered-taken answered.Done made now is taken =
+      subst IsSome (sym (ap (λ o. load_at o number) (taken.0 ∙ is.1) ∙ load_stands before.office number digest body some)) refl
+  answered-taken answered.Failed made now is taken = tt
+  answered-taken (answered.Lines count) made now is taken = absurd taken
+  answered-taken (answered.Conflict sent) made now is taken = absurd taken
+  answered-taken answered.Full made now is taken = absurd taken
 
-uncommitted-fault : (m n : ℕ) (stop : Stop) → IsUncommitted m n stop → IsFault m n (ending_at stop).status
-uncommitted-fault m n stops.KeeperFailed cause = inl (refl, cause)
-uncommitted-fault m n stops.Memory cause = inr (inr refl, cause)
-uncommitted-fault m n (stops.Damaged place) cause = absurd cause
-uncommitted-fault m n stops.InputFailed cause = absurd cause
-uncommitted-fault m n stops.OutputFailed cause = absurd cause
-uncommitted-fault m n (stops.Conflict number kept sent) cause = absurd cause
-uncommitted-fault m n stops.TooManyBytes cause = absurd cause
-uncommitted-fault m n (stops.TooManyLines lines) cause = absurd cause
-uncommitted-fault m n stops.LoadsFull cause = absurd cause
-uncommitted-fault m n (stops.NoSite site) cause = absurd cause
+  pub is_answered : (p : book.Posted) (ans : answers.Posted) → IsFew p → Tells before.office number digest body p → IsPosted p lines before after ans → IsAnswered ans (load_at after.office number)
+  is_answered TooManyLines ans few is posted = absurd few
+  is_answered (Repeated made) ans few is posted = answered-same ans answered.Done posted (is-some _ (load_at before.office number) is)
+  is_answered (Differing kept sent) ans few is posted = answered-same ans (answered.Conflict sent) posted (is-some _ (load_at before.office number) is)
+  is_answered NoRoom ans few is posted = answered-same ans answered.Full posted tt
+  is_answered (Taken made now) ans few is posted = answered-taken ans made now is posted
 
-pub new_unprinted : (m n : ℕ) (answer : Result (List ℕ) Stop) → IfErr answer (IsUncommitted m n) → IfErr answer IsUnprinted
-new_unprinted m n (Ok text) cause = tt
-new_unprinted m n (Err stop) cause = fault-unprinted m n stop (uncommitted-fault m n stop cause)
+text-unprinted : (found : Option StoredLoad) (answer : Result (List ℕ) Stop) → IsKeptText found answer → IfErr answer IsUnprinted × (status_of answer ≡ 5 → ⊥)
+text-unprinted found (Ok text) is = (tt, (λ five. omega (arith, five)))
+text-unprinted found (Err stop) is =
+    let P = λ (s : Stop). IsUnprinted s × ((ending_at s).status ≡ 5 → ⊥) in
+    subst P (sym is) (grind arith, (λ five. omega (arith, five)))
 
-pub new_rises : (m n : ℕ) (answer : Result (List ℕ) Stop) → OnOk answer (n ≡ m) → IfErr answer (IsUncommitted m n) → RisesAt 5 (status_of answer) m n
-new_rises m n (Ok text) steady cause = record { rises = λ five. absurd (omega (arith, five)); stays = λ _. steady }
-new_rises m n (Err stop) steady cause = fault-rises m n (ending_at stop).status (uncommitted-fault m n stop cause)
+conflict-unprinted : (found : Option StoredLoad) (number : ℕ) (sent : List ℕ) (answer : Result (List ℕ) Stop) → IsSome found → IfSome found (λ load. answer ≡ Err (stops.Conflict number load.digest sent)) → IfErr answer IsUnprinted × (status_of answer ≡ 5 → ⊥)
+conflict-unprinted None number sent answer none is = absurd (cc)
+conflict-unprinted (Some kept) number sent answer some is =
+    let P = λ (r : Result (List ℕ) Stop). IfErr r IsUnprinted × (status_of r ≡ 5 → ⊥) in
+    subst P (sym is) (grind arith, (λ five. omega (arith, five)))
 
-pub new_told : (office : Office) (number : ℕ) (digest body : List ℕ) (same : digest ≡ sha256 body) (few : line_count body ≤ MOST_LINES) (tables : Option (List Row)) (stand : IsAll tables (rows_of office)) (is : New ≡ decide office number digest) (after : Option (List Row)) (m n : ℕ) (answer : Result (List ℕ) Stop)
-    → GivesRowsAfter office number digest body → IfOk answer (λ text. text ≡ text_of (load_sheet (reply office number body))) → OnOk answer (after ≡ option_map (λ told. with_row_changes told (row_batch office number digest body)) tables) → OnErr answer (after ≡ tables) → IfErr answer (IsUncommitted m n)
-    → Gives (posted_outcome number (rows_of office) body (posted office number (sha256 body) body)) answer tables after
-new_told office number digest body same few tables stand is after m n (Ok text) rows is_text done undone cause = new_gives office number digest body same few tables stand is after text rows is_text done
-new_told office number digest body same few tables stand is after m n (Err stop) rows is_text done undone cause = uncommitted_gives (posted_outcome number (rows_of office) body (posted office number (sha256 body) body)) tables after m n stop undone cause
+-- the keeper failed, or it did not and the count is as before
+abbrev pub IsCounted : answers.Posted → ℕ → ℕ → Type 0
+IsCounted answered.Failed m n = HasRisen m n
+IsCounted answered.Done m n = n ≡ m
+IsCounted (answered.Lines lines) m n = n ≡ m
+IsCounted (answered.Conflict sent) m n = n ≡ m
+IsCounted answered.Full m n = n ≡ m
 
--- ---- what a staged load has
+counted-same : (ans kind : answers.Posted) (before after : ServiceView) → (ans ≡ kind) × (after ≡ before) → IsCounted kind before.faults before.faults → IsCounted ans before.faults after.faults
+counted-same ans kind before after is steady =
+    let P = λ (a : answers.Posted). IsCounted a before.faults after.faults in
+    let Q = λ (v : ServiceView). IsCounted kind before.faults v.faults in
+    subst P (sym is.0) (subst Q (sym is.1) steady)
 
-pub staged_text : (answer : Result (List ℕ) Stop) (staged made : LoadReply) → staged ≡ made → IfOk answer (λ text. text ≡ text_of (load_sheet staged)) → IfOk answer (λ text. text ≡ text_of (load_sheet made))
-staged_text (Ok text) staged made same is = is ∙ ap (λ (r : LoadReply). text_of (load_sheet r)) same
-staged_text (Err stop) staged made same is = tt
+counted-taken : (ans : answers.Posted) (now : Office) (before after : ServiceView) → TakenBy ans now before after → IsCounted ans before.faults after.faults
+counted-taken answered.Done now before after taken = taken.1
+counted-taken answered.Failed now before after taken = taken.2
+counted-taken (answered.Lines count) now before after taken = absurd taken
+counted-taken (answered.Conflict sent) now before after taken = absurd taken
+counted-taken answered.Full now before after taken = absurd taken
 
-pub staged_batch : (answer : Result (List ℕ) Stop) (staged made : List RowChange) (before after : Option (List Row)) → staged ≡ made → OnOk answer (after ≡ option_map (λ told. with_row_changes told staged) before) → OnOk answer (after ≡ option_map (λ told. with_row_changes told made) before)
-staged_batch answer staged made before after same done =
-    let P = λ (b : List RowChange). OnOk answer (after ≡ option_map (λ told. with_row_changes told b) before) in
-    subst P same done
+pub is_counted : (p : book.Posted) (ans : answers.Posted) (lines : ℕ) (before after : ServiceView) → IsPosted p lines before after ans → IsCounted ans before.faults after.faults
+is_counted TooManyLines ans lines before after posted = counted-same ans (answered.Lines lines) before after posted refl
+is_counted (Repeated made) ans lines before after posted = counted-same ans answered.Done before after posted refl
+is_counted (Differing kept sent) ans lines before after posted = counted-same ans (answered.Conflict sent) before after posted refl
+is_counted NoRoom ans lines before after posted = counted-same ans answered.Full before after posted refl
+is_counted (Taken made now) ans lines before after posted = counted-taken ans now before after posted
+
+pub text_unprinted : (ans : answers.Posted) (number : ℕ) (found : Option StoredLoad) (answer : Result (List ℕ) Stop) → IsAnswered ans found → IsTextOf ans number found answer → IfErr answer IsUnprinted
+text_unprinted answered.Done number found answer kept text = let both = text-unprinted found answer text in both.0
+text_unprinted (answered.Conflict sent) number found answer kept text = let both = conflict-unprinted found number sent answer kept text in both.0
+text_unprinted (answered.Lines lines) number found answer kept text = absurd kept
+text_unprinted answered.Full number found answer kept text = subst (λ (r : Result (List ℕ) Stop). IfErr r IsUnprinted) (sym text) (grind arith)
+text_unprinted answered.Failed number found answer kept text = subst (λ (r : Result (List ℕ) Stop). IfErr r IsUnprinted) (sym text) (grind arith)
+
+pub text_rises : (ans : answers.Posted) (number : ℕ) (found : Option StoredLoad) (answer : Result (List ℕ) Stop) (m n : ℕ) → IsAnswered ans found → IsTextOf ans number found answer → IsCounted ans m n → RisesAt 5 (status_of answer) m n
+text_rises answered.Done number found answer m n kept text same = let both = text-unprinted found answer text in stays_at_from 5 _ m n both.1 same
+text_rises (answered.Conflict sent) number found answer m n kept text same = let both = conflict-unprinted found number sent answer kept text in stays_at_from 5 _ m n both.1 same
+text_rises (answered.Lines lines) number found answer m n kept text same = absurd kept
+text_rises answered.Full number found answer m n kept text same = subst (λ (r : Result (List ℕ) Stop). RisesAt 5 (status_of r) m n) (sym text) (stays_at_from 5 11 m n (λ five. omega (arith, five)) same)
+text_rises answered.Failed number found answer m n kept text risen = subst (λ (r : Result (List ℕ) Stop). RisesAt 5 (status_of r) m n) (sym text) (record { rises = λ _. risen; stays = λ other. absurd (other refl) })
+
+-- ---- over the tables
+
+module _ (number : ℕ) (body : List ℕ) (office now : Office) (before between after : Option (List Row)) (m n : ℕ) (over : Over before (λ rows. IsOpened rows office)) (same : between ≡ before) where
+  abbrev view : Option (List Row) → ServiceView
+  view tables = record { office = office; tables = tables; faults = m }
+
+  abbrev later : ServiceView
+  later = record { office = now; tables = after; faults = n }
+
+  pub posted_over : (ans : answers.Posted) (answer : Result (List ℕ) Stop) → line_count body ≤ MOST_LINES → IsTrue (is_load_number number)
+      → IsPosted (posted office number (sha256 body) body) (line_count body) (view between) later ans → IsTextOf ans number (load_at now number) answer → Over before (λ rows. Gives (load_answer number body rows) answer before after)
+  posted_over ans answer few some is text =
+      let p = posted office number (sha256 body) body in
+      let P = λ (o : Outcome). Gives o answer before after in
+      let Q = λ (t : Option (List Row)). IsPosted p (line_count body) (view t) later ans in
+      record {
+        all = over.all;
+        is_all = over.is_all;
+        says = subst P (sym (load_opened number body over.all office over.says))
+            (posted_gives number over.all body (view before) later over.is_all over.says.are_rows (is_numbered number some) p ans answer (is-few office number (sha256 body) body few) (tells office number (sha256 body) body) (subst Q same is) text);
+      }
+
+  pub lost_over : (answer : Result (List ℕ) Stop) → IsErrAnd answer (λ stop. stop ≡ stops.Memory) → IsTrue (is_load_number number)
+      → LosesLoad number (sha256 body) body (view between) later → Over before (λ rows. Gives (load_answer number body rows) answer before after)
+  lost_over answer is some lost =
+      let P = λ (o : Outcome). Gives o answer before after in
+      let Q = λ (t : Option (List Row)). LosesLoad number (sha256 body) body (view t) later in
+      record {
+        all = over.all;
+        is_all = over.is_all;
+        says = subst P (sym (load_opened number body over.all office over.says))
+            (lost_gives number over.all body (view before) later over.is_all over.says.are_rows (is_numbered number some) answer is (subst Q same lost));
+      }
+
+  pub is_kept : (ans : answers.Posted) → line_count body ≤ MOST_LINES → IsTrue (is_load_number number) → IsPosted (posted office number (sha256 body) body) (line_count body) (view between) later ans → IsAnswered ans (load_at now number)
+  is_kept ans few some is =
+      is_answered number (sha256 body) body (line_count body) (view between) later (is_numbered number some) (posted office number (sha256 body) body) ans (is-few office number (sha256 body) body few) (tells office number (sha256 body) body) is
+
+  pub posted_rises : (ans : answers.Posted) (answer : Result (List ℕ) Stop) (k : ℕ) → line_count body ≤ MOST_LINES → IsTrue (is_load_number number) → m ≡ k
+      → IsPosted (posted office number (sha256 body) body) (line_count body) (view between) later ans → IsTextOf ans number (load_at now number) answer → RisesAt 5 (status_of answer) k n
+  posted_rises ans answer k few some steady is text =
+      subst (λ (j : ℕ). RisesAt 5 (status_of answer) j n) steady
+      (text_rises ans number (load_at now number) answer m n (is_kept ans few some is) text (is_counted (posted office number (sha256 body) body) ans (line_count body) (view between) later is))

@@ -1,12 +1,12 @@
 -- A text that is printed over the tables, or was not made.
-use Rattle.std.proofs.Common.{◌≡◌, ℕ, List, Option, sym, subst, arith}
+use Rattle.std.proofs.Common.{◌≡◌, ℕ, ◌⊎◌, inl, inr, refl, List, Option, sym, subst, arith}
 use Rattle.std.specs.Prelude.{Result, Ok, Err, IfErr, IsErrAnd}
 use Rattle.aq_profile.specs.Kept.Rows.{Row}
 use Rattle.aq_desk.proofs.Tables.{print_performs, stop_performs}
 use Rattle.aq_desk.proofs.Unread.{stays_at, stopped_by}
 use Rattle.aq_desk.specs.Command.{Outcome, RisesAt, WritesNothing, printed}
 use Rattle.aq_desk.specs.Outside.{Over}
-use Rattle.aq_desk.specs.Stop.{Gives, IsUnprinted, Obeys, Performs, ending_at, status_of}
+use Rattle.aq_desk.specs.Stop.{Gives, IsCutShort, IsUnprinted, Obeys, Performs, ending_at, status_of}
 use Rattle.aq_desk.specs.declared.stop.Stop.{Stop}
 use Rattle.aq_desk.specs.declared.stop.Stop.TheVariants.{OutputFailed}
 
@@ -23,6 +23,11 @@ module _ (stop : Stop) (answer : Result Unit Stop) (is : IsErrAnd answer (λ why
   stopped_read =
       let P = λ (r : Result Unit Stop). (status_of r ≡ 3 → ⊥) × (status_of r ≡ 10 → ⊥) in
       subst P (sym (stopped_by answer stop is)) ((λ three. omega (arith, three, unprinted)), (λ ten. omega (arith, ten, unprinted)))
+
+  pub stopped_door : status_of answer ≡ 8 → ⊥
+  stopped_door =
+      let P = λ (r : Result Unit Stop). status_of r ≡ 8 → ⊥ in
+      subst P (sym (stopped_by answer stop is)) (λ eight. omega (arith, eight, unprinted))
 
   pub stopped_output : (count : ℕ) → RisesAt 4 (status_of answer) count count
   stopped_output count =
@@ -49,6 +54,9 @@ module _ (answer : Result Unit Stop) (cut : IfErr answer (λ stop. stop ≡ Outp
   pub printed_read : (status_of answer ≡ 3 → ⊥) × (status_of answer ≡ 10 → ⊥)
   printed_read = printed-status answer (λ status. (status ≡ 3 → ⊥) × (status ≡ 10 → ⊥)) cut ((λ three. omega (arith, three)), (λ ten. omega (arith, ten))) ((λ three. omega (arith, three)), (λ ten. omega (arith, ten)))
 
+  pub printed_door : status_of answer ≡ 8 → ⊥
+  printed_door = printed-status answer (λ status. status ≡ 8 → ⊥) cut (λ eight. omega (arith, eight)) (λ eight. omega (arith, eight))
+
   pub printed_keeper : (m n : ℕ) → RisesAt 5 0 m n → RisesAt 5 (status_of answer) m n
   printed_keeper m n rises =
       let same : n ≡ m = rises.stays (λ five. omega (arith, five)) in
@@ -56,3 +64,9 @@ module _ (answer : Result Unit Stop) (cut : IfErr answer (λ stop. stop ≡ Outp
 
   pub printed_silent : WritesNothing (status_of answer) → ⊥
   printed_silent = printed-status answer (λ status. WritesNothing status → ⊥) cut (λ nothing. omega (arith, nothing)) (λ nothing. omega (arith, nothing))
+
+-- ---- one that was cut short, or was not
+
+pub cut_status : (answer : Result Unit Stop) → IfErr answer IsCutShort → (status_of answer ≡ 0) ⊎ (status_of answer ≡ 4) ⊎ (status_of answer ≡ 7)
+cut_status (Ok nothing) cut = inl refl
+cut_status (Err stop) cut = inr cut

@@ -10,7 +10,7 @@ use Rattle.aq_desk.proofs.Outcomes.{bytes_behind, front_behind, front_of_more, j
 use Rattle.aq_desk.specs.Command.{Tells}
 use Rattle.aq_profile.specs.Kept.RowChanges.{table_name}
 use Rattle.aq_profile.specs.Shown.OtherSheets.{digest_text, hex_digit}
-use Rattle.aq_desk.specs.Ending.{conflict, damaged, input_failed, keeper_failed, loads_full, no_command, no_memory, no_site, output_failed, too_many_bytes, too_many_lines}
+use Rattle.aq_desk.specs.Ending.{conflict, damaged, door_failed, input_failed, keeper_failed, loads_full, no_command, no_memory, no_site, output_failed, too_many_bytes, too_many_lines}
 use Rattle.aq_base.specs.Faults.{HasRisen}
 use Rattle.aq_desk.specs.Stop.{ending_at}
 use Rattle.aq_desk.specs.declared.stop.Stop.{Stop}
@@ -74,6 +74,10 @@ six : decimal 6 ≡ codes "6"
 unfolding digits
 six = refl
 
+eight : decimal 8 ≡ codes "8"
+unfolding digits
+eight = refl
+
 nine : decimal 9 ≡ codes "9"
 unfolding digits
 nine = refl
@@ -102,7 +106,7 @@ most_bytes : decimal 8388608 ≡ codes "8388608"
 unfolding digits
 most_bytes = refl
 
-pub no_command_message : codes "airdv: 2 no command\n" ≡ no_command.message
+pub no_command_message : codes "airdv: 2 no command\nusage: airdv scan SITE DAY\nusage: airdv load NUMBER\nusage: airdv show STANDARD SITE YEAR\nusage: airdv report STANDARD YEAR\nusage: airdv export SITE PARAMETER YEAR\nusage: airdv serve --port P --connections N\nusage: airdv simulate START SITES YEARS\n" ≡ no_command.message
 no_command_message = rw two refl
 
 pub input_message : codes "airdv: 3 input failed\n" ≡ input_failed.message
@@ -113,6 +117,9 @@ output_message = rw four refl
 
 pub keeper_message : codes "airdv: 5 keeper failed\n" ≡ keeper_failed.message
 keeper_message = rw five refl
+
+pub door_message : codes "airdv: 8 door failed\n" ≡ door_failed.message
+door_message = rw eight refl
 
 pub full_message : codes "airdv: 11 loads full\n" ≡ loads_full.message
 full_message = rw eleven refl

@@ -2,7 +2,7 @@
 use Rattle.std.specs.Prelude.{◌≡◌, ℕ, ◌<◌, ◌⊎◌, ◌==◌, if◌then◌else◌, List, [], ◌++◌, length, Option}
 use Rattle.std.specs.Option.{option_map}
 use Rattle.aq_profile.specs.Kept.Rows.{Row}
-use Rattle.aq_desk.specs.Ending.{Ending, done, input_failed, output_failed, keeper_failed, no_memory}
+use Rattle.aq_desk.specs.Ending.{Ending, done, input_failed, output_failed, keeper_failed, door_failed, no_memory}
 use Rattle.aq_base.specs.Faults.{HasRisen}
 use Rattle.aq_desk.specs.Writing.{WritesFront}
 
@@ -70,7 +70,8 @@ message_for outcome status =
     if status == 3 then input_failed.message
     else (if status == 4 then output_failed.message
     else (if status == 5 then keeper_failed.message
-    else (if status == 7 then no_memory.message else outcome.ending.message)))
+    else (if status == 7 then no_memory.message
+    else (if status == 8 then door_failed.message else outcome.ending.message))))
 
 -- a message goes behind what was written, all of it or, where the stream's count of faults rose, a front
 pub record Tells (message : List ℕ) (count_before count_after : ℕ) (before after : Option (List ℕ)) : Type 0 where
@@ -84,7 +85,7 @@ pub record RisesAt (wanted status : ℕ) (before after : ℕ) : Type 0 where
 
 -- the statuses that a run may have
 abbrev pub IsStatus : ℕ → Type 0
-IsStatus status = IsWhole status ⊎ (status ≡ 3) ⊎ (status ≡ 4) ⊎ (status ≡ 5) ⊎ (status ≡ 7)
+IsStatus status = IsWhole status ⊎ (status ≡ 3) ⊎ (status ≡ 4) ⊎ (status ≡ 5) ⊎ (status ≡ 7) ⊎ (status ≡ 8)
 
 -- the statuses of a run that read its input to the end, within the limits, where its command reads it
 abbrev pub ReadsWhole : ℕ → Type 0
@@ -92,4 +93,4 @@ ReadsWhole status = (status ≡ 0) ⊎ (status ≡ 4) ⊎ (status ≡ 5) ⊎ (st
 
 -- the statuses of one that wrote nothing on the output
 abbrev pub WritesNothing : ℕ → Type 0
-WritesNothing status = (status ≡ 2) ⊎ (status ≡ 3) ⊎ (status ≡ 5) ⊎ (status ≡ 6) ⊎ (status ≡ 9) ⊎ (status ≡ 10) ⊎ (status ≡ 11)
+WritesNothing status = (status ≡ 2) ⊎ (status ≡ 3) ⊎ (status ≡ 5) ⊎ (status ≡ 6) ⊎ (status ≡ 8) ⊎ (status ≡ 9) ⊎ (status ≡ 10) ⊎ (status ≡ 11)

@@ -1,5 +1,5 @@
 -- How a run ends: its exit status, and its message on the errors stream (own).
-use Rattle.std.specs.Prelude.{ℕ, List, [], ◌++◌, codes, decimal}
+use Rattle.std.specs.Prelude.{ℕ, List, [], ◌∷◌, ◌++◌, flat_map, codes, decimal}
 use Rattle.aq_base.specs.Site.{Site}
 use Rattle.aq_profile.specs.Limits.{MOST_BYTES}
 use Rattle.aq_profile.specs.Kept.RowChanges.{table_name}
@@ -19,8 +19,19 @@ done = record { status = 0; message = [] }
 abbrev pub ends : ℕ → List ℕ → Ending
 ends status cause = record { status = status; message = codes "airdv: " ++ decimal status ++ codes " " ++ cause ++ codes "\n" }
 
+-- the commands, as the usage text names them
+abbrev pub commands : List (List ℕ)
+commands =
+    codes "scan SITE DAY" ∷ codes "load NUMBER" ∷ codes "show STANDARD SITE YEAR" ∷ codes "report STANDARD YEAR"
+    ∷ codes "export SITE PARAMETER YEAR" ∷ codes "serve --port P --connections N" ∷ codes "simulate START SITES YEARS" ∷ []
+
+-- a line for each command
+abbrev pub usage : List ℕ
+usage = flat_map (λ command. codes "usage: airdv " ++ command ++ codes "\n") commands
+
+-- with the usage text behind its line
 abbrev pub no_command : Ending
-no_command = ends 2 (codes "no command")
+no_command = let ending = ends 2 (codes "no command") in record { status = ending.status; message = ending.message ++ usage }
 
 abbrev pub input_failed : Ending
 input_failed = ends 3 (codes "input failed")
@@ -37,6 +48,9 @@ damaged place = ends 6 (codes "damaged " ++ table_name place.table ++ codes " " 
 
 abbrev pub no_memory : Ending
 no_memory = ends 7 (codes "memory")
+
+abbrev pub door_failed : Ending
+door_failed = ends 8 (codes "door failed")
 
 -- with the load's number, the digest that is kept, and the one that was sent
 abbrev pub conflict : ℕ → List ℕ → List ℕ → Ending

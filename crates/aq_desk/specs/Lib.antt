@@ -3,11 +3,12 @@ pub mod Memories
 pub mod Ending
 pub mod Body
 pub mod Writing
-pub mod Words
 pub mod Command
 pub mod Stop
 pub mod Office
 pub mod Scan
 pub mod Load
-pub mod Show
+pub mod Ask
+pub mod Serve
+pub mod Simulate
 pub mod Run

@@ -1,15 +1,21 @@
 -- The command `load NUMBER`: the input is taken as the load with this number over the office of the tables; its sheet is printed, and the tables are those with the load (own).
-use Rattle.std.specs.Prelude.{ℕ, if◌then◌else◌, List}
+use Rattle.std.specs.Prelude.{◌≡◌, ⊤, ℕ, if◌then◌else◌, List, Option, Some, Result, Ok, Err, IfSome, IsSome}
+use Rattle.std.specs.Option.{option_map}
 use Rattle.sha2.specs.Sha256.{sha256}
 use Rattle.aq_profile.specs.Kept.Rows.{Row, rows_of}
 use Rattle.aq_profile.specs.Lines.Lines.{line_count}
 use Rattle.aq_profile.specs.Office.Load.{Posted, TooManyLines, Repeated, Differing, NoRoom, Taken, posted}
+use Rattle.aq_profile.specs.Office.Office.{StoredLoad}
 use Rattle.aq_profile.specs.Shown.Sheet.{text_of}
 use Rattle.aq_profile.specs.Shown.Sheets.{load_sheet}
 use Rattle.aq_desk.specs.Body.{excess, is_within}
 use Rattle.aq_desk.specs.Command.{Outcome, leaving, printed, unwritten}
 use Rattle.aq_desk.specs.Ending.{conflict, loads_full, too_many_lines}
 use Rattle.aq_desk.specs.Office.{over_office}
+use Rattle.aq_desk.specs.declared.stop.Stop.{Stop}
+use Rattle.aq_desk.specs.declared.stop.Stop.TheVariants as stops
+use Rattle.aq_service.specs.declared.posting.Posted as answers
+use Rattle.aq_service.specs.declared.posting.Posted.TheVariants.{Done, Lines, Conflict, Full, Failed}
 
 -- a known number with the same body gives the kept reply; the rows change only where the load is taken
 abbrev pub posted_outcome : ℕ → List Row → List ℕ → Posted → Outcome
@@ -30,3 +36,26 @@ load_outcome number rows body =
     if is_within body
     then load_answer number body rows
     else leaving rows (unwritten (excess body))
+
+-- ---- a load that was posted
+
+-- its number is kept, where the answer speaks of what is kept; a body within the limits has no more lines than may be
+abbrev pub IsAnswered : answers.Posted → Option StoredLoad → Type 0
+IsAnswered Done kept = IsSome kept
+IsAnswered (Conflict sent) kept = IsSome kept
+IsAnswered (Lines lines) kept = ⊥
+IsAnswered Full kept = ⊤
+IsAnswered Failed kept = ⊤
+
+-- the text of the sheet that is kept; memory may run out
+abbrev pub IsKeptText : Option StoredLoad → Result (List ℕ) Stop → Type 0
+IsKeptText kept (Ok text) = Some text ≡ option_map (λ (load : StoredLoad). text_of (load_sheet load.reply)) kept
+IsKeptText kept (Err stop) = stop ≡ stops.Memory
+
+-- what is printed of it, or what stops the command
+abbrev pub IsTextOf : answers.Posted → ℕ → Option StoredLoad → Result (List ℕ) Stop → Type 0
+IsTextOf Done number kept answer = IsKeptText kept answer
+IsTextOf (Conflict sent) number kept answer = IfSome kept (λ load. answer ≡ Err (stops.Conflict number load.digest sent))
+IsTextOf (Lines lines) number kept answer = ⊥
+IsTextOf Full number kept answer = answer ≡ Err stops.LoadsFull
+IsTextOf Failed number kept answer = answer ≡ Err stops.KeeperFailed

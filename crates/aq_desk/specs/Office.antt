@@ -30,9 +30,3 @@ IsUnopened tables before after KeeperFailed = HasRisen before after
 IsUnopened tables before after Memory = after ≡ before
 IsUnopened tables before after (Damaged place) = (after ≡ before) × Over tables (λ rows. damage rows ≡ Some (record { table = place.table; index = place.index }))
 IsUnopened tables before after _ = ⊥
-
--- why a load is not committed: the keeper's count rose, or memory ran out
-abbrev pub IsUncommitted : ℕ → ℕ → Stop → Type 0
-IsUncommitted before after KeeperFailed = HasRisen before after
-IsUncommitted before after Memory = after ≡ before
-IsUncommitted before after _ = ⊥

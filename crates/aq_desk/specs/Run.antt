@@ -1,28 +1,25 @@
 -- What the program does for its words, the keeper's tables and its input (own).
-use Rattle.std.specs.Prelude.{ℕ, Bool, true, false, List, Option, Some, None}
-use Rattle.aq_base.specs.declared.ask.Ask.{Ask}
-use Rattle.aq_base.specs.declared.ask.Ask.TheVariants.{Value}
+use Rattle.std.specs.Prelude.{◌≡◌, ℕ, Bool, true, false, List, Option, Some, None, IsNone}
+use Rattle.aq_base.specs.Faults.{HasRisen}
 use Rattle.aq_profile.specs.Kept.Rows.{Row}
-use Rattle.aq_profile.specs.Shown.Answer.{is_design_year}
+use Rattle.aq_words.specs.declared.words.Command.{Command}
+use Rattle.aq_words.specs.declared.words.Command.TheVariants.{Scan, Load, Serve, Simulate}
+use Rattle.aq_words.specs.declared.words.Command.TheVariants as command
+use Rattle.aq_desk.specs.Ask.{ask_outcome}
 use Rattle.aq_desk.specs.Command.{Outcome, leaving, unwritten}
 use Rattle.aq_desk.specs.Ending.{no_command}
 use Rattle.aq_desk.specs.Load.{load_outcome}
 use Rattle.aq_desk.specs.Scan.{scan_outcome}
-use Rattle.aq_desk.specs.Show.{show_outcome}
-use Rattle.aq_desk.specs.declared.words.Command.{Command}
-use Rattle.aq_desk.specs.declared.words.Command.TheVariants.{Scan, Load}
-use Rattle.aq_desk.specs.declared.words.Command.TheVariants as command
+use Rattle.aq_desk.specs.Serve.{serve_outcome}
+use Rattle.aq_desk.specs.Simulate.{simulate_outcome}
 
--- what a question gives: no words ask another one yet
-abbrev pub ask_outcome : Ask → List Row → Outcome
-ask_outcome (Value standard site year) rows = show_outcome standard site year rows
-ask_outcome _ rows = leaving rows (unwritten no_command)
-
--- what a command gives over the tables' rows and an input
+-- what a command gives over the tables' rows and an input; what `serve` does at the door is told apart
 abbrev pub outcome_of : Command → List Row → List ℕ → Outcome
 outcome_of (Scan site day) rows body = leaving rows (scan_outcome site day body)
 outcome_of (Load number) rows body = load_outcome number rows body
 outcome_of (command.Ask ask) rows body = ask_outcome ask rows
+outcome_of (Serve port connections) rows body = serve_outcome rows
+outcome_of (Simulate start sites years) rows body = leaving rows (simulate_outcome start sites years)
 
 -- the same for words that may be no command
 abbrev pub outcome_for : Option Command → List Row → List ℕ → Outcome
@@ -35,24 +32,41 @@ abbrev pub reads_input : Command → Bool
 reads_input (Scan site day) = true
 reads_input (Load number) = true
 reads_input (command.Ask ask) = false
+reads_input (Serve port connections) = false
+reads_input (Simulate start sites years) = false
 
 abbrev pub uses_keeper : Command → Bool
 uses_keeper (Scan site day) = false
 uses_keeper (Load number) = true
 uses_keeper (command.Ask ask) = true
+uses_keeper (Serve port connections) = true
+uses_keeper (Simulate start sites years) = false
+
+abbrev pub writes_output : Command → Bool
+writes_output (Scan site day) = true
+writes_output (Load number) = true
+writes_output (command.Ask ask) = true
+writes_output (Serve port connections) = false
+writes_output (Simulate start sites years) = true
 
 -- words that are no command use nothing
 abbrev pub uses : (Command → Bool) → Option Command → Bool
 uses test None = false
 uses test (Some command) = test command
 
--- ---- what words may ask
+-- how many connections are to be served, by the one command that serves
+abbrev pub connections_in : Command → Option ℕ
+connections_in (Scan site day) = None
+connections_in (Load number) = None
+connections_in (command.Ask ask) = None
+connections_in (Serve port connections) = Some connections
+connections_in (Simulate start sites years) = None
 
-abbrev pub is_asked : Ask → Bool
-is_asked (Value standard site year) = is_design_year year
-is_asked _ = false
+abbrev pub connections_for : Option Command → Option ℕ
+connections_for None = None
+connections_for (Some command) = connections_in command
 
-abbrev pub is_command : Command → Bool
-is_command (Scan site day) = true
-is_command (Load number) = true
-is_command (command.Ask ask) = is_asked ask
+-- the keeper's count rose where a run ends with 5; it is as before where one ends otherwise, unless connections were served
+pub record KeeperRises (connections : Option ℕ) (status before after : ℕ) : Type 0 where
+  pub rises : status ≡ 5 → HasRisen before after
+  pub stays : IsNone connections → (status ≡ 5 → ⊥) → after ≡ before

@@ -4,7 +4,7 @@ use Rattle.std.specs.Option.{option_map}
 use Rattle.aq_profile.specs.Kept.Rows.{Row}
 use Rattle.aq_desk.specs.Body.{is_within}
 use Rattle.aq_desk.specs.Command.{IsWhole, Keeps, Outcome, Printout, ReadsWhole, RisesAt, printout_of}
-use Rattle.aq_desk.specs.Ending.{Ending, done, input_failed, output_failed, keeper_failed, damaged, no_memory, conflict, too_many_bytes, too_many_lines, loads_full, no_site}
+use Rattle.aq_desk.specs.Ending.{Ending, done, input_failed, output_failed, keeper_failed, damaged, no_memory, door_failed, conflict, too_many_bytes, too_many_lines, loads_full, no_site}
 use Rattle.aq_desk.specs.Outside.{Over}
 use Rattle.aq_desk.specs.Writing.{WritesFront}
 use Rattle.aq_rows.specs.declared.opening.OpenFault.{OpenFault}
@@ -14,12 +14,13 @@ use Rattle.aq_keeper.specs.declared.keeper.KeeperFault.TheVariants as keeper
 use Rattle.aq_desk.specs.declared.body.BodyFault.{BodyFault}
 use Rattle.aq_desk.specs.declared.body.BodyFault.TheVariants as fault
 use Rattle.aq_desk.specs.declared.stop.Stop.{Stop}
-use Rattle.aq_desk.specs.declared.stop.Stop.TheVariants.{InputFailed, OutputFailed, KeeperFailed, Damaged, Memory, Conflict, TooManyBytes, TooManyLines, LoadsFull, NoSite}
+use Rattle.aq_desk.specs.declared.stop.Stop.TheVariants.{InputFailed, OutputFailed, KeeperFailed, DoorFailed, Damaged, Memory, Conflict, TooManyBytes, TooManyLines, LoadsFull, NoSite}
 
 abbrev pub ending_at : Stop → Ending
 ending_at InputFailed = input_failed
 ending_at OutputFailed = output_failed
 ending_at KeeperFailed = keeper_failed
+ending_at DoorFailed = door_failed
 ending_at (Damaged place) = damaged (record { table = place.table; index = place.index })
 ending_at Memory = no_memory
 ending_at (Conflict number kept sent) = conflict number kept sent
@@ -49,6 +50,10 @@ stop_of_keeper keeper.Memory = Memory
 abbrev pub stop_of_book : OpenFault → Stop
 stop_of_book (book.Damaged place) = Damaged place
 stop_of_book book.Memory = Memory
+
+-- what stops a command is what ends its outcome, unless it was cut short
+abbrev pub EndsAs : {A : Type 0} → Outcome → Result A Stop → Type 0
+EndsAs outcome answer = IsWhole (status_of answer) → ending_of answer ≡ outcome.ending
 
 -- it does all of its printout, or, where it was cut short, a front of the output; the output fails only where there is something to write
 pub record Obeys (printout : Printout) (answer : Result Unit Stop) (before after : Option (List ℕ)) : Type 0 where

@@ -1,38 +1,59 @@
 //! The top call: it picks the command of the words.
-ghost use Rattle.std.specs.Prelude.{◌≡◌, ◌↔◌, true, false, IsNone, IsTrue, map, string_bytes};
+ghost use Rattle.std.specs.Prelude.{◌≡◌, ◌↔◌, true, false, IsNone, IsTrue, IfSome, IsSome, map, string_bytes};
 ghost use Rattle.aq_desk.specs.Body.{is_within};
 ghost use Rattle.aq_desk.specs.Command.{Follows, IsStatus, ReadsWhole, RisesAt, Tells, WritesNothing, message_for};
 ghost use Rattle.aq_desk.specs.Ending.{no_memory};
 ghost use Rattle.aq_desk.specs.Outside.{Over};
-ghost use Rattle.aq_desk.specs.Run.{ask_outcome, is_asked, is_command, outcome_for, outcome_of, reads_input, uses, uses_keeper};
-ghost use Rattle.aq_desk.specs.Stop.{Performs, ending_at, status_of};
-ghost use Rattle.aq_desk.specs.Words.{command_of};
+ghost use Rattle.aq_desk.specs.Run.{KeeperRises, connections_for, connections_in, outcome_for, outcome_of, reads_input, uses, uses_keeper, writes_output};
+ghost use Rattle.aq_desk.specs.Serve.{HasServed};
+ghost use Rattle.aq_desk.specs.Stop.{EndsAs, Performs, ending_at, status_of};
+ghost use Rattle.aq_words.specs.Words.{command_of, is_command};
 
+use crate::ask::ask;
 use crate::load::load;
 use crate::outside::{Sink, Source};
 use crate::scan::scan;
-use crate::show::show;
+use crate::serve::serve;
+use crate::simulate::simulate;
 use crate::stop::Stop;
-use crate::words::{Command, read_words};
 use crate::writing::write_all;
-use aq_base::Ask;
 use aq_keeper::Keeper;
+use aq_serve::Door;
+use aq_words::{Command, read_words};
 use std::alloc::Global;
 
+/// What is told of words that name no command: the usage text behind it has a line for each command.
+const NO_COMMAND: &[u8] = b"airdv: 2 no command\n\
+usage: airdv scan SITE DAY\n\
+usage: airdv load NUMBER\n\
+usage: airdv show STANDARD SITE YEAR\n\
+usage: airdv report STANDARD YEAR\n\
+usage: airdv export SITE PARAMETER YEAR\n\
+usage: airdv serve --port P --connections N\n\
+usage: airdv simulate START SITES YEARS\n";
+
 /// Does what the words ask for, and answers the exit status. A message goes to `errors`, whose failures
-/// change nothing.
-pub fn run<K: Keeper, S: Source, O: Sink, E: Sink>(
+/// change nothing. The door has no open connection, as is so of each door when it is made.
+pub fn run<K: Keeper, D: Door, S: Source, O: Sink, E: Sink>(
     alloc: Global,
     words: &[String],
     keeper: &mut K,
+    door: &mut D,
     input: &mut S,
     output: &mut O,
     errors: &mut E,
 ) -> u8
-    // The headline: what is answered and written, and the tables after it, are what the command's
-    // definition gives for the words, the tables and the input, all of it or, where a count rose or memory
-    // ran out, a front of its output.
-    ensures headline { Over (K.tables keeper.old) (λ rows. Over (S.left input.old) (λ body. Follows (outcome_for (command_of (map string_bytes words.now)) rows body) result (O.written output.old) (O.written output.new) (K.tables keeper.old) (K.tables keeper.new))) }
+    requires none_open { (D.seen door.old).is_open ≡ false }
+
+    // The headline of the commands that print: what is answered and written, and the tables after it, are
+    // what the command's definition gives for the words, the tables and the input, all of it or, where a
+    // count rose or memory ran out, a front of its output.
+    ensures headline { IsNone (connections_for (command_of (map string_bytes words.now))) → Over (K.tables keeper.old) (λ rows. Over (S.left input.old) (λ body. Follows (outcome_for (command_of (map string_bytes words.now)) rows body) result (O.written output.old) (O.written output.new) (K.tables keeper.old) (K.tables keeper.new))) }
+
+    // The headline of the command that serves: each connection's replies are those of its session over the
+    // office that the connections before left, from the office of the tables on, and the tables after it are
+    // those of the last office; a connection is cut only where a count of the door rose.
+    ensures served { IfSome (connections_for (command_of (map string_bytes words.now))) (λ connections. Over (K.tables keeper.old) (λ rows. HasServed connections rows result (record { door = D.seen door.old; tables = K.tables keeper.old; faults = K.faults keeper.old }) (record { door = D.seen door.new; tables = K.tables keeper.new; faults = K.faults keeper.new }))) }
 
     // The message is that of the status: of a status that the definition gives, the definition's.
     ensures messages { Over (K.tables keeper.old) (λ rows. Over (S.left input.old) (λ body. Tells (message_for (outcome_for (command_of (map string_bytes words.now)) rows body) result) (E.faults errors.old) (E.faults errors.new) (E.written errors.old) (E.written errors.new))) }
@@ -41,7 +62,8 @@ pub fn run<K: Keeper, S: Source, O: Sink, E: Sink>(
     ensures no_command { (result ≡ 2) ↔ IsNone (command_of (map string_bytes words.now)) }
     ensures input_failed { RisesAt 3 result (S.faults input.old) (S.faults input.new) }
     ensures output_failed { RisesAt 4 result (O.faults output.old) (O.faults output.new) }
-    ensures keeper_failed { RisesAt 5 result (K.faults keeper.old) (K.faults keeper.new) }
+    ensures keeper_failed { KeeperRises (connections_for (command_of (map string_bytes words.now))) result (K.faults keeper.old) (K.faults keeper.new) }
+    ensures door_failed { RisesAt 8 result (D.seen door.old).accepts (D.seen door.new).accepts }
 
     // A body of too many bytes or lines, and no other, ends with 10, unless the input or memory failed
     // first.
@@ -53,60 +75,57 @@ pub fn run<K: Keeper, S: Source, O: Sink, E: Sink>(
     // What a command does not use stays as it was.
     ensures unused_input { uses reads_input (command_of (map string_bytes words.now)) ≡ false → input.new ≡ input.old }
     ensures unused_keeper { uses uses_keeper (command_of (map string_bytes words.now)) ≡ false → keeper.new ≡ keeper.old }
+    ensures unused_output { uses writes_output (command_of (map string_bytes words.now)) ≡ false → output.new ≡ output.old }
+    ensures unused_door { IsNone (connections_for (command_of (map string_bytes words.now))) → door.new ≡ door.old }
+    ensures only_serve { result ≡ 8 → IsSome (connections_for (command_of (map string_bytes words.now))) }
 {
     let Some(command) = read_words(words) else {
-        let _ = write_all(errors, b"airdv: 2 no command\n");
+        let _ = write_all(errors, NO_COMMAND);
         return 2;
     };
-    match perform(alloc, &command, keeper, input, output) {
+    match perform(alloc, &command, keeper, door, input, output) {
         Ok(()) => 0,
         Err(stop) => tell(&stop, errors),
     }
 }
 
 /// Does a command.
-fn perform<K: Keeper, S: Source, O: Sink>(
+fn perform<K: Keeper, D: Door, S: Source, O: Sink>(
     alloc: Global,
     command: &Command,
     keeper: &mut K,
+    door: &mut D,
     input: &mut S,
     output: &mut O,
 ) -> Result<(), Stop>
-    requires { IsTrue (is_command command.now) }
-    ensures told { Over (K.tables keeper.old) (λ rows. Over (S.left input.old) (λ body. Performs (outcome_of command.now rows body) result (O.written output.old) (O.written output.new) (K.tables keeper.old) (K.tables keeper.new))) }
+    requires command { IsTrue (is_command command.now) }
+    requires none_open { (D.seen door.old).is_open ≡ false }
+    ensures told { IsNone (connections_in command.now) → Over (K.tables keeper.old) (λ rows. Over (S.left input.old) (λ body. Performs (outcome_of command.now rows body) result (O.written output.old) (O.written output.new) (K.tables keeper.old) (K.tables keeper.new))) }
+    ensures served { IfSome (connections_in command.now) (λ connections. Over (K.tables keeper.old) (λ rows. HasServed connections rows (status_of result) (record { door = D.seen door.old; tables = K.tables keeper.old; faults = K.faults keeper.old }) (record { door = D.seen door.new; tables = K.tables keeper.new; faults = K.faults keeper.new }))) }
+    ensures ends { Over (K.tables keeper.old) (λ rows. Over (S.left input.old) (λ body. EndsAs (outcome_of command.now rows body) result)) }
     ensures input_failed { RisesAt 3 (status_of result) (S.faults input.old) (S.faults input.new) }
     ensures output_failed { RisesAt 4 (status_of result) (O.faults output.old) (O.faults output.new) }
-    ensures keeper_failed { RisesAt 5 (status_of result) (K.faults keeper.old) (K.faults keeper.new) }
+    ensures keeper_failed { KeeperRises (connections_in command.now) (status_of result) (K.faults keeper.old) (K.faults keeper.new) }
+    ensures door_failed { RisesAt 8 (status_of result) (D.seen door.old).accepts (D.seen door.new).accepts }
     ensures too_many { status_of result ≡ 10 → Over (S.left input.old) (λ body. is_within body ≡ false) }
     ensures whole { reads_input command.now ≡ true → ReadsWhole (status_of result) → Over (S.left input.old) (λ body. is_within body ≡ true) }
     ensures silent { WritesNothing (status_of result) → output.new ≡ output.old }
     ensures unused_input { reads_input command.now ≡ false → input.new ≡ input.old }
     ensures unused_keeper { uses_keeper command.now ≡ false → keeper.new ≡ keeper.old }
+    ensures unused_output { writes_output command.now ≡ false → output.new ≡ output.old }
+    ensures unused_door { IsNone (connections_in command.now) → door.new ≡ door.old }
+    ensures only_serve { status_of result ≡ 8 → IsSome (connections_in command.now) }
 {
     match command {
         Command::Scan { site, day } => scan(alloc, *site, *day, input, output),
         Command::Load(number) => load(alloc, *number, keeper, input, output),
-        Command::Ask(ask) => answer(alloc, ask, keeper, output),
-    }
-}
-
-/// Answers a question.
-fn answer<K: Keeper, O: Sink>(
-    alloc: Global,
-    ask: &Ask,
-    keeper: &mut K,
-    output: &mut O,
-) -> Result<(), Stop>
-    requires { IsTrue (is_asked ask.now) }
-    ensures told { Over (K.tables keeper.old) (λ rows. Performs (ask_outcome ask.now rows) result (O.written output.old) (O.written output.new) (K.tables keeper.old) (K.tables keeper.new)) }
-    ensures no_input { (status_of result ≡ 3 → ⊥) × (status_of result ≡ 10 → ⊥) }
-    ensures output_failed { RisesAt 4 (status_of result) (O.faults output.old) (O.faults output.new) }
-    ensures keeper_failed { RisesAt 5 (status_of result) (K.faults keeper.old) (K.faults keeper.new) }
-    ensures silent { WritesNothing (status_of result) → output.new ≡ output.old }
-{
-    match ask {
-        Ask::Value(standard, site, year) => show(alloc, *standard, *site, *year, keeper, output),
-        _ => unreachable!(),
+        Command::Ask(question) => ask(alloc, question, keeper, output),
+        Command::Serve { port, connections } => serve(alloc, *port, *connections, keeper, door),
+        Command::Simulate {
+            start,
+            sites,
+            years,
+        } => simulate(alloc, *start, *sites, *years, output),
     }
 }
 

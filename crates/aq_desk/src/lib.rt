@@ -1,6 +1,7 @@
 //! The desk: the top call `run`, and the outside as it sees it.
 #![tactic(auto)]
 
+mod ask;
 mod body;
 mod command;
 mod load;
@@ -10,20 +11,24 @@ mod messages;
 mod office;
 mod outside;
 mod scan;
-mod show;
+mod serve;
+mod simulate;
 mod stop;
-mod words;
 mod writing;
 
+pub use aq_serve::{Door, MemoryDoor};
+pub use aq_service::{Posted, post};
+pub use aq_words::{Command, read_words};
 pub use command::{end_without_memory, run};
 pub use memory_sink::MemorySink;
 pub use memory_source::MemorySource;
 pub use outside::{Sink, Source};
-pub use words::{Command, read_words};
 
 #[cfg(test)]
 mod load_tests;
 #[cfg(test)]
 mod office_tests;
+#[cfg(test)]
+mod serve_tests;
 #[cfg(test)]
 mod tests;

@@ -40,7 +40,16 @@ fn answer(
     let mut input = MemorySource::new(body.to_vec(alloc)?, Vec::new(alloc));
     let mut output = MemorySink::new(alloc, 100_000, Vec::new(alloc))?;
     let mut errors = MemorySink::new(alloc, 1_000, Vec::new(alloc))?;
-    let status = run(alloc, &list, keeper, &mut input, &mut output, &mut errors);
+    let mut door = MemoryDoor::new(alloc, Vec::new(alloc), 0, Vec::new(alloc), Vec::new(alloc))?;
+    let status = run(
+        alloc,
+        &list,
+        keeper,
+        &mut door,
+        &mut input,
+        &mut output,
+        &mut errors,
+    );
     let printed = String::from_utf8_lossy(alloc, output.written())?;
     let told = String::from_utf8_lossy(alloc, errors.written())?;
     Ok(format!(in alloc; "{status}\n{printed}{told}")?)
@@ -285,5 +294,44 @@ fn numbers_standards_and_years_are_spelled_so(rt: HostRuntime) -> Result<(), Fai
     ] {
         assert!(rt; !is_command(alloc, line)?, "{line}");
     }
+    Ok(())
+}
+
+#[test]
+fn an_export_has_every_observation_of_its_year(rt: HostRuntime) -> Result<(), Fail> {
+    let alloc = rt.alloc();
+    let mut keeper = keeper_of(Vec::new(alloc), Vec::new(alloc))?;
+    let mut body = String::from_str(alloc, MONITOR)?;
+    body.push_str("RD|I|06|037|1103|44201|1|1|007|087|20240701|10:00|0.071\n")?;
+    body.push_str("RD|I|06|037|1103|44201|1|1|007|087|20240701|11:00||AN|||V|RT\n")?;
+    body.push_str("RD|I|06|037|1103|44201|1|1|007|087|20230701|11:00|0.072\n")?;
+    answer(alloc, &mut keeper, "load 1", body.as_bytes())?;
+    let given = answer(alloc, &mut keeper, "export 06-037-1103 44201 2024", b"")?;
+    assert_eq!(rt;
+        given.as_str(),
+        "0\nsite,parameter,poc,date,hour,value,null,qualifiers,excluded\n06-037-1103,44201,1,2024-07-01,10,0.071,,,N\n06-037-1103,44201,1,2024-07-01,11,,AN,V RT,N\n"
+    );
+    let none = answer(alloc, &mut keeper, "export 06-037-1104 44201 2024", b"")?;
+    assert_eq!(rt; none.as_str(), "12\nairdv: 12 no site 06-037-1104\n");
+    Ok(())
+}
+
+#[test]
+fn a_report_has_the_sites_with_a_monitor_of_its_pollutant(rt: HostRuntime) -> Result<(), Fail> {
+    let alloc = rt.alloc();
+    let mut keeper = keeper_of(Vec::new(alloc), Vec::new(alloc))?;
+    let mut body = season(alloc, [71, 71, 71])?;
+    body.push_str("XM|I|06|037|1104|88101|1|7|Y\n")?;
+    answer(alloc, &mut keeper, "load 1", body.as_bytes())?;
+    let given = answer(alloc, &mut keeper, "report O3-2015 2024", b"")?;
+    assert_eq!(rt;
+        given.as_str(),
+        "0\nstandard O3-2015\nyear 2024\nsite value verdict\n06-037-1103 0.071 NotMet\n"
+    );
+    let given = answer(alloc, &mut keeper, "report PM10-24H-1987 2024", b"")?;
+    assert_eq!(rt;
+        given.as_str(),
+        "0\nstandard PM10-24H-1987\nyear 2024\nsite value verdict\n"
+    );
     Ok(())
 }

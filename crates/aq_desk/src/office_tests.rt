@@ -95,10 +95,18 @@ impl Body {
         let mut output = MemorySink::new(alloc, 10_000, Vec::new(alloc))?;
         let mut errors = MemorySink::new(alloc, 1_000, Vec::new(alloc))?;
         let mut keeper = SteadyKeeper::new(alloc);
+        let mut door = MemoryDoor::new(
+            alloc,
+            Vec::new(alloc),
+            0,
+            Vec::new(alloc),
+            Vec::new(alloc),
+        )?;
         let status = run(
             alloc,
             &words,
             &mut keeper,
+            &mut door,
             &mut input,
             &mut output,
             &mut errors,

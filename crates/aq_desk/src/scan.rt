@@ -33,6 +33,7 @@ pub(crate) fn scan<S: Source, O: Sink>(
     ensures told { Over (S.left input.old) (λ body. Obeys (scan_outcome site day body) result (O.written output.old) (O.written output.new)) }
     ensures causes { HasCauses (S.left input.old) (status_of result) (S.faults input.old) (S.faults input.new) (O.faults output.old) (O.faults output.new) }
     ensures no_keeper { status_of result ≡ 5 → ⊥ }
+    ensures no_door { status_of result ≡ 8 → ⊥ }
     ensures silent { WritesNothing (status_of result) → output.new ≡ output.old }
 {
     let body = read_body(alloc, input)?;

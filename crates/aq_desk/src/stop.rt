@@ -17,6 +17,8 @@ pub(crate) enum Stop {
     InputFailed,
     OutputFailed,
     KeeperFailed,
+    /// The door failed to listen or to accept.
+    DoorFailed,
     /// With the first damaged row.
     Damaged(Place),
     Memory,
@@ -44,6 +46,7 @@ impl Stop {
             Stop::KeeperFailed => 5,
             Stop::Damaged(_) => 6,
             Stop::Memory => 7,
+            Stop::DoorFailed => 8,
             Stop::Conflict { .. } => 9,
             Stop::TooManyBytes | Stop::TooManyLines(_) => 10,
             Stop::LoadsFull => 11,
@@ -59,6 +62,7 @@ impl Stop {
             Stop::InputFailed => write_all(errors, b"airdv: 3 input failed\n"),
             Stop::OutputFailed => write_all(errors, b"airdv: 4 output failed\n"),
             Stop::KeeperFailed => write_all(errors, b"airdv: 5 keeper failed\n"),
+            Stop::DoorFailed => write_all(errors, b"airdv: 8 door failed\n"),
             Stop::Damaged(place) => write_damaged(place.table, place.index, errors),
             Stop::Memory => write_all(errors, b"airdv: 7 memory\n"),
             Stop::Conflict { number, kept, sent } => write_conflict(*number, kept, sent, errors),

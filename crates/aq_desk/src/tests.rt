@@ -32,10 +32,12 @@ fn run_over(
     let mut output = MemorySink::new(alloc, 100_000, failing_writes.to_vec(alloc)?)?;
     let mut errors = MemorySink::new(alloc, 1_000, Vec::new(alloc))?;
     let mut keeper = SteadyKeeper::new(alloc);
+    let mut door = MemoryDoor::new(alloc, Vec::new(alloc), 0, Vec::new(alloc), Vec::new(alloc))?;
     let status = run(
         alloc,
         &list,
         &mut keeper,
+        &mut door,
         &mut input,
         &mut output,
         &mut errors,
@@ -354,52 +356,23 @@ fn a_body_of_120001_lines_ends_with_10(rt: HostRuntime) -> Result<(), Fail> {
     Ok(())
 }
 
+/// What is told of words that name no command.
+const USAGE: &str = "airdv: 2 no command
+usage: airdv scan SITE DAY
+usage: airdv load NUMBER
+usage: airdv show STANDARD SITE YEAR
+usage: airdv report STANDARD YEAR
+usage: airdv export SITE PARAMETER YEAR
+usage: airdv serve --port P --connections N
+usage: airdv simulate START SITES YEARS
+";
+
 #[test]
-fn words_are_commands_or_none(rt: HostRuntime) -> Result<(), Fail> {
-    let alloc = rt.alloc();
-    let cases = [
-        (["scan", "06-037-1103", "2024-07-01"].as_slice(), true),
-        (["scan", "99-999-9999", "2000-01-01"].as_slice(), true),
-        (["scan", "00-000-0000", "2049-12-31"].as_slice(), true),
-        ([].as_slice(), false),
-        (["scan"].as_slice(), false),
-        (["scan", "06-037-1103"].as_slice(), false),
-        (
-            ["scan", "06-037-1103", "2024-07-01", "more"].as_slice(),
-            false,
-        ),
-        (["Scan", "06-037-1103", "2024-07-01"].as_slice(), false),
-        (["scan", "6-037-1103", "2024-07-01"].as_slice(), false),
-        (["scan", "06-037-11030", "2024-07-01"].as_slice(), false),
-        (["scan", "06/037/1103", "2024-07-01"].as_slice(), false),
-        (["scan", "06-037-1103", "1999-12-31"].as_slice(), false),
-        (["scan", "06-037-1103", "2050-01-01"].as_slice(), false),
-        (["scan", "06-037-1103", "2023-02-29"].as_slice(), false),
-        (["scan", "06-037-1103", "20240701"].as_slice(), false),
-        (["help"].as_slice(), false),
-        (["--help"].as_slice(), false),
-        (
-            ["--", "scan", "06-037-1103", "2024-07-01"].as_slice(),
-            false,
-        ),
-    ];
-    for (words, is_command) in cases {
-        let outcome = run_over(alloc, words, MONITOR.as_bytes(), &[], &[])?;
-        let status = if !is_command {
-            2
-        } else if words[1] == "06-037-1103" {
-            0
-        } else {
-            12
-        };
-        assert_eq!(rt; outcome.status, status, "{words:?}");
-        if !is_command {
-            assert_eq!(rt;
-                outcome.errors.as_slice(),
-                b"airdv: 2 no command\n".as_slice()
-            );
-        }
-    }
+fn other_words_end_with_2_and_the_usage_text(rt: HostRuntime) -> Result<(), Fail> {
+    let outcome = run_over(rt.alloc(), &["serve", "--port", "8080"], b"", &[], &[])?;
+    assert_eq!(rt; outcome.status, 2);
+    assert!(rt; outcome.output.is_empty());
+    assert_eq!(rt; outcome.errors.as_slice(), USAGE.as_bytes());
     Ok(())
 }
 

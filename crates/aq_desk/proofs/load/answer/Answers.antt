@@ -1,4 +1,4 @@
-use Rattle.aq_desk.proofs.Printing.{printed_keeper, printed_over, printed_read, printed_silent, stopped_keeper, stopped_output, stopped_over, stopped_read}
+use Rattle.aq_desk.proofs.Printing.{printed_door, printed_keeper, printed_over, printed_read, printed_silent, stopped_door, stopped_keeper, stopped_output, stopped_over, stopped_read}
 use Rattle.aq_desk.specs.Load.{load_answer}
 use Rattle.aq_desk.proofs.load.answer.Goals as goal
 
@@ -27,3 +27,9 @@ returns-clause-keeper_failed g c = printed_keeper c.print_text.result c.print_te
 
 pub returns-clause-silent : goal.returns-clause-silent
 returns-clause-silent g c = λ nothing. absurd (printed_silent c.print_text.result c.print_text.ensures.cut nothing)
+
+pub returns-in_err-text-clause-no_door : goal.returns-in_err-text-clause-no_door
+returns-in_err-text-clause-no_door g c = stopped_door c.in_err-text.field-0.0 c.from_residual.result c.from_residual.ensures.1 c.in_err-text.ensures.unprinted
+
+pub returns-clause-no_door : goal.returns-clause-no_door
+returns-clause-no_door g c = printed_door c.print_text.result c.print_text.ensures.cut

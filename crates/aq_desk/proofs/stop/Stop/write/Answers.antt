@@ -1,5 +1,5 @@
-use Rattle.aq_desk.specs.declared.stop.Stop.TheVariants.{InputFailed, OutputFailed, KeeperFailed, Memory, TooManyBytes, LoadsFull}
-use Rattle.aq_desk.proofs.Telling.{bytes_message, full_message, input_message, keeper_message, memory_message, output_message, writes_at}
+use Rattle.aq_desk.specs.declared.stop.Stop.TheVariants.{InputFailed, OutputFailed, KeeperFailed, DoorFailed, Memory, TooManyBytes, LoadsFull}
+use Rattle.aq_desk.proofs.Telling.{bytes_message, door_message, full_message, input_message, keeper_message, memory_message, output_message, writes_at}
 use Rattle.aq_desk.proofs.stop.Stop.write.Goals as goal
 
 pub returns-in-InputFailed : goal.returns-in-InputFailed
@@ -10,6 +10,9 @@ returns-in-OutputFailed g c = writes_at _ _ OutputFailed _ _ _ _ c.write_all-in-
 
 pub returns-in-KeeperFailed : goal.returns-in-KeeperFailed
 returns-in-KeeperFailed g c = writes_at _ _ KeeperFailed _ _ _ _ c.write_all-in-KeeperFailed.result c.in-KeeperFailed.is keeper_message c.write_all-in-KeeperFailed.ensures
+
+pub returns-in-DoorFailed : goal.returns-in-DoorFailed
+returns-in-DoorFailed g c = writes_at _ _ DoorFailed _ _ _ _ c.write_all-in-DoorFailed.result c.in-DoorFailed.is door_message c.write_all-in-DoorFailed.ensures
 
 pub returns-in-Memory : goal.returns-in-Memory
 returns-in-Memory g c = writes_at _ _ Memory _ _ _ _ c.write_all-in-Memory.result c.in-Memory.is memory_message c.write_all-in-Memory.ensures

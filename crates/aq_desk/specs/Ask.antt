@@ -1,0 +1,58 @@
+-- The commands that ask, `show STANDARD SITE YEAR`, `report STANDARD YEAR` and `export SITE PARAMETER YEAR`: the answer over the office of the tables is printed (own).
+use Rattle.std.specs.Prelude.{◌≡◌, ⊤, List}
+use Rattle.aq_base.specs.declared.ask.Ask.{Ask}
+use Rattle.aq_base.specs.declared.ask.Ask.TheVariants.{Value, Export}
+use Rattle.aq_profile.specs.Kept.Rows.{Row}
+use Rattle.aq_profile.specs.Shown.Answer.{Answer, OfSheet, OfExport, NoSite, NoLoad, answer}
+use Rattle.aq_profile.specs.Shown.Sheet.{text_of}
+use Rattle.aq_service.specs.declared.answers.Unanswered.{Unanswered}
+use Rattle.aq_service.specs.declared.answers.Unanswered.TheVariants as whys
+use Rattle.aq_desk.specs.Command.{Outcome, Printout, leaving, printed, unwritten}
+use Rattle.aq_desk.specs.Ending.{Ending, no_command, no_site}
+use Rattle.aq_desk.specs.Office.{over_office}
+use Rattle.aq_desk.specs.declared.stop.Stop.{Stop}
+use Rattle.aq_desk.specs.declared.stop.Stop.TheVariants as stops
+
+-- a question without an answer: its site is not registered. A report has always one, and words ask for no other.
+abbrev pub without_answer : Ask → Ending
+without_answer (Value standard site year) = no_site site
+without_answer (Export site pollutant year) = no_site site
+without_answer _ = no_command
+
+-- the text of a sheet, or the export
+abbrev pub answered : Ask → Answer → Printout
+answered ask (OfSheet sheet) = printed (text_of sheet)
+answered ask (OfExport text) = printed text
+answered ask NoSite = unwritten (without_answer ask)
+answered ask NoLoad = unwritten no_command
+
+unfoldable pub ask_outcome : Ask → List Row → Outcome
+ask_outcome ask rows = over_office rows (λ office. leaving rows (answered ask (answer office ask)))
+
+-- the questions of a site
+abbrev pub HasSite : Ask → Type 0
+HasSite (Value standard site year) = ⊤
+HasSite (Export site pollutant year) = ⊤
+HasSite _ = ⊥
+
+-- why a question that words ask may have no answer
+abbrev pub MayBe : Ask → Unanswered → Type 0
+MayBe ask whys.NoSite = HasSite ask
+MayBe ask whys.NoLoad = ⊥
+MayBe ask whys.Memory = ⊤
+
+abbrev pub IsNoSite : Ask → Stop → Type 0
+IsNoSite ask (stops.NoSite site) = without_answer ask ≡ no_site site
+IsNoSite ask _ = ⊥
+
+-- what then stops the command
+abbrev pub IsStopOf : Ask → Unanswered → Stop → Type 0
+IsStopOf ask whys.NoSite stop = IsNoSite ask stop
+IsStopOf ask whys.NoLoad stop = ⊥
+IsStopOf ask whys.Memory stop = stop ≡ stops.Memory
+
+-- why an answer is not printed: the site is not registered, or memory ran out
+abbrev pub IsUnanswered : Printout → Stop → Type 0
+IsUnanswered printout stops.Memory = ⊤
+IsUnanswered printout (stops.NoSite site) = printout ≡ unwritten (no_site site)
+IsUnanswered printout _ = ⊥

@@ -1,0 +1,99 @@
+-- The command `serve --port P --connections N`: connections are served over the office of the tables (own).
+use Rattle.std.specs.Prelude.{◌≡◌, ℕ, ◌⊎◌, true, List, Option, None, Result, Ok, Err}
+use Rattle.aq_base.specs.Faults.{HasRisen}
+use Rattle.aq_profile.specs.Kept.Rows.{Row, damage, office_in}
+use Rattle.aq_profile.specs.Office.Office.{Office}
+use Rattle.aq_serve.specs.Door.{DoorView}
+use Rattle.aq_serve.specs.Service.{AreOfOffice, ServiceView}
+use Rattle.aq_serve.specs.Serving.{Serves}
+use Rattle.aq_serve.specs.declared.ending.ServeFault.{ServeFault}
+use Rattle.aq_serve.specs.declared.ending.ServeFault.TheVariants.{DoorFailed, Memory}
+use Rattle.aq_desk.specs.Command.{Outcome, RisesAt, leaving, unwritten}
+use Rattle.aq_desk.specs.Ending.{done}
+use Rattle.aq_desk.specs.Office.{over_office}
+use Rattle.aq_desk.specs.declared.stop.Stop.{Stop}
+use Rattle.aq_desk.specs.declared.stop.Stop.TheVariants as stops
+
+-- nothing is printed; what is served is told by the door
+unfoldable pub serve_outcome : List Row → Outcome
+serve_outcome rows = over_office rows (λ office. leaving rows (unwritten done))
+
+-- what serving may change: the door, and what the keeper tells
+pub record Around : Type 0 where
+  pub door : DoorView
+  pub tables : Option (List Row)
+  pub faults : ℕ
+
+-- the same with the office that is served
+abbrev pub serving : Office → Around → ServiceView
+serving office around = record { office = office; tables = around.tables; faults = around.faults }
+
+-- the door listens, and is otherwise as it was
+pub record IsListening (before after : DoorView) : Type 0 where
+  pub listens : after.listens ≡ true
+  pub wire : after.wire ≡ before.wire
+  pub is_open : after.is_open ≡ before.is_open
+  pub accepts : after.accepts ≡ before.accepts
+  pub reads : after.reads ≡ before.reads
+  pub writes : after.writes ≡ before.writes
+
+-- no connection was accepted: the office was not opened, memory ran out, or the door did not listen
+pub record IsUnserved (rows : List Row) (status : ℕ) (before after : Around) : Type 0 where
+  pub ended : (status ≡ 5) ⊎ (status ≡ 6) ⊎ (status ≡ 7) ⊎ (status ≡ 8)
+  pub damaged : status ≡ 6 → damage rows ≡ None → ⊥
+  pub wire : after.door.wire ≡ before.door.wire
+  pub tables : after.tables ≡ before.tables
+  pub faults : RisesAt 5 status before.faults after.faults
+  pub accepts : RisesAt 8 status before.door.accepts after.door.accepts
+  pub reads : after.door.reads ≡ before.door.reads
+  pub writes : after.door.writes ≡ before.door.writes
+
+-- the exit status with which serving ends
+abbrev pub status_served : Result Unit ServeFault → ℕ
+status_served (Ok nothing) = 0
+status_served (Err DoorFailed) = 8
+status_served (Err Memory) = 7
+
+-- connections were served over the office of the tables
+pub record IsServed (n : ℕ) (rows : List Row) (status : ℕ) (before after : Around) : Type 0 where
+  pub undamaged : damage rows ≡ None
+  pub of_office : AreOfOffice (serving (office_in rows) before)
+  pub listening : DoorView
+  pub listens : IsListening before.door listening
+  pub office : Office
+  pub ending : Result Unit ServeFault
+  pub ended : status ≡ status_served ending
+  pub serves : Serves n (record { door = listening; service = serving (office_in rows) before }) (record { door = after.door; service = serving office after }) ending
+
+abbrev pub HasServed : ℕ → List Row → ℕ → Around → Around → Type 0
+HasServed n rows status before after = IsUnserved rows status before after ⊎ IsServed n rows status before after
+
+-- ---- over an office that is opened
+
+-- what stops the command when serving ends
+abbrev pub stop_served : Result Unit ServeFault → Result Unit Stop
+stop_served (Ok nothing) = Ok nothing
+stop_served (Err DoorFailed) = Err stops.DoorFailed
+stop_served (Err Memory) = Err stops.Memory
+
+-- the door did not listen
+pub record CannotListen (before after : Around) (answer : Result Unit Stop) : Type 0 where
+  pub stopped : answer ≡ Err stops.DoorFailed
+  pub wire : after.door.wire ≡ before.door.wire
+  pub tables : after.tables ≡ before.tables
+  pub faults : after.faults ≡ before.faults
+  pub accepts : HasRisen before.door.accepts after.door.accepts
+  pub reads : after.door.reads ≡ before.door.reads
+  pub writes : after.door.writes ≡ before.door.writes
+
+-- it did, and connections were served
+pub record HasListened (n : ℕ) (office : Office) (before after : Around) (answer : Result Unit Stop) : Type 0 where
+  pub listening : DoorView
+  pub listens : IsListening before.door listening
+  pub left : Office
+  pub ending : Result Unit ServeFault
+  pub stopped : answer ≡ stop_served ending
+  pub serves : Serves n (record { door = listening; service = serving office before }) (record { door = after.door; service = serving left after }) ending
+
+abbrev pub HasAttended : ℕ → Office → Around → Around → Result Unit Stop → Type 0
+HasAttended n office before after answer = CannotListen before after answer ⊎ HasListened n office before after answer

@@ -1,0 +1,129 @@
+//! The commands that ask: `show`, `report` and `export`.
+ghost use Rattle.std.specs.Prelude.{◌≡◌, ◌≤◌, ◌⊎◌, IfErr, IfOk, IsTrue};
+ghost use Rattle.aq_base.specs.declared.day.TheConstants.{FIRST_YEAR, LAST_YEAR};
+ghost use Rattle.aq_profile.specs.Shown.Answer as questions;
+ghost use Rattle.aq_profile.specs.Shown.Answer.{Export};
+ghost use Rattle.aq_service.specs.Answers as service;
+ghost use Rattle.aq_service.specs.Answers.{AsksForSheet};
+ghost use Rattle.aq_words.specs.Words.{is_question};
+ghost use Rattle.aq_desk.specs.Ask.{HasSite, IsStopOf, IsUnanswered, MayBe, answered, ask_outcome, without_answer};
+ghost use Rattle.aq_desk.specs.Command.{RisesAt, WritesNothing, printed};
+ghost use Rattle.aq_desk.specs.Ending.{no_site};
+ghost use Rattle.aq_desk.specs.Outside.{Over};
+ghost use Rattle.aq_desk.specs.Stop.{Gives, IsUnprinted, Performs, status_of};
+
+use crate::office::open;
+use crate::outside::Sink;
+use crate::stop::Stop;
+use crate::writing::print_text;
+use aq_base::{Ask, Bytes, Pollutant, SiteId};
+use aq_book::Book;
+use aq_keeper::Keeper;
+use aq_reports::text_of;
+use aq_service::{Unanswered, export_of, sheet_of};
+use std::alloc::Global;
+
+/// Prints the answer to a question over the office of the tables.
+pub(crate) fn ask<K: Keeper, O: Sink>(
+    alloc: Global,
+    ask: &Ask,
+    keeper: &mut K,
+    output: &mut O,
+) -> Result<(), Stop>
+    requires { IsTrue (is_question ask.now) }
+    ensures told { Over (K.tables keeper.old) (λ rows. Performs (ask_outcome ask.now rows) result (O.written output.old) (O.written output.new) (K.tables keeper.old) (K.tables keeper.new)) }
+    ensures no_input { (status_of result ≡ 3 → ⊥) × (status_of result ≡ 10 → ⊥) }
+    ensures no_door { status_of result ≡ 8 → ⊥ }
+    ensures output_failed { RisesAt 4 (status_of result) (O.faults output.old) (O.faults output.new) }
+    ensures keeper_failed { RisesAt 5 (status_of result) (K.faults keeper.old) (K.faults keeper.new) }
+    ensures silent { WritesNothing (status_of result) → output.new ≡ output.old }
+{
+    let text = asked(alloc, ask, keeper)?;
+    print_text(text.as_slice(), output)
+}
+
+/// The text of the answer over the office of the tables.
+fn asked<K: Keeper>(alloc: Global, ask: &Ask, keeper: &mut K) -> Result<Bytes, Stop>
+    requires { IsTrue (is_question ask.now) }
+    ensures told { Over (K.tables keeper.old) (λ rows. Gives (ask_outcome ask.now rows) result (K.tables keeper.old) (K.tables keeper.new)) }
+    ensures unprinted { IfErr result IsUnprinted }
+    ensures keeper_failed { RisesAt 5 (status_of result) (K.faults keeper.old) (K.faults keeper.new) }
+{
+    let book = open(alloc, keeper)?;
+    text_of_answer(alloc, &book, ask)
+}
+
+/// The text of the answer over an office.
+fn text_of_answer(alloc: Global, book: &Book, ask: &Ask) -> Result<Bytes, Stop>
+    requires { IsTrue (is_question ask.now) }
+    ensures text { IfOk result (λ text. answered ask.now (questions.answer book.now ask.now) ≡ printed text) }
+    ensures refused { IfErr result (IsUnanswered (answered ask.now (questions.answer book.now ask.now))) }
+{
+    match text_in(alloc, book, ask) {
+        Ok(text) => Ok(text),
+        Err(why) => Err(stop_of(ask, why)),
+    }
+}
+
+/// The same, where there is an answer.
+fn text_in(alloc: Global, book: &Book, ask: &Ask) -> Result<Bytes, Unanswered>
+    requires { IsTrue (is_question ask.now) }
+    ensures text { IfOk result (λ text. answered ask.now (questions.answer book.now ask.now) ≡ printed text) }
+    ensures refused { IfErr result (service.IsUnanswered (questions.answer book.now ask.now)) }
+{
+    match *ask {
+        Ask::Export(site, pollutant, year) => export_text(alloc, book, site, pollutant, year),
+        _ => sheet_text(alloc, book, ask),
+    }
+}
+
+/// The text of the sheet that answers a question other than an export.
+fn sheet_text(alloc: Global, book: &Book, ask: &Ask) -> Result<Bytes, Unanswered>
+    requires asked { IsTrue (questions.is_asked ask.now) }
+    requires sheet { AsksForSheet ask.now }
+    ensures text { IfOk result (λ text. answered ask.now (questions.answer book.now ask.now) ≡ printed text) }
+    ensures refused { IfErr result (service.IsUnanswered (questions.answer book.now ask.now)) }
+{
+    let sheet = sheet_of(alloc, book, ask)?;
+    Ok(Bytes::from_vec(text_of(alloc, &sheet)?))
+}
+
+/// An export.
+fn export_text(
+    alloc: Global,
+    book: &Book,
+    site: SiteId,
+    pollutant: Pollutant,
+    year: u16,
+) -> Result<Bytes, Unanswered>
+    requires first { FIRST_YEAR ≤ year }
+    requires last { year ≤ LAST_YEAR }
+    ensures text { IfOk result (λ text. answered (Export site pollutant year) (questions.answer book.now (Export site pollutant year)) ≡ printed text) }
+    ensures refused { IfErr result (service.IsUnanswered (questions.answer book.now (Export site pollutant year))) }
+{
+    Ok(Bytes::from_vec(export_of(alloc, book, site, pollutant, year)?))
+}
+
+/// What stops a command whose question has no answer.
+fn stop_of(ask: &Ask, why: Unanswered) -> Stop
+    requires { MayBe ask.now why }
+    ensures { IsStopOf ask.now why result }
+{
+    match why {
+        Unanswered::Memory => Stop::Memory,
+        Unanswered::NoSite => Stop::NoSite(site_asked(ask)),
+        Unanswered::NoLoad => unreachable!(),
+    }
+}
+
+/// The site of which a design value or an export is asked.
+fn site_asked(ask: &Ask) -> SiteId
+    requires { HasSite ask.now }
+    ensures { without_answer ask.now ≡ no_site result }
+{
+    match *ask {
+        Ask::Value(_, site, _) => site,
+        Ask::Export(site, _, _) => site,
+        _ => unreachable!(),
+    }
+}

@@ -1,0 +1,55 @@
+//! The command `serve`.
+ghost use Rattle.std.specs.Prelude.{◌≡◌, ◌⊎◌, false};
+ghost use Rattle.aq_profile.specs.Kept.Rows.{damage};
+ghost use Rattle.aq_base.specs.Faults.{HasRisen};
+ghost use Rattle.aq_desk.specs.Command.{RisesAt};
+ghost use Rattle.aq_desk.specs.Outside.{Over};
+ghost use Rattle.aq_desk.specs.Serve.{HasAttended, HasServed, serve_outcome};
+ghost use Rattle.aq_desk.specs.Stop.{EndsAs, status_of};
+
+use crate::office::open;
+use crate::stop::Stop;
+use aq_base::Failed;
+use aq_keeper::Keeper;
+use aq_serve::{Door, ServeFault};
+use aq_service::OfficeService;
+use std::alloc::Global;
+
+/// Serves connections over the office of the tables.
+pub(crate) fn serve<K: Keeper, D: Door>(
+    alloc: Global,
+    port: u16,
+    connections: u32,
+    keeper: &mut K,
+    door: &mut D,
+) -> Result<(), Stop>
+    requires none_open { (D.seen door.old).is_open ≡ false }
+    ensures served { Over (K.tables keeper.old) (λ rows. HasServed connections rows (status_of result) (record { door = D.seen door.old; tables = K.tables keeper.old; faults = K.faults keeper.old }) (record { door = D.seen door.new; tables = K.tables keeper.new; faults = K.faults keeper.new })) }
+    ensures ends { Over (K.tables keeper.old) (λ rows. EndsAs (serve_outcome rows) result) }
+{
+    let book = open(alloc, keeper)?;
+    let mut service = OfficeService::new(alloc, book)?;
+    attend(alloc, port, connections, &mut service, keeper, door)
+}
+
+/// Listens, and serves connections over an office.
+fn attend<K: Keeper, D: Door>(
+    alloc: Global,
+    port: u16,
+    connections: u32,
+    service: &mut OfficeService,
+    keeper: &mut K,
+    door: &mut D,
+) -> Result<(), Stop>
+    requires none_open { (D.seen door.old).is_open ≡ false }
+    ensures { HasAttended connections service.old (record { door = D.seen door.old; tables = K.tables keeper.old; faults = K.faults keeper.old }) (record { door = D.seen door.new; tables = K.tables keeper.new; faults = K.faults keeper.new }) result }
+{
+    if door.listen(port).is_err() {
+        return Err(Stop::DoorFailed);
+    }
+    match aq_serve::serve(alloc, service, keeper, door, connections) {
+        Ok(()) => Ok(()),
+        Err(ServeFault::DoorFailed) => Err(Stop::DoorFailed),
+        Err(ServeFault::Memory) => Err(Stop::Memory),
+    }
+}

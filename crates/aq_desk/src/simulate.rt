@@ -1,0 +1,32 @@
+//! The command `simulate`.
+ghost use Rattle.std.specs.Prelude.{◌≤◌, IfErr};
+ghost use Rattle.aq_desk.specs.Command.{RisesAt};
+ghost use Rattle.aq_desk.specs.Simulate.{simulate_outcome};
+ghost use Rattle.aq_desk.specs.Stop.{IsCutShort, Obeys, status_of};
+ghost use Rattle.aq_words.specs.Words.{FEWEST_YEARS, MOST_SITES, MOST_YEARS};
+
+use crate::outside::Sink;
+use crate::stop::Stop;
+use crate::writing::print_text;
+use aq_simulation::simulation;
+use std::alloc::Global;
+
+/// Prints the summary of an office of generated loads, and the report of each standard.
+pub(crate) fn simulate<O: Sink>(
+    alloc: Global,
+    start: u64,
+    sites: u8,
+    years: u8,
+    output: &mut O,
+) -> Result<(), Stop>
+    requires some_sites { 1 ≤ sites }
+    requires few_sites { sites ≤ MOST_SITES }
+    requires some_years { FEWEST_YEARS ≤ years }
+    requires few_years { years ≤ MOST_YEARS }
+    ensures told { Obeys (simulate_outcome start sites years) result (O.written output.old) (O.written output.new) }
+    ensures cut { IfErr result IsCutShort }
+    ensures output_failed { RisesAt 4 (status_of result) (O.faults output.old) (O.faults output.new) }
+{
+    let text = simulation(alloc, start, sites, years)?;
+    print_text(&text, output)
+}
