@@ -1,18 +1,20 @@
-//! The program: the standard streams, the file of the tables, and the top call.
+//! The program: the standard streams, the file of the tables, the door of the network, and the top call.
 #![tactic(auto)]
 
-ghost use Rattle.std.specs.Prelude.{◌≡◌, ◌↔◌, false, IfOk, IsNone, OnErr, map, string_bytes};
+ghost use Rattle.std.specs.Prelude.{◌≡◌, ◌↔◌, false, IfOk, IfSome, IsNone, OnErr, map, string_bytes};
 ghost use Rattle.std.specs.Process.{exit_status};
 ghost use Rattle.aq_desk.specs.Command.{Follows, Tells, message_for};
 ghost use Rattle.aq_desk.specs.Ending.{no_memory};
 ghost use Rattle.aq_desk.specs.Outside.{Over};
-ghost use Rattle.aq_desk.specs.Run.{outcome_for, uses, uses_keeper};
-ghost use Rattle.aq_desk.specs.Words.{command_of};
+ghost use Rattle.aq_desk.specs.Run.{connections_for, outcome_for, uses, uses_keeper};
+ghost use Rattle.aq_desk.specs.Serve.{HasServed};
+ghost use Rattle.aq_words.specs.Words.{command_of};
 
 mod streams;
+mod tcp_door;
 
 use aq_base::Memory;
-use aq_desk::{Sink, Source, end_without_memory, run};
+use aq_desk::{Door, Sink, Source, end_without_memory, run};
 use aq_keeper::Keeper;
 use aq_sqlite::FileKeeper;
 use std::alloc::Global;
@@ -20,6 +22,7 @@ use std::io::ErrorKind;
 use std::process::ExitCode;
 use std::{env, io};
 use streams::{Reading, Writing};
+use tcp_door::TcpDoor;
 
 /// The file of the tables, in the working folder. It is made at the keeper's first call.
 const FILE: &str = "airdv.sqlite";
@@ -33,10 +36,12 @@ fn main(rt: HostRuntime) -> ExitCode {
         return ExitCode::from(end_without_memory(&mut errors));
     };
     let mut keeper = FileKeeper::at_path(&rt, path);
+    let mut door = TcpDoor::new(rt);
     obey(
         rt.alloc(),
         words,
         &mut keeper,
+        &mut door,
         &mut input,
         &mut output,
         &mut errors,
@@ -44,15 +49,18 @@ fn main(rt: HostRuntime) -> ExitCode {
 }
 
 /// Runs the command of the words, where there was memory to read them.
-fn obey<K: Keeper, S: Source, O: Sink, E: Sink>(
+fn obey<K: Keeper, D: Door, S: Source, O: Sink, E: Sink>(
     alloc: Global,
     words: Result<Vec<String>, Memory>,
     keeper: &mut K,
+    door: &mut D,
     input: &mut S,
     output: &mut O,
     errors: &mut E,
 ) -> ExitCode
-    ensures headline { IfOk words (λ words. Over (K.tables keeper.old) (λ rows. Over (S.left input.old) (λ body. Follows (outcome_for (command_of (map string_bytes words.items)) rows body) (exit_status result) (O.written output.old) (O.written output.new) (K.tables keeper.old) (K.tables keeper.new)))) }
+    requires none_open { (D.seen door.old).is_open ≡ false }
+    ensures headline { IfOk words (λ words. IsNone (connections_for (command_of (map string_bytes words.items))) → Over (K.tables keeper.old) (λ rows. Over (S.left input.old) (λ body. Follows (outcome_for (command_of (map string_bytes words.items)) rows body) (exit_status result) (O.written output.old) (O.written output.new) (K.tables keeper.old) (K.tables keeper.new)))) }
+    ensures served { IfOk words (λ words. IfSome (connections_for (command_of (map string_bytes words.items))) (λ connections. Over (K.tables keeper.old) (λ rows. HasServed connections rows (exit_status result) (record { door = D.seen door.old; tables = K.tables keeper.old; faults = K.faults keeper.old }) (record { door = D.seen door.new; tables = K.tables keeper.new; faults = K.faults keeper.new })))) }
     ensures messages { IfOk words (λ words. Over (K.tables keeper.old) (λ rows. Over (S.left input.old) (λ body. Tells (message_for (outcome_for (command_of (map string_bytes words.items)) rows body) (exit_status result)) (E.faults errors.old) (E.faults errors.new) (E.written errors.old) (E.written errors.new)))) }
     ensures no_command { IfOk words (λ words. (exit_status result ≡ 2) ↔ IsNone (command_of (map string_bytes words.items))) }
     ensures unused_keeper { IfOk words (λ words. uses uses_keeper (command_of (map string_bytes words.items)) ≡ false → keeper.new ≡ keeper.old) }
@@ -60,7 +68,10 @@ fn obey<K: Keeper, S: Source, O: Sink, E: Sink>(
     ensures no_memory_told { let ending = no_memory in OnErr words (Tells ending.message (E.faults errors.old) (E.faults errors.new) (E.written errors.old) (E.written errors.new)) }
 {
     match words {
-        Ok(words) => ExitCode::from(run(alloc, &words, keeper, input, output, errors)),
+        Ok(words) => {
+            let status = run(alloc, &words, keeper, door, input, output, errors);
+            ExitCode::from(status)
+        }
         Err(Memory) => ExitCode::from(end_without_memory(errors)),
     }
 }

@@ -56,7 +56,7 @@ impl<R: Read> Source for Reading<R> {
 }
 
 /// One read, made again where a signal interrupts it.
-fn read_from<R: Read>(reader: &mut R, buffer: &mut [u8]) -> Result<usize, Failed>
+pub(crate) fn read_from<R: Read>(reader: &mut R, buffer: &mut [u8]) -> Result<usize, Failed>
     ensures within { IfOk result (λ n. n ≤ length buffer.new) }
     ensures passed { ReadConsumes (R.remaining reader.old) (R.remaining reader.new) result buffer.new }
 {
@@ -115,7 +115,7 @@ impl<W: Write> Sink for Writing<W> {
 }
 
 /// One write, made again where a signal interrupts it.
-fn write_to<W: Write>(writer: &mut W, piece: &[u8]) -> Result<usize, Failed>
+pub(crate) fn write_to<W: Write>(writer: &mut W, piece: &[u8]) -> Result<usize, Failed>
     ensures within { IfOk result (λ n. n ≤ length piece.now) }
     ensures passed { WriteAppends (W.contents writer.old) (W.contents writer.new) result piece.now }
 {
