@@ -117,7 +117,9 @@ impl Hours {
         self.items.as_slice()
     }
 
-    /// Those from the hour `from` on and before the hour `end`, rising.
+    /// Those from the hour `from` on and before the hour `end`, rising. It is called once for a stretch, and
+    /// stands apart from the loop over its hours.
+    #[inline(never)]
     pub(crate) fn between(&self, from: u32, end: u32) -> &[(Hour, Observation)]
         ensures { result.now ≡ filter (between from end) self.now }
     {

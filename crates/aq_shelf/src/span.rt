@@ -51,7 +51,9 @@ impl<'a> Span<'a> {
         }
     }
 
-    /// The next observation with its hour, where it stands: the iterator copies it.
+    /// The next observation with its hour, where it stands: the iterator copies it. It is inlined, so that
+    /// a loop over a span keeps its place in registers.
+    #[inline(always)]
     pub fn next_standing(&mut self) -> Option<&'a (Hour, Observation)>
         ensures some { IfSome result (λ first. self.old ≡ first.now ∷ self.new) }
         ensures none { IfNone result (self.old ≡ []) }
