@@ -10,11 +10,11 @@ mod ozone_year;
 mod top_four;
 mod windows;
 
-pub use days::Days;
+pub use days::{Days, uncounted_windows};
 pub use eight_hour::{DayWindows, LEVEL, WINDOWS, WindowRow, average};
 pub use ozone_day::{OzoneDay, day_of_windows};
 pub use ozone_year::year;
-pub use windows::{day_windows, uncounted_windows};
+pub use windows::day_windows;
 
 #[cfg(test)]
 mod tests;

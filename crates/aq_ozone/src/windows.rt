@@ -15,8 +15,7 @@ use aq_base::{Day, Hour, LAST_HOUR, SiteId, Steps};
 use aq_registry::Registry;
 use aq_series::{Cell, site_hour};
 use aq_shelf::Shelf;
-use std::marker::Brand;
-use std::sync::ledger::{Blank, Ledger};
+use std::sync::ledger::Ledger;
 
 /// The first average of a day starts at 07:00.
 const FIRST_START: u32 = 7;
@@ -62,30 +61,6 @@ pub(crate) fn windows_of(cells: &[Option<Cell>; DAY_HOURS]) -> DayWindows
         rows[i] = window(&hours[i..i + WINDOW_HOURS]);
     }
     DayWindows::new(rows)
-}
-
-/// The seventeen averages of a day, for callers that count no steps.
-pub fn uncounted_windows(shelf: &Shelf, registry: &Registry, site: SiteId, day: Day) -> DayWindows
-    ensures { result ≡ book.windows (office_of registry.now shelf.now) site day }
-{
-    counted::<Brand>(shelf, registry, site, day, Blank::new(1))
-}
-
-/// The averages of a day on a counter of their own, which nobody reads.
-fn counted<L: Ledger>(
-    shelf: &Shelf,
-    registry: &Registry,
-    site: SiteId,
-    day: Day,
-    blank: Blank,
-) -> DayWindows
-    requires name { blank.name ≡ L.name }
-    requires parts { blank.parts ≡ L.parts }
-    requires some { 0 < L.parts }
-    ensures { result ≡ book.windows (office_of registry.now shelf.now) site day }
-{
-    let mut steps = Steps::<L>::new(blank);
-    day_windows(shelf, registry, site, day, &mut steps)
 }
 
 /// What the site has for each hour that the averages of a day read.
