@@ -2,5 +2,6 @@ pub mod Csv
 pub mod Digits
 pub mod Lines
 pub mod Parts
+pub mod Sending
 pub mod SheetJson
 pub mod Words

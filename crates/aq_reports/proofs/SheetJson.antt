@@ -21,7 +21,7 @@ use Rattle.aq_profile.specs.Shown.Sheet.SheetCell.{Int, Fixed, Text, Missing}
 use Rattle.aq_profile.specs.Shown.Json as book
 use Rattle.aq_profile.specs.Shown.Json.{Member, json_string, json_list, json_cell, json_member, head_member, table_members, members_of}
 use Rattle.aq_profile.specs.Shown.WellFormed.{is_word_byte, is_word, is_whole, is_cell, is_head, is_row, IsWellFormed}
-use Rattle.aq_reports.specs.JsonView.{data_of, list_of, row_of, with_heads, with_table, are_cells}
+use Rattle.aq_reports.specs.JsonView.{data_of, list_of, row_of, with_heads, with_table}
 use Rattle.aq_reports.proofs.Words.{fixed-word}
 
 -- ---- words are written as they are
@@ -107,6 +107,9 @@ list-text (d ∷ ds) =
 list-plain : {X : Type 0} (f : X → Data) (xs : List X) → ((x : X) → has_float (f x) ≡ false) → has_float (list_of (map f xs)) ≡ false
 list-plain f [] each = refl
 list-plain f (x ∷ xs) each = ap (λ b. b || has_float (list_of (map f xs))) (each x) ∙ list-plain f xs each
+
+abbrev are_cells : List (List SheetCell) → Bool
+are_cells rows = list_all (λ row. list_all is_cell row) rows
 
 row-text : (row : List SheetCell) → list_all is_cell row ≡ true → map compact_text (map data_of row) ≡ map json_cell row
 row-text [] h = refl
@@ -265,7 +268,7 @@ object-text (member k d ms) h =
 
 -- ---- a sheet
 
-pub cells-of : (columns : List (List ℕ)) (rows : List (List SheetCell)) → list_all (is_row columns) rows ≡ true → are_cells rows ≡ true
+cells-of : (columns : List (List ℕ)) (rows : List (List SheetCell)) → list_all (is_row columns) rows ≡ true → are_cells rows ≡ true
 cells-of columns [] h = refl
 cells-of columns (row ∷ rows) h =
     let parts = and_parts (is_row columns row) (list_all (is_row columns) rows) h in

@@ -8,10 +8,7 @@ use Rattle.std.proofs.lemmas.Bool.{and_from, and_parts}
 use Rattle.std.proofs.lemmas.Bool.Decides.{nat_tests}
 use Rattle.std.proofs.lemmas.Fmt.{decimal_is_IsNumeral}
 use Rattle.std.proofs.lemmas.List.Recursion.{and_from_places}
-use Rattle.std.proofs.lemmas.Str.{IsUtf8-from_ascii}
-use Rattle.std.proofs.lemmas.Str.Ascii.{IsAscii-nil, IsAscii-cons}
 use Rattle.std.proofs.lemmas.Str.Parse.{digit_at}
-use Rattle.std.specs.Str.{IsUtf8, IsAscii}
 use Rattle.aq_base.specs.Decimal.{fixed, last_digits}
 use Rattle.aq_profile.specs.Shown.WellFormed.{is_word_byte, is_word}
 
@@ -69,14 +66,3 @@ fixed-word v places few =
   where
     less : (d n : ℕ) → n < 2 ^ 64 → n / d < 2 ^ 64
     less d n h = omega (arith, h)
-
-word-byte : (b : ℕ) → is_word_byte b ≡ true → b < 128
-word-byte b h = grind (arith, nat_tests)
-
-bytes-ascii : (s : List ℕ) → list_all is_word_byte s ≡ true → IsAscii s
-bytes-ascii [] h = IsAscii-nil
-bytes-ascii (b ∷ s) h = let parts = and_parts (is_word_byte b) (list_all is_word_byte s) h in IsAscii-cons b s (word-byte b parts.0) (bytes-ascii s parts.1)
-
--- a word is a text in UTF-8
-pub word-utf8 : (s : List ℕ) → is_word s ≡ true → IsUtf8 s
-word-utf8 s h = IsUtf8-from_ascii s (bytes-ascii s (and_parts (nat_lt 0 (length s)) (list_all is_word_byte s) h).1)

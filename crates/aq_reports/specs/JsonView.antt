@@ -1,10 +1,8 @@
 -- Sheets as JSON data.
-use Rattle.std.specs.Prelude.{ℕ, Bool, List, [], ◌∷◌, map, codes}
-use Rattle.std.specs.List.{list_all}
+use Rattle.std.specs.Prelude.{ℕ, List, [], ◌∷◌, map, codes}
 use Rattle.aq_base.specs.Decimal.{fixed}
 use Rattle.aq_profile.specs.Shown.Sheet.{SheetCell, Head}
 use Rattle.aq_profile.specs.Shown.Sheet.SheetCell.{Int, Fixed, Text, Missing}
-use Rattle.aq_profile.specs.Shown.WellFormed.{is_cell}
 use Rattle.serde_json.specs.Data.{Data, null, number, string, array, Members, put}
 use Rattle.serde_json.specs.Find.{of_integer}
 use Rattle.serde_json.specs.View.{items_of}
@@ -31,6 +29,3 @@ abbrev pub with_table : List (List ℕ) → List (List SheetCell) → Members �
 with_table [] rows members = members
 with_table (column ∷ columns) rows members =
     put (codes "rows") (list_of (map row_of rows)) (put (codes "columns") (list_of (map string (column ∷ columns))) members)
-
-abbrev pub are_cells : List (List SheetCell) → Bool
-are_cells rows = list_all (λ row. list_all is_cell row) rows

@@ -1,15 +1,19 @@
 //! Sheets as they print, worked out by hand.
+ghost use Rattle.std.specs.Prelude.{◌≡◌, IfOk};
+ghost use Rattle.aq_profile.specs.Particles.ParticleExamples.{one_row};
+
 use crate::list::{list, names};
 use crate::*;
 use aq_base::{
-    Items, ListedLine, LoadReply, MonitorId, ObsKey, Observation, Pollutant, Quals, RestRule, Rule,
-    Shown, SiteId, Standard, Verdict,
+    Items, ListedLine, LoadReply, Memory, MonitorId, ObsKey, Observation, Pollutant, Quals,
+    RestRule, Rule, Shown, SiteId, Standard, Verdict,
 };
 use aq_cal::{day_of, hour_of};
 use aq_ozone::{DayWindows, OzoneDay, WindowRow};
 use aq_verdict::{
     AnnualDv, DesignValue, OzoneDv, OzoneYear, Pm10Quarter, Pm10Year, PmQuarter, PmYear,
 };
+use std::alloc::Global;
 use std::test::Fail;
 
 #[test]
@@ -260,6 +264,33 @@ fn error_has_one_member_in_json(rt: HostRuntime) -> Result<(), Fail> {
     let alloc = rt.alloc();
     let text = json_of(alloc, &error_sheet(alloc, "NotFound")?)?;
     assert_eq!(rt; text.as_slice(), b"{\"error\":\"NotFound\"}".as_slice());
+    Ok(())
+}
+
+/// A sheet of one row, with each kind of cell.
+#[tactic(auto, unfolding(aq_base::specs::Text::site_text, aq_base::specs::Decimal::last_digits))]
+fn sheet_of_one_row(alloc: Global) -> Result<Sheet, Memory>
+    ensures { IfOk result (λ sheet. sheet ≡ one_row) }
+{
+    let site = Head::new(alloc, b"site", SheetCell::text(alloc, b"06-037-1103")?)?;
+    let cells = [
+        SheetCell::int(-7),
+        SheetCell::fixed(-5, 1),
+        SheetCell::text(alloc, b"Met")?,
+        SheetCell::missing(),
+    ];
+    let row = list(alloc, cells)?;
+    let columns = names(alloc, &[b"a", b"b", b"c", b"d"])?;
+    Ok(Sheet::new(list(alloc, [site])?, columns, list(alloc, [row])?))
+}
+
+#[test]
+fn each_kind_of_cell_has_its_json(rt: HostRuntime) -> Result<(), Fail> {
+    let alloc = rt.alloc();
+    let text = json_of(alloc, &sheet_of_one_row(alloc)?)?;
+    let want =
+        b"{\"columns\":[\"a\",\"b\",\"c\",\"d\"],\"rows\":[[-7,\"-0.5\",\"Met\",null]],\"site\":\"06-037-1103\"}";
+    assert_eq!(rt; text.as_slice(), want.as_slice());
     Ok(())
 }
 

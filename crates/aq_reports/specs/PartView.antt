@@ -1,0 +1,16 @@
+-- What a sheet lends as JSON data.
+use Rattle.std.specs.Prelude.{ℕ, List, [], ◌∷◌, map}
+use Rattle.std.specs.Borrow.{Bor}
+use Rattle.serde_json.specs.Data.{Data, string, Members, no_members, member}
+use Rattle.aq_reports.specs.JsonView.{data_of, list_of, row_of}
+use Rattle.aq_reports.specs.declared.json_text.Part.{Part}
+use Rattle.aq_reports.specs.declared.json_text.Part.TheVariants.{Cell, Names, Rows}
+
+abbrev pub part_data : Part → Data
+part_data (Cell cell) = data_of cell.now
+part_data (Names names) = list_of (map string names.now)
+part_data (Rows rows) = list_of (map row_of rows.now)
+
+abbrev pub parts_data : List (Bor (List ℕ) × Part) → Members
+parts_data [] = no_members
+parts_data (entry ∷ entries) = member entry.0.now (part_data entry.1) (parts_data entries)
