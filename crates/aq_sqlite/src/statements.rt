@@ -26,10 +26,11 @@ pub(crate) const DROP_OBSERVATION: &str =
 
 pub(crate) const DROP_LOAD: &str = "DELETE FROM loads WHERE number = ?1";
 
-pub(crate) const PUT_RECORD: &str = "INSERT INTO records (kind, rowkey, line) VALUES (?1, ?2, ?3)";
+pub(crate) const PUT_RECORD: &str =
+    "INSERT OR REPLACE INTO records (kind, rowkey, line) VALUES (?1, ?2, ?3)";
 
 pub(crate) const PUT_OBSERVATION: &str =
-    "INSERT INTO observations (site, pollutant, poc, hour, value, nullcode, quals) VALUES (?1, ?2, ?3, ?4, ?5, ?6, ?7)";
+    "INSERT OR REPLACE INTO observations (site, pollutant, poc, hour, value, nullcode, quals) VALUES (?1, ?2, ?3, ?4, ?5, ?6, ?7)";
 
 pub(crate) const PUT_LOAD: &str =
-    "INSERT INTO loads (number, digest, lines, accepted, listed, rest) VALUES (?1, ?2, ?3, ?4, ?5, ?6)";
+    "INSERT OR REPLACE INTO loads (number, digest, lines, accepted, listed, rest) VALUES (?1, ?2, ?3, ?4, ?5, ?6)";

@@ -103,7 +103,6 @@ fn put_record<S: Alter>(
     transaction: &mut Transaction<'_, S>,
     row: &OfficeRow,
 ) -> Result<(), Error> {
-    drop_record(transaction, row.kind, row.key.as_slice())?;
     transaction.execute(
         PUT_RECORD,
         &[
@@ -119,7 +118,6 @@ fn put_observation<S: Alter>(
     transaction: &mut Transaction<'_, S>,
     row: &ObsRow,
 ) -> Result<(), Error> {
-    drop_observation(transaction, row.site, row.pollutant, row.poc, row.hour)?;
     let value = match row.value {
         Some(value) => ValueRef::Int(value),
         None => ValueRef::Null,
@@ -140,7 +138,6 @@ fn put_observation<S: Alter>(
 }
 
 fn put_load<S: Alter>(transaction: &mut Transaction<'_, S>, row: &LoadRow) -> Result<(), Error> {
-    drop_load(transaction, row.number)?;
     transaction.execute(
         PUT_LOAD,
         &[
