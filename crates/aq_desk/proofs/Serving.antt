@@ -28,6 +28,7 @@ module _ (before after : Around) (door : after.door ≡ before.door) (tables : a
   unserved rows status is damaged rises = record {
     ended = grind (arith, is);
     damaged = damaged;
+    undamaged = λ eight. absurd (omega (arith, eight, is));
     wire = ap (λ (d : DoorView). d.wire) door;
     tables = tables;
     faults = rises;
@@ -112,6 +113,7 @@ module _ (n : ℕ) (rows : List Row) (office : Office) (before after : Around) (
       subst P (sym cannot.stopped) (inl (record {
         ended = grind arith;
         damaged = λ six. absurd (omega (arith, six));
+        undamaged = λ _. opened.undamaged;
         wire = cannot.wire;
         tables = cannot.tables;
         faults = stays_at_from 5 8 _ _ (λ five. omega (arith, five)) cannot.faults;

@@ -41,6 +41,7 @@ pub record IsListening (before after : DoorView) : Type 0 where
 pub record IsUnserved (rows : List Row) (status : ℕ) (before after : Around) : Type 0 where
   pub ended : (status ≡ 5) ⊎ (status ≡ 6) ⊎ (status ≡ 7) ⊎ (status ≡ 8)
   pub damaged : status ≡ 6 → damage rows ≡ None → ⊥
+  pub undamaged : status ≡ 8 → damage rows ≡ None
   pub wire : after.door.wire ≡ before.door.wire
   pub tables : after.tables ≡ before.tables
   pub faults : RisesAt 5 status before.faults after.faults

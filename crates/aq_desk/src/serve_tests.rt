@@ -10,6 +10,10 @@ RD|I|06|037|1103|44201|1|1|007|087|20240701|10:00|0.071
 RD|I|06|037|1103|44201|1|1|007|087|20240701|11:00||AN|||V|RT
 ";
 
+/// What is told of that body and of an empty one under the number 7, with their SHA-256.
+const CONFLICT: &str =
+    "{\"kept\":\"6f61803f3781ec85595d19aca1c0c743944cf277be8c2d2bbdd20d4eed4803d7\",\"load\":7,\"sent\":\"e3b0c44298fc1c149afbf4c8996fb92427ae41e4649b934ca495991b7852b855\"}";
+
 /// A keeper of empty tables, of which the calls with these numbers fail.
 fn keeper_of(alloc: Global, failing: &[u64]) -> Result<MemoryKeeper, Fail> {
     let rows: Vec<Row> = Vec::new(alloc);
@@ -116,9 +120,14 @@ fn a_load_whose_commit_failed_may_be_posted_again(rt: HostRuntime) -> Result<(),
     }
     let found = serve(alloc, &mut keeper, first.as_str(), ask, &[], &[])?;
     assert_eq!(rt; found, wanted);
-    // Another run finds it in the tables.
-    let again = serve(alloc, &mut keeper, ask, "", &[], &[])?;
-    assert_eq!(rt; again, format!(in alloc; "0\n{}", taken.as_str())?);
+    // Another run finds it in the tables, and its number is not taken for another body.
+    let other = posted(alloc, "/loads/7", "")?;
+    let conflict = reply(alloc, "409 Conflict", CONFLICT)?;
+    let again = serve(alloc, &mut keeper, ask, other.as_str(), &[], &[])?;
+    assert_eq!(rt;
+        again,
+        format!(in alloc; "0\n{}{}", taken.as_str(), conflict.as_str())?
+    );
     Ok(())
 }
 
@@ -135,22 +144,33 @@ fn a_body_that_is_cut_short_is_not_taken(rt: HostRuntime) -> Result<(), Fail> {
 }
 
 #[test]
-fn a_door_that_fails_to_listen_ends_with_8(rt: HostRuntime) -> Result<(), Fail> {
-    let alloc = rt.alloc();
-    let mut keeper = keeper_of(alloc, &[])?;
-    let found = serve(alloc, &mut keeper, "", "", &[1], &[])?;
-    assert_eq!(rt; found.as_str(), "8\nairdv: 8 door failed\n");
-    Ok(())
-}
-
-#[test]
-fn a_failed_write_ends_its_connection_alone(rt: HostRuntime) -> Result<(), Fail> {
+fn a_door_that_fails_ends_with_8(rt: HostRuntime) -> Result<(), Fail> {
     let alloc = rt.alloc();
     let mut keeper = keeper_of(alloc, &[])?;
     let ask = "GET /loads/7 HTTP/1.1\r\n\r\n";
     let unknown = reply(alloc, "404 Not Found", "{\"error\":\"NotFound\"}")?;
+    // The first call listens, and the third accepts the second connection.
+    let none = serve(alloc, &mut keeper, ask, ask, &[1], &[])?;
+    assert_eq!(rt; none.as_str(), "8\nairdv: 8 door failed\n");
+    let one = serve(alloc, &mut keeper, ask, ask, &[3], &[])?;
+    assert_eq!(rt;
+        one,
+        format!(in alloc; "8\nairdv: 8 door failed\n{}", unknown.as_str())?
+    );
+    Ok(())
+}
+
+#[test]
+fn a_failed_read_or_write_ends_its_connection_alone(rt: HostRuntime) -> Result<(), Fail> {
+    let alloc = rt.alloc();
+    let mut keeper = keeper_of(alloc, &[])?;
+    let ask = "GET /loads/7 HTTP/1.1\r\n\r\n";
+    let unknown = reply(alloc, "404 Not Found", "{\"error\":\"NotFound\"}")?;
+    let wanted = format!(in alloc; "0\n{}", unknown.as_str())?;
     // The first transfer reads, and the second writes.
-    let found = serve(alloc, &mut keeper, ask, ask, &[], &[2])?;
-    assert_eq!(rt; found, format!(in alloc; "0\n{}", unknown.as_str())?);
+    let unread = serve(alloc, &mut keeper, ask, ask, &[], &[1])?;
+    assert_eq!(rt; unread, wanted);
+    let unwritten = serve(alloc, &mut keeper, ask, ask, &[], &[2])?;
+    assert_eq!(rt; unwritten, wanted);
     Ok(())
 }
