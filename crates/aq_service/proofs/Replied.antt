@@ -39,11 +39,11 @@ pub nothing_lost : (by : Bool → Answered) (view : ServiceView) → LosesBy by 
 nothing_lost by view = record { cause = inl refl; tables = λ told. inl (become_same view told) }
 
 -- no route asks for an export: where it is asked, it is not found
-pub export_reply : (office : Office) (site : Site) (pollutant : Pollutant) (year : ℕ) (close : Bool) → reply_of (to_question office (answer office (Export site pollutant year))) close ≡ reply_of (refused 404 office) close
+pub export_answer_is : (office : Office) (site : Site) (pollutant : Pollutant) (year : ℕ) → to_question office (answer office (Export site pollutant year)) ≡ refused 404 office
 unfolding answer
-export_reply office site pollutant year close = by_site (is_registered office site)
+export_answer_is office site pollutant year = by_site (is_registered office site)
   where
-    by_site : (b : Bool) → reply_of (to_question office (cond b (OfExport (export_answer office site pollutant year)) NoSite)) close ≡ reply_of (refused 404 office) close
+    by_site : (b : Bool) → to_question office (cond b (OfExport (export_answer office site pollutant year)) NoSite) ≡ refused 404 office
     by_site true = refl
     by_site false = refl
 

@@ -8,7 +8,7 @@ ghost use Rattle.aq_profile.specs.Shown.Json as book;
 ghost use Rattle.aq_profile.specs.Shown.Sheets.{load_sheet};
 ghost use Rattle.aq_profile.specs.Shown.WellFormed.{IsWellFormed};
 ghost use Rattle.aq_serve.specs.Answered.{error_body, reply_of, shown, to_question};
-ghost use Rattle.aq_service.specs.Answers.{AsksForSheet};
+ghost use Rattle.aq_service.specs.Answers.{AsksForSheet, IsTextOf};
 ghost use Rattle.aq_service.specs.Replies.{IsLoadReply, Stands, methods};
 
 use crate::answers::{Unanswered, sheet_of};
@@ -22,25 +22,24 @@ use aq_reports::{Sheet, conflict_sheet, json_of, load_sheet};
 use aq_serve::error_body;
 use std::alloc::Global;
 
-/// The reply to a question.
-pub(crate) fn question_reply(
+/// The JSON that a question is answered with, or None where it is answered with 404: no route asks for an
+/// export.
+pub(crate) fn question_text(
     alloc: Global,
     book: &Book,
     ask: &Ask,
-    close: bool,
-) -> Result<Vec<u8>, Memory>
+) -> Result<Option<Vec<u8>>, Memory>
     requires valid { IsOffice book.now }
     requires asked { IsTrue (is_asked ask.now) }
-    ensures { IfOk result (λ bytes. bytes.items ≡ reply_of (to_question book.now (answer book.now ask.now)) close) }
+    ensures { IfOk result (λ text. IsTextOf (to_question book.now (answer book.now ask.now)) book.now text) }
 {
     if let Ask::Export(_, _, _) = ask {
-        return error_reply(alloc, 404, b"", close);
+        return Ok(None);
     }
     answers_are_well_formed();
     match sheet_of(alloc, book, ask) {
-        Ok(sheet) => sheet_reply(alloc, 200, &sheet, close),
-        Err(Unanswered::NoSite) => error_reply(alloc, 404, b"", close),
-        Err(Unanswered::NoLoad) => error_reply(alloc, 404, b"", close),
+        Ok(sheet) => Ok(Some(json_of(alloc, &sheet)?)),
+        Err(Unanswered::NoSite | Unanswered::NoLoad) => Ok(None),
         Err(Unanswered::Memory) => Err(Memory),
     }
 }

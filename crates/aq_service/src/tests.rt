@@ -65,6 +65,13 @@ const NOT_FOUND: &str =
 const BAD_REQUEST: &str =
     "HTTP/1.1 400 Bad Request\r\nContent-Type: application/json\r\nContent-Length: 22\r\n\r\n{\"error\":\"BadRequest\"}";
 
+const NO_SITES: &str =
+    "HTTP/1.1 200 OK\r\nContent-Type: application/json\r\nContent-Length: 81\r\n\r\n{\"columns\":[\"site\",\"value\",\"verdict\"],\"rows\":[],\"standard\":\"O3-2015\",\"year\":2024}";
+
+/// Without a value the verdict is that there is none.
+const ONE_SITE: &str =
+    "HTTP/1.1 200 OK\r\nContent-Type: application/json\r\nContent-Length: 111\r\n\r\n{\"columns\":[\"site\",\"value\",\"verdict\"],\"rows\":[[\"06-037-1103\",null,\"NoValue\"]],\"standard\":\"O3-2015\",\"year\":2024}";
+
 #[test]
 fn a_known_load_is_given_again_or_conflicts(rt: HostRuntime) -> Result<(), Fail> {
     let alloc = rt.alloc();
@@ -113,5 +120,23 @@ fn what_is_not_there_is_not_found(rt: HostRuntime) -> Result<(), Fail> {
         "",
     )?;
     assert_eq!(rt; wrong.as_slice(), BAD_REQUEST.as_bytes());
+    Ok(())
+}
+
+#[test]
+fn an_answer_is_kept_until_the_next_load(rt: HostRuntime) -> Result<(), Fail> {
+    let alloc = rt.alloc();
+    let mut desk = opened(alloc, Vec::new(alloc))?;
+    let target = "/report/O3-2015/2024";
+    for _ in 0..2 {
+        let none = reply(alloc, &mut desk, Verb::Get, target, "")?;
+        assert_eq!(rt; none.as_slice(), NO_SITES.as_bytes());
+    }
+    let monitor = "XM|I|06|037|1103|44201|1|1|Y\n";
+    reply(alloc, &mut desk, Verb::Post, "/loads/1", monitor)?;
+    for _ in 0..2 {
+        let one = reply(alloc, &mut desk, Verb::Get, target, "")?;
+        assert_eq!(rt; one.as_slice(), ONE_SITE.as_bytes());
+    }
     Ok(())
 }

@@ -11,7 +11,7 @@ use Rattle.aq_service.proofs.Taking.{if_ok, on_err}
 use Rattle.aq_service.proofs.service.OfficeService.answer_load.Goals as goal
 
 pub post-requires-clause-valid : goal.post-requires-clause-valid
-post-requires-clause-valid g c = subst IsOffice (sym c.replace-book.ensures.value) c.self.invariant
+post-requires-clause-valid g c = subst IsOffice (sym c.replace-book.ensures.value) c.self.invariant.0
 
 pub load_reply-requires-clause-stands : goal.load_reply-requires-clause-stands
 load_reply-requires-clause-stands g c =
