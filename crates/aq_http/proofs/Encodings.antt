@@ -1,7 +1,7 @@
 -- What the summary of a head's headers says of Transfer-Encoding.
-use Rattle.std.proofs.Common.{◌≡◌, ℕ, ◌+◌, ◌<◌, ◌≤◌, ◌||◌, Bool, true, false, cond, eqb, codes, List, [], ◌∷◌, ◌++◌, length, map, refl, sym, ap, ◌∙◌, subst, arith}
-use Rattle.std.specs.Prelude.{flat_map, reverse}
-use Rattle.std.specs.List.{list_all, list_any}
+use Rattle.std.proofs.Common.{◌≡◌, ℕ, ◌<◌, ◌||◌, Bool, true, false, cond, eqb, codes, List, [], ◌∷◌, ◌++◌, length, refl, ap, ◌∙◌, arith}
+use Rattle.std.specs.Prelude.{reverse}
+use Rattle.std.specs.List.{list_all}
 use Rattle.std.proofs.lemmas.List.{length-append, length-map, length-reverse}
 use Rattle.httparse.specs.Grammar.{is_token, trim_ows}
 use Rattle.http1.specs.Fields.{Header, codings_from_last, cons_first, elements, elements_named, has_option, is_blank, is_chunked, is_named, known_fields, last_coding, may_lead, split_commas, transfer_encoding}

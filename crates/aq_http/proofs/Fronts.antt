@@ -1,15 +1,14 @@
 -- What a connection's bytes begin with, and what more bytes change of it.
-use Rattle.std.proofs.Common.{◌≡◌, ◌≢◌, ℕ, ◌+◌, ◌<◌, ◌≤◌, ◌⊎◌, inl, inr, Bool, true, false, cond, leb, List, [], ◌∷◌, ◌++◌, length, take, drop, min, refl, sym, ap, ◌∙◌, subst, arith, append_assoc, append-nil, Option, Some, None, Result, Ok, Err}
+use Rattle.std.proofs.Common.{◌≡◌, ◌≢◌, ℕ, ◌<◌, ◌≤◌, ◌⊎◌, inl, inr, Bool, true, false, cond, leb, List, [], ◌∷◌, ◌++◌, length, take, drop, refl, sym, ap, ◌∙◌, subst, arith, append_assoc, append-nil, Result, Ok, Err}
 use Rattle.std.specs.Prelude.{⊤, codes, IfErr}
 use Rattle.std.specs.Str.Parse.{digits_value}
 use Rattle.std.proofs.lemmas.Bool.{false≢true, cases_lt, leb-true, leb-false, le-leb}
-use Rattle.std.proofs.lemmas.List.{length-append, length-take, take-append-le, take-append-drop, take-take, take_all, drop-append-le}
+use Rattle.std.proofs.lemmas.List.{length-append, length-take, take-append-le, take-append-drop, take-take, take_all}
 use Rattle.httparse.specs.Grammar.{RequestHead, print_request, ReadsRequest}
-use Rattle.httparse.specs.Spans.{RequestOverflows}
 use Rattle.httparse.proofs.GrammarLemmas.{ReadsRequest-append, request_unique}
-use Rattle.http1.specs.Fields.{Header, values_named}
+use Rattle.http1.specs.Fields.{values_named}
 use Rattle.aq_profile.specs.Limits.{MOST_BYTES}
-use Rattle.aq_http.specs.declared.limits.TheConstants.{MOST_HEAD, MOST_HEADERS}
+use Rattle.aq_http.specs.declared.limits.TheConstants.{MOST_HEAD}
 use Rattle.aq_http.specs.declared.verb.Verb.{Verb}
 use Rattle.aq_http.specs.declared.verb.Verb.TheVariants.{Get, Post, Other}
 use Rattle.aq_http.specs.Head.{Front, WholeHead, NoHead, OpenHead, IsFront, Head, HeadStep, More, Refuse, Whole, IsHeadStep, has_transfer_encoding, head_step, headers_of, verb_of, whole_step, window, with_length}

@@ -1,5 +1,5 @@
 -- What the Content-Length headers come to is the length by the rule.
-use Rattle.std.proofs.Common.{◌≡◌, ◌≢◌, ℕ, ◌+◌, ◌^◌, ◌<◌, ◌≤◌, ◌&&◌, Bool, true, false, cond, eqb, leb, List, [], ◌∷◌, ◌++◌, length, append_assoc, refl, sym, ap, ◌∙◌, subst, arith, Option, Some, None, Result, Ok, Err}
+use Rattle.std.proofs.Common.{◌≡◌, ◌≢◌, ℕ, ◌^◌, ◌<◌, ◌≤◌, ◌&&◌, Bool, true, false, cond, eqb, leb, List, [], ◌∷◌, ◌++◌, length, append_assoc, refl, sym, ap, ◌∙◌, arith, Some, None, Result, Ok, Err}
 use Rattle.std.specs.Prelude.{bytes_eq}
 use Rattle.std.specs.Cmp.Lexicographic.{bytes_decides}
 use Rattle.std.specs.List.{list_all}
@@ -10,7 +10,7 @@ use Rattle.http1.specs.Fields.{Header, is_named, values_named}
 use Rattle.http1.specs.Text.{eq_ignore_case}
 use Rattle.aq_profile.specs.Limits.{MOST_BYTES}
 use Rattle.aq_http.specs.declared.verb.Verb.{Verb}
-use Rattle.aq_http.specs.Length.{Stated, Absent, Unclear, Digits, IsStated, body_length, digits_of, is_number, is_number_of, length_in, no_length, number_in, stated_again, stated_anew, stated_onto, stated_with, without_zeros}
+use Rattle.aq_http.specs.Length.{Stated, Absent, Unclear, Digits, IsStated, body_length, is_number, is_number_of, length_in, number_in, stated_again, stated_anew, stated_onto, stated_with, without_zeros}
 use Rattle.aq_http.proofs.Numbers.{same_digits, whole_at_least, zeros_count_nothing, zeros_dropped}
 
 stays_unclear : (values : List (List ℕ)) → stated_onto Unclear values ≡ Unclear

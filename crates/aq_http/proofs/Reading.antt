@@ -1,6 +1,6 @@
 -- A head that the parser answers, as a step.
-use Rattle.std.proofs.Common.{◌≡◌, ℕ, ◌+◌, ◌<◌, ◌≤◌, ◌⊎◌, inl, inr, min, Bool, true, false, cond, leb, List, [], ◌∷◌, ◌++◌, length, map, take, drop, refl, sym, ap, ◌∙◌, subst, arith, Result, Ok, Err}
-use Rattle.std.specs.Prelude.{⊤, codes}
+use Rattle.std.proofs.Common.{◌≡◌, ℕ, ◌<◌, ◌≤◌, ◌⊎◌, inl, inr, min, true, false, cond, List, length, take, drop, refl, sym, ap, ◌∙◌, arith, Result}
+use Rattle.std.specs.Prelude.{codes}
 use Rattle.std.proofs.lemmas.Bool.{cases_lt, le-leb, lt-leb}
 use Rattle.std.proofs.lemmas.List.{length-map, length-take, take-append-drop, take_all}
 use Rattle.httparse.specs.declared.spans.HeaderSpan.{HeaderSpan}
@@ -12,8 +12,8 @@ use Rattle.aq_http.specs.Length.{body_length}
 use Rattle.aq_http.specs.declared.limits.TheConstants.{MOST_HEAD, MOST_HEADERS}
 use Rattle.aq_http.specs.declared.head.HeadStep.{HeadStep as Read}
 use Rattle.aq_http.specs.declared.head.HeadStep.TheVariants as read
-use Rattle.aq_http.specs.Head.{HeadStep, More, Refuse, Whole, WholeHead, NoHead, OpenHead, IfWhole, IsHeadStep, head_in, has_transfer_encoding, head_step_in, step_at, step_by, verb_of, whole_step, window, with_length}
-use Rattle.aq_http.specs.Places.{HeadPlaces, IsHeadPlaces}
+use Rattle.aq_http.specs.Head.{More, Refuse, Whole, WholeHead, NoHead, OpenHead, IfWhole, IsHeadStep, head_in, has_transfer_encoding, head_step_in, step_at, step_by, verb_of, whole_step, window, with_length}
+use Rattle.aq_http.specs.Places.{IsHeadPlaces}
 use Rattle.aq_http.proofs.Steps.{head_in_more}
 
 pub window_is : (n : ℕ) (input : List ℕ) → n ≡ min (length input) MOST_HEAD → take n input ≡ window input

@@ -1,5 +1,5 @@
 -- The head of a request, and what it asks of the connection. Its grammar is `httparse`'s, with the versions 1.0 and 1.1 (RFC 9112, sections 2 to 5).
-use Rattle.std.specs.Prelude.{⊤, ◌≡◌, ℕ, ◌≤◌, Bool, true, false, ◌||◌, ◌==◌, nat_le, if◌then◌else◌, List, [], ◌∷◌, length, map, take, slice_range, codes, bytes_eq, Result, Ok, Err}
+use Rattle.std.specs.Prelude.{⊤, ◌≡◌, ℕ, ◌≤◌, Bool, true, false, ◌||◌, ◌==◌, nat_le, if◌then◌else◌, List, length, map, take, slice_range, codes, bytes_eq, Result, Ok, Err}
 use Rattle.std.specs.List.{list_any}
 use Rattle.httparse.specs.Grammar.{RequestHead, ReadsRequest, HasNoRequest, MayBecomeRequest, print_request}
 use Rattle.httparse.specs.declared.spans.HeaderSpan.{HeaderSpan}

@@ -6,6 +6,9 @@ use aq_base::Memory;
 use http::StatusCode;
 use std::alloc::Global;
 
+/// What stands in front of a body has room in so many bytes.
+const HEAD_ROOM: usize = 160;
+
 /// The bytes of a reply: its status line, the headers and the JSON body (RFC 9112, sections 4 to 6).
 /// `allow` is written for 405 alone, and `close` says that the connection ends behind the reply.
 #[tactic(auto, unfolding(crate::specs::Reply::reply_text))]
@@ -28,7 +31,9 @@ pub fn reply_bytes(
         unreachable!();
     };
     let length = body.len();
-    let start = format!(in alloc;
+    let mut start = String::with_capacity(alloc, length.saturating_add(HEAD_ROOM))?;
+    write!(
+        start,
         "HTTP/1.1 {code}\r\nContent-Type: application/json\r\nContent-Length: {length}\r\n"
     )?;
     let mut out = start.into_bytes();

@@ -1,6 +1,5 @@
-use Rattle.std.proofs.Common.{◌≡◌, ◌∙◌, ap, sym, subst, length, arith, Ok}
+use Rattle.std.proofs.Common.{ap, subst, length, arith, Ok}
 use Rattle.std.proofs.lemmas.List.{length-take}
-use Rattle.httparse.specs.declared.Status.TheVariants.{Complete, Partial}
 use Rattle.httparse.specs.declared.spans.RequestSpans.{RequestSpans}
 use Rattle.httparse.specs.declared.Error.{Error}
 use Rattle.httparse.specs.Grammar.{HasNoRequest, MayBecomeRequest}

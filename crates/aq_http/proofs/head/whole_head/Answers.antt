@@ -1,7 +1,7 @@
-use Rattle.std.proofs.Common.{◌≡◌, ◌∙◌, ℕ, List, Bool, true, false, ap, sym, map, take, codes, Result, Ok, Err}
+use Rattle.std.proofs.Common.{◌≡◌, ◌∙◌, true, false, ap, sym, map, take, codes, Ok, Err}
 use Rattle.std.specs.Prelude.{◌||◌, ◌==◌}
 use Rattle.httparse.specs.Spans.{header_bytes, span_bytes}
-use Rattle.http1.specs.Fields.{Header, values_named}
+use Rattle.http1.specs.Fields.{values_named}
 use Rattle.aq_http.specs.Head.{Whole, has_transfer_encoding, is_last, verb_of}
 use Rattle.aq_http.specs.Length.{body_length}
 use Rattle.aq_http.proofs.Encodings.{known_close, known_encoded}

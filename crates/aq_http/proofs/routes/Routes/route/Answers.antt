@@ -1,4 +1,4 @@
-use Rattle.std.proofs.Common.{◌∙◌, ap, refl, sym, subst}
+use Rattle.std.proofs.Common.{◌∙◌, ap, refl}
 use Rattle.std.specs.Prelude.{option_map}
 use Rattle.matchit.specs.Seek.{first}
 use Rattle.aq_http.specs.Routes.{all_routes}
