@@ -84,27 +84,30 @@ fn read<K: Keeper>(
     Ok((rows.len(), first, second))
 }
 
+/// Puts a record with this line, the sample of an hour, and the load.
+fn put<K: Keeper>(
+    rt: &impl Abort,
+    alloc: Global,
+    keeper: &mut K,
+    line: &str,
+    hour: i64,
+) -> Result<(), Fail> {
+    let batch = [monitor(alloc, line)?, sample(alloc, hour)?, load(alloc)?];
+    assert!(rt; commit(rt, alloc, keeper, &batch).is_ok());
+    Ok(())
+}
+
 /// What a keeper does with batches that put rows, put others in their places, and drop them.
 fn keep<K: Keeper>(rt: &impl Abort, alloc: Global, keeper: &mut K) -> Result<(), Fail> {
-    let first = [
-        monitor(alloc, "XM|Y")?,
-        sample(alloc, 214_764)?,
-        load(alloc)?,
-    ];
-    assert!(rt; commit(rt, alloc, keeper, &first).is_ok());
+    put(rt, alloc, keeper, "XM|Y", 214_764)?;
     assert!(rt; read(rt, alloc, keeper) == Ok((3, i64::from(b'Y'), 214_764)));
-    let second = [
-        monitor(alloc, "XM|N")?,
-        sample(alloc, 214_763)?,
-        load(alloc)?,
-    ];
-    assert!(rt; commit(rt, alloc, keeper, &second).is_ok());
+    put(rt, alloc, keeper, "XM|N", 214_763)?;
     assert!(rt; read(rt, alloc, keeper) == Ok((4, i64::from(b'N'), 214_763)));
-    let third = [
+    let drops = [
         RowChange::drop(RowKey::observation(60_371_103, 1, 1, 214_763)),
         RowChange::drop(RowKey::load(5)),
     ];
-    assert!(rt; commit(rt, alloc, keeper, &third).is_ok());
+    assert!(rt; commit(rt, alloc, keeper, &drops).is_ok());
     assert!(rt; read(rt, alloc, keeper) == Ok((2, i64::from(b'N'), 214_764)));
     Ok(())
 }
