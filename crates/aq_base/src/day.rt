@@ -6,19 +6,21 @@ ghost use Rattle.aq_base.specs.declared.day.TheConstants.{LAST_DAY, LAST_HOUR, Q
 use std::marker::Model;
 
 /// The profile begins on 1 January of this year, which is day 0 (own).
-pub const FIRST_YEAR: u16 = 2000;
+pub const FIRST_YEAR: u16 = 1990;
 
 /// The profile ends on 31 December of this year (own).
-pub const LAST_YEAR: u16 = 2049;
+pub const LAST_YEAR: u16 = 2059;
 
-/// The number of the profile's last day: every fourth year, from the first on, has a leap day.
-pub const LAST_DAY: u16 = 365 * (LAST_YEAR + 1 - FIRST_YEAR) + (LAST_YEAR - FIRST_YEAR) / 4;
+/// The number of the profile's last day: each year that 4 divides has a leap day, the year 2000 too.
+pub const LAST_DAY: u16 = 365 * (LAST_YEAR + 1 - FIRST_YEAR) + LAST_YEAR / 4
+    - (FIRST_YEAR - 1) / 4
+    - 1;
 
 /// The number of the profile's last hour.
 pub const LAST_HOUR: u32 = 24 * LAST_DAY as u32 + 23;
 
 /// How many calendar quarters the profile has.
-pub const QUARTERS: u8 = 4 * (LAST_YEAR + 1 - FIRST_YEAR) as u8;
+pub const QUARTERS: u16 = 4 * (LAST_YEAR + 1 - FIRST_YEAR);
 
 /// The last day and hour and the number of quarters are those of the profile's years.
 #[tactic(auto, unfolding(crate::specs::Calendar::days_of_years))]
@@ -101,7 +103,7 @@ impl Hour {
 /// number.
 #[derive(Clone, Copy, Debug, PartialEq, Eq, PartialOrd, Ord, Hash)]
 pub struct Quarter {
-    number: u8,
+    number: u16,
 }
 
 impl Model for Quarter {
@@ -116,7 +118,7 @@ impl Model for Quarter {
 
 impl Quarter {
     /// The quarter with this number.
-    pub fn new(number: u8) -> Quarter
+    pub fn new(number: u16) -> Quarter
         requires { number < QUARTERS }
         ensures { result ≡ number }
     {
@@ -124,7 +126,7 @@ impl Quarter {
     }
 
     /// How many quarters of the profile come before it.
-    pub fn number(self) -> u8
+    pub fn number(self) -> u16
         ensures value { result ≡ self }
         ensures range { result < QUARTERS }
     {

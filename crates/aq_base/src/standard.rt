@@ -6,10 +6,12 @@ ghost use Rattle.aq_base.specs.Standard.{standard_name, standards};
 pub enum Standard {
     /// Ozone, 0.070 ppm (40 CFR Part 50, Appendix U).
     Ozone2015,
-    /// PM2.5, annual primary, 12.0 µg/m3 (Appendix N).
+    /// PM2.5, annual primary of 2012, 12.0 µg/m3 (Appendix N).
     Annual2012,
     /// PM2.5, annual secondary, 15.0 µg/m3 (Appendix N).
     AnnualSecondary,
+    /// PM2.5, annual primary of 2024, 9.0 µg/m3 (Appendix N).
+    Annual2024,
     /// PM2.5, 24-hour, 35 µg/m3 (Appendix N).
     Daily2006,
     /// PM10, 24-hour, 150 µg/m3 with 1.0 expected exceedances a year (Appendix K).
@@ -18,13 +20,14 @@ pub enum Standard {
 
 impl Standard {
     /// All standards, in the order in which reports give them.
-    pub fn all() -> [Standard; 5]
+    pub fn all() -> [Standard; 6]
         ensures { result ≡ standards }
     {
         [
             Standard::Ozone2015,
             Standard::Annual2012,
             Standard::AnnualSecondary,
+            Standard::Annual2024,
             Standard::Daily2006,
             Standard::Pm10Of1987,
         ]
@@ -38,6 +41,7 @@ impl Standard {
             Standard::Ozone2015 => "O3-2015",
             Standard::Annual2012 => "PM25-ANNUAL-2012",
             Standard::AnnualSecondary => "PM25-ANNUAL-SECONDARY",
+            Standard::Annual2024 => "PM25-ANNUAL-2024",
             Standard::Daily2006 => "PM25-24H-2006",
             Standard::Pm10Of1987 => "PM10-24H-1987",
         }

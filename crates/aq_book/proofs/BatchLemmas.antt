@@ -4,12 +4,12 @@ use Rattle.std.proofs.lemmas.List.{map-append}
 use Rattle.aq_base.specs.declared.observation.ObsKey.{ObsKey}
 use Rattle.aq_base.specs.declared.observation.Observation.{Observation}
 use Rattle.aq_base.specs.declared.office.OfficeRecord.{OfficeRecord}
-use Rattle.aq_profile.specs.Kept.RowChanges.{row_batch, row_change}
-use Rattle.aq_profile.specs.Lines.Lines.{body_lines}
-use Rattle.aq_profile.specs.Office.Load.{OfficeChange, after_all, load_change, stored}
-use Rattle.aq_profile.specs.Office.Office.{Office, StoredLoad}
-use Rattle.aq_load.specs.Batch.{AreChangesOf, changes_between}
-use Rattle.aq_load.specs.Staged.{StagedLoad, after_lines}
+use Rattle.aq_rules.specs.Kept.RowChanges.{row_batch, row_change}
+use Rattle.aq_rules.specs.Lines.Lines.{body_lines}
+use Rattle.aq_rules.specs.Office.Load.{OfficeChange, after_all, load_change, stored}
+use Rattle.aq_rules.specs.Office.Office.{Office, StoredLoad}
+use Rattle.aq_staging.specs.Batch.{AreChangesOf, changes_between}
+use Rattle.aq_staging.specs.Staged.{StagedLoad, after_lines}
 use Rattle.aq_loads.specs.KeptLoads.{stored_as}
 use Rattle.aq_book.specs.Staged.{IsStageOf}
 use Rattle.aq_book.specs.View.{standing}

@@ -2,17 +2,17 @@
 use Rattle.std.proofs.Common.{◌≡◌, ℕ, List, map, ap, sym, ◌∙◌}
 use Rattle.std.specs.Prelude.{ℤ}
 use Rattle.aq_base.specs.Site.{Site}
-use Rattle.aq_profile.specs.DesignValues.{OfAnnual, OfDaily, OfOzone, OfPm10, pm10_years, pm25_years}
-use Rattle.aq_profile.specs.Kept.Summaries.{PmYear, pm25_summary}
-use Rattle.aq_profile.specs.Kept.SummaryVerdicts.{kept_annual_dv, kept_daily_dv}
-use Rattle.aq_profile.specs.Office.Office.{Office}
-use Rattle.aq_profile.specs.Ozone.OzoneVerdict.{OzoneDv, ozone_design, ozone_dv, three_years}
-use Rattle.aq_profile.specs.Ozone.OzoneYear.{OzoneYear}
-use Rattle.aq_profile.specs.Particles.AnnualVerdict.{ParticleDv, annual_design}
-use Rattle.aq_profile.specs.Particles.DailyVerdict.{daily_design}
-use Rattle.aq_profile.specs.Particles.Pm10Estimate.{Pm10Quarter}
-use Rattle.aq_profile.specs.Particles.Pm10Verdict.{Pm10Dv, pm10_design, pm10_dv}
-use Rattle.aq_profile.specs.Standards.{years_to}
+use Rattle.aq_rules.specs.DesignValues.{OfAnnual, OfDaily, OfOzone, OfPm10, pm10_years, pm25_years}
+use Rattle.aq_rules.specs.Kept.Summaries.{PmYear, pm25_summary}
+use Rattle.aq_rules.specs.Kept.SummaryVerdicts.{kept_annual_dv, kept_daily_dv}
+use Rattle.aq_rules.specs.Office.Office.{Office}
+use Rattle.aq_rules.specs.Ozone.OzoneVerdict.{OzoneDv, ozone_design, ozone_dv, three_years}
+use Rattle.aq_rules.specs.Ozone.OzoneYear.{OzoneYear}
+use Rattle.aq_rules.specs.Particles.AnnualVerdict.{ParticleDv, annual_design}
+use Rattle.aq_rules.specs.Particles.DailyVerdict.{daily_design}
+use Rattle.aq_rules.specs.Particles.Pm10Estimate.{Pm10Quarter}
+use Rattle.aq_rules.specs.Particles.Pm10Verdict.{Pm10Dv, pm10_design, pm10_dv}
+use Rattle.aq_rules.specs.Standards.{years_to}
 
 module _ (office : Office) (site : Site) (last : ℕ) where
   pub ozone-value : (years : List OzoneYear) (design : OzoneDv) → years ≡ three_years office site last → design ≡ ozone_dv years → OfOzone years design ≡ OfOzone (three_years office site last) (ozone_design office site last)

@@ -6,12 +6,12 @@ use Rattle.aq_base.specs.declared.office.OfficeKey.TheVariants as keys
 use Rattle.aq_base.specs.declared.office.OfficeLine.TheVariants.{Put, Change, Drop}
 use Rattle.aq_base.specs.declared.reply.ListedLine.{ListedLine}
 use Rattle.aq_base.specs.declared.rule.Rule.{Rule}
-use Rattle.aq_profile.specs.Lines.Lines.{NumberedLine, body_lines, line_count}
-use Rattle.aq_profile.specs.Lines.RdForm.{Put as PutSample, Delete as DeleteSample}
-use Rattle.aq_profile.specs.Lines.Reading.{LineValue, OfRd, OfOffice, line_value, reading_rule}
-use Rattle.aq_profile.specs.Office.Office.{Office, StoredLoad}
-use Rattle.aq_profile.specs.Office.Refusal.{broken}
-use Rattle.aq_profile.specs.Office.Load.{after, after_all, broken_by, changed, changed_by, listed_for, refusal, refusals, reply, reply_for}
+use Rattle.aq_rules.specs.Lines.Lines.{NumberedLine, body_lines, line_count}
+use Rattle.aq_rules.specs.Lines.RdForm.{Put as PutSample, Delete as DeleteSample}
+use Rattle.aq_rules.specs.Lines.Reading.{LineValue, OfRd, OfOffice, line_value, reading_rule}
+use Rattle.aq_rules.specs.Office.Office.{Office, StoredLoad}
+use Rattle.aq_rules.specs.Office.Refusal.{broken}
+use Rattle.aq_rules.specs.Office.Load.{after, after_all, broken_by, changed, changed_by, listed_for, refusal, refusals, reply, reply_for}
 
 -- the office with these loads in place of its own
 abbrev pub with_loads : List StoredLoad → Office → Office

@@ -5,19 +5,19 @@ use Rattle.aq_base.specs.declared.monitor.Pollutant.{Pollutant}
 use Rattle.aq_base.specs.declared.observation.ObsKey.{ObsKey}
 use Rattle.aq_base.specs.declared.observation.Observation.{Observation}
 use Rattle.aq_base.specs.declared.office.OfficeRecord.{OfficeRecord}
-use Rattle.aq_profile.specs.DesignValues.{pm10_years, pm25_years}
-use Rattle.aq_profile.specs.Kept.Summaries.{pm25_summary}
-use Rattle.aq_profile.specs.Office.Office.{StoredLoad}
-use Rattle.aq_profile.specs.Ozone.EightHour.{window}
-use Rattle.aq_profile.specs.Ozone.OzoneDay.{ozone_day, windows}
-use Rattle.aq_profile.specs.Ozone.OzoneVerdict.{three_years}
-use Rattle.aq_profile.specs.Ozone.OzoneYear.{ozone_days, ozone_year}
-use Rattle.aq_profile.specs.Ozone.SiteHour.{site_hour}
-use Rattle.aq_profile.specs.Particles.ParticleDay.{monitor_day, site_day}
-use Rattle.aq_profile.specs.Particles.QuarterCounts.{credits, pm25_year, quarter_counts, quarter_values}
-use Rattle.aq_profile.specs.Particles.Pm10Estimate.{pm10_quarter, pm10_year}
-use Rattle.aq_profile.specs.Particles.Strata.{first_days, strata_of}
-use Rattle.aq_profile.specs.Shown.Export.{shown_of}
+use Rattle.aq_rules.specs.DesignValues.{pm10_years, pm25_years}
+use Rattle.aq_rules.specs.Kept.Summaries.{pm25_summary}
+use Rattle.aq_rules.specs.Office.Office.{StoredLoad}
+use Rattle.aq_rules.specs.Ozone.EightHour.{window}
+use Rattle.aq_rules.specs.Ozone.OzoneDay.{ozone_day, windows}
+use Rattle.aq_rules.specs.Ozone.OzoneVerdict.{three_years}
+use Rattle.aq_rules.specs.Ozone.OzoneYear.{ozone_days, ozone_year}
+use Rattle.aq_rules.specs.Ozone.SiteHour.{site_hour}
+use Rattle.aq_rules.specs.Particles.ParticleDay.{monitor_day, site_day}
+use Rattle.aq_rules.specs.Particles.QuarterCounts.{credits, pm25_year, quarter_counts, quarter_values}
+use Rattle.aq_rules.specs.Particles.Pm10Estimate.{pm10_quarter, pm10_year}
+use Rattle.aq_rules.specs.Particles.Strata.{first_days, strata_of}
+use Rattle.aq_rules.specs.Shown.Export.{shown_of}
 use Rattle.aq_series.specs.OfficeView.{office_of}
 use Rattle.aq_book.specs.View.{standing}
 

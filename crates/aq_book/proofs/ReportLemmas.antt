@@ -3,9 +3,9 @@ use Rattle.std.proofs.Common.{◌≡◌, ℕ, List, [], ◌∷◌, ◌++◌, map
 use Rattle.std.proofs.lemmas.List.{append_assoc, map-append}
 use Rattle.aq_base.specs.Site.{Site}
 use Rattle.aq_base.specs.declared.standard.Standard.{Standard}
-use Rattle.aq_profile.specs.DesignValues.{design_value}
-use Rattle.aq_profile.specs.Office.Office.{Office}
-use Rattle.aq_profile.specs.Shown.OtherSheets.{Judged, judged, judged_by}
+use Rattle.aq_rules.specs.DesignValues.{design_value}
+use Rattle.aq_rules.specs.Office.Office.{Office}
+use Rattle.aq_rules.specs.Shown.OtherSheets.{Judged, judged, judged_by}
 use Rattle.aq_verdict.specs.Designs.{design_of}
 use Rattle.aq_verdict.specs.declared.design_value.DesignValue.{DesignValue}
 use Rattle.aq_book.specs.Questions.{judged_in}

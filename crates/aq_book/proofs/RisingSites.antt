@@ -11,15 +11,15 @@ use Rattle.aq_base.specs.declared.monitor.Pollutant.TheVariants.{Ozone, Pm25, Pm
 use Rattle.aq_base.specs.declared.monitor.MonitorId.{MonitorId}
 use Rattle.aq_base.specs.declared.office.OfficeRecord.{OfficeRecord}
 use Rattle.aq_base.specs.declared.office.OfficeRecord.TheVariants.{Monitor}
-use Rattle.aq_profile.specs.Office.Monitors.{is_same_site, is_same_pollutant}
-use Rattle.aq_profile.specs.Office.Office.{Office, IsOffice, comes_before, fits_records, has_monitor, is_poc, is_same, is_site, parameter_number, record_rank, registers, rises, rises_from, row_at, series_numbers, site_numbers, sites_of, with_row, with_site}
-use Rattle.aq_profile.specs.Office.Questions.{first_given, is_site_after, next_poc, next_site, poc_above, site_above}
-use Rattle.aq_profile.specs.Office.RowOrder.{before-total, before-trans, with_row-rises}
-use Rattle.aq_profile.specs.Shown.OtherSheets.{rising_sites, sites_with}
-use Rattle.aq_profile.proofs.Lookups.{found-with, one_list, same-is}
-use Rattle.aq_profile.proofs.RowsPlaced.{with_row-all}
-use Rattle.aq_profile.proofs.SitesCounted.{lists}
-use Rattle.aq_profile.proofs.Spans.{before-itself}
+use Rattle.aq_rules.specs.Office.Monitors.{is_same_site, is_same_pollutant}
+use Rattle.aq_rules.specs.Office.Office.{Office, IsOffice, comes_before, fits_records, has_monitor, is_poc, is_same, is_site, parameter_number, record_rank, registers, rises, rises_from, row_at, series_numbers, site_numbers, sites_of, with_row, with_site}
+use Rattle.aq_rules.specs.Office.Questions.{first_given, is_site_after, next_poc, next_site, poc_above, site_above}
+use Rattle.aq_rules.specs.Office.RowOrder.{before-total, before-trans, with_row-rises}
+use Rattle.aq_rules.specs.Shown.OtherSheets.{rising_sites, sites_with}
+use Rattle.aq_rules.proofs.Lookups.{found-with, one_list, same-is}
+use Rattle.aq_rules.proofs.RowsPlaced.{with_row-all}
+use Rattle.aq_rules.proofs.SitesCounted.{lists}
+use Rattle.aq_rules.proofs.Spans.{before-itself}
 
 -- ---- filters
 

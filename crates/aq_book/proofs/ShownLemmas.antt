@@ -18,15 +18,15 @@ use Rattle.aq_base.specs.declared.observation.Observation.{Observation}
 use Rattle.aq_base.specs.declared.office.OfficeKey.TheVariants.{Monitor as MonitorKey}
 use Rattle.aq_base.specs.declared.office.OfficeRecord.{OfficeRecord}
 use Rattle.aq_base.specs.declared.office.OfficeRecord.TheVariants.{Monitor}
-use Rattle.aq_profile.specs.Lines.Spellings.{◌>>=◌}
-use Rattle.aq_profile.specs.Office.Exclusion.{excluded}
-use Rattle.aq_profile.specs.Office.Monitors.{is_same_monitor, is_same_pollutant, is_same_site}
-use Rattle.aq_profile.specs.Office.Office.{Office, IsOffice, comes_before, duration_at, fits_monitors, fits_records, is_content, is_kept_hour, is_same, key_numbers, monitor_duration, observation_numbers, observation_rank, pollutant_number, record_rank, rises, row_at}
-use Rattle.aq_profile.specs.Office.Questions.{next_poc}
-use Rattle.aq_profile.specs.Office.RowOrder.{before-trans}
-use Rattle.aq_profile.specs.Office.Sameness.{number_itself, same_monitor, same_pollutant, same_site}
-use Rattle.aq_profile.specs.Shown.Export.{is_of_year, shown_of}
-use Rattle.aq_profile.proofs.Spans.{before-itself}
+use Rattle.aq_rules.specs.Lines.Spellings.{◌>>=◌}
+use Rattle.aq_rules.specs.Office.Exclusion.{excluded}
+use Rattle.aq_rules.specs.Office.Monitors.{is_same_monitor, is_same_pollutant, is_same_site}
+use Rattle.aq_rules.specs.Office.Office.{Office, IsOffice, comes_before, duration_at, fits_monitors, fits_records, is_content, is_kept_hour, is_same, key_numbers, monitor_duration, observation_numbers, observation_rank, pollutant_number, record_rank, rises, row_at}
+use Rattle.aq_rules.specs.Office.Questions.{next_poc}
+use Rattle.aq_rules.specs.Office.RowOrder.{before-trans}
+use Rattle.aq_rules.specs.Office.Sameness.{number_itself, same_monitor, same_pollutant, same_site}
+use Rattle.aq_rules.specs.Shown.Export.{is_of_year, shown_of}
+use Rattle.aq_rules.proofs.Spans.{before-itself}
 use Rattle.aq_cal.proofs.Within.{year_holds}
 use Rattle.aq_shelf.specs.Standing.{hour_content, in_span, observations_in}
 use Rattle.aq_book.specs.Questions.{shown_at}

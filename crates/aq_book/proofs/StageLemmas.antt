@@ -4,13 +4,13 @@ use Rattle.aq_base.specs.declared.observation.ObsKey.{ObsKey}
 use Rattle.aq_base.specs.declared.observation.Observation.{Observation}
 use Rattle.aq_base.specs.declared.office.OfficeRecord.{OfficeRecord}
 use Rattle.aq_base.specs.declared.reply.LoadReply.{LoadReply}
-use Rattle.aq_profile.specs.Limits.{MOST_OBSERVATIONS}
-use Rattle.aq_profile.specs.Lines.Lines.{body_lines}
-use Rattle.aq_profile.specs.Office.Load.{New, after_all, decide, load, reply, with_load}
-use Rattle.aq_profile.specs.Office.Office.{IsOffice, Office, StoredLoad, load_rank, with_row}
+use Rattle.aq_rules.specs.Limits.{MOST_OBSERVATIONS}
+use Rattle.aq_rules.specs.Lines.Lines.{body_lines}
+use Rattle.aq_rules.specs.Office.Load.{New, after_all, decide, load, reply, with_load}
+use Rattle.aq_rules.specs.Office.Office.{IsOffice, Office, StoredLoad, load_rank, with_row}
 use Rattle.aq_series.specs.OfficeView.{office_of}
-use Rattle.aq_load.specs.Staged.{StagedLoad, after_lines, IsStagedOn}
-use Rattle.aq_load.specs.Changes.{with_changes}
+use Rattle.aq_staging.specs.Staged.{StagedLoad, after_lines, IsStagedOn}
+use Rattle.aq_staging.specs.Changes.{with_changes}
 use Rattle.aq_book.specs.Staged.{office_with, Fits}
 use Rattle.aq_loads.specs.KeptLoads.{stored_as, with_kept}
 use Rattle.aq_book.specs.View.{standing}

@@ -1,6 +1,6 @@
 -- Whether a load acts, in the words of the book of rules.
-use Rattle.aq_profile.specs.Office.Load.{Decision}
-use Rattle.aq_profile.specs.Office.Load as book
+use Rattle.aq_rules.specs.Office.Load.{Decision}
+use Rattle.aq_rules.specs.Office.Load as book
 use Rattle.aq_book.specs.declared.check.LoadCheck.{LoadCheck}
 use Rattle.aq_book.specs.declared.check.LoadCheck.TheVariants.{Repeat, Conflict, Full, New}
 

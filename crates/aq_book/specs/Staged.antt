@@ -1,9 +1,9 @@
 -- What a staged load makes of an office.
 use Rattle.std.specs.Prelude.{◌≡◌, ℕ, List}
-use Rattle.aq_profile.specs.Lines.Lines.{body_lines}
-use Rattle.aq_profile.specs.Office.Load.{after_all, reply, with_load}
-use Rattle.aq_profile.specs.Office.Office.{IsOffice, Office}
-use Rattle.aq_load.specs.Staged.{StagedLoad, after_lines, IsStagedOn}
+use Rattle.aq_rules.specs.Lines.Lines.{body_lines}
+use Rattle.aq_rules.specs.Office.Load.{after_all, reply, with_load}
+use Rattle.aq_rules.specs.Office.Office.{IsOffice, Office}
+use Rattle.aq_staging.specs.Staged.{StagedLoad, after_lines, IsStagedOn}
 use Rattle.aq_loads.specs.KeptLoads.{stored_as}
 
 -- the office after the load: its lines are taken, and it is kept

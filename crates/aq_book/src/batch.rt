@@ -1,13 +1,13 @@
 //! The batch of a staged load: the changes of rows that a keeper takes.
 ghost use Rattle.std.specs.Prelude.{◌≡◌, ◌++◌, map, IfOk, OnOk};
-ghost use Rattle.aq_load.specs.Batch.{change_in, changes_in};
+ghost use Rattle.aq_staging.specs.Batch.{change_in, changes_in};
 ghost use Rattle.aq_loads.specs.KeptLoads.{stored_as};
-ghost use Rattle.aq_profile.specs.Kept.RowChanges.{row_change};
-ghost use Rattle.aq_profile.specs.Office.Load.{load_change};
+ghost use Rattle.aq_rules.specs.Kept.RowChanges.{row_change};
+ghost use Rattle.aq_rules.specs.Office.Load.{load_change};
 
 use aq_base::{Items, LoadReply, Memory};
 use aq_keeper::{Row, RowChange};
-use aq_load::{OfficeChange, OfficeChanges};
+use aq_staging::{OfficeChange, OfficeChanges};
 use aq_rows::{load_row, observation_key, observation_row, office_key, office_row};
 use std::alloc::Global;
 

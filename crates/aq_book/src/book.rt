@@ -1,21 +1,21 @@
 //! An office with its observations and records.
 ghost use Rattle.std.specs.Prelude.{◌≡◌, ◌≤◌, ◌⊎◌, ℕ, List, length, option_map, IfOk};
 ghost use Rattle.aq_book.specs.Checks.{decision_of};
-ghost use Rattle.aq_load.specs.Staged.{IsStagedOn};
+ghost use Rattle.aq_staging.specs.Staged.{IsStagedOn};
 ghost use Rattle.aq_loads.specs.KeptLoads.{digest_in, reply_in};
 ghost use Rattle.aq_book.specs.Staged.{office_with, Fits, IsStageOf};
-ghost use Rattle.aq_profile.specs.Kept.RowChanges.{row_batch};
-ghost use Rattle.aq_profile.specs.Limits.{MOST_BYTES, MOST_LINES};
-ghost use Rattle.aq_profile.specs.Lines.Lines.{line_count};
-ghost use Rattle.aq_profile.specs.Office.Load.{New, decide, load, reply};
-ghost use Rattle.aq_profile.specs.Office.Office.{load_at, nothing};
+ghost use Rattle.aq_rules.specs.Kept.RowChanges.{row_batch};
+ghost use Rattle.aq_rules.specs.Limits.{MOST_BYTES, MOST_LINES};
+ghost use Rattle.aq_rules.specs.Lines.Lines.{line_count};
+ghost use Rattle.aq_rules.specs.Office.Load.{New, decide, load, reply};
+ghost use Rattle.aq_rules.specs.Office.Office.{load_at, nothing};
 
 use crate::batch::{RowChanges, batch_of};
 use crate::check::LoadCheck;
 use aq_base::{LoadReply, Memory};
-use aq_load::{Staged, stage_load};
+use aq_staging::{Staged, stage_load};
 use aq_loads::{Loads, digest_is_32_bytes};
-use aq_profile::office::valid_load::{an_office_of_nothing_is_valid, loads_leave_the_office_valid};
+use aq_rules::office::valid_load::{an_office_of_nothing_is_valid, loads_leave_the_office_valid};
 use aq_registry::Registry;
 use aq_shelf::Shelf;
 use std::alloc::Global;
@@ -31,7 +31,7 @@ pub struct Book {
 }
 
 impl Model for Book {
-    ghost use Rattle.aq_profile.specs.Office.Office.{IsOffice, Office};
+    ghost use Rattle.aq_rules.specs.Office.Office.{IsOffice, Office};
     ghost use Rattle.aq_book.specs.View.{standing};
 
     ghost Value = { Office };

@@ -2,12 +2,12 @@
 ghost use Rattle.std.specs.Prelude.{◌≡◌, ◌+◌, ◌*◌, ◌≤◌, is_ok, IfOk};
 ghost use Rattle.aq_base.specs.declared.day.TheConstants.{FIRST_YEAR, LAST_YEAR};
 ghost use Rattle.aq_base.specs.declared.standard.Standard.TheVariants.{Ozone2015};
-ghost use Rattle.aq_profile.specs.DesignValues.{OfAnnual, OfDaily, OfOzone, OfPm10, design_value, pm10_years, pm25_years};
-ghost use Rattle.aq_profile.specs.Ozone.OzoneVerdict.{ozone_design, three_years};
-ghost use Rattle.aq_profile.specs.Particles.AnnualVerdict.{annual_design};
-ghost use Rattle.aq_profile.specs.Particles.DailyVerdict.{daily_design};
-ghost use Rattle.aq_profile.specs.Particles.Pm10Verdict.{pm10_design};
-ghost use Rattle.aq_profile.specs.Shown.Answer.{is_registered};
+ghost use Rattle.aq_rules.specs.DesignValues.{OfAnnual, OfDaily, OfOzone, OfPm10, design_value, pm10_years, pm25_years};
+ghost use Rattle.aq_rules.specs.Ozone.OzoneVerdict.{ozone_design, three_years};
+ghost use Rattle.aq_rules.specs.Particles.AnnualVerdict.{annual_design};
+ghost use Rattle.aq_rules.specs.Particles.DailyVerdict.{daily_design};
+ghost use Rattle.aq_rules.specs.Particles.Pm10Verdict.{pm10_design};
+ghost use Rattle.aq_rules.specs.Shown.Answer.{is_registered};
 ghost use Rattle.aq_verdict.specs.Designs.{design_of};
 
 use crate::book::Book;
@@ -15,7 +15,7 @@ use crate::fault::UnknownSite;
 use crate::ozone::three_years;
 use crate::particles::{three_pm10_years, three_pm25_years};
 use aq_base::{SiteId, Standard, Steps};
-use aq_profile::kept::summaries::office_verdicts_read_what_is_kept;
+use aq_rules::kept::summaries::office_verdicts_read_what_is_kept;
 use aq_verdict::{DesignValue, annual, daily, ozone, pm10};
 use std::sync::ledger::Ledger;
 
@@ -47,7 +47,7 @@ impl Book {
     }
 
     /// The same, whether or not the site is registered.
-    #[tactic(auto, unfolding(aq_profile::specs::DesignValues::design_value))]
+    #[tactic(auto, unfolding(aq_rules::specs::DesignValues::design_value))]
     pub(crate) fn value_of<L: Ledger>(
         &self,
         standard: Standard,

@@ -2,9 +2,9 @@
 ghost use Rattle.std.specs.Prelude.{◌≡◌, ◌*◌, ◌<◌, ◌≤◌, ◌++◌, IfOk, IsTrue, OnOk, map};
 ghost use Rattle.std.specs.List.{list_all};
 ghost use Rattle.aq_base.specs.declared.day.TheConstants.{FIRST_YEAR, LAST_YEAR};
-ghost use Rattle.aq_profile.specs.Office.Exclusion.{excluded};
-ghost use Rattle.aq_profile.specs.Office.Office.{fits_monitors};
-ghost use Rattle.aq_profile.specs.Shown.Export as exports;
+ghost use Rattle.aq_rules.specs.Office.Exclusion.{excluded};
+ghost use Rattle.aq_rules.specs.Office.Office.{fits_monitors};
+ghost use Rattle.aq_rules.specs.Shown.Export as exports;
 ghost use Rattle.aq_book.specs.Questions.{key_at, shown_at};
 ghost use Rattle.aq_series.specs.OfficeView.{office_of};
 ghost use Rattle.aq_shelf.specs.Standing.{observations_in};

@@ -14,7 +14,7 @@ mod particles;
 mod question;
 mod report;
 
-pub use aq_load::Staged;
+pub use aq_staging::Staged;
 pub use aq_rows::{OpenFault, Place};
 pub use batch::RowChanges;
 pub use book::Book;

@@ -1,6 +1,6 @@
 //! The book of an office's rows, and the rows of a book.
 ghost use Rattle.std.specs.Prelude.{◌≡◌, Some, IfErr, IfOk};
-ghost use Rattle.aq_profile.specs.Kept.Rows as kept;
+ghost use Rattle.aq_rules.specs.Kept.Rows as kept;
 ghost use Rattle.aq_rows.specs.Opening.{IsOpenFault};
 
 use crate::book::Book;

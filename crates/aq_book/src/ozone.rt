@@ -1,8 +1,8 @@
 //! The ozone days and years of a site, over a shelf and a registry.
 ghost use Rattle.std.specs.Prelude.{◌≡◌, ◌+◌, ◌*◌, ◌≤◌, IfOk};
 ghost use Rattle.aq_base.specs.declared.day.TheConstants.{FIRST_YEAR, LAST_YEAR};
-ghost use Rattle.aq_profile.specs.Ozone.OzoneVerdict as verdicts;
-ghost use Rattle.aq_profile.specs.Ozone.OzoneYear as years;
+ghost use Rattle.aq_rules.specs.Ozone.OzoneVerdict as verdicts;
+ghost use Rattle.aq_rules.specs.Ozone.OzoneYear as years;
 ghost use Rattle.aq_series.specs.OfficeView.{office_of};
 
 use aq_base::{Day, Items, Memory, SiteId, Steps};

@@ -1,7 +1,7 @@
 //! The PM2.5 and PM10 years of a site, over a shelf and a registry.
 ghost use Rattle.std.specs.Prelude.{◌≡◌, ◌+◌, ◌≤◌};
 ghost use Rattle.aq_base.specs.declared.day.TheConstants.{FIRST_YEAR, LAST_YEAR};
-ghost use Rattle.aq_profile.specs.DesignValues.{pm10_years, pm25_years};
+ghost use Rattle.aq_rules.specs.DesignValues.{pm10_years, pm25_years};
 ghost use Rattle.aq_series.specs.OfficeView.{office_of};
 
 use aq_base::{SiteId, Steps};

@@ -1,14 +1,14 @@
 //! Questions of a site.
 ghost use Rattle.std.specs.Prelude.{◌≡◌, ◌+◌, ◌*◌, ◌≤◌, true, is_ok, IfErr, IfOk, OnOk, length};
 ghost use Rattle.aq_base.specs.declared.day.TheConstants.{FIRST_YEAR, LAST_YEAR};
-ghost use Rattle.aq_profile.specs.Kept.Summaries.{pm25_summary};
-ghost use Rattle.aq_profile.specs.Particles.Pm10Estimate.{pm10_year};
-ghost use Rattle.aq_profile.specs.Office.Approval as approvals;
-ghost use Rattle.aq_profile.specs.Office.Season as seasons;
-ghost use Rattle.aq_profile.specs.Ozone.OzoneDay as ozone;
-ghost use Rattle.aq_profile.specs.Ozone.OzoneYear as years;
-ghost use Rattle.aq_profile.specs.Shown.Answer.{is_registered};
-ghost use Rattle.aq_profile.specs.Shown.Export as exports;
+ghost use Rattle.aq_rules.specs.Kept.Summaries.{pm25_summary};
+ghost use Rattle.aq_rules.specs.Particles.Pm10Estimate.{pm10_year};
+ghost use Rattle.aq_rules.specs.Office.Approval as approvals;
+ghost use Rattle.aq_rules.specs.Office.Season as seasons;
+ghost use Rattle.aq_rules.specs.Ozone.OzoneDay as ozone;
+ghost use Rattle.aq_rules.specs.Ozone.OzoneYear as years;
+ghost use Rattle.aq_rules.specs.Shown.Answer.{is_registered};
+ghost use Rattle.aq_rules.specs.Shown.Export as exports;
 ghost use Rattle.aq_book.specs.Questions.{IsAskFault};
 ghost use Rattle.aq_registry.specs.Registry.{days_of};
 

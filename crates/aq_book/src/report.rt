@@ -3,9 +3,9 @@ ghost use Rattle.std.specs.Prelude.{◌≡◌, ◌+◌, ◌*◌, ◌≤◌, ◌+
 ghost use Rattle.aq_base.specs.declared.day.TheConstants.{FIRST_YEAR, LAST_YEAR};
 ghost use Rattle.aq_base.specs.declared.standard.Standard.TheVariants.{Ozone2015};
 ghost use Rattle.aq_book.specs.Questions.{judged_in};
-ghost use Rattle.aq_profile.specs.Office.Office as offices;
-ghost use Rattle.aq_profile.specs.Shown.OtherSheets.{judged, sites_with};
-ghost use Rattle.aq_profile.specs.Standards as standards;
+ghost use Rattle.aq_rules.specs.Office.Office as offices;
+ghost use Rattle.aq_rules.specs.Shown.OtherSheets.{judged, sites_with};
+ghost use Rattle.aq_rules.specs.Standards as standards;
 
 use crate::book::Book;
 use aq_base::{Items, Memory, Pollutant, SiteId, Standard, Steps};

@@ -2,11 +2,11 @@
 use Rattle.std.proofs.Common.{◌≡◌, ℕ, Bool, true, false, List, Option, sym, ap, subst, ◌∙◌, arith}
 use Rattle.std.specs.Prelude.{Result, Ok, Err, IfErr, IfOk, IsErrAnd, IsTrue, if◌then◌else◌}
 use Rattle.aq_base.specs.declared.ask.Ask.{Ask}
-use Rattle.aq_profile.specs.Kept.Rows.{Row}
-use Rattle.aq_profile.specs.Office.Office.{Office}
-use Rattle.aq_profile.specs.Shown.Answer.{Answer, OfSheet, OfExport, NoSite, NoLoad, Reply, Windows, Days, Pm25, Pm10, Value, Report, Export, of_site}
-use Rattle.aq_profile.specs.Shown.Answer as book
-use Rattle.aq_profile.specs.Shown.Sheet.{Sheet}
+use Rattle.aq_rules.specs.Kept.Rows.{Row}
+use Rattle.aq_rules.specs.Office.Office.{Office}
+use Rattle.aq_rules.specs.Shown.Answer.{Answer, OfSheet, OfExport, NoSite, NoLoad, Reply, Windows, Days, Pm25, Pm10, Value, Report, Export, of_site}
+use Rattle.aq_rules.specs.Shown.Answer as book
+use Rattle.aq_rules.specs.Shown.Sheet.{Sheet}
 use Rattle.aq_service.specs.Answers as service
 use Rattle.aq_service.specs.declared.answers.Unanswered.{Unanswered}
 use Rattle.aq_service.specs.declared.answers.Unanswered.TheVariants as whys

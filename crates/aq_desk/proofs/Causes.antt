@@ -1,7 +1,7 @@
 -- What a run says of its command.
 use Rattle.std.proofs.Common.{◌≡◌, ℕ, true, List, [], Option, Some, None, refl, sym, ap, subst, ◌∙◌, inr, arith}
 use Rattle.std.specs.Prelude.{Result, Ok, Err, IfSome, IsNone}
-use Rattle.aq_profile.specs.Kept.Rows.{Row}
+use Rattle.aq_rules.specs.Kept.Rows.{Row}
 use Rattle.aq_desk.proofs.Fronts.{behind_nothing}
 use Rattle.aq_desk.proofs.Outcomes.{nothing_written}
 use Rattle.aq_desk.proofs.Tables.{keeps_same, of_any, of_told, with_tables}

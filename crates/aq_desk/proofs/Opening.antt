@@ -2,8 +2,8 @@
 use Rattle.std.proofs.Common.{◌≡◌, ℕ, ◌⊎◌, inl, inr, Bool, true, false, cond, List, Option, Some, None, refl, sym, ap, subst, ◌∙◌, arith}
 use Rattle.std.specs.Prelude.{◌↔◌, IfSome, IsTrue, Result, Err, IsErrAnd}
 use Rattle.aq_base.specs.Faults.{HasRisen}
-use Rattle.aq_profile.specs.Kept.Rows.{Place, Row, are_office_rows, damage, office_in, office_of_rows, rows_of}
-use Rattle.aq_profile.specs.Office.Office.{IsOffice, Office}
+use Rattle.aq_rules.specs.Kept.Rows.{Place, Row, are_office_rows, damage, office_in, office_of_rows, rows_of}
+use Rattle.aq_rules.specs.Office.Office.{IsOffice, Office}
 use Rattle.aq_desk.proofs.Tables.{cut_gives, of_any, stopped_gives}
 use Rattle.aq_desk.proofs.Unread.{stopped_by}
 use Rattle.aq_desk.specs.Command.{Outcome, RisesAt, leaving, unwritten}

@@ -7,16 +7,16 @@ use Rattle.std.proofs.lemmas.List.{length-append, take-append-le}
 use Rattle.std.proofs.Math.Seq.{take-append-add}
 use Rattle.aq_base.specs.declared.reply.LoadReply.{LoadReply}
 use Rattle.aq_base.specs.Site.{Site}
-use Rattle.aq_profile.specs.Limits.{MOST_BYTES, MOST_LINES}
-use Rattle.aq_profile.specs.Lines.Lines.{line_count}
-use Rattle.aq_profile.specs.Office.Load.{load, reply}
-use Rattle.aq_profile.specs.Office.Office.{Office, nothing}
-use Rattle.aq_profile.specs.Ozone.EightHour.{WindowRow}
-use Rattle.aq_profile.specs.Ozone.OzoneDay.{windows}
-use Rattle.aq_profile.specs.Shown.Answer.{OfSheet, NoSite, Windows, is_registered}
-use Rattle.aq_profile.specs.Shown.Answer as book
-use Rattle.aq_profile.specs.Shown.Sheet.{Sheet, text_of}
-use Rattle.aq_profile.specs.Shown.Sheets.{load_sheet, windows_answer, windows_sheet}
+use Rattle.aq_rules.specs.Limits.{MOST_BYTES, MOST_LINES}
+use Rattle.aq_rules.specs.Lines.Lines.{line_count}
+use Rattle.aq_rules.specs.Office.Load.{load, reply}
+use Rattle.aq_rules.specs.Office.Office.{Office, nothing}
+use Rattle.aq_rules.specs.Ozone.EightHour.{WindowRow}
+use Rattle.aq_rules.specs.Ozone.OzoneDay.{windows}
+use Rattle.aq_rules.specs.Shown.Answer.{OfSheet, NoSite, Windows, is_registered}
+use Rattle.aq_rules.specs.Shown.Answer as book
+use Rattle.aq_rules.specs.Shown.Sheet.{Sheet, text_of}
+use Rattle.aq_rules.specs.Shown.Sheets.{load_sheet, windows_answer, windows_sheet}
 use Rattle.aq_desk.proofs.Fronts.{behind_nothing}
 use Rattle.aq_desk.specs.Body.{excess, is_within}
 use Rattle.aq_desk.specs.Command.{IsWhole, Printout, after_text, printed, unwritten}

@@ -5,16 +5,16 @@ use Rattle.std.specs.Option.{option_map}
 use Rattle.sha2.specs.Sha256.{sha256}
 use Rattle.aq_base.specs.Faults.{HasRisen}
 use Rattle.aq_base.specs.declared.reply.LoadReply.{LoadReply}
-use Rattle.aq_profile.proofs.Loads.{posted-few}
-use Rattle.aq_profile.specs.Kept.Rows.{Row, rows_of}
-use Rattle.aq_profile.specs.Limits.{MOST_LINES}
-use Rattle.aq_profile.specs.Lines.Lines.{line_count}
-use Rattle.aq_profile.specs.Office.Load.{Posted, TooManyLines, Repeated, Differing, NoRoom, Taken, load, office_after, posted, posted_beside, reply}
-use Rattle.aq_profile.specs.Office.Load as book
-use Rattle.aq_profile.specs.Office.Office.{Office, StoredLoad, load_at}
-use Rattle.aq_profile.specs.Shown.Answer.{is_load_number}
-use Rattle.aq_profile.specs.Shown.Sheet.{text_of}
-use Rattle.aq_profile.specs.Shown.Sheets.{load_sheet}
+use Rattle.aq_rules.proofs.Loads.{posted-few}
+use Rattle.aq_rules.specs.Kept.Rows.{Row, rows_of}
+use Rattle.aq_rules.specs.Limits.{MOST_LINES}
+use Rattle.aq_rules.specs.Lines.Lines.{line_count}
+use Rattle.aq_rules.specs.Office.Load.{Posted, TooManyLines, Repeated, Differing, NoRoom, Taken, load, office_after, posted, posted_beside, reply}
+use Rattle.aq_rules.specs.Office.Load as book
+use Rattle.aq_rules.specs.Office.Office.{Office, StoredLoad, load_at}
+use Rattle.aq_rules.specs.Shown.Answer.{is_load_number}
+use Rattle.aq_rules.specs.Shown.Sheet.{text_of}
+use Rattle.aq_rules.specs.Shown.Sheets.{load_sheet}
 use Rattle.aq_serve.specs.Service.{Become, Keeps, ServiceView}
 use Rattle.aq_service.proofs.PostedLoads.{IsKept, Tells, is_numbered, load_stands, tells}
 use Rattle.aq_service.specs.Posting.{IsPosted, LosesLoad, TakenBy}

@@ -1,7 +1,7 @@
 -- A text that is printed over the tables, or was not made.
 use Rattle.std.proofs.Common.{◌≡◌, ℕ, ◌⊎◌, inl, inr, refl, List, Option, sym, subst, arith}
 use Rattle.std.specs.Prelude.{Result, Ok, Err, IfErr, IsErrAnd}
-use Rattle.aq_profile.specs.Kept.Rows.{Row}
+use Rattle.aq_rules.specs.Kept.Rows.{Row}
 use Rattle.aq_desk.proofs.Tables.{print_performs, stop_performs}
 use Rattle.aq_desk.proofs.Unread.{stays_at, stopped_by}
 use Rattle.aq_desk.specs.Command.{Outcome, RisesAt, WritesNothing, printed}

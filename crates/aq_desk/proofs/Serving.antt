@@ -1,8 +1,8 @@
 -- Connections that are served over the office of the tables.
 use Rattle.std.proofs.Common.{◌≡◌, ℕ, ◌⊎◌, inl, inr, List, Option, Some, None, refl, sym, ap, subst, ◌∙◌, arith}
 use Rattle.std.specs.Prelude.{Result, Ok, Err, IfSome, IsErrAnd}
-use Rattle.aq_profile.specs.Kept.Rows.{Row, damage, office_in, rows_of}
-use Rattle.aq_profile.specs.Office.Office.{Office}
+use Rattle.aq_rules.specs.Kept.Rows.{Row, damage, office_in, rows_of}
+use Rattle.aq_rules.specs.Office.Office.{Office}
 use Rattle.aq_serve.specs.Door.{DoorView}
 use Rattle.aq_serve.specs.Serving.{Serves, World}
 use Rattle.aq_serve.specs.declared.ending.ServeFault.{ServeFault}

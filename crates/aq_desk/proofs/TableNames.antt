@@ -1,7 +1,7 @@
 -- The names of the tables.
 use Rattle.std.proofs.Common.{◌≡◌, ℕ, ◌≤◌, [], codes, sym, ap, arith}
 use Rattle.std.proofs.lemmas.List.{get_or_past}
-use Rattle.aq_profile.specs.Kept.RowChanges.{table_name, table_names}
+use Rattle.aq_rules.specs.Kept.RowChanges.{table_name, table_names}
 
 pub records_name : (table : ℕ) → table ≡ 0 → codes "records" ≡ table_name table
 records_name table is = ap table_name (sym is)

@@ -2,7 +2,7 @@
 use Rattle.std.proofs.Common.{◌≡◌, ℕ, List, [], ◌++◌, Option, Some, None, refl, sym, ap, subst, ◌∙◌, inl, arith}
 use Rattle.std.specs.Prelude.{Result, Ok, Err, IfErr}
 use Rattle.std.specs.Option.{option_map}
-use Rattle.aq_profile.specs.Kept.Rows.{Row}
+use Rattle.aq_rules.specs.Kept.Rows.{Row}
 use Rattle.aq_desk.proofs.Outcomes.{nothing_written}
 use Rattle.aq_desk.proofs.Fronts.{behind_nothing}
 use Rattle.aq_desk.specs.Command.{IsKept, IsWhole, Keeps, Outcome, Printout, leaving, printed, printout_of, unwritten}

@@ -5,11 +5,11 @@ use Rattle.std.specs.Option.{option_map}
 use Rattle.std.specs.Fmt.{digits}
 use Rattle.std.proofs.lemmas.Fmt.{decimal_digit, decimal_step}
 use Rattle.aq_base.specs.Site.{Site}
-use Rattle.aq_profile.specs.Shown.Sheet.{site_text}
+use Rattle.aq_rules.specs.Shown.Sheet.{site_text}
 use Rattle.aq_desk.proofs.Outcomes.{bytes_behind, front_behind, front_of_more, join, more_bytes}
 use Rattle.aq_desk.specs.Command.{Tells}
-use Rattle.aq_profile.specs.Kept.RowChanges.{table_name}
-use Rattle.aq_profile.specs.Shown.OtherSheets.{digest_text, hex_digit}
+use Rattle.aq_rules.specs.Kept.RowChanges.{table_name}
+use Rattle.aq_rules.specs.Shown.OtherSheets.{digest_text, hex_digit}
 use Rattle.aq_desk.specs.Ending.{conflict, damaged, door_failed, input_failed, keeper_failed, loads_full, no_command, no_memory, no_site, output_failed, too_many_bytes, too_many_lines}
 use Rattle.aq_base.specs.Faults.{HasRisen}
 use Rattle.aq_desk.specs.Stop.{ending_at}

@@ -3,8 +3,8 @@ use Rattle.std.proofs.Common.{◌≡◌, ℕ, ◌<◌, ◌⊎◌, inl, inr, true
 use Rattle.std.specs.Prelude.{Result, Ok, Err, IfErr, IsErrAnd, if◌then◌else◌}
 use Rattle.aq_base.specs.Faults.{HasRisen}
 use Rattle.aq_base.specs.Site.{Site}
-use Rattle.aq_profile.specs.Kept.Rows.{Row}
-use Rattle.aq_profile.specs.Limits.{MOST_LINES}
+use Rattle.aq_rules.specs.Kept.Rows.{Row}
+use Rattle.aq_rules.specs.Limits.{MOST_LINES}
 use Rattle.aq_desk.proofs.Outcomes.{excess-bytes, excess-lines, is_within-bytes, is_within-lines, scan_beyond, scan_within, without_input, without_memory, writes_nothing}
 use Rattle.aq_desk.proofs.Tables.{keeps_before, keeps_same, of_any, of_told}
 use Rattle.aq_desk.specs.Body.{HasTooManyBytes, HasTooManyLines, IsBodyFault, excess, is_within}

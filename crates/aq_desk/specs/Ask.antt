@@ -2,9 +2,9 @@
 use Rattle.std.specs.Prelude.{◌≡◌, ⊤, List}
 use Rattle.aq_base.specs.declared.ask.Ask.{Ask}
 use Rattle.aq_base.specs.declared.ask.Ask.TheVariants.{Value, Export}
-use Rattle.aq_profile.specs.Kept.Rows.{Row}
-use Rattle.aq_profile.specs.Shown.Answer.{Answer, OfSheet, OfExport, NoSite, NoLoad, answer}
-use Rattle.aq_profile.specs.Shown.Sheet.{text_of}
+use Rattle.aq_rules.specs.Kept.Rows.{Row}
+use Rattle.aq_rules.specs.Shown.Answer.{Answer, OfSheet, OfExport, NoSite, NoLoad, answer}
+use Rattle.aq_rules.specs.Shown.Sheet.{text_of}
 use Rattle.aq_service.specs.declared.answers.Unanswered.{Unanswered}
 use Rattle.aq_service.specs.declared.answers.Unanswered.TheVariants as whys
 use Rattle.aq_desk.specs.Command.{Outcome, Printout, leaving, printed, unwritten}

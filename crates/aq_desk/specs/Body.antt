@@ -1,8 +1,8 @@
 -- The body of a load as it is read from a source.
 use Rattle.std.specs.Prelude.{◌≡◌, ℕ, ◌+◌, ◌<◌, ◌≤◌, Bool, ◌&&◌, nat_le, if◌then◌else◌, List, [], ◌++◌, length, Option, IfSome}
 use Rattle.std.specs.Option.{option_map}
-use Rattle.aq_profile.specs.Limits.{MOST_BYTES, MOST_LINES}
-use Rattle.aq_profile.specs.Lines.Lines.{line_count}
+use Rattle.aq_rules.specs.Limits.{MOST_BYTES, MOST_LINES}
+use Rattle.aq_rules.specs.Lines.Lines.{line_count}
 use Rattle.aq_desk.specs.Ending.{Ending, too_many_bytes, too_many_lines}
 use Rattle.aq_desk.specs.Outside.{Over}
 use Rattle.aq_base.specs.Faults.{HasRisen}

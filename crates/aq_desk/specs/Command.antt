@@ -1,7 +1,7 @@
 -- What a command is: how it ends, what it writes, and what it leaves in the keeper's tables, over its words, these tables and its input; and what a run may do with it (own).
 use Rattle.std.specs.Prelude.{◌≡◌, ℕ, ◌<◌, ◌⊎◌, ◌==◌, if◌then◌else◌, List, [], ◌++◌, length, Option}
 use Rattle.std.specs.Option.{option_map}
-use Rattle.aq_profile.specs.Kept.Rows.{Row}
+use Rattle.aq_rules.specs.Kept.Rows.{Row}
 use Rattle.aq_desk.specs.Ending.{Ending, done, input_failed, output_failed, keeper_failed, door_failed, no_memory}
 use Rattle.aq_base.specs.Faults.{HasRisen}
 use Rattle.aq_desk.specs.Writing.{WritesFront}

@@ -1,11 +1,11 @@
 -- How a run ends: its exit status, and its message on the errors stream (own).
 use Rattle.std.specs.Prelude.{ℕ, List, [], ◌∷◌, ◌++◌, flat_map, codes, decimal}
 use Rattle.aq_base.specs.Site.{Site}
-use Rattle.aq_profile.specs.Limits.{MOST_BYTES}
-use Rattle.aq_profile.specs.Kept.RowChanges.{table_name}
-use Rattle.aq_profile.specs.Kept.Rows.{Place}
-use Rattle.aq_profile.specs.Shown.OtherSheets.{digest_text}
-use Rattle.aq_profile.specs.Shown.Sheet.{site_text}
+use Rattle.aq_rules.specs.Limits.{MOST_BYTES}
+use Rattle.aq_rules.specs.Kept.RowChanges.{table_name}
+use Rattle.aq_rules.specs.Kept.Rows.{Place}
+use Rattle.aq_rules.specs.Shown.OtherSheets.{digest_text}
+use Rattle.aq_rules.specs.Shown.Sheet.{site_text}
 
 pub record Ending : Type 0 where
   pub status : ℕ

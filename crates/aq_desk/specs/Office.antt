@@ -1,7 +1,7 @@
 -- The office that a command opens: that of the rows which the keeper hands out (own).
 use Rattle.std.specs.Prelude.{◌≡◌, ℕ, List, Option, Some, None}
-use Rattle.aq_profile.specs.Kept.Rows.{Place, Row, damage, office_in, rows_of}
-use Rattle.aq_profile.specs.Office.Office.{IsOffice, Office}
+use Rattle.aq_rules.specs.Kept.Rows.{Place, Row, damage, office_in, rows_of}
+use Rattle.aq_rules.specs.Office.Office.{IsOffice, Office}
 use Rattle.aq_base.specs.Faults.{HasRisen}
 use Rattle.aq_desk.specs.Command.{Outcome, leaving, unwritten}
 use Rattle.aq_desk.specs.Ending.{damaged}

@@ -1,11 +1,11 @@
 -- The command `scan SITE DAY`: the input is taken as load 0 over an office of which nothing stands; its sheet is printed, and then the sheet of the day's windows (own).
 use Rattle.std.specs.Prelude.{ℕ, if◌then◌else◌, List, []}
 use Rattle.aq_base.specs.Site.{Site}
-use Rattle.aq_profile.specs.Office.Load.{load, reply}
-use Rattle.aq_profile.specs.Office.Office.{nothing}
-use Rattle.aq_profile.specs.Shown.Answer.{Answer, OfSheet, Windows, answer}
-use Rattle.aq_profile.specs.Shown.Sheet.{text_of}
-use Rattle.aq_profile.specs.Shown.Sheets.{load_sheet}
+use Rattle.aq_rules.specs.Office.Load.{load, reply}
+use Rattle.aq_rules.specs.Office.Office.{nothing}
+use Rattle.aq_rules.specs.Shown.Answer.{Answer, OfSheet, Windows, answer}
+use Rattle.aq_rules.specs.Shown.Sheet.{text_of}
+use Rattle.aq_rules.specs.Shown.Sheets.{load_sheet}
 use Rattle.aq_desk.specs.Body.{excess, is_within}
 use Rattle.aq_desk.specs.Command.{Printout, after_text, printed, unwritten}
 use Rattle.aq_desk.specs.Ending.{no_site}

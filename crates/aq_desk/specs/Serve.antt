@@ -1,8 +1,8 @@
 -- The command `serve --port P --connections N`: connections are served over the office of the tables (own).
 use Rattle.std.specs.Prelude.{◌≡◌, ℕ, ◌⊎◌, true, List, Option, None, Result, Ok, Err}
 use Rattle.aq_base.specs.Faults.{HasRisen}
-use Rattle.aq_profile.specs.Kept.Rows.{Row, damage, office_in}
-use Rattle.aq_profile.specs.Office.Office.{Office}
+use Rattle.aq_rules.specs.Kept.Rows.{Row, damage, office_in}
+use Rattle.aq_rules.specs.Office.Office.{Office}
 use Rattle.aq_serve.specs.Door.{DoorView}
 use Rattle.aq_serve.specs.Service.{AreOfOffice, ServiceView}
 use Rattle.aq_serve.specs.Serving.{Serves}

@@ -1,7 +1,7 @@
 -- What stops a command, the ending of each cause, and what a command does that was stopped so.
 use Rattle.std.specs.Prelude.{◌≡◌, ◌⊎◌, ℕ, ◌<◌, true, false, List, [], ◌++◌, length, Option, Result, Ok, Err, IfOk, IsErr}
 use Rattle.std.specs.Option.{option_map}
-use Rattle.aq_profile.specs.Kept.Rows.{Row}
+use Rattle.aq_rules.specs.Kept.Rows.{Row}
 use Rattle.aq_desk.specs.Body.{is_within}
 use Rattle.aq_desk.specs.Command.{IsWhole, Keeps, Outcome, Printout, ReadsWhole, RisesAt, printout_of}
 use Rattle.aq_desk.specs.Ending.{Ending, done, input_failed, output_failed, keeper_failed, damaged, no_memory, door_failed, conflict, too_many_bytes, too_many_lines, loads_full, no_site}

@@ -1,8 +1,8 @@
 //! The commands that ask: `show`, `report` and `export`.
 ghost use Rattle.std.specs.Prelude.{◌≡◌, ◌≤◌, ◌⊎◌, IfErr, IfOk, IsTrue};
 ghost use Rattle.aq_base.specs.declared.day.TheConstants.{FIRST_YEAR, LAST_YEAR};
-ghost use Rattle.aq_profile.specs.Shown.Answer as questions;
-ghost use Rattle.aq_profile.specs.Shown.Answer.{Export};
+ghost use Rattle.aq_rules.specs.Shown.Answer as questions;
+ghost use Rattle.aq_rules.specs.Shown.Answer.{Export};
 ghost use Rattle.aq_service.specs.Answers as service;
 ghost use Rattle.aq_service.specs.Answers.{AsksForSheet};
 ghost use Rattle.aq_words.specs.Words.{is_question};

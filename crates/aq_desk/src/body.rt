@@ -1,6 +1,6 @@
 //! The body of a load, read from a source to its end.
 ghost use Rattle.std.specs.Prelude.{◌≡◌, ◌<◌, ◌≤◌, length, vec_len, [], IfOk, IfErr, OnOk};
-ghost use Rattle.aq_profile.specs.Lines.Lines.{line_count};
+ghost use Rattle.aq_rules.specs.Lines.Lines.{line_count};
 ghost use Rattle.aq_desk.specs.Body.{Extends, HasTooManyBytes, HasTooManyLines, IsBodyFault};
 ghost use Rattle.aq_desk.specs.Outside.{IsAll};
 

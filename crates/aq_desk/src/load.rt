@@ -1,9 +1,9 @@
 //! The command `load`.
 ghost use Rattle.std.specs.Prelude.{◌≡◌, ◌≤◌, length, IfErr, IfSome, IsSome, IsTrue};
-ghost use Rattle.aq_profile.specs.Limits.{MOST_BYTES, MOST_LINES};
-ghost use Rattle.aq_profile.specs.Lines.Lines.{line_count};
-ghost use Rattle.aq_profile.specs.Office.Office.{load_at};
-ghost use Rattle.aq_profile.specs.Shown.Answer.{is_load_number};
+ghost use Rattle.aq_rules.specs.Limits.{MOST_BYTES, MOST_LINES};
+ghost use Rattle.aq_rules.specs.Lines.Lines.{line_count};
+ghost use Rattle.aq_rules.specs.Office.Office.{load_at};
+ghost use Rattle.aq_rules.specs.Shown.Answer.{is_load_number};
 ghost use Rattle.aq_desk.specs.Command.{RisesAt, WritesNothing};
 ghost use Rattle.aq_desk.specs.Load.{IsAnswered, IsKeptText, IsTextOf, load_answer, load_outcome};
 ghost use Rattle.aq_desk.specs.Outside.{Over};

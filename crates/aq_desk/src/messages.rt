@@ -1,7 +1,7 @@
 //! The messages on the errors stream that have a number or a name in them. They take no memory.
 ghost use Rattle.std.specs.Prelude.{◌≡◌, ◌<◌, ◌++◌, codes, decimal};
-ghost use Rattle.aq_profile.specs.Kept.RowChanges.{table_name};
-ghost use Rattle.aq_profile.specs.Shown.OtherSheets.{digest_text, hex_digit};
+ghost use Rattle.aq_rules.specs.Kept.RowChanges.{table_name};
+ghost use Rattle.aq_rules.specs.Shown.OtherSheets.{digest_text, hex_digit};
 ghost use Rattle.aq_desk.specs.Ending.{conflict, damaged, no_site, too_many_lines};
 ghost use Rattle.aq_desk.specs.Writing.{Writes};
 

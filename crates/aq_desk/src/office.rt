@@ -6,7 +6,7 @@ ghost use Rattle.aq_desk.specs.Outside.{Over};
 use crate::stop::Stop;
 use aq_book::{Book, book_of};
 use aq_keeper::Keeper;
-use aq_profile::kept::tables::{first_damaged_row_is_named, rows_are_those_of_their_office};
+use aq_rules::kept::tables::{first_damaged_row_is_named, rows_are_those_of_their_office};
 use std::alloc::Global;
 
 /// The book of the office whose rows the keeper hands out.

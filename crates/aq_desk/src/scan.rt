@@ -1,12 +1,12 @@
 //! The command `scan`.
 ghost use Rattle.std.specs.Prelude.{◌≡◌, ◌≤◌, length, IfErr};
 ghost use Rattle.aq_book.specs.Staged.{office_with, Fits};
-ghost use Rattle.aq_profile.specs.Limits.{MOST_BYTES, MOST_LINES};
-ghost use Rattle.aq_profile.specs.Lines.Lines.{line_count};
-ghost use Rattle.aq_profile.specs.Shown.Answer as questions;
-ghost use Rattle.aq_profile.specs.Shown.Answer.{Windows};
-ghost use Rattle.aq_profile.specs.Shown.Sheet.{text_of};
-ghost use Rattle.aq_profile.specs.Shown.Sheets.{load_sheet};
+ghost use Rattle.aq_rules.specs.Limits.{MOST_BYTES, MOST_LINES};
+ghost use Rattle.aq_rules.specs.Lines.Lines.{line_count};
+ghost use Rattle.aq_rules.specs.Shown.Answer as questions;
+ghost use Rattle.aq_rules.specs.Shown.Answer.{Windows};
+ghost use Rattle.aq_rules.specs.Shown.Sheet.{text_of};
+ghost use Rattle.aq_rules.specs.Shown.Sheets.{load_sheet};
 ghost use Rattle.aq_desk.specs.Command.{after_text, printed, RisesAt, WritesNothing};
 ghost use Rattle.aq_desk.specs.Outside.{Over};
 ghost use Rattle.aq_desk.specs.Scan.{scan_answer, scan_outcome, sheet_or_no_site};

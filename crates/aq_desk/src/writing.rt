@@ -1,7 +1,7 @@
 //! Texts and sheets, written until a sink has all of them.
 ghost use Rattle.std.specs.Prelude.{◌≡◌, IfErr, IfOk};
-ghost use Rattle.aq_profile.specs.Shown.Sheet.{text_of};
-ghost use Rattle.aq_profile.specs.Shown.Sheets.{load_sheet};
+ghost use Rattle.aq_rules.specs.Shown.Sheet.{text_of};
+ghost use Rattle.aq_rules.specs.Shown.Sheets.{load_sheet};
 ghost use Rattle.aq_desk.specs.Command.{RisesAt, printed};
 ghost use Rattle.aq_desk.specs.Stop.{IsCutShort, Obeys, status_of};
 ghost use Rattle.aq_desk.specs.Writing.{Writes};

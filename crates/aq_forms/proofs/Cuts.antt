@@ -6,7 +6,7 @@ use Rattle.std.proofs.lemmas.Bool.{ltb-false, le-ltb, lt-ltb, false_from_ne_true
 use Rattle.std.specs.Prelude.{bytes_eq, slice_get, position, nat_lt, ◌≤◌}
 use Rattle.std.specs.List.{onto_first, position_or_len}
 use Rattle.memchr.specs.Find.{IsFirstByte, is_byte}
-use Rattle.aq_profile.specs.Lines.Lines.{NumberedLine, cut_at_ends, without_return, is_skipped, texts, numbered, body_lines, line_count, without_mark, BYTE_ORDER_MARK}
+use Rattle.aq_rules.specs.Lines.Lines.{NumberedLine, cut_at_ends, without_return, is_skipped, texts, numbered, body_lines, line_count, without_mark, BYTE_ORDER_MARK}
 
 abbrev pub is_end : ℕ → Bool
 is_end byte = byte == 10

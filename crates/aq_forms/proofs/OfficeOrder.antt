@@ -13,15 +13,15 @@ use Rattle.aq_base.specs.declared.office.OfficeLine.{OfficeLine}
 use Rattle.aq_base.specs.declared.office.OfficeLine.TheVariants.{Put, Change, Drop}
 use Rattle.aq_base.specs.declared.rule.Rule.{Rule}
 use Rattle.aq_base.specs.declared.rule.Rule.TheVariants.{BadBytes, BadTag, FieldCount, BadAction, BadSite, ParameterOutOfProfile, BadPoc, BadDuration, BadDate, BadTime, BadSpan, BadInterval, BadSeason, BadMakeup, BadCode}
-use Rattle.aq_profile.specs.Lines.Canonical.{is_office_line, is_line_value}
-use Rattle.aq_profile.specs.Lines.Fields.{field, fields}
-use Rattle.aq_profile.specs.Lines.Forms.{acts}
-use Rattle.aq_profile.specs.Lines.FormRules.{xm_rule, xm-rule, xp_rule, xp-rule, xp_key_rule, xp_key-rule, xs_rule, xs-rule, xs_key_rule, xs_key-rule, xo_rule, xo-rule, xo_key_rule, xo_key-rule, xu_rule, xu-rule, xu_key_rule, xu_key-rule, xe_rule, xe-rule, xe_key_rule, xe_key-rule, xc_rule, xc-rule, xa_rule, xa-rule, xa_key_rule, xa_key-rule}
-use Rattle.aq_profile.specs.Lines.OfficeForms.{is_season, is_makeup, is_span, xm_record, xp_record, xp_key, xs_record, xs_key, xo_record, xo_key, xu_record, xu_key, xe_record, xe_key, xc_record, xa_record, xa_key, record_in, key_in, office_line_in}
-use Rattle.aq_profile.specs.Lines.RdForm.{monitor_in}
-use Rattle.aq_profile.specs.Lines.Reading.{LineValue, OfOffice, breaks_in, rules_of, rules_for, fails, value_for, action_for, form_value, has_wrong_count, is_deletion, breaks_parts, line_value, reading_rule, is_plain, tag_of}
-use Rattle.aq_profile.specs.Lines.Spellings as spellings
-use Rattle.aq_profile.specs.Lines.Spellings.{Tag, Rd, Xm, Xp, Xs, Xo, Xu, Xe, Xc, Xa, Action, Insert, Update, Delete, site_in, parameter_in, parameter_of, poc_in, primary_in, duration_in, date_in, year_in, time_in, interval_in, truth_in, event_number_in, event_code_in}
+use Rattle.aq_rules.specs.Lines.Canonical.{is_office_line, is_line_value}
+use Rattle.aq_rules.specs.Lines.Fields.{field, fields}
+use Rattle.aq_rules.specs.Lines.Forms.{acts}
+use Rattle.aq_rules.specs.Lines.FormRules.{xm_rule, xm-rule, xp_rule, xp-rule, xp_key_rule, xp_key-rule, xs_rule, xs-rule, xs_key_rule, xs_key-rule, xo_rule, xo-rule, xo_key_rule, xo_key-rule, xu_rule, xu-rule, xu_key_rule, xu_key-rule, xe_rule, xe-rule, xe_key_rule, xe_key-rule, xc_rule, xc-rule, xa_rule, xa-rule, xa_key_rule, xa_key-rule}
+use Rattle.aq_rules.specs.Lines.OfficeForms.{is_season, is_makeup, is_span, xm_record, xp_record, xp_key, xs_record, xs_key, xo_record, xo_key, xu_record, xu_key, xe_record, xe_key, xc_record, xa_record, xa_key, record_in, key_in, office_line_in}
+use Rattle.aq_rules.specs.Lines.RdForm.{monitor_in}
+use Rattle.aq_rules.specs.Lines.Reading.{LineValue, OfOffice, breaks_in, rules_of, rules_for, fails, value_for, action_for, form_value, has_wrong_count, is_deletion, breaks_parts, line_value, reading_rule, is_plain, tag_of}
+use Rattle.aq_rules.specs.Lines.Spellings as spellings
+use Rattle.aq_rules.specs.Lines.Spellings.{Tag, Rd, Xm, Xp, Xs, Xo, Xu, Xe, Xc, Xa, Action, Insert, Update, Delete, site_in, parameter_in, parameter_of, poc_in, primary_in, duration_in, date_in, year_in, time_in, interval_in, truth_in, event_number_in, event_code_in}
 use Rattle.aq_forms.specs.OfficeReading.{◌>>=◌, xm_reading, xp_reading, xp_key_reading, xs_reading, xs_key_reading, xo_reading, xo_key_reading, xu_reading, xu_key_reading, xe_reading, event_reading, xe_key_reading, xc_reading, xa_reading, xa_key_reading, record_reading, key_reading, action_reading, form_reading, office_reading, is_rd, has_rd_tag}
 
 -- a reading gives what is spelled, and else the rule that is broken

@@ -5,9 +5,9 @@ use Rattle.aq_base.specs.declared.office.OfficeKey.{OfficeKey}
 use Rattle.aq_base.specs.declared.office.OfficeKey.TheVariants.{Monitor, Primary, Schedule, Season, Makeup, Event, Concurrence, Approved}
 use Rattle.aq_base.specs.declared.office.OfficeLine.{OfficeLine}
 use Rattle.aq_base.specs.declared.office.OfficeLine.TheVariants.{Put, Change, Drop}
-use Rattle.aq_profile.specs.Office.Office.{key_of}
-use Rattle.aq_profile.specs.Lines.Canonical.{canonical_office, office_texts, joined, key_tag, deletion_texts}
-use Rattle.aq_profile.specs.Lines.Reading.{is_plain, tag_of}
+use Rattle.aq_rules.specs.Office.Office.{key_of}
+use Rattle.aq_rules.specs.Lines.Canonical.{canonical_office, office_texts, joined, key_tag, deletion_texts}
+use Rattle.aq_rules.specs.Lines.Reading.{is_plain, tag_of}
 use Rattle.aq_forms.specs.OfficeReading.{is_rd, has_rd_tag}
 
 digit : (a b : ℕ) → a ≡ b → 48 + a ≡ 48 + b

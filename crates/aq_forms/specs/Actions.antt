@@ -1,5 +1,5 @@
 -- The code's actions are those of the definition.
-use Rattle.aq_profile.specs.Lines.Spellings as spellings
+use Rattle.aq_rules.specs.Lines.Spellings as spellings
 use Rattle.aq_forms.specs.declared.spellings.Action.{Action}
 use Rattle.aq_forms.specs.declared.spellings.Action.TheVariants.{Insert, Update, Delete}
 

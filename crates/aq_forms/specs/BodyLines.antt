@@ -1,6 +1,6 @@
 -- The lines of a body as the code hands them out.
 use Rattle.std.specs.Prelude.{ℕ, ◌+◌, List, map, filter, not}
-use Rattle.aq_profile.specs.Lines.Lines.{NumberedLine, cut_at_ends, without_return, is_skipped, numbered}
+use Rattle.aq_rules.specs.Lines.Lines.{NumberedLine, cut_at_ends, without_return, is_skipped, numbered}
 use Rattle.aq_forms.specs.declared.lines.BodyLine.{BodyLine}
 
 abbrev pub line_of : BodyLine → NumberedLine

@@ -1,8 +1,8 @@
 -- A line with an office tag is none of RD.
 use Rattle.std.proofs.Common.{◌≡◌, ℕ, Bool, true, false, cond, List, Some, None, Option, refl}
 use Rattle.std.proofs.lemmas.Bool.{false≢true}
-use Rattle.aq_profile.specs.Lines.Reading.{is_plain, tag_of}
-use Rattle.aq_profile.specs.Lines.Spellings.{Tag, Rd, Xm, Xp, Xs, Xo, Xu, Xe, Xc, Xa}
+use Rattle.aq_rules.specs.Lines.Reading.{is_plain, tag_of}
+use Rattle.aq_rules.specs.Lines.Spellings.{Tag, Rd, Xm, Xp, Xs, Xo, Xu, Xe, Xc, Xa}
 use Rattle.aq_rd.specs.Tags.{is_office, has_office_tag}
 use Rattle.aq_forms.specs.OfficeReading.{is_rd, has_rd_tag}
 

@@ -1,8 +1,8 @@
 //! What the fields of a form must be beside their spelling (own).
 ghost use Rattle.std.specs.Prelude.{◌≡◌, ◌≤◌, true};
-ghost use Rattle.aq_profile.specs.Lines.Forms.{fewest_fields, most_fields};
-ghost use Rattle.aq_profile.specs.Lines.OfficeForms.{is_season, is_makeup, is_span};
-ghost use Rattle.aq_profile.specs.Lines.Reading.{has_wrong_count, is_deletion};
+ghost use Rattle.aq_rules.specs.Lines.Forms.{fewest_fields, most_fields};
+ghost use Rattle.aq_rules.specs.Lines.OfficeForms.{is_season, is_makeup, is_span};
+ghost use Rattle.aq_rules.specs.Lines.Reading.{has_wrong_count, is_deletion};
 ghost use Rattle.aq_rd.specs.Tags.{tag_value};
 
 use aq_base::{Day, Hour, MOST_EVENT_HOURS};

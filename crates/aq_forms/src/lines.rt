@@ -1,6 +1,6 @@
 ghost use Rattle.std.specs.Prelude.{◌≡◌, ◌≤◌, ◌<◌, [], ◌∷◌, length, MatchOption, IfSome, position, count_by, ◌==◌};
-ghost use Rattle.aq_profile.specs.Lines.Lines as book;
-ghost use Rattle.aq_profile.specs.Lines.Lines.{body_lines, line_count, cut_at_ends, without_mark};
+ghost use Rattle.aq_rules.specs.Lines.Lines as book;
+ghost use Rattle.aq_rules.specs.Lines.Lines.{body_lines, line_count, cut_at_ends, without_mark};
 
 use memchr::memchr;
 use std::marker::Model;
@@ -32,7 +32,7 @@ pub struct Lines<'a> {
 
 impl<'a> Model for Lines<'a> {
     ghost use Rattle.std.specs.Prelude.{◌+◌, ◌≤◌, List, length};
-    ghost use Rattle.aq_profile.specs.Lines.Lines.{NumberedLine};
+    ghost use Rattle.aq_rules.specs.Lines.Lines.{NumberedLine};
     ghost use Rattle.aq_forms.specs.BodyLines.{lines_behind};
     ghost use Rattle.aq_forms.specs.declared.lines.TheConstants.{MOST_BYTES};
 

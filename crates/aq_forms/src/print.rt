@@ -1,16 +1,16 @@
 //! Writing office lines and the keys of their records.
 ghost use Rattle.std.specs.Prelude.{◌≡◌, false, ◌++◌, ◌∷◌, [], decimal, IfOk, IsTrue, OnOk, Some};
 ghost use Rattle.aq_base.specs.Decimal.{last_digits};
-ghost use Rattle.aq_profile.specs.Office.Office.{key_of};
-ghost use Rattle.aq_profile.specs.Lines.Reading.{line_value, OfOffice};
-ghost use Rattle.aq_profile.specs.Lines.Canonical.{canonical_office, is_office_line, printed_key, joined, office_texts_of, key_tag, deletion_texts, content_texts, list_texts, site_texts, parameter_text, date_text, truth_text};
+ghost use Rattle.aq_rules.specs.Office.Office.{key_of};
+ghost use Rattle.aq_rules.specs.Lines.Reading.{line_value, OfOffice};
+ghost use Rattle.aq_rules.specs.Lines.Canonical.{canonical_office, is_office_line, printed_key, joined, office_texts_of, key_tag, deletion_texts, content_texts, list_texts, site_texts, parameter_text, date_text, truth_text};
 ghost use Rattle.aq_rd.specs.Printing.{behind_bars};
 ghost use Rattle.aq_forms.specs.OfficeReading.{has_rd_tag};
 
 use aq_base::{Day, Memory, OfficeKey, OfficeLine, OfficeRecord, Pollutant, SiteId};
 use aq_cal::last_digits;
 use aq_num::write_fixed;
-use aq_profile::lines::canonical::canonical_office_lines_are_read_back;
+use aq_rules::lines::canonical::canonical_office_lines_are_read_back;
 use aq_rd::{duration_name, parameter_name, write_code, write_date, write_field, write_start};
 use std::alloc::Global;
 
@@ -38,7 +38,7 @@ pub fn print_key(alloc: Global, key: &OfficeKey) -> Result<Vec<u8>, Memory>
     Ok(out)
 }
 
-#[tactic(auto, unfolding(aq_profile::specs::Lines::Canonical::office_texts))]
+#[tactic(auto, unfolding(aq_rules::specs::Lines::Canonical::office_texts))]
 fn write_line(out: &mut Vec<u8>, line: &OfficeLine) -> Result<(), Memory>
     ensures { OnOk result (out.new.items ≡ out.old.items ++ canonical_office line.now) }
 {
@@ -212,7 +212,7 @@ fn write_content(out: &mut Vec<u8>, entry: &OfficeRecord) -> Result<(), Memory>
 
 // A printed key has the fields of a deletion, but for the POC, a make-up record's parameter and an
 // event's number.
-#[tactic(auto, unfolding(aq_profile::specs::Lines::Canonical::key_texts))]
+#[tactic(auto, unfolding(aq_rules::specs::Lines::Canonical::key_texts))]
 fn write_key(out: &mut Vec<u8>, key: &OfficeKey) -> Result<(), Memory>
     ensures { OnOk result (out.new.items ≡ out.old.items ++ printed_key key.now) }
 {

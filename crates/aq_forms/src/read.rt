@@ -1,7 +1,7 @@
 //! Reading office lines.
 ghost use Rattle.std.specs.Prelude.{◌≡◌, false, IfOk, IfErr, IsTrue, OnOk, OnErr, Some, None};
-ghost use Rattle.aq_profile.specs.Lines.Canonical.{is_office_line};
-ghost use Rattle.aq_profile.specs.Lines.Reading.{reading_rule, line_value, OfOffice};
+ghost use Rattle.aq_rules.specs.Lines.Canonical.{is_office_line};
+ghost use Rattle.aq_rules.specs.Lines.Reading.{reading_rule, line_value, OfOffice};
 ghost use Rattle.aq_rd.specs.Tags.{tag_value};
 ghost use Rattle.aq_forms.specs.Actions.{action_value};
 ghost use Rattle.aq_forms.specs.OfficeReading.{has_rd_tag, office_reading, form_reading, action_reading, record_reading, key_reading, xm_reading, xp_reading, xp_key_reading, xs_reading, xs_key_reading, xo_reading, xo_key_reading, xu_reading, xu_key_reading, xe_reading, event_reading, xe_key_reading, xc_reading, xa_reading, xa_key_reading};
@@ -12,7 +12,7 @@ use crate::spellings::{
 };
 use aq_base::{Hour, MonitorId, OfficeKey, OfficeLine, OfficeRecord, Pollutant, Rule, SiteId};
 use aq_cal::hour_of;
-use aq_profile::lines::canonical::what_a_line_spells_is_in_range;
+use aq_rules::lines::canonical::what_a_line_spells_is_in_range;
 use aq_rd::{
     Fields, Tag, date_in, duration_in, parameter_in, poc_in, site_in, tag_in, time_in, truth_in,
     year_in,

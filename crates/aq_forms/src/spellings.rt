@@ -1,9 +1,9 @@
 //! The spellings that office lines alone have (own).
 ghost use Rattle.std.specs.Prelude.{◌≡◌, option_map};
-ghost use Rattle.aq_profile.specs.Lines.Forms.{acts};
-ghost use Rattle.aq_profile.specs.Lines.Spellings.{has_parameter, parameter_of, primary_in, interval_in, event_number_in, event_code_in, is_event_code};
-ghost use Rattle.aq_profile.specs.Lines.Spellings as book;
-ghost use Rattle.aq_profile.specs.Lines.Reading.{action_for};
+ghost use Rattle.aq_rules.specs.Lines.Forms.{acts};
+ghost use Rattle.aq_rules.specs.Lines.Spellings.{has_parameter, parameter_of, primary_in, interval_in, event_number_in, event_code_in, is_event_code};
+ghost use Rattle.aq_rules.specs.Lines.Spellings as book;
+ghost use Rattle.aq_rules.specs.Lines.Reading.{action_for};
 ghost use Rattle.aq_rd.specs.Tags.{tag_value};
 ghost use Rattle.aq_forms.specs.Actions.{action_value};
 
@@ -53,7 +53,7 @@ fn deletes(tag: Tag) -> bool
 
 /// The pollutant of a parameter, if it is one of the form's: schedules are for particles, and
 /// make-up samples for PM2.5.
-#[tactic(auto, unfolding(aq_profile::specs::Lines::Spellings::parameter_of))]
+#[tactic(auto, unfolding(aq_rules::specs::Lines::Spellings::parameter_of))]
 pub(crate) fn parameter_of(tag: Tag, text: &[u8]) -> Option<Pollutant>
     ensures { result ≡ parameter_of (tag_value tag) text.now }
 {
@@ -87,7 +87,7 @@ pub(crate) fn primary_in(text: &[u8]) -> Option<u8>
 }
 
 /// A sampling interval: 1, 2, 3 or 6 days.
-#[tactic(auto, unfolding(aq_profile::specs::Lines::Spellings::interval_in))]
+#[tactic(auto, unfolding(aq_rules::specs::Lines::Spellings::interval_in))]
 pub(crate) fn interval_in(text: &[u8]) -> Option<u8>
     ensures { result ≡ interval_in text.now }
 {
@@ -100,7 +100,7 @@ pub(crate) fn interval_in(text: &[u8]) -> Option<u8>
 }
 
 /// An event's number: 1 to 999,999, without leading zeros.
-#[tactic(auto, unfolding(aq_profile::specs::Lines::Spellings::event_number_in))]
+#[tactic(auto, unfolding(aq_rules::specs::Lines::Spellings::event_number_in))]
 pub(crate) fn event_number_in(text: &[u8]) -> Option<u32>
     ensures { result ≡ event_number_in text.now }
 {
@@ -109,7 +109,7 @@ pub(crate) fn event_number_in(text: &[u8]) -> Option<u32>
 }
 
 /// The qualifier code of an event: RA to RZ.
-#[tactic(auto, unfolding(aq_profile::specs::Lines::Spellings::event_code_in))]
+#[tactic(auto, unfolding(aq_rules::specs::Lines::Spellings::event_code_in))]
 pub(crate) fn event_code_in(text: &[u8]) -> Option<Code>
     ensures { result ≡ event_code_in text.now }
 {

@@ -2,7 +2,7 @@
 use Rattle.std.proofs.Common.{◌≡◌, ℕ, ◌+◌, ◌*◌, ◌<◌, ◌≤◌, Bool, true, false, cond, List, Some, None, Option, refl, sym, ap, ◌∙◌, arith}
 use Rattle.std.specs.Prelude.{◌≢◌, ◌==◌, ◌||◌, nat_lt, Result, Ok, Err, IfOk}
 use Rattle.std.proofs.lemmas.Bool.Decides.{nat_tests}
-use Rattle.aq_profile.specs.Shown.Generator.{generate, generated_load, load_count}
+use Rattle.aq_rules.specs.Shown.Generator.{generate, generated_load, load_count}
 
 none_where : {X : Type 0} (a b : Bool) (x : Option X) → b ≡ true → None ≡ cond (a || b) None x
 none_where true b x h = refl

@@ -19,15 +19,15 @@ use Rattle.aq_base.specs.declared.monitor.Duration.{Duration}
 use Rattle.aq_base.specs.declared.monitor.Duration.TheVariants.{Hour, Day}
 use Rattle.aq_base.specs.declared.office.OfficeRecord.{OfficeRecord}
 use Rattle.aq_base.specs.declared.office.OfficeRecord.TheVariants.{Monitor, Primary, Schedule, Season}
-use Rattle.aq_profile.specs.Lines.Spellings.{is_in_range}
-use Rattle.aq_profile.specs.Lines.Reading.{is_plain, is_plain_byte}
-use Rattle.aq_profile.specs.Lines.Lines.{line_count, without_mark, without_return, cut_at_ends, BYTE_ORDER_MARK}
-use Rattle.aq_profile.specs.Lines.Canonical.{parameter_text, duration_text, unit_text, date_text, time_text, value_text, value_places, code_text, joined, rd_texts, office_texts}
-use Rattle.aq_profile.specs.Ozone.OzoneYear.{days_of}
-use Rattle.aq_profile.specs.Shown.Generator.{next_state, drawn, null_an, Drawn, observed, generated_site, generated_monitor, generated_season, generated_years, generated_start, generated_records, record_text, office_load, Wanted, every, wanted_hour, wanted_day, wanted_in, sample_text, samples_from, load_count, generated_load, generate, FIRST_GENERATED_YEAR}
-use Rattle.aq_profile.proofs.JoinedFields.{is_clean, plain-some}
-use Rattle.aq_profile.proofs.RoundTrip.{also, one, site_with, clean-site, clean-parameter, clean-decimal, clean-duration, clean-digits, clean-date, clean-time}
-use Rattle.aq_profile.proofs.Values.{value_text_is}
+use Rattle.aq_rules.specs.Lines.Spellings.{is_in_range}
+use Rattle.aq_rules.specs.Lines.Reading.{is_plain, is_plain_byte}
+use Rattle.aq_rules.specs.Lines.Lines.{line_count, without_mark, without_return, cut_at_ends, BYTE_ORDER_MARK}
+use Rattle.aq_rules.specs.Lines.Canonical.{parameter_text, duration_text, unit_text, date_text, time_text, value_text, value_places, code_text, joined, rd_texts, office_texts}
+use Rattle.aq_rules.specs.Ozone.OzoneYear.{days_of}
+use Rattle.aq_rules.specs.Shown.Generator.{next_state, drawn, null_an, Drawn, observed, generated_site, generated_monitor, generated_season, generated_years, generated_start, generated_records, record_text, office_load, Wanted, every, wanted_hour, wanted_day, wanted_in, sample_text, samples_from, load_count, generated_load, generate, FIRST_GENERATED_YEAR}
+use Rattle.aq_rules.proofs.JoinedFields.{is_clean, plain-some}
+use Rattle.aq_rules.proofs.RoundTrip.{also, one, site_with, clean-site, clean-parameter, clean-decimal, clean-duration, clean-digits, clean-date, clean-time}
+use Rattle.aq_rules.proofs.Values.{value_text_is}
 use Rattle.aq_generator.specs.Sizes.{IsSmall}
 use Rattle.aq_forms.proofs.Cuts.{is_end, unended, lines_are_counted}
 

@@ -13,10 +13,10 @@ use Rattle.aq_base.specs.declared.monitor.Duration.TheVariants.{Hour, Day}
 use Rattle.aq_base.specs.declared.observation.Observation.{Observation}
 use Rattle.aq_base.specs.declared.office.OfficeRecord.{OfficeRecord}
 use Rattle.aq_base.specs.declared.office.OfficeRecord.TheVariants.{Monitor, Primary, Schedule}
-use Rattle.aq_profile.specs.Lines.Canonical.{canonical_rd}
-use Rattle.aq_profile.specs.Lines.RdForm.{Put as PutSample}
-use Rattle.aq_profile.specs.Ozone.OzoneYear.{days_of}
-use Rattle.aq_profile.specs.Shown.Generator.{next_state, observed, generated_start, generated_site, generated_season, generated_years, generated_records, record_text, Wanted, wanted_in, samples_from}
+use Rattle.aq_rules.specs.Lines.Canonical.{canonical_rd}
+use Rattle.aq_rules.specs.Lines.RdForm.{Put as PutSample}
+use Rattle.aq_rules.specs.Ozone.OzoneYear.{days_of}
+use Rattle.aq_rules.specs.Shown.Generator.{next_state, observed, generated_start, generated_site, generated_season, generated_years, generated_records, record_text, Wanted, wanted_in, samples_from}
 use Rattle.aq_generator.specs.Samples.{wanted, wanted_at_midnight, is_due}
 use Rattle.aq_generator.proofs.Walks.{range-first, range-none}
 

@@ -6,7 +6,7 @@ use Rattle.aq_base.specs.declared.monitor.Pollutant.{Pollutant}
 use Rattle.aq_base.specs.declared.monitor.Pollutant.TheVariants.{Ozone, Pm25, Pm10}
 use Rattle.aq_base.specs.declared.monitor.Duration.{Duration}
 use Rattle.aq_base.specs.declared.monitor.Duration.TheVariants.{Hour, Day}
-use Rattle.aq_profile.specs.Shown.Generator.{Wanted, samples_from}
+use Rattle.aq_rules.specs.Shown.Generator.{Wanted, samples_from}
 use Rattle.aq_generator.specs.declared.samples.Samples.{Samples}
 
 -- what is wanted of each pollutant: how long a sample lasts, the least value, and how many there are from it on

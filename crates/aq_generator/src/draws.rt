@@ -1,6 +1,6 @@
 //! Numbers drawn by a linear congruential generator.
 ghost use Rattle.std.specs.Prelude.{◌≡◌, ◌≤◌, ◌<◌, ◌+◌, ◌^◌};
-ghost use Rattle.aq_profile.specs.Shown.Generator.{next_state, drawn, observed};
+ghost use Rattle.aq_rules.specs.Shown.Generator.{next_state, drawn, observed};
 
 use aq_base::{Code, Observation, Quals};
 

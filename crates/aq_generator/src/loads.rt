@@ -2,8 +2,8 @@
 ghost use Rattle.std.specs.Prelude.{◌≡◌, ◌≤◌, ◌+◌, ◌-◌, ◌*◌, ◌/◌, ◌%◌, ◌^◌, IfOk, IfSome, length, option_map};
 ghost use Rattle.std.specs.Int.{IsInRange};
 ghost use Rattle.aq_base.specs.declared.limits.TheConstants.{MOST_BYTES, MOST_LINES};
-ghost use Rattle.aq_profile.specs.Lines.Lines.{line_count};
-ghost use Rattle.aq_profile.specs.Shown.Generator as generator;
+ghost use Rattle.aq_rules.specs.Lines.Lines.{line_count};
+ghost use Rattle.aq_rules.specs.Shown.Generator as generator;
 ghost use Rattle.aq_generator.specs.Sizes.{IsSmall};
 
 use crate::office::{FIRST_GENERATED_YEAR, office_of};

@@ -3,7 +3,7 @@ ghost use Rattle.std.specs.Prelude.{◌≡◌, ◌+◌, ◌≤◌, ◌++◌, tru
 ghost use Rattle.std.specs.Int.{IsInRange};
 ghost use Rattle.std.specs.List.{range_with_len};
 ghost use Rattle.aq_base.specs.declared.office.OfficeRecord.TheVariants.{Monitor, Primary, Schedule};
-ghost use Rattle.aq_profile.specs.Shown.Generator.{generated_site, generated_records, generated_season, generated_years, office_load, record_text};
+ghost use Rattle.aq_rules.specs.Shown.Generator.{generated_site, generated_records, generated_season, generated_years, office_load, record_text};
 ghost use Rattle.aq_generator.specs.Samples as samples;
 
 use crate::samples::duration_of;

@@ -4,7 +4,7 @@ ghost use Rattle.std.specs.Int.{IsInRange};
 ghost use Rattle.std.specs.List.{range_with_len};
 ghost use Rattle.aq_base.specs.declared.day.TheConstants.{LAST_DAY, LAST_YEAR};
 ghost use Rattle.aq_base.specs.declared.monitor.Pollutant.TheVariants.{Ozone};
-ghost use Rattle.aq_profile.specs.Shown.Generator.{Wanted, samples_from, wanted_in, generated_start};
+ghost use Rattle.aq_rules.specs.Shown.Generator.{Wanted, samples_from, wanted_in, generated_start};
 ghost use Rattle.aq_generator.specs.Samples as samples;
 ghost use Rattle.aq_generator.specs.Samples.{wanted, wanted_at_midnight, completed, is_due};
 

@@ -7,7 +7,7 @@ use Rattle.std.proofs.lemmas.List.{length-append, length-take, take-append-le, t
 use Rattle.httparse.specs.Grammar.{RequestHead, print_request, ReadsRequest}
 use Rattle.httparse.proofs.GrammarLemmas.{ReadsRequest-append, request_unique}
 use Rattle.http1.specs.Fields.{values_named}
-use Rattle.aq_profile.specs.Limits.{MOST_BYTES}
+use Rattle.aq_rules.specs.Limits.{MOST_BYTES}
 use Rattle.aq_http.specs.declared.limits.TheConstants.{MOST_HEAD}
 use Rattle.aq_http.specs.declared.verb.Verb.{Verb}
 use Rattle.aq_http.specs.declared.verb.Verb.TheVariants.{Get, Post, Other}

@@ -8,7 +8,7 @@ use Rattle.std.proofs.Math.Nat.{pow-le-pow_right}
 use Rattle.std.specs.Str.Parse.{digits_value}
 use Rattle.http1.specs.Fields.{Header, is_named, values_named}
 use Rattle.http1.specs.Text.{eq_ignore_case}
-use Rattle.aq_profile.specs.Limits.{MOST_BYTES}
+use Rattle.aq_rules.specs.Limits.{MOST_BYTES}
 use Rattle.aq_http.specs.declared.verb.Verb.{Verb}
 use Rattle.aq_http.specs.Length.{Stated, Absent, Unclear, Digits, IsStated, body_length, is_number, is_number_of, length_in, number_in, stated_again, stated_anew, stated_onto, stated_with, without_zeros}
 use Rattle.aq_http.proofs.Numbers.{same_digits, whole_at_least, zeros_count_nothing, zeros_dropped}

@@ -3,7 +3,7 @@ use Rattle.std.proofs.Common.{◌≡◌, ◌≢◌, ℕ, ◌+◌, ◌-◌, ◌<�
 use Rattle.std.specs.Prelude.{⊤, slice_range}
 use Rattle.std.proofs.lemmas.Bool.{leb-true, leb-false, le-leb}
 use Rattle.std.proofs.lemmas.List.{length-append, length-drop, length-take, take-append-le, drop-append-le}
-use Rattle.aq_profile.specs.Limits.{MOST_BYTES}
+use Rattle.aq_rules.specs.Limits.{MOST_BYTES}
 use Rattle.aq_http.specs.declared.limits.TheConstants.{MOST_HEAD}
 use Rattle.aq_http.specs.Head.{Head, HeadStep, IsHeadStep, head_in, WholeHead, head_step, window}
 use Rattle.aq_http.specs.Head as head

@@ -1,6 +1,6 @@
 -- A head as the program keeps it: by its parts' places.
 use Rattle.std.specs.Prelude.{ℕ, ◌≤◌, Bool}
-use Rattle.aq_profile.specs.Limits.{MOST_BYTES}
+use Rattle.aq_rules.specs.Limits.{MOST_BYTES}
 use Rattle.aq_http.specs.declared.limits.TheConstants.{MOST_HEAD}
 use Rattle.aq_http.specs.declared.verb.Verb.{Verb}
 

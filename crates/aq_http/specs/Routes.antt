@@ -13,9 +13,9 @@ use Rattle.aq_base.specs.Standard.{standards, standard_name}
 use Rattle.aq_base.specs.declared.standard.Standard.{Standard}
 use Rattle.aq_base.specs.declared.ask.Ask.{Ask}
 use Rattle.aq_base.specs.declared.ask.Ask.TheVariants as ask
-use Rattle.aq_profile.specs.Limits.{LAST_LOAD_NUMBER}
-use Rattle.aq_profile.specs.Lines.Spellings.{year_in}
-use Rattle.aq_profile.specs.Shown.Answer.{is_asked, is_design_year, is_load_number}
+use Rattle.aq_rules.specs.Limits.{LAST_LOAD_NUMBER}
+use Rattle.aq_rules.specs.Lines.Spellings.{year_in}
+use Rattle.aq_rules.specs.Shown.Answer.{is_asked, is_design_year, is_load_number}
 use Rattle.aq_rd.specs.Words.{site_word, day_word, number_to}
 use Rattle.aq_http.specs.declared.routes.Found.{Found}
 use Rattle.aq_http.specs.declared.routes.Found.TheVariants.{Ask as Asks, Load, Status, NotAllowed}

@@ -1,6 +1,6 @@
 //! What holds of all steps, for whoever reads a connection piece by piece.
 ghost use Rattle.std.specs.Prelude.{◌≡◌, ◌≢◌, ℕ, ◌+◌, ◌<◌, ◌≤◌, List, ◌++◌, length, IsTrue};
-ghost use Rattle.aq_profile.specs.Limits.{MOST_BYTES};
+ghost use Rattle.aq_rules.specs.Limits.{MOST_BYTES};
 ghost use Rattle.aq_http.specs.declared.limits.TheConstants.{MOST_HEAD};
 ghost use Rattle.aq_http.specs.Head.{HeadStep, IsHeadStep, More as MoreOfHead};
 ghost use Rattle.aq_http.specs.Reply.{is_reply_status};

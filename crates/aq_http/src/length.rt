@@ -4,7 +4,7 @@ ghost use Rattle.std.specs.Option.{option_map};
 ghost use Rattle.httparse.specs.Spans.{IsHeaderWithin, header_bytes};
 ghost use Rattle.http1.specs.Fields.{Header, values_named};
 ghost use Rattle.aq_base.specs.Decimal.{are_digits};
-ghost use Rattle.aq_profile.specs.Limits.{MOST_BYTES};
+ghost use Rattle.aq_rules.specs.Limits.{MOST_BYTES};
 ghost use Rattle.aq_http.specs.Length.{body_length, digits_of, is_number, length_in, no_length, number_in, stated_of, stated_onto, stated_with, without_zeros, Absent, IsStated, OnDigits};
 
 use crate::verb::Verb;

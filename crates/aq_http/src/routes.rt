@@ -4,7 +4,7 @@ ghost use Rattle.std.specs.List.{before_first, after_first};
 ghost use Rattle.matchit.specs.Seek.{first};
 ghost use Rattle.aq_base.specs.Calendar.{is_year};
 ghost use Rattle.aq_base.specs.Standard.{standard_name};
-ghost use Rattle.aq_profile.specs.Shown.Answer.{is_asked, is_design_year, is_load_number};
+ghost use Rattle.aq_rules.specs.Shown.Answer.{is_asked, is_design_year, is_load_number};
 ghost use Rattle.aq_http.specs.Routes.{IsFound, IsFoundStatus, all_routes, asked, design_year, found, found_at, load_number, part, report_asked, route_of, site_and_year, site_asked, standard_in, value_asked, windows_asked, with_routes, year_asked};
 
 use crate::route::Route;

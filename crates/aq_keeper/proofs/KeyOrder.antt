@@ -14,7 +14,7 @@ use Rattle.aq_keeper.specs.contracts.key.KeyViewOrd.TheImpl as derived
 use Rattle.aq_keeper.specs.declared.key.KeyView.{KeyView}
 use Rattle.aq_keeper.specs.declared.key.KeyView.TheVariants.{Office, Observation, Load}
 use Rattle.aq_keeper.specs.KeyView.{key_seen, key_order}
-use Rattle.aq_profile.specs.Kept.RowChanges.{RowKey, columns, columns_before, key_before, is_same_row_key}
+use Rattle.aq_rules.specs.Kept.RowChanges.{RowKey, columns, columns_before, key_before, is_same_row_key}
 
 key_total : IsTotalOrder key_order
 key_total = on_total columns (lists_total int_cmp_total)

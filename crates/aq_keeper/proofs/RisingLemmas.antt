@@ -5,8 +5,8 @@ use Rattle.std.proofs.lemmas.Bool.{false≢true}
 use Rattle.std.proofs.lemmas.List.{append_assoc, append-nil, reverse-append, length-append}
 use Rattle.std.proofs.lemmas.Option.{get_or_from_slice_get}
 use Rattle.std.proofs.Math.Seq.{get_or-append_seam}
-use Rattle.aq_profile.specs.Kept.Rows.{Row}
-use Rattle.aq_profile.specs.Kept.RowChanges.{RowKey, RowChange, PutRow, DropRow, row_key, changed_key, key_before, is_same_row_key, keys_rise, keys_rise_from, put_row, drop_row, with_row_change}
+use Rattle.aq_rules.specs.Kept.Rows.{Row}
+use Rattle.aq_rules.specs.Kept.RowChanges.{RowKey, RowChange, PutRow, DropRow, row_key, changed_key, key_before, is_same_row_key, keys_rise, keys_rise_from, put_row, drop_row, with_row_change}
 use Rattle.aq_keeper.specs.Rising.{AreBefore, AreBehind, AreBeforeFirst, StartsFrom, Rise, keys_of_rows, keys_of_changes, without_first, put_rows}
 use Rattle.aq_keeper.proofs.KeyOrder.{before-trans, before-not_behind, before-not_same, behind-not_same, same-before, neither-same}
 

@@ -5,7 +5,7 @@ use Rattle.std.specs.Cmp.Lexicographic.{slice_cmp}
 use Rattle.aq_keeper.specs.declared.key.KeyContent.{KeyContent}
 use Rattle.aq_keeper.specs.declared.key.KeyContent.TheVariants.{Office, Observation, Load}
 use Rattle.aq_keeper.specs.declared.key.KeyView as lent
-use Rattle.aq_profile.specs.Kept.RowChanges as book
+use Rattle.aq_rules.specs.Kept.RowChanges as book
 
 abbrev pub key_of : KeyContent → book.RowKey
 key_of (Office kind key) = book.OfficeRowKey kind key

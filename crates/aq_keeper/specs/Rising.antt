@@ -1,8 +1,8 @@
 -- Rows and changes whose keys rise, by recursion.
 use Rattle.std.specs.Prelude.{◌≡◌, true, false, if◌then◌else◌, List, [], ◌∷◌, map}
 use Rattle.std.specs.List.{AllByRecursion}
-use Rattle.aq_profile.specs.Kept.Rows.{Row}
-use Rattle.aq_profile.specs.Kept.RowChanges.{RowKey, RowChange, row_key, changed_key, key_before, is_same_row_key, PutRow, DropRow}
+use Rattle.aq_rules.specs.Kept.Rows.{Row}
+use Rattle.aq_rules.specs.Kept.RowChanges.{RowKey, RowChange, row_key, changed_key, key_before, is_same_row_key, PutRow, DropRow}
 
 -- all rows come before a key
 abbrev pub AreBefore : RowKey → List Row → Type 0

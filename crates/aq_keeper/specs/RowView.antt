@@ -1,7 +1,7 @@
 -- The row that a content is, as the book of rules has it.
 use Rattle.aq_keeper.specs.declared.row.RowContent.{RowContent}
 use Rattle.aq_keeper.specs.declared.row.RowContent.TheVariants.{Office, Observation, Load}
-use Rattle.aq_profile.specs.Kept.Rows as book
+use Rattle.aq_rules.specs.Kept.Rows as book
 
 abbrev pub row_of : RowContent → book.Row
 row_of (Office row) = book.OfOfficeRow row

@@ -19,7 +19,7 @@ pub struct RowChange {
 }
 
 impl Model for RowChange {
-    ghost use Rattle.aq_profile.specs.Kept.RowChanges as book;
+    ghost use Rattle.aq_rules.specs.Kept.RowChanges as book;
 
     ghost Value = { book.RowChange };
 
@@ -30,7 +30,7 @@ impl Model for RowChange {
 
 impl RowChange {
     ghost use Rattle.std.specs.Prelude.{◌≡◌, IfOk};
-    ghost use Rattle.aq_profile.specs.Kept.RowChanges as book;
+    ghost use Rattle.aq_rules.specs.Kept.RowChanges as book;
     ghost use Rattle.aq_keeper.specs.KeyView.{key_seen};
 
     /// A row is put.

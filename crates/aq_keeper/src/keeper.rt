@@ -3,8 +3,8 @@
 //! counts as risen. Want of memory is no fault, and may come at any call.
 ghost use Rattle.std.specs.Prelude.{◌≡◌, ℕ, List, true, map, Option, IfSome, IfOk, OnOk, OnErr};
 ghost use Rattle.std.specs.Option.{option_map};
-ghost use Rattle.aq_profile.specs.Kept.Rows as book;
-ghost use Rattle.aq_profile.specs.Kept.RowChanges.{changed_key, keys_rise, with_row_changes};
+ghost use Rattle.aq_rules.specs.Kept.Rows as book;
+ghost use Rattle.aq_rules.specs.Kept.RowChanges.{changed_key, keys_rise, with_row_changes};
 ghost use Rattle.aq_keeper.specs.Told.{HasCause};
 
 use crate::change::RowChange;

@@ -1,6 +1,6 @@
 //! Keys of rows, and their order.
 ghost use Rattle.std.specs.Prelude.{◌≡◌};
-ghost use Rattle.aq_profile.specs.Kept.RowChanges.{key_before, is_same_row_key};
+ghost use Rattle.aq_rules.specs.Kept.RowChanges.{key_before, is_same_row_key};
 ghost use Rattle.aq_keeper.specs.KeyView.{key_seen, key_order};
 
 use crate::row::copy_of;
@@ -34,7 +34,7 @@ pub struct RowKey {
 }
 
 impl Model for RowKey {
-    ghost use Rattle.aq_profile.specs.Kept.RowChanges as book;
+    ghost use Rattle.aq_rules.specs.Kept.RowChanges as book;
 
     ghost Value = { book.RowKey };
 
@@ -64,7 +64,7 @@ pub(crate) enum KeyView<'a> {
 
 impl RowKey {
     ghost use Rattle.std.specs.Prelude.{◌≡◌, IfOk};
-    ghost use Rattle.aq_profile.specs.Kept.RowChanges as book;
+    ghost use Rattle.aq_rules.specs.Kept.RowChanges as book;
     ghost use Rattle.aq_keeper.specs.KeyView.{key_seen};
 
     /// The key of a record.

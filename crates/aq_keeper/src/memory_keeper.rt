@@ -24,7 +24,7 @@ impl Model for MemoryKeeper {
 
 impl MemoryKeeper {
     ghost use Rattle.std.specs.Prelude.{◌≡◌, true, map, if◌then◌else◌};
-    ghost use Rattle.aq_profile.specs.Kept.RowChanges.{row_key, keys_rise};
+    ghost use Rattle.aq_rules.specs.Kept.RowChanges.{row_key, keys_rise};
     ghost use Rattle.aq_base.specs.Faults.{HasRisen, is_listed, next};
 
     /// A keeper of these rows, which are in the order of tables and keys and have distinct keys. It
@@ -58,7 +58,7 @@ impl MemoryKeeper {
 
 impl Keeper for MemoryKeeper {
     ghost use Rattle.std.specs.Prelude.{◌≡◌, true, map, IfOk, OnOk, OnErr, Some};
-    ghost use Rattle.aq_profile.specs.Kept.RowChanges.{changed_key, keys_rise, with_row_changes};
+    ghost use Rattle.aq_rules.specs.Kept.RowChanges.{changed_key, keys_rise, with_row_changes};
     ghost use Rattle.aq_base.specs.Faults.{is_listed, next};
     ghost use Rattle.aq_keeper.specs.Told.{HasCause, faults_after};
     ghost use Rattle.aq_keeper.specs.Memories.{has_failed};

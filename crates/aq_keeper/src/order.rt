@@ -1,6 +1,6 @@
 //! Whether rows, and changes of rows, are in the order of tables and keys.
 ghost use Rattle.std.specs.Prelude.{◌≡◌, map};
-ghost use Rattle.aq_profile.specs.Kept.RowChanges.{row_key, changed_key, keys_rise};
+ghost use Rattle.aq_rules.specs.Kept.RowChanges.{row_key, changed_key, keys_rise};
 
 use crate::change::RowChange;
 use crate::key::comes_before;

@@ -16,7 +16,7 @@ pub struct OfficeRow {
 }
 
 impl Model for OfficeRow {
-    ghost use Rattle.aq_profile.specs.Kept.Rows as book;
+    ghost use Rattle.aq_rules.specs.Kept.Rows as book;
 
     ghost Value = { book.OfficeRow };
 
@@ -41,7 +41,7 @@ pub struct ObsRow {
 }
 
 impl Model for ObsRow {
-    ghost use Rattle.aq_profile.specs.Kept.Rows as book;
+    ghost use Rattle.aq_rules.specs.Kept.Rows as book;
 
     ghost Value = { book.ObsRow };
 
@@ -62,7 +62,7 @@ pub struct LoadRow {
 }
 
 impl Model for LoadRow {
-    ghost use Rattle.aq_profile.specs.Kept.Rows as book;
+    ghost use Rattle.aq_rules.specs.Kept.Rows as book;
 
     ghost Value = { book.LoadRow };
 
@@ -84,7 +84,7 @@ pub struct Row {
 }
 
 impl Model for Row {
-    ghost use Rattle.aq_profile.specs.Kept.Rows as book;
+    ghost use Rattle.aq_rules.specs.Kept.Rows as book;
 
     ghost Value = { book.Row };
 
@@ -154,8 +154,8 @@ impl LoadRow {
 
 impl Row {
     ghost use Rattle.std.specs.Prelude.{◌≡◌, IfOk};
-    ghost use Rattle.aq_profile.specs.Kept.Rows as book;
-    ghost use Rattle.aq_profile.specs.Kept.RowChanges.{row_key};
+    ghost use Rattle.aq_rules.specs.Kept.Rows as book;
+    ghost use Rattle.aq_rules.specs.Kept.RowChanges.{row_key};
     ghost use Rattle.aq_keeper.specs.KeyView.{key_seen};
 
     /// A row of the table `records`.

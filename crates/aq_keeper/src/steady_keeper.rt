@@ -13,7 +13,7 @@ pub struct SteadyKeeper {
 
 impl Model for SteadyKeeper {
     ghost use Rattle.std.specs.Prelude.{List};
-    ghost use Rattle.aq_profile.specs.Kept.Rows as book;
+    ghost use Rattle.aq_rules.specs.Kept.Rows as book;
 
     ghost Value = { List book.Row };
 
@@ -35,7 +35,7 @@ impl SteadyKeeper {
 
 impl Keeper for SteadyKeeper {
     ghost use Rattle.std.specs.Prelude.{◌≡◌, true, map, IfOk, IfErr, OnOk, OnErr, Some};
-    ghost use Rattle.aq_profile.specs.Kept.RowChanges.{changed_key, keys_rise, with_row_changes};
+    ghost use Rattle.aq_rules.specs.Kept.RowChanges.{changed_key, keys_rise, with_row_changes};
     ghost use Rattle.aq_keeper.specs.declared.keeper.KeeperFault.TheVariants.{Memory};
 
     ghost tables = { λ keeper. Some keeper };

@@ -1,6 +1,6 @@
 //! The rows of the tables in memory.
 ghost use Rattle.std.specs.Prelude.{◌≡◌, ◌+◌, ◌≤◌, true, [], ◌∷◌, ◌++◌, length, reverse, take, map, vec_len, vec_capacity, IfSome, IfNone, MatchOption, IfOk, OnOk, OnErr};
-ghost use Rattle.aq_profile.specs.Kept.RowChanges.{row_key, changed_key, keys_rise, key_before, with_row_change, with_row_changes};
+ghost use Rattle.aq_rules.specs.Kept.RowChanges.{row_key, changed_key, keys_rise, key_before, with_row_change, with_row_changes};
 ghost use Rattle.aq_keeper.specs.KeyView.{key_seen};
 ghost use Rattle.aq_keeper.specs.Rising.{AreBefore, AreBeforeFirst, StartsFrom, without_first, put_rows, Rise, keys_of_rows, keys_of_changes};
 
@@ -19,7 +19,7 @@ pub(crate) struct Tables {
 
 impl Model for Tables {
     ghost use Rattle.std.specs.Prelude.{List};
-    ghost use Rattle.aq_profile.specs.Kept.Rows as book;
+    ghost use Rattle.aq_rules.specs.Kept.Rows as book;
     ghost use Rattle.aq_keeper.specs.Rising.{Rise, keys_of_rows};
 
     ghost Value = { List book.Row };
@@ -31,7 +31,7 @@ impl Model for Tables {
 
 impl Tables {
     ghost use Rattle.std.specs.Prelude.{◌≡◌, true, [], map, IfOk, OnOk, OnErr};
-    ghost use Rattle.aq_profile.specs.Kept.RowChanges.{row_key, changed_key, keys_rise, with_row_changes};
+    ghost use Rattle.aq_rules.specs.Kept.RowChanges.{row_key, changed_key, keys_rise, with_row_changes};
 
     /// Tables without rows. It takes no memory.
     pub(crate) fn empty(alloc: Global) -> Tables

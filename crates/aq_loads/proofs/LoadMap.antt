@@ -7,7 +7,7 @@ use Rattle.std.specs.Ordering.{is_eq, is_lt, match_ordering, nat_cmp}
 use Rattle.std.specs.Map.{lookup}
 use Rattle.std.specs.BTreeMap.{insert_entry, is_at}
 use Rattle.std.proofs.lemmas.Bool.Decides.{nat_tests}
-use Rattle.aq_profile.specs.Office.Office.{StoredLoad, comes_before, is_same, load_rank, row_at, with_row}
+use Rattle.aq_rules.specs.Office.Office.{StoredLoad, comes_before, is_same, load_rank, row_at, with_row}
 use Rattle.aq_loads.specs.declared.loads.KeptLoad.{KeptLoad}
 use Rattle.aq_loads.specs.KeptLoads.{stored_entry, stored_in}
 

@@ -1,7 +1,7 @@
 -- Loads that are kept by their numbers.
 use Rattle.std.specs.Prelude.{ℕ, ◌==◌, if◌then◌else◌, List, map}
 use Rattle.aq_base.specs.declared.reply.LoadReply.{LoadReply}
-use Rattle.aq_profile.specs.Office.Office.{StoredLoad, load_rank, with_row}
+use Rattle.aq_rules.specs.Office.Office.{StoredLoad, load_rank, with_row}
 use Rattle.aq_loads.specs.declared.loads.KeptLoad.{KeptLoad}
 
 abbrev pub stored_as : ℕ → List ℕ → LoadReply → StoredLoad

@@ -1,8 +1,8 @@
 //! The loads that were taken.
 ghost use Rattle.std.specs.Prelude.{◌≡◌, [], ◌∷◌, length, nat_le, nat_lt, option_map, IfOk, IsTrue, OnErr, OnOk};
 ghost use Rattle.std.specs.List.{list_all};
-ghost use Rattle.aq_profile.specs.Limits.{MOST_LOADS};
-ghost use Rattle.aq_profile.specs.Office.Office.{load_rank, row_at, with_row};
+ghost use Rattle.aq_rules.specs.Limits.{MOST_LOADS};
+ghost use Rattle.aq_rules.specs.Office.Office.{load_rank, row_at, with_row};
 ghost use Rattle.aq_loads.specs.KeptLoads.{digest_in, reply_in, stored_as, stored_in, with_kept};
 
 use aq_base::{LoadReply, MOST_LOADS, Memory};
@@ -26,7 +26,7 @@ pub struct Loads {
 
 impl Model for Loads {
     ghost use Rattle.std.specs.Prelude.{List};
-    ghost use Rattle.aq_profile.specs.Office.Office.{StoredLoad};
+    ghost use Rattle.aq_rules.specs.Office.Office.{StoredLoad};
     ghost use Rattle.aq_loads.specs.KeptLoads.{stored_in};
 
     ghost Value = { List StoredLoad };

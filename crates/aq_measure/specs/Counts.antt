@@ -1,8 +1,8 @@
 -- How many fields the lines of a body have.
 use Rattle.std.specs.Prelude.{ℕ, not, ◌&&◌, if◌then◌else◌, List, length, drop}
-use Rattle.aq_profile.specs.Lines.Fields.{fields}
-use Rattle.aq_profile.specs.Lines.Lines.{NumberedLine}
-use Rattle.aq_profile.specs.Lines.Reading.{is_plain}
+use Rattle.aq_rules.specs.Lines.Fields.{fields}
+use Rattle.aq_rules.specs.Lines.Lines.{NumberedLine}
+use Rattle.aq_rules.specs.Lines.Reading.{is_plain}
 use Rattle.aq_rd.specs.FieldPlaces.{has_text}
 use Rattle.aq_rd.specs.declared.fields.TheConstants.{MOST_FIELDS}
 

@@ -1,6 +1,6 @@
 //! What a body has, counted in two ways.
 ghost use Rattle.std.specs.Prelude.{◌≡◌, ◌≤◌, ◌==◌, length, map, sum, count_by};
-ghost use Rattle.aq_profile.specs.Lines.Lines.{body_lines};
+ghost use Rattle.aq_rules.specs.Lines.Lines.{body_lines};
 ghost use Rattle.aq_measure.specs.Counts.{field_count, field_count_in};
 
 use aq_forms::{MOST_BYTES, lines_of};

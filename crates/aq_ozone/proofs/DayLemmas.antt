@@ -7,10 +7,10 @@ use Rattle.std.proofs.lemmas.List.{get_or_past}
 use Rattle.std.proofs.lemmas.List.FromFn.{fill_by_all}
 use Rattle.aq_base.specs.Site.{Site}
 use Rattle.aq_base.specs.declared.day.TheConstants.{LAST_DAY, LAST_HOUR}
-use Rattle.aq_profile.specs.Office.Office.{Office}
-use Rattle.aq_profile.specs.Ozone.EightHour.{WindowRow, eight_hours, row_of, window}
-use Rattle.aq_profile.specs.Ozone.OzoneDay.{windows, starts_of}
-use Rattle.aq_profile.specs.Ozone.SiteHour.{Cell, site_hour}
+use Rattle.aq_rules.specs.Office.Office.{Office}
+use Rattle.aq_rules.specs.Ozone.EightHour.{WindowRow, eight_hours, row_of, window}
+use Rattle.aq_rules.specs.Ozone.OzoneDay.{windows, starts_of}
+use Rattle.aq_rules.specs.Ozone.SiteHour.{Cell, site_hour}
 use Rattle.aq_series.specs.DayStates.{hour_at, site_hours}
 use Rattle.aq_series.specs.Samples.{AreOzone, IsOzone}
 use Rattle.aq_ozone.specs.DayHours.{calendar_hours, cells_in, day_hours}

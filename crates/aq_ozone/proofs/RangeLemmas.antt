@@ -7,12 +7,12 @@ use Rattle.std.proofs.lemmas.Bool.Decides.{nat_tests}
 use Rattle.std.proofs.Math.Nat.{div-le_of_le-mul}
 use Rattle.aq_base.specs.Decimal.{truncated}
 use Rattle.aq_base.specs.declared.monitor.Pollutant.TheVariants.{Ozone}
-use Rattle.aq_profile.specs.Kept.Summaries.{is_value}
-use Rattle.aq_profile.specs.Lists.{greater, greatest, ranked, ranked_in, total}
-use Rattle.aq_profile.specs.Ozone.EightHour.{WindowRow, average, full_values, net_values, row_of}
-use Rattle.aq_profile.specs.Ozone.OzoneDay.{day_of_windows, net_averages}
-use Rattle.aq_profile.specs.Ozone.OzoneYear.{ranked_maximum}
-use Rattle.aq_profile.specs.Ozone.SiteHour.{Cell}
+use Rattle.aq_rules.specs.Kept.Summaries.{is_value}
+use Rattle.aq_rules.specs.Lists.{greater, greatest, ranked, ranked_in, total}
+use Rattle.aq_rules.specs.Ozone.EightHour.{WindowRow, average, full_values, net_values, row_of}
+use Rattle.aq_rules.specs.Ozone.OzoneDay.{day_of_windows, net_averages}
+use Rattle.aq_rules.specs.Ozone.OzoneYear.{ranked_maximum}
+use Rattle.aq_rules.specs.Ozone.SiteHour.{Cell}
 use Rattle.aq_series.specs.Samples.{AreOzone, IsOzone}
 use Rattle.aq_ozone.specs.DayHours.{cells_in, AreNetOzone}
 

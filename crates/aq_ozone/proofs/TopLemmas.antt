@@ -3,7 +3,7 @@ use Rattle.std.proofs.Common.{◌≡◌, Bool, true, false, not, List, [], ◌�
 use Rattle.std.specs.Prelude.{ℤ, int_lt, Option, Some, None, slice_get}
 use Rattle.std.specs.Option.{option_map_or}
 use Rattle.std.proofs.lemmas.Bool.{false≢true}
-use Rattle.aq_profile.specs.Lists.{ranked_in}
+use Rattle.aq_rules.specs.Lists.{ranked_in}
 use Rattle.aq_ozone.specs.declared.top_four.TopFour.{TopFour}
 use Rattle.aq_ozone.specs.FourGreatest.{four_of}
 

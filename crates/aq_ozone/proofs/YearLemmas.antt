@@ -10,12 +10,12 @@ use Rattle.std.proofs.lemmas.List.Sums.{count_by-le-length, sum_by-cons, sum_by-
 use Rattle.std.proofs.lemmas.Bool.Decides.{nat_tests}
 use Rattle.aq_base.specs.Calendar.{year_first, days_in_year}
 use Rattle.aq_base.specs.Site.{Site}
-use Rattle.aq_profile.specs.Kept.Summaries.{KeepsOzoneYear}
-use Rattle.aq_profile.specs.Lists.{ranked, ranked_in}
-use Rattle.aq_profile.specs.Office.Office.{Office}
-use Rattle.aq_profile.specs.Office.Season.{Season, season_of, is_in_season}
-use Rattle.aq_profile.specs.Ozone.OzoneDay.{ozone_day}
-use Rattle.aq_profile.specs.Ozone.OzoneYear.{OzoneYear, counts_as_valid, days_of, ozone_days, ozone_year, ranked_maximum}
+use Rattle.aq_rules.specs.Kept.Summaries.{KeepsOzoneYear}
+use Rattle.aq_rules.specs.Lists.{ranked, ranked_in}
+use Rattle.aq_rules.specs.Office.Office.{Office}
+use Rattle.aq_rules.specs.Office.Season.{Season, season_of, is_in_season}
+use Rattle.aq_rules.specs.Ozone.OzoneDay.{ozone_day}
+use Rattle.aq_rules.specs.Ozone.OzoneYear.{OzoneYear, counts_as_valid, days_of, ozone_days, ozone_year, ranked_maximum}
 use Rattle.aq_registry.specs.Registry.{office_with}
 use Rattle.aq_series.specs.Samples.{IsOzone}
 use Rattle.aq_ozone.specs.declared.ozone_year.DayOfYear.{DayOfYear}

@@ -3,9 +3,9 @@ use Rattle.std.specs.Prelude.{ℕ, ◌*◌, Option, List, map, filter_map, IfSom
 use Rattle.std.specs.List.{range_with_len, AllByRecursion}
 use Rattle.aq_base.specs.Calendar.{hour_number}
 use Rattle.aq_base.specs.Site.{Site}
-use Rattle.aq_profile.specs.Office.Office.{Office}
-use Rattle.aq_profile.specs.Ozone.EightHour.{WindowRow}
-use Rattle.aq_profile.specs.Ozone.SiteHour.{Cell}
+use Rattle.aq_rules.specs.Office.Office.{Office}
+use Rattle.aq_rules.specs.Ozone.EightHour.{WindowRow}
+use Rattle.aq_rules.specs.Ozone.SiteHour.{Cell}
 use Rattle.aq_series.specs.DayStates.{hour_at}
 use Rattle.aq_series.specs.Samples.{IsOzone}
 

@@ -1,7 +1,7 @@
 -- What eight days that were read together hold, which days are among them, and where a walk over days is.
 use Rattle.std.specs.Prelude.{◌≡◌, ℕ, ◌+◌, ◌<◌, ◌≤◌}
 use Rattle.aq_base.specs.Site.{Site}
-use Rattle.aq_profile.specs.Office.Office.{Office}
+use Rattle.aq_rules.specs.Office.Office.{Office}
 use Rattle.aq_series.specs.DayStates.{site_hours}
 use Rattle.aq_series.specs.Samples.{AreOzone}
 use Rattle.aq_base.specs.declared.day.TheConstants.{LAST_DAY}

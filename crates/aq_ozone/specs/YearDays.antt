@@ -2,11 +2,11 @@
 use Rattle.std.specs.Prelude.{◌≡◌, ℕ, ◌&&◌, List, length, count_by, filter_map, ℤ}
 use Rattle.std.specs.List.{AllByRecursion}
 use Rattle.aq_base.specs.Site.{Site}
-use Rattle.aq_profile.specs.Lists.{ranked}
-use Rattle.aq_profile.specs.Office.Office.{Office}
-use Rattle.aq_profile.specs.Office.Season.{Season, is_in_season}
-use Rattle.aq_profile.specs.Ozone.OzoneDay.{ozone_day}
-use Rattle.aq_profile.specs.Ozone.OzoneYear.{counts_as_valid, ranked_maximum}
+use Rattle.aq_rules.specs.Lists.{ranked}
+use Rattle.aq_rules.specs.Office.Office.{Office}
+use Rattle.aq_rules.specs.Office.Season.{Season, is_in_season}
+use Rattle.aq_rules.specs.Ozone.OzoneDay.{ozone_day}
+use Rattle.aq_rules.specs.Ozone.OzoneYear.{counts_as_valid, ranked_maximum}
 use Rattle.aq_series.specs.Samples.{IsOzone}
 use Rattle.aq_ozone.specs.declared.ozone_year.DayOfYear.{DayOfYear}
 use Rattle.aq_ozone.specs.declared.ozone_year.YearTally.{YearTally}

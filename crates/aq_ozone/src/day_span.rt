@@ -1,7 +1,7 @@
 //! The hours of calendar days, which are read eight days together.
 ghost use Rattle.std.specs.Prelude.{◌≡◌, ℕ, ◌+◌, ◌<◌, ◌≤◌};
 ghost use Rattle.aq_base.specs.Site.{Site};
-ghost use Rattle.aq_profile.specs.Office.Office.{Office};
+ghost use Rattle.aq_rules.specs.Office.Office.{Office};
 ghost use Rattle.aq_ozone.specs.DayHours as hours;
 ghost use Rattle.aq_series.specs.DayStates.{site_hours};
 ghost use Rattle.aq_series.specs.OfficeView.{office_of};

@@ -1,6 +1,6 @@
 //! The days of a site, one after another.
 ghost use Rattle.std.specs.Prelude.{◌≡◌, ◌<◌};
-ghost use Rattle.aq_profile.specs.Ozone.OzoneDay as book;
+ghost use Rattle.aq_rules.specs.Ozone.OzoneDay as book;
 ghost use Rattle.aq_series.specs.OfficeView.{office_of};
 
 use crate::day_span::DaySpan;
@@ -25,7 +25,7 @@ pub struct Days {
 impl Days {
     ghost use Rattle.std.specs.Prelude.{◌≡◌, ◌+◌, ◌*◌, ◌≤◌};
     ghost use Rattle.aq_base.specs.declared.day.TheConstants.{LAST_DAY};
-    ghost use Rattle.aq_profile.specs.Ozone.OzoneDay as book;
+    ghost use Rattle.aq_rules.specs.Ozone.OzoneDay as book;
     ghost use Rattle.aq_ozone.specs.DayHours.{AreNetOzone};
     ghost use Rattle.aq_ozone.specs.DaySpans.{days_read, IsAt};
     ghost use Rattle.aq_series.specs.OfficeView.{office_of};

@@ -1,6 +1,6 @@
 //! The 8-hour averages (40 CFR Part 50, Appendix U, 3(a) and (b)).
 ghost use Rattle.std.specs.Prelude.{◌≡◌, ◌≤◌, ◌*◌, unsigned_abs};
-ghost use Rattle.aq_profile.specs.Ozone.EightHour as book;
+ghost use Rattle.aq_rules.specs.Ozone.EightHour as book;
 
 use std::marker::Model;
 
@@ -28,7 +28,7 @@ pub struct WindowRow {
 }
 
 impl Model for WindowRow {
-    ghost use Rattle.aq_profile.specs.Ozone.EightHour as book;
+    ghost use Rattle.aq_rules.specs.Ozone.EightHour as book;
 
     ghost Value = { book.WindowRow };
 
@@ -45,7 +45,7 @@ pub struct DayWindows {
 
 impl Model for DayWindows {
     ghost use Rattle.std.specs.Prelude.{◌≡◌, List, length};
-    ghost use Rattle.aq_profile.specs.Ozone.EightHour as book;
+    ghost use Rattle.aq_rules.specs.Ozone.EightHour as book;
     ghost use Rattle.aq_ozone.specs.declared.eight_hour.TheConstants.{WINDOWS};
 
     ghost Value = { List book.WindowRow };

@@ -2,9 +2,9 @@
 ghost use Rattle.std.specs.Prelude.{◌≡◌, fold};
 ghost use Rattle.std.specs.Option.{option_to_list};
 ghost use Rattle.aq_base.specs.declared.standard.Standard.TheVariants.{Ozone2015};
-ghost use Rattle.aq_profile.specs.Lists as lists;
-ghost use Rattle.aq_profile.specs.Ozone.OzoneDay as book;
-ghost use Rattle.aq_profile.specs.Standards.{is_above, level_of};
+ghost use Rattle.aq_rules.specs.Lists as lists;
+ghost use Rattle.aq_rules.specs.Ozone.OzoneDay as book;
+ghost use Rattle.aq_rules.specs.Standards.{is_above, level_of};
 
 use crate::eight_hour::{DayWindows, LEVEL};
 use std::marker::Model;
@@ -22,7 +22,7 @@ pub struct OzoneDay {
 }
 
 impl Model for OzoneDay {
-    ghost use Rattle.aq_profile.specs.Ozone.OzoneDay as book;
+    ghost use Rattle.aq_rules.specs.Ozone.OzoneDay as book;
 
     ghost Value = { book.OzoneDay };
 

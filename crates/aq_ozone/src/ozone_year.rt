@@ -1,7 +1,7 @@
 //! The ozone year of a site (40 CFR Part 50, Appendix U, 3(e) and 4(b)).
 ghost use Rattle.std.specs.Prelude.{◌≡◌, ◌+◌, ◌*◌, ◌≤◌, List, IfSome};
-ghost use Rattle.aq_profile.specs.Ozone.OzoneDay as book;
-ghost use Rattle.aq_profile.specs.Ozone.OzoneYear.{ozone_year, ranked_maximum};
+ghost use Rattle.aq_rules.specs.Ozone.OzoneDay as book;
+ghost use Rattle.aq_rules.specs.Ozone.OzoneYear.{ozone_year, ranked_maximum};
 ghost use Rattle.aq_base.specs.declared.day.TheConstants.{FIRST_YEAR, LAST_YEAR};
 ghost use Rattle.aq_base.specs.declared.observation.ObsKey.{ObsKey};
 ghost use Rattle.aq_base.specs.declared.observation.Observation.{Observation};
@@ -16,8 +16,8 @@ use crate::ozone_day::{OzoneDay, day_of_windows};
 use crate::top_four::TopFour;
 use aq_base::{Day, FIRST_YEAR, LAST_YEAR, Pollutant, SiteId, Steps};
 use aq_cal::year_span;
-use aq_profile::kept::summaries::ozone_years_keep_their_facts;
-use aq_profile::lists::ranking_forgets_the_order;
+use aq_rules::kept::summaries::ozone_years_keep_their_facts;
+use aq_rules::lists::ranking_forgets_the_order;
 use aq_registry::Registry;
 use aq_shelf::Shelf;
 use aq_verdict::OzoneYear;
@@ -71,7 +71,7 @@ struct DayOfYear {
 
 /// A day in a season's year, by its averages. An approval is looked up where the day is not valid by its
 /// hours.
-#[tactic(auto, unfolding(aq_profile::specs::Ozone::OzoneDay::ozone_day))]
+#[tactic(auto, unfolding(aq_rules::specs::Ozone::OzoneDay::ozone_day))]
 fn day_of_year(
     registry: &Registry,
     site: SiteId,

@@ -2,8 +2,8 @@
 ghost use Rattle.std.specs.Prelude.{◌≡◌, ◌<◌, ◌≤◌, IfOk, IfSome, IsTrue};
 ghost use Rattle.aq_base.specs.declared.day.TheConstants.{LAST_DAY};
 ghost use Rattle.aq_base.specs.declared.office.OfficeLine.TheVariants.{Put};
-ghost use Rattle.aq_profile.specs.Lines.Canonical.{is_office_line};
-ghost use Rattle.aq_profile.specs.Office.Office.{is_site};
+ghost use Rattle.aq_rules.specs.Lines.Canonical.{is_office_line};
+ghost use Rattle.aq_rules.specs.Office.Office.{is_site};
 ghost use Rattle.aq_series.specs.Samples.{IsOzone};
 
 use crate::windows::window;

@@ -13,7 +13,7 @@ pub(crate) struct TopFour {
 
 impl TopFour {
     ghost use Rattle.std.specs.Prelude.{◌≡◌, ℤ, List, [], slice_get};
-    ghost use Rattle.aq_profile.specs.Lists.{ranked_in};
+    ghost use Rattle.aq_rules.specs.Lists.{ranked_in};
     ghost use Rattle.aq_ozone.specs.FourGreatest.{four_of};
 
     /// Of no values.

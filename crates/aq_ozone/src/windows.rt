@@ -1,9 +1,9 @@
 //! The 8-hour averages of a day of a site (40 CFR Part 50, Appendix U, 3(b)).
 ghost use Rattle.std.specs.Prelude.{◌≡◌, ℕ, ◌+◌, ◌*◌, ◌<◌, ◌≤◌, IfSome, length};
 ghost use Rattle.aq_base.specs.Site.{Site};
-ghost use Rattle.aq_profile.specs.Office.Office.{Office};
-ghost use Rattle.aq_profile.specs.Ozone.EightHour.{row_of};
-ghost use Rattle.aq_profile.specs.Ozone.OzoneDay as book;
+ghost use Rattle.aq_rules.specs.Office.Office.{Office};
+ghost use Rattle.aq_rules.specs.Ozone.EightHour.{row_of};
+ghost use Rattle.aq_rules.specs.Ozone.OzoneDay as book;
 ghost use Rattle.aq_ozone.specs.DayHours.{cells_in, AreNetOzone};
 ghost use Rattle.aq_ozone.specs.DayHours as hours;
 ghost use Rattle.aq_series.specs.DayStates.{hour_at};

@@ -7,12 +7,12 @@ use Rattle.std.proofs.lemmas.List.Sums.{count_by-le-length, sum_by-cons, length-
 use Rattle.aq_base.specs.Calendar.{quarter_first, days_in_quarter}
 use Rattle.aq_base.specs.Site.{Site}
 use Rattle.aq_base.specs.declared.monitor.Pollutant.TheVariants.{Pm10}
-use Rattle.aq_profile.specs.Office.Office.{Office}
-use Rattle.aq_profile.specs.Office.Schedule.{is_scheduled}
-use Rattle.aq_profile.specs.Particles.ParticleDay.{net_day}
-use Rattle.aq_profile.specs.Particles.QuarterCounts.{days_of_quarter, is_sampled}
-use Rattle.aq_profile.specs.Particles.Strata.{first_days, first_days_after, first_days_among, strata_from, strata_of}
-use Rattle.aq_profile.specs.Particles.Pm10Estimate.{Pm10Quarter, is_exceedance, pm10_quarter, quarter_of_strata}
+use Rattle.aq_rules.specs.Office.Office.{Office}
+use Rattle.aq_rules.specs.Office.Schedule.{is_scheduled}
+use Rattle.aq_rules.specs.Particles.ParticleDay.{net_day}
+use Rattle.aq_rules.specs.Particles.QuarterCounts.{days_of_quarter, is_sampled}
+use Rattle.aq_rules.specs.Particles.Strata.{first_days, first_days_after, first_days_among, strata_from, strata_of}
+use Rattle.aq_rules.specs.Particles.Pm10Estimate.{Pm10Quarter, is_exceedance, pm10_quarter, quarter_of_strata}
 use Rattle.aq_pm10.specs.declared.days.DayOfQuarter.{DayOfQuarter}
 use Rattle.aq_pm10.specs.declared.days.QuarterTally.{QuarterTally}
 use Rattle.aq_pm10.specs.declared.strata.Totals.{Totals}

@@ -3,11 +3,11 @@ use Rattle.std.specs.Prelude.{◌≡◌, ℕ, ◌&&◌, Bool, false, List, fold,
 use Rattle.std.specs.Option.{option_map_or}
 use Rattle.aq_base.specs.Site.{Site}
 use Rattle.aq_base.specs.declared.monitor.Pollutant.TheVariants.{Pm10}
-use Rattle.aq_profile.specs.Office.Office.{Office}
-use Rattle.aq_profile.specs.Office.Schedule.{is_scheduled}
-use Rattle.aq_profile.specs.Particles.ParticleDay.{net_day}
-use Rattle.aq_profile.specs.Particles.QuarterCounts.{is_sampled}
-use Rattle.aq_profile.specs.Particles.Pm10Estimate.{exceeds}
+use Rattle.aq_rules.specs.Office.Office.{Office}
+use Rattle.aq_rules.specs.Office.Schedule.{is_scheduled}
+use Rattle.aq_rules.specs.Particles.ParticleDay.{net_day}
+use Rattle.aq_rules.specs.Particles.QuarterCounts.{is_sampled}
+use Rattle.aq_rules.specs.Particles.Pm10Estimate.{exceeds}
 use Rattle.aq_pm10.specs.declared.days.DayOfQuarter.{DayOfQuarter}
 use Rattle.aq_pm10.specs.declared.days.QuarterTally.{QuarterTally}
 use Rattle.aq_pm10.specs.StrataSoFar.{AreStrataOf, StrataCut, no_strata, with_day}

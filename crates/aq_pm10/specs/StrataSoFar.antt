@@ -1,7 +1,7 @@
 -- A quarter's days cut into strata, one day after the other, and the totals of the strata.
 use Rattle.std.specs.Prelude.{◌≡◌, ℕ, ◌+◌, ◌*◌, ◌≤◌, Bool, ◌||◌, ◌==◌, if◌then◌else◌, List, [], ◌∷◌, ◌++◌, length, sum_by, count_by, Option, ℤ}
 use Rattle.std.specs.Option.{option_to_list}
-use Rattle.aq_profile.specs.Particles.Pm10Estimate.{exceeds, sampled_strata, sixtieths_of}
+use Rattle.aq_rules.specs.Particles.Pm10Estimate.{exceeds, sampled_strata, sixtieths_of}
 use Rattle.aq_pm10.specs.declared.strata.Stratum.{Stratum}
 use Rattle.aq_pm10.specs.declared.strata.Totals.{Totals}
 use Rattle.aq_pm10.specs.declared.strata.Strata.{Strata}

@@ -2,15 +2,15 @@
 ghost use Rattle.std.specs.Prelude.{◌≡◌, ◌<◌, ◌≤◌, option_and_then};
 ghost use Rattle.aq_base.specs.Calendar.{quarter_number};
 ghost use Rattle.aq_base.specs.declared.day.TheConstants.{FIRST_YEAR, LAST_YEAR};
-ghost use Rattle.aq_profile.specs.Particles.ParticleDay.{unless_excluded};
-ghost use Rattle.aq_profile.specs.Particles.Pm10Estimate.{pm10_quarter, pm10_year};
+ghost use Rattle.aq_rules.specs.Particles.ParticleDay.{unless_excluded};
+ghost use Rattle.aq_rules.specs.Particles.Pm10Estimate.{pm10_quarter, pm10_year};
 ghost use Rattle.aq_series.specs.OfficeView.{office_of};
 ghost use Rattle.aq_pm10.specs.QuarterDays.{day_in};
 
 use crate::days::{DayOfQuarter, QuarterTally};
 use aq_base::{Day, FIRST_YEAR, Pollutant, Quarter, SiteId, Steps};
 use aq_cal::quarter_span;
-use aq_profile::kept::summaries::pm10_quarters_keep_their_facts;
+use aq_rules::kept::summaries::pm10_quarters_keep_their_facts;
 use aq_registry::Registry;
 use aq_series::{Cell, site_day};
 use aq_shelf::Shelf;

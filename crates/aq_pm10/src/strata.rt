@@ -1,10 +1,10 @@
 //! The strata of a quarter and their samples, day after day (40 CFR Part 50, Appendix K, 3.1 and 3.2).
 ghost use Rattle.std.specs.Prelude.{◌≡◌, ◌||◌, ◌==◌, ◌+◌, ◌*◌, ◌<◌, ◌≤◌, ℕ, ℤ, [], ◌∷◌, ◌++◌, List};
 ghost use Rattle.aq_base.specs.declared.day.TheConstants.{LAST_DAY};
-ghost use Rattle.aq_profile.specs.Particles.Pm10Estimate.{exceeds};
+ghost use Rattle.aq_rules.specs.Particles.Pm10Estimate.{exceeds};
 ghost use Rattle.aq_pm10.specs.StrataSoFar.{IsStratumOf, AreTotalsOf, AreStrataOf, IsStratum, AreTotals, StrataCut, IsStrata, all_ended, no_strata, samples_in, with_day, with_sample};
 
-use aq_profile::particles::pm10::exceedances_and_their_estimates;
+use aq_rules::particles::pm10::exceedances_and_their_estimates;
 
 /// A stratum has so many days at most.
 const STRATUM_DAYS: u16 = 6;

@@ -6,12 +6,12 @@ use Rattle.std.specs.Option.{option_and_then, option_map_or, option_or}
 use Rattle.std.proofs.lemmas.List.Sums.{sum_by-cons}
 use Rattle.aq_base.specs.Site.{Site}
 use Rattle.aq_base.specs.declared.monitor.Pollutant.TheVariants.{Pm25}
-use Rattle.aq_profile.specs.Office.Office.{Office, IsOffice}
-use Rattle.aq_profile.specs.Office.Questions.{makeup_of}
-use Rattle.aq_profile.specs.Office.Schedule.{is_scheduled}
-use Rattle.aq_profile.specs.Ozone.SiteHour.{Cell}
-use Rattle.aq_profile.specs.Particles.ParticleDay.{site_day}
-use Rattle.aq_profile.specs.Particles.QuarterCounts.{Makeup, credits, gives_credit, makeup_by}
+use Rattle.aq_rules.specs.Office.Office.{Office, IsOffice}
+use Rattle.aq_rules.specs.Office.Questions.{makeup_of}
+use Rattle.aq_rules.specs.Office.Schedule.{is_scheduled}
+use Rattle.aq_rules.specs.Ozone.SiteHour.{Cell}
+use Rattle.aq_rules.specs.Particles.ParticleDay.{site_day}
+use Rattle.aq_rules.specs.Particles.QuarterCounts.{Makeup, credits, gives_credit, makeup_by}
 use Rattle.aq_registry.specs.Registry.{office_with}
 use Rattle.aq_pm25.specs.QuarterDays.{credited, is_makeup_day}
 use Rattle.aq_pm25.proofs.Makeups.{HoldsSpan, as_makeup, look, makeups-are}

@@ -12,17 +12,17 @@ use Rattle.aq_base.specs.declared.monitor.Pollutant.TheVariants.{Pm25}
 use Rattle.aq_base.specs.declared.observation.ObsKey.{ObsKey}
 use Rattle.aq_base.specs.declared.observation.Observation.{Observation}
 use Rattle.aq_base.specs.declared.office.OfficeRecord.{OfficeRecord}
-use Rattle.aq_profile.specs.Kept.Summaries.{is_value, KeepsPmQuarter, PmQuarter, summary_of_quarter}
-use Rattle.aq_profile.specs.Lists.{greatest, least, total}
-use Rattle.aq_profile.specs.Office.Office.{IsOffice, Office}
-use Rattle.aq_profile.specs.Office.Schedule.{is_scheduled}
-use Rattle.aq_profile.specs.Ozone.SiteHour.{Cell}
-use Rattle.aq_profile.specs.Particles.ParticleDay.{net_day, site_day, unless_excluded}
-use Rattle.aq_profile.specs.Particles.QuarterCounts.{Makeup, credits, days_of_quarter, gives_credit, is_in_time, is_kept, is_sampled, makeup_by, pm25_quarter, quarter_counts, quarter_values}
-use Rattle.aq_profile.proofs.Elements.{Every}
-use Rattle.aq_profile.proofs.Pm10Facts.{count-implied, quarter_days}
-use Rattle.aq_profile.proofs.Pm25Facts.{greatest-there, least-there, no-sum, sum-within}
-use Rattle.aq_profile.proofs.ValueRange.{IfValueTo, InRangeTo, greatest-in_range, least-in_range, to_test}
+use Rattle.aq_rules.specs.Kept.Summaries.{is_value, KeepsPmQuarter, PmQuarter, summary_of_quarter}
+use Rattle.aq_rules.specs.Lists.{greatest, least, total}
+use Rattle.aq_rules.specs.Office.Office.{IsOffice, Office}
+use Rattle.aq_rules.specs.Office.Schedule.{is_scheduled}
+use Rattle.aq_rules.specs.Ozone.SiteHour.{Cell}
+use Rattle.aq_rules.specs.Particles.ParticleDay.{net_day, site_day, unless_excluded}
+use Rattle.aq_rules.specs.Particles.QuarterCounts.{Makeup, credits, days_of_quarter, gives_credit, is_in_time, is_kept, is_sampled, makeup_by, pm25_quarter, quarter_counts, quarter_values}
+use Rattle.aq_rules.proofs.Elements.{Every}
+use Rattle.aq_rules.proofs.Pm10Facts.{count-implied, quarter_days}
+use Rattle.aq_rules.proofs.Pm25Facts.{greatest-there, least-there, no-sum, sum-within}
+use Rattle.aq_rules.proofs.ValueRange.{IfValueTo, InRangeTo, greatest-in_range, least-in_range, to_test}
 use Rattle.aq_registry.specs.Registry.{office_with}
 use Rattle.aq_series.specs.OfficeView.{office_of}
 use Rattle.aq_pm25.specs.QuarterDays.{credited, day_in, makeup_cell, summary_of, values_of, IsTallyOf}

@@ -10,15 +10,15 @@ use Rattle.aq_base.specs.Site.{Site}
 use Rattle.aq_base.specs.declared.day.TheConstants.{LAST_DAY}
 use Rattle.aq_base.specs.declared.office.OfficeRecord.{OfficeRecord}
 use Rattle.aq_base.specs.declared.office.OfficeRecord.TheVariants.{Makeup as MakeupRecord}
-use Rattle.aq_profile.specs.Lines.OfficeForms.{is_makeup}
-use Rattle.aq_profile.specs.Office.Monitors.{is_same_site}
-use Rattle.aq_profile.specs.Office.Office.{IsOffice, fits_records, has_own_makeup_day, is_day, is_record, is_same, is_site, makes_up_on, makeups_on, site_numbers}
-use Rattle.aq_profile.specs.Office.Sameness.{same_site}
-use Rattle.aq_profile.specs.Particles.QuarterCounts.{Makeup, makeup_by}
-use Rattle.aq_profile.proofs.Elements.{Every}
-use Rattle.aq_profile.proofs.Pm10Facts.{count-filter}
-use Rattle.aq_profile.proofs.Pm25Counts.{is_record-of}
-use Rattle.aq_profile.proofs.Spans.{fit, on}
+use Rattle.aq_rules.specs.Lines.OfficeForms.{is_makeup}
+use Rattle.aq_rules.specs.Office.Monitors.{is_same_site}
+use Rattle.aq_rules.specs.Office.Office.{IsOffice, fits_records, has_own_makeup_day, is_day, is_record, is_same, is_site, makes_up_on, makeups_on, site_numbers}
+use Rattle.aq_rules.specs.Office.Sameness.{same_site}
+use Rattle.aq_rules.specs.Particles.QuarterCounts.{Makeup, makeup_by}
+use Rattle.aq_rules.proofs.Elements.{Every}
+use Rattle.aq_rules.proofs.Pm10Facts.{count-filter}
+use Rattle.aq_rules.proofs.Pm25Counts.{is_record-of}
+use Rattle.aq_rules.proofs.Spans.{fit, on}
 use Rattle.aq_registry.specs.Registry.{office_with}
 use Rattle.aq_pm25.proofs.Makeups.{HoldsSpan, as_makeup}
 

@@ -11,13 +11,13 @@ use Rattle.aq_base.specs.declared.day.TheConstants.{LAST_DAY}
 use Rattle.aq_base.specs.declared.office.OfficeRecord.{OfficeRecord}
 use Rattle.aq_base.specs.declared.office.OfficeRecord.TheVariants.{Makeup as MakeupRecord}
 use Rattle.aq_base.specs.declared.office.OfficeKey.TheVariants.{Makeup as MakeupKey}
-use Rattle.aq_profile.specs.Lines.OfficeForms.{is_makeup}
-use Rattle.aq_profile.specs.Office.Monitors.{is_same_site}
-use Rattle.aq_profile.specs.Office.Office.{IsOffice, Office, comes_before, fits_records, is_day, is_record, is_same, is_site, key_numbers, record_rank, row_at}
-use Rattle.aq_profile.specs.Office.Questions.{makeup_of}
-use Rattle.aq_profile.specs.Office.Sameness.{same_site, number_itself}
-use Rattle.aq_profile.specs.Particles.QuarterCounts.{Makeup, makeup_by}
-use Rattle.aq_profile.proofs.Pm25Counts.{is_record-of}
+use Rattle.aq_rules.specs.Lines.OfficeForms.{is_makeup}
+use Rattle.aq_rules.specs.Office.Monitors.{is_same_site}
+use Rattle.aq_rules.specs.Office.Office.{IsOffice, Office, comes_before, fits_records, is_day, is_record, is_same, is_site, key_numbers, record_rank, row_at}
+use Rattle.aq_rules.specs.Office.Questions.{makeup_of}
+use Rattle.aq_rules.specs.Office.Sameness.{same_site, number_itself}
+use Rattle.aq_rules.specs.Particles.QuarterCounts.{Makeup, makeup_by}
+use Rattle.aq_rules.proofs.Pm25Counts.{is_record-of}
 use Rattle.aq_registry.specs.Registry.{makeup_in, office_with}
 use Rattle.aq_registry.proofs.QuestionLemmas.{makeup_found}
 use Rattle.aq_series.proofs.MonitorDay.{in_range, rising_range}

@@ -4,9 +4,9 @@ use Rattle.std.specs.Prelude.{ℤ, int_lt, int_le, Option, Some, None}
 use Rattle.std.proofs.lemmas.Int.{ints}
 use Rattle.std.proofs.lemmas.List.{append-nil}
 use Rattle.std.proofs.lemmas.List.Sorted.{IsPermutation-to_front}
-use Rattle.aq_profile.specs.Lists.{ranked, ranked_in}
-use Rattle.aq_profile.proofs.Descent.{Descends, ranked-descends}
-use Rattle.aq_profile.proofs.Ranked.{ranked-in_any_order}
+use Rattle.aq_rules.specs.Lists.{ranked, ranked_in}
+use Rattle.aq_rules.proofs.Descent.{Descends, ranked-descends}
+use Rattle.aq_rules.proofs.Ranked.{ranked-in_any_order}
 use Rattle.aq_verdict.specs.Top.{given, placed, descends}
 use Rattle.aq_pm25.specs.Pushed.{higher_first, pushed}
 use Rattle.aq_pm25.specs.QuarterValues.{places_after}

@@ -5,7 +5,7 @@ use Rattle.std.specs.Option.{option_to_list}
 use Rattle.std.proofs.lemmas.Int.{ints, fits_signed_from_abs, to_z-of_z}
 use Rattle.std.proofs.lemmas.List.{length-append}
 use Rattle.std.proofs.lemmas.List.Sums.{fold-append}
-use Rattle.aq_profile.specs.Lists.{greater, lesser}
+use Rattle.aq_rules.specs.Lists.{greater, lesser}
 use Rattle.aq_series.specs.DayCells.{IsParticle}
 use Rattle.aq_pm25.specs.Pushed.{pushed}
 use Rattle.aq_pm25.specs.QuarterValues.{AreOf, AreParticles, IsSumInRange}

@@ -7,18 +7,18 @@ use Rattle.std.proofs.lemmas.List.Elements.{All-cons, All-nil}
 use Rattle.aq_base.specs.Calendar.{days_in_month, days_in_quarter, quarter_number, quarter_year}
 use Rattle.aq_base.specs.Site.{Site}
 use Rattle.aq_base.specs.declared.monitor.Pollutant.TheVariants.{Pm25}
-use Rattle.aq_profile.specs.Kept.Summaries.{KeepsPmQuarter, KeepsPmYear, PmQuarter, PmYear, eight_greatest, pm25_summary, summary_of_quarter}
-use Rattle.aq_profile.specs.Lines.Spellings.{is_in_range}
-use Rattle.aq_profile.specs.Lists.{ranked}
-use Rattle.aq_profile.specs.Office.Office.{Office}
-use Rattle.aq_profile.specs.Office.Schedule.{is_scheduled}
-use Rattle.aq_profile.specs.Particles.QuarterCounts.{days_of_quarter, pm25_quarter, pm25_year, quarter_counts, quarter_values, quarters_of, values_in}
-use Rattle.aq_profile.proofs.Descent.{ranked-descends}
-use Rattle.aq_profile.proofs.Elements.{Every, every-append}
-use Rattle.aq_profile.proofs.Pm10Facts.{length-days, length-filter-le}
-use Rattle.aq_profile.proofs.Pm25Facts.{top-count, top-falls, top-greatest}
-use Rattle.aq_profile.proofs.Pm25Range.{every-take}
-use Rattle.aq_profile.proofs.ValueRange.{InRangeTo, every-ranked, to_test}
+use Rattle.aq_rules.specs.Kept.Summaries.{KeepsPmQuarter, KeepsPmYear, PmQuarter, PmYear, eight_greatest, pm25_summary, summary_of_quarter}
+use Rattle.aq_rules.specs.Lines.Spellings.{is_in_range}
+use Rattle.aq_rules.specs.Lists.{ranked}
+use Rattle.aq_rules.specs.Office.Office.{Office}
+use Rattle.aq_rules.specs.Office.Schedule.{is_scheduled}
+use Rattle.aq_rules.specs.Particles.QuarterCounts.{days_of_quarter, pm25_quarter, pm25_year, quarter_counts, quarter_values, quarters_of, values_in}
+use Rattle.aq_rules.proofs.Descent.{ranked-descends}
+use Rattle.aq_rules.proofs.Elements.{Every, every-append}
+use Rattle.aq_rules.proofs.Pm10Facts.{length-days, length-filter-le}
+use Rattle.aq_rules.proofs.Pm25Facts.{top-count, top-falls, top-greatest}
+use Rattle.aq_rules.proofs.Pm25Range.{every-take}
+use Rattle.aq_rules.proofs.ValueRange.{InRangeTo, every-ranked, to_test}
 use Rattle.aq_verdict.specs.Top.{descends, given, placed}
 use Rattle.aq_pm25.specs.QuarterValues.{places_after, AreParticles}
 use Rattle.aq_pm25.proofs.Facts.{every_of}

@@ -5,12 +5,12 @@ use Rattle.std.specs.Option.{option_or}
 use Rattle.aq_base.specs.Site.{Site}
 use Rattle.aq_base.specs.declared.monitor.Pollutant.TheVariants.{Pm25}
 use Rattle.aq_base.specs.declared.office.OfficeRecord.{OfficeRecord}
-use Rattle.aq_profile.specs.Kept.Summaries.{PmQuarter}
-use Rattle.aq_profile.specs.Office.Office.{Office}
-use Rattle.aq_profile.specs.Office.Questions.{makeup_of}
-use Rattle.aq_profile.specs.Office.Schedule.{is_scheduled}
-use Rattle.aq_profile.specs.Ozone.SiteHour.{Cell}
-use Rattle.aq_profile.specs.Particles.ParticleDay.{site_day, net_day, unless_excluded}
+use Rattle.aq_rules.specs.Kept.Summaries.{PmQuarter}
+use Rattle.aq_rules.specs.Office.Office.{Office}
+use Rattle.aq_rules.specs.Office.Questions.{makeup_of}
+use Rattle.aq_rules.specs.Office.Schedule.{is_scheduled}
+use Rattle.aq_rules.specs.Ozone.SiteHour.{Cell}
+use Rattle.aq_rules.specs.Particles.ParticleDay.{site_day, net_day, unless_excluded}
 use Rattle.aq_pm25.specs.QuarterValues.{AreOf}
 use Rattle.aq_pm25.specs.declared.quarter_days.DayOfQuarter.{DayOfQuarter}
 use Rattle.aq_pm25.specs.declared.quarters.QuarterTally.{QuarterTally}

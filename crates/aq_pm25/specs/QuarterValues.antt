@@ -1,7 +1,7 @@
 -- Values of a quarter, taken together.
 use Rattle.std.specs.Prelude.{◌≡◌, ◌*◌, List, Option, Some, fold, length, ℤ, pos, neg_ℤ, ◌≤ℤ◌}
 use Rattle.std.specs.List.{AllByRecursion}
-use Rattle.aq_profile.specs.Lists.{total, least, greatest}
+use Rattle.aq_rules.specs.Lists.{total, least, greatest}
 use Rattle.aq_series.specs.DayCells.{IsParticle}
 use Rattle.aq_pm25.specs.Pushed.{pushed}
 use Rattle.aq_pm25.specs.declared.quarter_values.QuarterValues.{QuarterValues}

@@ -2,8 +2,8 @@
 ghost use Rattle.std.specs.Prelude.{◌≡◌, ◌+◌, ◌-◌, option_and_then, IfSome};
 ghost use Rattle.std.specs.List.{list_any, range_with_len};
 ghost use Rattle.aq_base.specs.declared.monitor.Pollutant.TheVariants.{Pm25};
-ghost use Rattle.aq_profile.specs.Office.Schedule.{is_scheduled};
-ghost use Rattle.aq_profile.specs.Particles.ParticleDay.{site_day, unless_excluded};
+ghost use Rattle.aq_rules.specs.Office.Schedule.{is_scheduled};
+ghost use Rattle.aq_rules.specs.Particles.ParticleDay.{site_day, unless_excluded};
 ghost use Rattle.aq_series.specs.DayCells.{IsParticle};
 ghost use Rattle.aq_series.specs.OfficeView.{office_of};
 ghost use Rattle.aq_pm25.specs.QuarterDays.{credited, day_in, is_makeup_day, makeup_cell};

@@ -1,6 +1,6 @@
 //! The values of a quarter's days, taken together.
 ghost use Rattle.std.specs.Prelude.{◌≡◌};
-ghost use Rattle.aq_profile.specs.Lists as lists;
+ghost use Rattle.aq_rules.specs.Lists as lists;
 
 use crate::top_eight::TopEight;
 

@@ -3,8 +3,8 @@ ghost use Rattle.std.specs.Prelude.{◌≡◌, ◌≤◌, ◌<◌, map};
 ghost use Rattle.aq_base.specs.Calendar.{quarter_number};
 ghost use Rattle.aq_base.specs.declared.day.TheConstants.{FIRST_YEAR, LAST_YEAR};
 ghost use Rattle.aq_base.specs.declared.monitor.Pollutant.TheVariants.{Pm25};
-ghost use Rattle.aq_profile.specs.Kept.Summaries.{pm25_summary, summary_of_quarter, KeepsPmQuarter};
-ghost use Rattle.aq_profile.specs.Particles.QuarterCounts.{days_of_quarter, pm25_quarter, quarter_values};
+ghost use Rattle.aq_rules.specs.Kept.Summaries.{pm25_summary, summary_of_quarter, KeepsPmQuarter};
+ghost use Rattle.aq_rules.specs.Particles.QuarterCounts.{days_of_quarter, pm25_quarter, quarter_values};
 ghost use Rattle.aq_series.specs.OfficeView.{office_of};
 ghost use Rattle.aq_pm25.specs.QuarterDays.{day_in, summary_of, IsTallyOf};
 ghost use Rattle.aq_pm25.specs.QuarterValues.{places_after, AreParticles};
@@ -133,7 +133,7 @@ struct QuarterTally {
 
 impl QuarterTally {
     ghost use Rattle.std.specs.Prelude.{◌≡◌, ◌<◌, ◌++◌, [], ◌∷◌, ℤ, List, Option, IfSome};
-    ghost use Rattle.aq_profile.specs.Kept.Summaries.{KeepsPmQuarter};
+    ghost use Rattle.aq_rules.specs.Kept.Summaries.{KeepsPmQuarter};
     ghost use Rattle.aq_series.specs.DayCells.{IsParticle};
     ghost use Rattle.aq_pm25.specs.declared.quarter_days.DayOfQuarter.{DayOfQuarter};
     ghost use Rattle.aq_pm25.specs.QuarterDays.{summary_of, IsTallyOf};

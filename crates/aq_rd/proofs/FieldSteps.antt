@@ -5,8 +5,8 @@ use Rattle.std.proofs.lemmas.Bool.{false≢true, cases_lt}
 use Rattle.std.proofs.lemmas.Bool.Decides.{nat_tests}
 use Rattle.std.proofs.lemmas.List.{take_more}
 use Rattle.std.proofs.lemmas.List.Splits.{slice_split-cons_yes, slice_split-cons_no}
-use Rattle.aq_profile.specs.Lines.Fields.{fields, field, trimmed, without_front, without_back, onto_text, is_bar, is_space, is_empty}
-use Rattle.aq_profile.specs.Lines.Reading.{is_plain, is_plain_byte}
+use Rattle.aq_rules.specs.Lines.Fields.{fields, field, trimmed, without_front, without_back, onto_text, is_bar, is_space, is_empty}
+use Rattle.aq_rules.specs.Lines.Reading.{is_plain, is_plain_byte}
 use Rattle.aq_rd.specs.FieldPlaces.{has_text, are_between}
 
 pub same_or_other : (a b : ℕ) → (a ≡ b) ⊎ (a ≢ b)

@@ -2,9 +2,9 @@
 use Rattle.std.proofs.Common.{◌≡◌, Bool, true, false, cond, ℕ, ◌+◌, ◌<◌, List, [], ◌∷◌, ◌++◌, map, length, take, get_or, Some, None, Option, refl, sym, ap, ◌∙◌, append_assoc}
 use Rattle.std.proofs.lemmas.List.{take_more, map-append, append-nil}
 use Rattle.aq_base.specs.declared.code.Code.{Code}
-use Rattle.aq_profile.specs.Lines.Canonical.{canonical_rd, rd_texts, code_text, texts_behind, joined}
-use Rattle.aq_profile.specs.Lines.RdForm.{Put, Delete}
-use Rattle.aq_profile.specs.Lines.Reading.{is_plain}
+use Rattle.aq_rules.specs.Lines.Canonical.{canonical_rd, rd_texts, code_text, texts_behind, joined}
+use Rattle.aq_rules.specs.Lines.RdForm.{Put, Delete}
+use Rattle.aq_rules.specs.Lines.Reading.{is_plain}
 use Rattle.aq_rd.specs.Printing.{behind_bars, null_text}
 use Rattle.aq_rd.specs.RdReading.{value_of}
 use Rattle.aq_rd.specs.Tags.{has_office_tag}

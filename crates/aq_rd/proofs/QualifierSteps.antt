@@ -6,8 +6,8 @@ use Rattle.std.proofs.lemmas.List.{drop_all, get_or_past, length-append}
 use Rattle.std.proofs.Math.Seq.{drop-cons}
 use Rattle.aq_base.specs.declared.code.Code.{Code}
 use Rattle.aq_base.specs.Quals.{with_code, has_code}
-use Rattle.aq_profile.specs.Lines.Fields.{field, is_empty}
-use Rattle.aq_profile.specs.Lines.Spellings.{◌>>=◌, qualifier_in, qualifiers_onto}
+use Rattle.aq_rules.specs.Lines.Fields.{field, is_empty}
+use Rattle.aq_rules.specs.Lines.Spellings.{◌>>=◌, qualifier_in, qualifiers_onto}
 
 onto-empty : (codes : List Code) (text : List ℕ) (texts : List (List ℕ)) → is_empty text ≡ true → qualifiers_onto codes (text ∷ texts) ≡ qualifiers_onto codes texts
 onto-empty codes [] texts e = refl

@@ -14,15 +14,15 @@ use Rattle.aq_base.specs.declared.monitor.Pollutant.TheVariants.{Ozone, Pm25, Pm
 use Rattle.aq_base.specs.declared.observation.Observation.{Observation}
 use Rattle.aq_base.specs.declared.rule.Rule.{Rule}
 use Rattle.aq_base.specs.declared.rule.Rule.TheVariants.{BadBytes, BadTag, FieldCount, BadAction, BadSite, ParameterOutOfProfile, BadPoc, BadDuration, BadUnit, BadMethod, BadDate, BadTime, ValueAndNull, NeitherValueNorNull, BadValue, ValueOutOfRange, BadNull, BadQualifier}
-use Rattle.aq_profile.specs.Office.Office.{is_content, is_measured}
-use Rattle.aq_profile.specs.Lines.Canonical.{is_rd_value, is_line_value}
-use Rattle.aq_profile.specs.Lines.Fields.{is_empty, field, fields}
-use Rattle.aq_profile.specs.Lines.Spellings as spellings
-use Rattle.aq_profile.specs.Lines.Spellings.{Tag, Rd, Xm, Xp, Xs, Xo, Xu, Xe, Xc, Xa, Insert, Update, Delete, tag_in, action_in, parameter_in, parameter_of, poc_in, site_in, duration_in, unit_in, method_in, date_in, time_in, value_in, is_in_range, null_in, qualifiers_in}
-use Rattle.aq_profile.specs.Lines.RdForm.{RdValue, monitor_in, start_in, content_in, put_in, delete_in, qualifier_fields}
-use Rattle.aq_profile.specs.Lines.Reading.{LineValue, OfRd, breaks_in, rules_of, reported_value, value_for, action_for, form_value, has_wrong_count, is_deletion, breaks_parts, rules_for, line_value, reading_rule, is_plain, tag_of}
-use Rattle.aq_profile.specs.Lines.Forms.{acts}
-use Rattle.aq_profile.specs.Lines.FormRules.{rd_put_rule, rd_put-rule, rd_delete_rule, rd_delete-rule}
+use Rattle.aq_rules.specs.Office.Office.{is_content, is_measured}
+use Rattle.aq_rules.specs.Lines.Canonical.{is_rd_value, is_line_value}
+use Rattle.aq_rules.specs.Lines.Fields.{is_empty, field, fields}
+use Rattle.aq_rules.specs.Lines.Spellings as spellings
+use Rattle.aq_rules.specs.Lines.Spellings.{Tag, Rd, Xm, Xp, Xs, Xo, Xu, Xe, Xc, Xa, Insert, Update, Delete, tag_in, action_in, parameter_in, parameter_of, poc_in, site_in, duration_in, unit_in, method_in, date_in, time_in, value_in, is_in_range, null_in, qualifiers_in}
+use Rattle.aq_rules.specs.Lines.RdForm.{RdValue, monitor_in, start_in, content_in, put_in, delete_in, qualifier_fields}
+use Rattle.aq_rules.specs.Lines.Reading.{LineValue, OfRd, breaks_in, rules_of, reported_value, value_for, action_for, form_value, has_wrong_count, is_deletion, breaks_parts, rules_for, line_value, reading_rule, is_plain, tag_of}
+use Rattle.aq_rules.specs.Lines.Forms.{acts}
+use Rattle.aq_rules.specs.Lines.FormRules.{rd_put_rule, rd_put-rule, rd_delete_rule, rd_delete-rule}
 use Rattle.aq_rd.specs.declared.line.RdLine.{RdLine}
 use Rattle.aq_rd.specs.declared.line.RdLine.TheVariants as line
 use Rattle.aq_rd.specs.Ranges.{HasLineRange}

@@ -6,7 +6,7 @@ use Rattle.std.proofs.lemmas.List.{drop-drop, get_or-drop, length-set, length-dr
 use Rattle.std.proofs.lemmas.List.Folds.{list_all-append}
 use Rattle.std.proofs.lemmas.Bool.{cases_lt}
 use Rattle.std.proofs.Math.Seq.{drop-cons}
-use Rattle.aq_profile.specs.Lines.Fields.{fields, field, trimmed, is_bar}
+use Rattle.aq_rules.specs.Lines.Fields.{fields, field, trimmed, is_bar}
 use Rattle.aq_rd.specs.FieldPlaces.{HoldsFields, StandsAt}
 use Rattle.aq_rd.proofs.FieldSteps.{fields-bar, fields-text, fields-cons, field-at, field-whole, same_or_other}
 

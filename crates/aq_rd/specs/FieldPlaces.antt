@@ -1,7 +1,7 @@
 -- Where the fields of a line start and end.
 use Rattle.std.specs.Prelude.{◌≡◌, ℕ, ◌-◌, ◌<◌, ◌≤◌, Bool, true, false, not, ◌&&◌, nat_le, List, length, take, drop, slice_index_or}
 use Rattle.std.specs.List.{list_all, list_any}
-use Rattle.aq_profile.specs.Lines.Fields.{fields, field, trimmed, is_empty}
+use Rattle.aq_rules.specs.Lines.Fields.{fields, field, trimmed, is_empty}
 use Rattle.aq_rd.specs.declared.fields.TheConstants.{MOST_FIELDS}
 
 -- whether a text stands among these

@@ -1,7 +1,7 @@
 -- A line as it is written, field by field.
 use Rattle.std.specs.Prelude.{ℕ, List, [], ◌∷◌, ◌++◌, Option, Some, None}
 use Rattle.aq_base.specs.declared.code.Code.{Code}
-use Rattle.aq_profile.specs.Lines.Canonical.{code_text}
+use Rattle.aq_rules.specs.Lines.Canonical.{code_text}
 
 -- the texts, each behind a bar
 abbrev pub behind_bars : List (List ℕ) → List ℕ

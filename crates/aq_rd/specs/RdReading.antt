@@ -8,10 +8,10 @@ use Rattle.aq_base.specs.declared.monitor.MonitorId.{MonitorId}
 use Rattle.aq_base.specs.declared.observation.Observation.{Observation}
 use Rattle.aq_base.specs.declared.rule.Rule.{Rule}
 use Rattle.aq_base.specs.declared.rule.Rule.TheVariants.{BadBytes, BadTag, FieldCount, BadAction, BadSite, ParameterOutOfProfile, BadPoc, BadDuration, BadUnit, BadMethod, BadDate, BadTime, ValueAndNull, NeitherValueNorNull, BadValue, ValueOutOfRange, BadNull, BadQualifier}
-use Rattle.aq_profile.specs.Lines.Fields.{fields, field}
-use Rattle.aq_profile.specs.Lines.Spellings.{Rd, site_in, parameter_in, poc_in, duration_in, unit_in, method_in, date_in, time_in, value_in, null_in, qualifiers_in}
-use Rattle.aq_profile.specs.Lines.RdForm.{RdValue, Put as PutSample, Delete as DeleteSample, qualifier_fields}
-use Rattle.aq_profile.specs.Lines.Reading.{is_plain, is_deletion, has_wrong_count, has_value, has_null}
+use Rattle.aq_rules.specs.Lines.Fields.{fields, field}
+use Rattle.aq_rules.specs.Lines.Spellings.{Rd, site_in, parameter_in, poc_in, duration_in, unit_in, method_in, date_in, time_in, value_in, null_in, qualifiers_in}
+use Rattle.aq_rules.specs.Lines.RdForm.{RdValue, Put as PutSample, Delete as DeleteSample, qualifier_fields}
+use Rattle.aq_rules.specs.Lines.Reading.{is_plain, is_deletion, has_wrong_count, has_value, has_null}
 use Rattle.aq_rd.specs.declared.line.RdLine.{RdLine}
 use Rattle.aq_rd.specs.declared.line.RdLine.TheVariants.{Put, Delete}
 

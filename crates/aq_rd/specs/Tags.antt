@@ -2,9 +2,9 @@
 use Rattle.std.specs.Prelude.{Bool, true, false, Option, Some, None, List, ℕ, if◌then◌else◌}
 use Rattle.aq_base.specs.declared.rule.Rule.{Rule}
 use Rattle.aq_base.specs.declared.rule.Rule.TheVariants.{BadBytes, BadTag}
-use Rattle.aq_profile.specs.Lines.Spellings as spellings
-use Rattle.aq_profile.specs.Lines.Reading.{is_plain}
-use Rattle.aq_profile.specs.Lines.Reading as reading
+use Rattle.aq_rules.specs.Lines.Spellings as spellings
+use Rattle.aq_rules.specs.Lines.Reading.{is_plain}
+use Rattle.aq_rules.specs.Lines.Reading as reading
 use Rattle.aq_rd.specs.declared.tag.Tag.{Tag}
 use Rattle.aq_rd.specs.declared.tag.Tag.TheVariants.{Rd, Xm, Xp, Xs, Xo, Xu, Xe, Xc, Xa}
 

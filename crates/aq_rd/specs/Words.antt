@@ -4,7 +4,7 @@ use Rattle.std.specs.Str.Parse.{digits_value}
 use Rattle.aq_base.specs.Calendar.{day_of_date}
 use Rattle.aq_base.specs.Decimal.{are_digits}
 use Rattle.aq_base.specs.Site.{Site}
-use Rattle.aq_profile.specs.Lines.Spellings.{◌>>=◌, digits_in, site_in}
+use Rattle.aq_rules.specs.Lines.Spellings.{◌>>=◌, digits_in, site_in}
 
 -- what stands behind a hyphen
 abbrev pub behind_hyphen : List ℕ → Option (List ℕ)

@@ -1,6 +1,6 @@
 //! The bytes of a line.
 ghost use Rattle.std.specs.Prelude.{◌≡◌, true, false, IfOk, IfErr, OnOk, OnErr};
-ghost use Rattle.aq_profile.specs.Lines.Reading.{is_plain};
+ghost use Rattle.aq_rules.specs.Lines.Reading.{is_plain};
 ghost use Rattle.aq_base.specs.declared.rule.Rule.TheVariants.{BadBytes};
 ghost use Rattle.aq_rd.specs.FieldPlaces.{HasSpaces, are_between};
 

@@ -2,7 +2,7 @@
 ghost use Rattle.std.specs.Prelude.{◌≡◌, ◌≤◌, ◌<◌, ◌^◌, ◌&&◌, nat_lt, length, IfSome, if◌then◌else◌, Some, None};
 ghost use Rattle.std.specs.Str.Parse.{digits_value};
 ghost use Rattle.aq_base.specs.Decimal.{are_digits};
-ghost use Rattle.aq_profile.specs.Lines.Spellings.{digits_in};
+ghost use Rattle.aq_rules.specs.Lines.Spellings.{digits_in};
 ghost use Rattle.aq_rd.specs.Words.{number_to};
 
 /// A number of exactly so many digits, at most eight.

@@ -1,6 +1,6 @@
 //! Writing the fields that RD lines and office lines share.
 ghost use Rattle.std.specs.Prelude.{◌≡◌, ◌++◌, ◌∷◌, OnOk};
-ghost use Rattle.aq_profile.specs.Lines.Canonical.{start_texts, date_text, code_text, parameter_text, duration_text};
+ghost use Rattle.aq_rules.specs.Lines.Canonical.{start_texts, date_text, code_text, parameter_text, duration_text};
 ghost use Rattle.aq_rd.specs.Printing.{behind_bars};
 
 use aq_base::{Code, Day, Duration, Hour, Memory, Pollutant};

@@ -1,7 +1,7 @@
 //! The fields of a line.
 ghost use Rattle.std.specs.Prelude.{◌≡◌, not, ◌&&◌};
 ghost use Rattle.std.specs.List.{list_any};
-ghost use Rattle.aq_profile.specs.Lines.Fields.{fields, field, trimmed, without_front, without_back, is_bar, is_space};
+ghost use Rattle.aq_rules.specs.Lines.Fields.{fields, field, trimmed, without_front, without_back, is_bar, is_space};
 ghost use Rattle.aq_rd.specs.FieldPlaces.{HoldsFields};
 
 use crate::bytes::has_spaces;
@@ -28,7 +28,7 @@ pub struct Fields<'a> {
 
 impl<'a> Model for Fields<'a> {
     ghost use Rattle.std.specs.Prelude.{List, ℕ};
-    ghost use Rattle.aq_profile.specs.Lines.Fields.{fields};
+    ghost use Rattle.aq_rules.specs.Lines.Fields.{fields};
     ghost use Rattle.aq_rd.specs.FieldPlaces.{HoldsFields, HasSpaces};
 
     ghost Value = { List (List ℕ) };
@@ -41,8 +41,8 @@ impl<'a> Model for Fields<'a> {
 impl<'a> Fields<'a> {
     ghost use Rattle.std.specs.Prelude.{◌≡◌, ◌≤◌, [], true, false, IfOk, IfErr, OnOk, OnErr, length, drop};
     ghost use Rattle.aq_base.specs.declared.rule.Rule.TheVariants.{BadBytes};
-    ghost use Rattle.aq_profile.specs.Lines.Fields.{fields, field};
-    ghost use Rattle.aq_profile.specs.Lines.Reading.{is_plain};
+    ghost use Rattle.aq_rules.specs.Lines.Fields.{fields, field};
+    ghost use Rattle.aq_rules.specs.Lines.Reading.{is_plain};
     ghost use Rattle.aq_rd.specs.FieldPlaces.{has_text, HasSpaces};
 
     /// The fields of a line. `BadBytes` exactly where a byte is outside 20 to 7E (hexadecimal).

@@ -1,8 +1,8 @@
 //! Writing RD lines.
 ghost use Rattle.std.specs.Prelude.{◌≡◌, false, ◌+◌, ◌++◌, ◌∷◌, map, if◌then◌else◌, codes, IfOk, IsTrue, OnOk, Some};
 ghost use Rattle.aq_base.specs.Decimal.{last_digits};
-ghost use Rattle.aq_profile.specs.Lines.Reading.{line_value, OfRd};
-ghost use Rattle.aq_profile.specs.Lines.Canonical.{canonical_rd, is_rd_value, monitor_texts, code_text, value_text, texts_behind, unit_text, value_places};
+ghost use Rattle.aq_rules.specs.Lines.Reading.{line_value, OfRd};
+ghost use Rattle.aq_rules.specs.Lines.Canonical.{canonical_rd, is_rd_value, monitor_texts, code_text, value_text, texts_behind, unit_text, value_places};
 ghost use Rattle.aq_rd.specs.Printing.{behind_bars, null_text};
 ghost use Rattle.aq_rd.specs.RdReading.{value_of};
 ghost use Rattle.aq_rd.specs.Tags.{has_office_tag};
@@ -12,7 +12,7 @@ use crate::line::RdLine;
 use aq_base::{Code, Memory, MonitorId, Observation, Pollutant};
 use aq_cal::last_digits;
 use aq_num::write_fixed;
-use aq_profile::lines::canonical::canonical_samples_are_read_back;
+use aq_rules::lines::canonical::canonical_samples_are_read_back;
 use std::alloc::Global;
 
 /// Writes the one line by which a sample, or its deletion, is written (own, within the AQS raw data

@@ -1,9 +1,9 @@
 //! Reading RD lines.
 ghost use Rattle.std.specs.Prelude.{◌≡◌, ◌≤◌, true, false, IfOk, IfErr, IsTrue, OnOk, OnErr, Some, None};
-ghost use Rattle.aq_profile.specs.Lines.Canonical.{is_rd_value};
-ghost use Rattle.aq_profile.specs.Lines.Fields.{field};
-ghost use Rattle.aq_profile.specs.Lines.Reading.{reading_rule, line_value, has_wrong_count, is_deletion, OfRd};
-ghost use Rattle.aq_profile.specs.Lines.Spellings.{Rd};
+ghost use Rattle.aq_rules.specs.Lines.Canonical.{is_rd_value};
+ghost use Rattle.aq_rules.specs.Lines.Fields.{field};
+ghost use Rattle.aq_rules.specs.Lines.Reading.{reading_rule, line_value, has_wrong_count, is_deletion, OfRd};
+ghost use Rattle.aq_rules.specs.Lines.Spellings.{Rd};
 ghost use Rattle.aq_rd.specs.Ranges.{HasLineRange};
 ghost use Rattle.aq_rd.specs.RdReading.{monitor_reading, start_reading, content_reading, valued_reading, null_reading, put_reading, delete_reading, form_reading, rd_reading, value_of};
 ghost use Rattle.aq_rd.specs.Tags.{has_office_tag};
@@ -17,7 +17,7 @@ use crate::spellings::{
 };
 use aq_base::{Hour, MonitorId, Observation, Pollutant, Rule};
 use aq_cal::hour_of;
-use aq_profile::lines::canonical::what_a_line_spells_is_in_range;
+use aq_rules::lines::canonical::what_a_line_spells_is_in_range;
 
 /// Reads a line of the AQS raw data transaction format (RD), whose first field is no tag of the
 /// office's forms. It is refused under the reading rule with the smallest number that it breaks

@@ -2,8 +2,8 @@
 ghost use Rattle.std.specs.Prelude.{◌≡◌, true, ◌≤◌, ◌<◌, take, drop, IfSome, IfOk, Some, ◌≤ℤ◌};
 ghost use Rattle.std.specs.Int.{IsInRange};
 ghost use Rattle.aq_base.specs.Values.{least_value, greatest_value};
-ghost use Rattle.aq_profile.specs.Lines.Spellings.{site_in, parameter_in, poc_in, duration_in, unit_in, method_in, date_in, year_in, time_in, truth_in, null_in, qualifier_in, qualifiers_in, is_code_byte};
-ghost use Rattle.aq_profile.specs.Lines.RdForm.{qualifier_fields};
+ghost use Rattle.aq_rules.specs.Lines.Spellings.{site_in, parameter_in, poc_in, duration_in, unit_in, method_in, date_in, year_in, time_in, truth_in, null_in, qualifier_in, qualifiers_in, is_code_byte};
+ghost use Rattle.aq_rules.specs.Lines.RdForm.{qualifier_fields};
 ghost use Rattle.aq_rd.specs.RdReading.{value_reading};
 ghost use Rattle.aq_rd.specs.Words.{date_of};
 
@@ -17,7 +17,7 @@ use aq_num::{NumberFault, read_decimal};
 const LEAST_VALUE: i32 = -999;
 
 /// A site: state, county and site number in two, three and four digits.
-#[tactic(auto, unfolding(aq_profile::specs::Lines::Spellings::site_in))]
+#[tactic(auto, unfolding(aq_rules::specs::Lines::Spellings::site_in))]
 pub fn site_in(state: &[u8], county: &[u8], number: &[u8]) -> Option<SiteId>
     ensures { result ≡ site_in state.now county.now number.now }
 {
@@ -111,7 +111,7 @@ pub(crate) fn date_of(year: &[u8], month: &[u8], day: &[u8]) -> Option<Day>
 }
 
 /// A year of the profile, of four digits.
-#[tactic(auto, unfolding(aq_profile::specs::Lines::Spellings::year_in))]
+#[tactic(auto, unfolding(aq_rules::specs::Lines::Spellings::year_in))]
 pub fn year_in(text: &[u8]) -> Option<u16>
     ensures value { result ≡ year_in text.now }
     ensures range { IfSome result (IsInRange FIRST_YEAR LAST_YEAR) }
@@ -125,7 +125,7 @@ pub fn year_in(text: &[u8]) -> Option<u16>
 }
 
 /// A full hour as `HH:00`.
-#[tactic(auto, unfolding(aq_profile::specs::Lines::Spellings::time_in))]
+#[tactic(auto, unfolding(aq_rules::specs::Lines::Spellings::time_in))]
 pub fn time_in(text: &[u8]) -> Option<u8>
     ensures value { result ≡ time_in text.now }
     ensures most { IfSome result (λ hour. hour ≤ 23) }
@@ -160,7 +160,7 @@ pub(crate) fn front(count: usize, text: &[u8]) -> (&[u8], &[u8])
 
 /// A sample value, cut at so many places. `BadValue` where the text is no decimal number, else
 /// `ValueOutOfRange` where the cut value is out of the pollutant's range.
-#[tactic(auto, unfolding(aq_profile::specs::Lines::Spellings::value_in, crate::specs::RdReading::value_reading))]
+#[tactic(auto, unfolding(aq_rules::specs::Lines::Spellings::value_in, crate::specs::RdReading::value_reading))]
 pub(crate) fn value(pollutant: Pollutant, places: u8, text: &[u8]) -> Result<i32, Rule>
     requires { places ≤ 6 }
     ensures value { result ≡ value_reading pollutant places text.now }

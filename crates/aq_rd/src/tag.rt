@@ -1,8 +1,8 @@
 //! The form of a line.
 ghost use Rattle.std.specs.Prelude.{◌≡◌, true, false, IfOk, IfErr, OnOk, OnErr, Some, option_map};
-ghost use Rattle.aq_profile.specs.Lines.Spellings.{tag_in};
-ghost use Rattle.aq_profile.specs.Lines.Reading.{is_plain, reading_rule};
-ghost use Rattle.aq_profile.specs.Lines.Reading as reading;
+ghost use Rattle.aq_rules.specs.Lines.Spellings.{tag_in};
+ghost use Rattle.aq_rules.specs.Lines.Reading.{is_plain, reading_rule};
+ghost use Rattle.aq_rules.specs.Lines.Reading as reading;
 ghost use Rattle.aq_base.specs.declared.rule.Rule.TheVariants.{BadBytes};
 ghost use Rattle.aq_rd.specs.Tags.{tag_value, tag_rule, has_office_tag};
 

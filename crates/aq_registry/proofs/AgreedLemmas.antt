@@ -6,8 +6,8 @@ use Rattle.std.specs.List.Sorted.{IsPartitionedBy, IsPartitionPoint}
 use Rattle.std.proofs.lemmas.Bool.{false≢true, cases_Bool}
 use Rattle.std.proofs.lemmas.Bool.Decides.{nat_tests}
 use Rattle.std.proofs.lemmas.Slice.Eq.{bytes_eq-Decides}
-use Rattle.aq_profile.specs.Office.Office.{comes_before}
-use Rattle.aq_profile.specs.Office.RowOrder.{before-trans, before-total}
+use Rattle.aq_rules.specs.Office.Office.{comes_before}
+use Rattle.aq_rules.specs.Office.RowOrder.{before-trans, before-total}
 use Rattle.aq_registry.specs.declared.agreed.Start.{Start}
 use Rattle.aq_registry.specs.declared.agreed.Span.{Span}
 use Rattle.aq_registry.specs.declared.agreed.Entry.{Entry}

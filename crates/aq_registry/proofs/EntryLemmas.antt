@@ -15,8 +15,8 @@ use Rattle.std.specs.BTreeMap.{insert_entry, is_at}
 use Rattle.std.specs.BTreeMap.Range.{entries_between, range_contains}
 use Rattle.aq_base.specs.declared.office.OfficeRecord.{OfficeRecord}
 use Rattle.aq_base.specs.declared.office.OfficeKey.{OfficeKey}
-use Rattle.aq_profile.specs.Office.Office.{key_of, key_numbers, record_rank, comes_before, is_same, with_row, without_row}
-use Rattle.aq_profile.specs.Office.Questions.{record_of, comes_after, following}
+use Rattle.aq_rules.specs.Office.Office.{key_of, key_numbers, record_rank, comes_before, is_same, with_row, without_row}
+use Rattle.aq_rules.specs.Office.Questions.{record_of, comes_after, following}
 use Rattle.aq_registry.specs.declared.place.Place.{Place}
 use Rattle.aq_registry.specs.Places.{place_of, place_cmp, places_of, behind, lies_between}
 use Rattle.aq_registry.specs.Records.{ArePlaced, AreEntries}

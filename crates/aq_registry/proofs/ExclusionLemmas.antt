@@ -11,8 +11,8 @@ use Rattle.std.proofs.lemmas.Bool.Decides.{nat_tests}
 use Rattle.aq_base.specs.declared.office.OfficeRecord.{OfficeRecord}
 use Rattle.aq_base.specs.declared.office.OfficeRecord.TheVariants.{Concurrence}
 use Rattle.aq_base.specs.declared.office.OfficeKey.TheVariants.{Concurrence as ConcurrenceKey}
-use Rattle.aq_profile.specs.Office.Questions.{record_of}
-use Rattle.aq_profile.specs.Office.Exclusion.{agrees_to}
+use Rattle.aq_rules.specs.Office.Questions.{record_of}
+use Rattle.aq_rules.specs.Office.Exclusion.{agrees_to}
 use Rattle.aq_registry.specs.Places.{of_event, place_cmp, places_of}
 use Rattle.aq_registry.specs.Registry.{agreement_in}
 

@@ -9,11 +9,11 @@ use Rattle.aq_base.specs.declared.office.OfficeRecord.{OfficeRecord}
 use Rattle.aq_base.specs.declared.office.OfficeRecord.TheVariants.{Event, Concurrence}
 use Rattle.aq_base.specs.declared.office.OfficeKey.{OfficeKey}
 use Rattle.aq_base.specs.declared.office.OfficeKey.TheVariants.{Event as EventKey, Concurrence as ConcurrenceKey}
-use Rattle.aq_profile.specs.Office.Exclusion.{agrees_to, asks_exclusion}
-use Rattle.aq_profile.specs.Office.Load.{without_key}
-use Rattle.aq_profile.specs.Office.Office.{key_of, key_numbers, record_rank, comes_before, is_same, rises, rises_from, with_row, without_row}
-use Rattle.aq_profile.specs.Office.Questions.{record_of}
-use Rattle.aq_profile.specs.Office.RowOrder.{before-trans}
+use Rattle.aq_rules.specs.Office.Exclusion.{agrees_to, asks_exclusion}
+use Rattle.aq_rules.specs.Office.Load.{without_key}
+use Rattle.aq_rules.specs.Office.Office.{key_of, key_numbers, record_rank, comes_before, is_same, rises, rises_from, with_row, without_row}
+use Rattle.aq_rules.specs.Office.Questions.{record_of}
+use Rattle.aq_rules.specs.Office.RowOrder.{before-trans}
 use Rattle.aq_registry.specs.declared.agreed.Span.{Span}
 use Rattle.aq_registry.specs.Agreed.{start_of, span_by, is_agreed, agreed_span, span_at, passes, any_agreed, AreAgreedOf, number_of, renewed, is_agreed_in, is_noted, spans_put, spans_dropped}
 use Rattle.aq_registry.specs.Registry.{office_with}

@@ -13,10 +13,10 @@ use Rattle.aq_base.specs.Site.{Site}
 use Rattle.aq_base.specs.declared.monitor.Pollutant.{Pollutant}
 use Rattle.aq_base.specs.declared.office.OfficeRecord.{OfficeRecord}
 use Rattle.aq_base.specs.declared.office.OfficeRecord.TheVariants.{Primary}
-use Rattle.aq_profile.specs.Lists.{later, latest}
-use Rattle.aq_profile.specs.Office.Office.{key_of, parameter_number}
-use Rattle.aq_profile.specs.Office.Monitors.{is_same_site}
-use Rattle.aq_profile.specs.Office.Designation.{Designation, designation_by, designated_poc, primary_on}
+use Rattle.aq_rules.specs.Lists.{later, latest}
+use Rattle.aq_rules.specs.Office.Office.{key_of, parameter_number}
+use Rattle.aq_rules.specs.Office.Monitors.{is_same_site}
+use Rattle.aq_rules.specs.Office.Designation.{Designation, designation_by, designated_poc, primary_on}
 use Rattle.aq_registry.specs.Places.{place_of, place_cmp, places_of, is_of, is_of_between}
 use Rattle.aq_registry.specs.Registry.{designation_in}
 use Rattle.aq_registry.proofs.PlaceOrder.{first_of_both, second_of_both}

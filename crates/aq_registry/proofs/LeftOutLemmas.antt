@@ -11,9 +11,9 @@ use Rattle.aq_base.specs.declared.monitor.Pollutant.{Pollutant}
 use Rattle.aq_base.specs.declared.observation.ObsKey.{ObsKey}
 use Rattle.aq_base.specs.declared.office.OfficeRecord.{OfficeRecord}
 use Rattle.aq_base.specs.declared.office.OfficeRecord.TheVariants.{Event}
-use Rattle.aq_profile.specs.Office.Exclusion.{asks_exclusion, is_within, takes_out, excluded}
-use Rattle.aq_profile.specs.Office.Monitors.{is_same_site, is_same_pollutant}
-use Rattle.aq_profile.specs.Office.Office.{parameter_number}
+use Rattle.aq_rules.specs.Office.Exclusion.{asks_exclusion, is_within, takes_out, excluded}
+use Rattle.aq_rules.specs.Office.Monitors.{is_same_site, is_same_pollutant}
+use Rattle.aq_rules.specs.Office.Office.{parameter_number}
 use Rattle.aq_registry.specs.declared.agreed.Span.{Span}
 use Rattle.aq_registry.specs.Agreed.{start_of, is_same_series, covers, is_agreed, agreed_span, passes, AreAgreedOf, leaves_out}
 use Rattle.aq_registry.proofs.QuestionLemmas.{same-parameters}

@@ -11,7 +11,7 @@ use Rattle.std.proofs.lemmas.Bool.Decides.{nat_tests}
 use Rattle.aq_base.specs.Site.{Site}
 use Rattle.aq_base.specs.declared.office.OfficeKey.{OfficeKey}
 use Rattle.aq_base.specs.declared.office.OfficeKey.TheVariants.{Monitor, Primary, Schedule, Season, Makeup, Event, Concurrence, Approved}
-use Rattle.aq_profile.specs.Office.Office.{key_numbers, comes_before, is_same, parameter_number}
+use Rattle.aq_rules.specs.Office.Office.{key_numbers, comes_before, is_same, parameter_number}
 use Rattle.aq_registry.specs.declared.place.Place.{Place}
 use Rattle.aq_registry.specs.Places.{place_of, place_cmp}
 

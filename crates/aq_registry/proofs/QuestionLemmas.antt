@@ -14,11 +14,11 @@ use Rattle.aq_base.specs.declared.office.OfficeRecord.{OfficeRecord}
 use Rattle.aq_base.specs.declared.office.OfficeRecord.TheVariants.{Monitor, Season, Makeup, Event, Approved}
 use Rattle.aq_base.specs.declared.office.OfficeKey.{OfficeKey}
 use Rattle.aq_base.specs.declared.office.OfficeKey.TheVariants.{Monitor as MonitorKey, Season as SeasonKey, Makeup as MakeupKey, Event as EventKey, Approved as ApprovedKey}
-use Rattle.aq_profile.specs.Office.Office.{key_numbers, record_rank, is_same, parameter_number}
-use Rattle.aq_profile.specs.Office.Monitors.{is_same_site, is_same_pollutant, is_same_monitor}
-use Rattle.aq_profile.specs.Office.Questions.{first_given, record_of, registration_by, registration_of, poc_above, next_poc, makeup_for, makeup_of, coverage_by, covers}
-use Rattle.aq_profile.specs.Office.Season.{season_by, season_of, whole_year, Season as Days}
-use Rattle.aq_profile.specs.Office.Approval.{approves, is_approved}
+use Rattle.aq_rules.specs.Office.Office.{key_numbers, record_rank, is_same, parameter_number}
+use Rattle.aq_rules.specs.Office.Monitors.{is_same_site, is_same_pollutant, is_same_monitor}
+use Rattle.aq_rules.specs.Office.Questions.{first_given, record_of, registration_by, registration_of, poc_above, next_poc, makeup_for, makeup_of, coverage_by, covers}
+use Rattle.aq_rules.specs.Office.Season.{season_by, season_of, whole_year, Season as Days}
+use Rattle.aq_rules.specs.Office.Approval.{approves, is_approved}
 use Rattle.aq_registry.specs.Places.{is_of_from}
 use Rattle.aq_registry.specs.Registry.{registration_in, poc_in, season_in, makeup_in, coverage_in}
 

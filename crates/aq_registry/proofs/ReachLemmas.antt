@@ -4,8 +4,8 @@ use Rattle.std.specs.Prelude.{length, take, drop, nat_le, nat_lt, bytes_eq, slic
 use Rattle.std.specs.List.{AllByRecursion, list_any, last_or}
 use Rattle.std.proofs.lemmas.Bool.{false≢true, cases_Bool}
 use Rattle.std.proofs.lemmas.Bool.Decides.{nat_tests}
-use Rattle.aq_profile.specs.Office.Office.{is_same, comes_before}
-use Rattle.aq_profile.specs.Office.RowOrder.{before-total}
+use Rattle.aq_rules.specs.Office.Office.{is_same, comes_before}
+use Rattle.aq_rules.specs.Office.RowOrder.{before-total}
 use Rattle.aq_registry.specs.declared.agreed.Start.{Start}
 use Rattle.aq_registry.specs.declared.agreed.Span.{Span}
 use Rattle.aq_registry.specs.declared.agreed.Entry.{Entry}

@@ -14,14 +14,14 @@ use Rattle.aq_base.specs.declared.office.OfficeRecord.TheVariants.{Monitor, Even
 use Rattle.aq_base.specs.declared.office.OfficeKey.{OfficeKey}
 use Rattle.aq_base.specs.declared.office.OfficeKey.TheVariants.{Monitor as MonitorKey, Event as EventKey, Concurrence as ConcurrenceKey}
 use Rattle.aq_base.specs.declared.office.OfficeLine.TheVariants.{Put, Change, Drop}
-use Rattle.aq_profile.specs.Limits.{MOST_EVENTS}
-use Rattle.aq_profile.specs.Lines.Canonical.{is_office_line}
-use Rattle.aq_profile.specs.Lines.Reading.{OfOffice}
-use Rattle.aq_profile.specs.Office.Load.{without_key}
-use Rattle.aq_profile.specs.Office.Refusal.{is_new_site}
-use Rattle.aq_profile.specs.Office.Office.{IsOffice, is_same, comes_before, rises, rises_from, row_at, with_row, without_row, record_rank, key_numbers, key_of, group_of, site_numbers, with_site, sites_of, fits_records, is_record, has_its_monitor, has_its_event, group_size, most_in_group}
-use Rattle.aq_profile.specs.Office.RowOrder.{before-trans, without_row-rises}
-use Rattle.aq_profile.specs.Office.Questions.{record_of}
+use Rattle.aq_rules.specs.Limits.{MOST_EVENTS}
+use Rattle.aq_rules.specs.Lines.Canonical.{is_office_line}
+use Rattle.aq_rules.specs.Lines.Reading.{OfOffice}
+use Rattle.aq_rules.specs.Office.Load.{without_key}
+use Rattle.aq_rules.specs.Office.Refusal.{is_new_site}
+use Rattle.aq_rules.specs.Office.Office.{IsOffice, is_same, comes_before, rises, rises_from, row_at, with_row, without_row, record_rank, key_numbers, key_of, group_of, site_numbers, with_site, sites_of, fits_records, is_record, has_its_monitor, has_its_event, group_size, most_in_group}
+use Rattle.aq_rules.specs.Office.RowOrder.{before-trans, without_row-rises}
+use Rattle.aq_rules.specs.Office.Questions.{record_of}
 use Rattle.aq_registry.specs.declared.changes.Changes.{Changes}
 use Rattle.aq_registry.specs.Changes.{changes_of, drop_changes, dropped_with, dropping, putting}
 use Rattle.aq_registry.specs.Registry.{office_with, events_in, adds_event, drops_event}

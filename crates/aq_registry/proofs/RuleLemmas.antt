@@ -16,12 +16,12 @@ use Rattle.aq_base.specs.declared.office.OfficeKey.{OfficeKey}
 use Rattle.aq_base.specs.declared.office.OfficeKey.TheVariants.{Monitor as MonitorKey, Event as EventKey, Concurrence as ConcurrenceKey}
 use Rattle.aq_base.specs.declared.office.OfficeLine.TheVariants.{Put, Change, Drop}
 use Rattle.aq_base.specs.declared.rule.Rule.{Rule}
-use Rattle.aq_profile.specs.Lines.Canonical.{is_office_line}
-use Rattle.aq_profile.specs.Lines.Reading.{OfOffice}
-use Rattle.aq_profile.specs.Office.Office.{Office, key_of, parameter_number, site_numbers, series_numbers, is_same, group_of, is_day, is_key, is_content_of, is_record, registers, makes_up_on}
-use Rattle.aq_profile.specs.Office.Monitors.{is_same_site}
-use Rattle.aq_profile.specs.Office.Questions.{first_given, missed_for, missed_of}
-use Rattle.aq_profile.specs.Office.Refusal.{broken}
+use Rattle.aq_rules.specs.Lines.Canonical.{is_office_line}
+use Rattle.aq_rules.specs.Lines.Reading.{OfOffice}
+use Rattle.aq_rules.specs.Office.Office.{Office, key_of, parameter_number, site_numbers, series_numbers, is_same, group_of, is_day, is_key, is_content_of, is_record, registers, makes_up_on}
+use Rattle.aq_rules.specs.Office.Monitors.{is_same_site}
+use Rattle.aq_rules.specs.Office.Questions.{first_given, missed_for, missed_of}
+use Rattle.aq_rules.specs.Office.Refusal.{broken}
 use Rattle.aq_registry.specs.Places.{is_of, is_of_from, is_of_between}
 use Rattle.aq_registry.specs.Rules.{new_rule, change_rule, drop_rule, makes_up_in}
 use Rattle.aq_registry.proofs.QuestionLemmas.{any-found, four_tests, last_test}

@@ -11,12 +11,12 @@ use Rattle.aq_base.specs.Calendar.{quarter_of}
 use Rattle.aq_base.specs.declared.monitor.Pollutant.{Pollutant}
 use Rattle.aq_base.specs.declared.office.OfficeRecord.{OfficeRecord}
 use Rattle.aq_base.specs.declared.office.OfficeRecord.TheVariants.{Schedule, Makeup}
-use Rattle.aq_profile.specs.Lines.OfficeForms.{is_makeup}
-use Rattle.aq_profile.specs.Lines.Spellings.{is_interval}
-use Rattle.aq_profile.specs.Office.Office.{Office, IsOffice, key_of, parameter_number, is_day, is_key, is_content_of, is_record, fits_records, has_its_monitor, has_its_event, group_size, most_in_group}
-use Rattle.aq_profile.specs.Office.Monitors.{is_same_site}
-use Rattle.aq_profile.specs.Office.Questions.{first_given, missed_for, missed_of}
-use Rattle.aq_profile.specs.Office.Schedule.{Schedule as Sampling, schedule_by, asks_for, is_scheduled}
+use Rattle.aq_rules.specs.Lines.OfficeForms.{is_makeup}
+use Rattle.aq_rules.specs.Lines.Spellings.{is_interval}
+use Rattle.aq_rules.specs.Office.Office.{Office, IsOffice, key_of, parameter_number, is_day, is_key, is_content_of, is_record, fits_records, has_its_monitor, has_its_event, group_size, most_in_group}
+use Rattle.aq_rules.specs.Office.Monitors.{is_same_site}
+use Rattle.aq_rules.specs.Office.Questions.{first_given, missed_for, missed_of}
+use Rattle.aq_rules.specs.Office.Schedule.{Schedule as Sampling, schedule_by, asks_for, is_scheduled}
 use Rattle.aq_registry.specs.declared.place.Place.{Place}
 use Rattle.aq_registry.specs.Places.{of_site, place_of, place_cmp, places_of, is_of_between, lies_between}
 use Rattle.aq_registry.specs.Registry.{office_with, schedule_in, missed_by}

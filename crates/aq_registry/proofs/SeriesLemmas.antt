@@ -8,7 +8,7 @@ use Rattle.std.specs.Ordering.{nat_cmp, ordering_then, is_eq, is_le, is_gt}
 use Rattle.std.proofs.lemmas.Bool.Decides.{nat_tests}
 use Rattle.aq_base.specs.Site.{Site}
 use Rattle.aq_base.specs.declared.office.OfficeRecord.{OfficeRecord}
-use Rattle.aq_profile.specs.Office.Office.{key_of}
+use Rattle.aq_rules.specs.Office.Office.{key_of}
 use Rattle.aq_registry.specs.declared.place.Place.{Place}
 use Rattle.aq_registry.specs.Places.{of_site, place_of, is_of, is_of_from, is_of_between, lies_between, IsSpan}
 

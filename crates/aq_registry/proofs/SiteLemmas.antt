@@ -12,9 +12,9 @@ use Rattle.std.proofs.lemmas.Bool.Decides.{nat_tests}
 use Rattle.aq_base.specs.Site.{Site}
 use Rattle.aq_base.specs.declared.office.OfficeRecord.{OfficeRecord}
 use Rattle.aq_base.specs.declared.office.OfficeRecord.TheVariants.{Monitor, Primary}
-use Rattle.aq_profile.specs.Office.Monitors.{is_same_site}
-use Rattle.aq_profile.specs.Office.Office.{key_of, parameter_number, site_numbers, is_same, with_site, sites_of}
-use Rattle.aq_profile.specs.Office.Questions.{site_above, next_site}
+use Rattle.aq_rules.specs.Office.Monitors.{is_same_site}
+use Rattle.aq_rules.specs.Office.Office.{key_of, parameter_number, site_numbers, is_same, with_site, sites_of}
+use Rattle.aq_rules.specs.Office.Questions.{site_above, next_site}
 use Rattle.aq_registry.specs.declared.place.Place.{Place}
 use Rattle.aq_registry.specs.Places.{of_kind, of_site, behind_site, behind_sites, place_of, place_cmp, is_of_site, lies_between, IsSpan}
 use Rattle.aq_registry.specs.Registry.{site_in}

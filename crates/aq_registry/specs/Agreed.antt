@@ -10,9 +10,9 @@ use Rattle.aq_base.specs.declared.office.OfficeRecord.{OfficeRecord}
 use Rattle.aq_base.specs.declared.office.OfficeRecord.TheVariants.{Event}
 use Rattle.aq_base.specs.declared.office.OfficeKey.{OfficeKey}
 use Rattle.aq_base.specs.declared.office.OfficeKey.TheVariants.{Event as EventKey, Concurrence as ConcurrenceKey}
-use Rattle.aq_profile.specs.Office.Exclusion.{agrees_to, asks_exclusion}
-use Rattle.aq_profile.specs.Office.Questions.{record_of}
-use Rattle.aq_profile.specs.Office.Office.{comes_before, is_same, parameter_number}
+use Rattle.aq_rules.specs.Office.Exclusion.{agrees_to, asks_exclusion}
+use Rattle.aq_rules.specs.Office.Questions.{record_of}
+use Rattle.aq_rules.specs.Office.Office.{comes_before, is_same, parameter_number}
 use Rattle.aq_registry.specs.declared.agreed.Start.{Start}
 use Rattle.aq_registry.specs.declared.agreed.Span.{Span}
 use Rattle.aq_registry.specs.declared.agreed.Entry.{Entry}

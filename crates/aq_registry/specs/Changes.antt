@@ -6,8 +6,8 @@ use Rattle.aq_base.specs.declared.office.OfficeKey.TheVariants.{Event as EventKe
 use Rattle.aq_base.specs.declared.office.OfficeLine.{OfficeLine}
 use Rattle.aq_base.specs.declared.office.OfficeLine.TheVariants.{Put, Change, Drop}
 use Rattle.aq_base.specs.declared.rule.Rule.{Rule}
-use Rattle.aq_profile.specs.Office.Office.{key_of}
-use Rattle.aq_profile.specs.Office.Questions.{record_of}
+use Rattle.aq_rules.specs.Office.Office.{key_of}
+use Rattle.aq_rules.specs.Office.Questions.{record_of}
 use Rattle.aq_registry.specs.declared.changes.RecordChange.{RecordChange}
 use Rattle.aq_registry.specs.declared.changes.Changes.{Changes}
 use Rattle.aq_registry.specs.declared.changes.RegistryFault.{RegistryFault}

@@ -4,10 +4,10 @@ use Rattle.aq_base.specs.declared.office.OfficeRecord.TheVariants.{Monitor, Prim
 use Rattle.aq_base.specs.declared.office.OfficeKey.TheVariants.{Monitor as MonitorKey, Event as EventKey, Concurrence as ConcurrenceKey}
 use Rattle.aq_base.specs.declared.office.OfficeLine.{OfficeLine}
 use Rattle.aq_base.specs.declared.office.OfficeLine.TheVariants.{Put, Change, Drop}
-use Rattle.aq_profile.specs.Lines.Reading.{OfOffice}
-use Rattle.aq_profile.specs.Office.Office.{Office}
-use Rattle.aq_profile.specs.Office.Load.{changed}
-use Rattle.aq_profile.specs.Office.Refusal.{broken}
+use Rattle.aq_rules.specs.Lines.Reading.{OfOffice}
+use Rattle.aq_rules.specs.Office.Office.{Office}
+use Rattle.aq_rules.specs.Office.Load.{changed}
+use Rattle.aq_rules.specs.Office.Refusal.{broken}
 use Rattle.aq_registry.specs.Registry.{office_with}
 
 pub broken_by_records : (office : Office) (line : OfficeLine) → broken office (OfOffice line) ≡ broken (office_with office.records) (OfOffice line)

@@ -8,7 +8,7 @@ use Rattle.aq_base.specs.Site.{Site}
 use Rattle.aq_base.specs.declared.office.OfficeRecord.{OfficeRecord}
 use Rattle.aq_base.specs.declared.office.OfficeKey.{OfficeKey}
 use Rattle.aq_base.specs.declared.office.OfficeKey.TheVariants.{Monitor, Primary, Schedule, Season, Makeup, Event, Concurrence, Approved}
-use Rattle.aq_profile.specs.Office.Office.{key_of, parameter_number}
+use Rattle.aq_rules.specs.Office.Office.{key_of, parameter_number}
 use Rattle.aq_registry.specs.declared.place.Place.{Place}
 
 -- a place of a kind that goes by site: one without a parameter has 0 for it

@@ -4,7 +4,7 @@ use Rattle.std.specs.List.{AllByRecursion}
 use Rattle.std.specs.List.Sorted.{IsStrictlySortedBy}
 use Rattle.std.specs.Map.{keys_of}
 use Rattle.aq_base.specs.declared.office.OfficeRecord.{OfficeRecord}
-use Rattle.aq_profile.specs.Office.Office.{key_of}
+use Rattle.aq_rules.specs.Office.Office.{key_of}
 use Rattle.aq_registry.specs.declared.place.Place.{Place}
 use Rattle.aq_registry.specs.Places.{place_of, place_cmp}
 

@@ -8,12 +8,12 @@ use Rattle.aq_base.specs.declared.office.OfficeKey.{OfficeKey}
 use Rattle.aq_base.specs.declared.office.OfficeKey.TheVariants.{Event as EventKey}
 use Rattle.aq_registry.specs.declared.agreed.Span.{Span}
 use Rattle.aq_registry.specs.Agreed.{AreAgreedOf}
-use Rattle.aq_profile.specs.Office.Refusal.{key_stands}
-use Rattle.aq_profile.specs.Office.Office.{Office, IsOffice, group_of, is_same, sites_of}
-use Rattle.aq_profile.specs.Office.Questions.{Registered}
-use Rattle.aq_profile.specs.Office.Season.{Season as Days}
-use Rattle.aq_profile.specs.Office.Designation.{Designation}
-use Rattle.aq_profile.specs.Office.Schedule.{Schedule as Sampling}
+use Rattle.aq_rules.specs.Office.Refusal.{key_stands}
+use Rattle.aq_rules.specs.Office.Office.{Office, IsOffice, group_of, is_same, sites_of}
+use Rattle.aq_rules.specs.Office.Questions.{Registered}
+use Rattle.aq_rules.specs.Office.Season.{Season as Days}
+use Rattle.aq_rules.specs.Office.Designation.{Designation}
+use Rattle.aq_rules.specs.Office.Schedule.{Schedule as Sampling}
 
 -- an office of these records alone
 abbrev pub office_with : List OfficeRecord → Office

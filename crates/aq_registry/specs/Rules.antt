@@ -10,12 +10,12 @@ use Rattle.aq_base.specs.declared.office.OfficeKey.TheVariants.{Event as EventKe
 use Rattle.aq_base.specs.declared.office.OfficeLine.TheVariants.{Put}
 use Rattle.aq_base.specs.declared.rule.Rule.{Rule}
 use Rattle.aq_base.specs.declared.rule.Rule.TheVariants.{UnknownMonitor, WrongDuration, AlreadyThere, NotThere, SitesFull, MonitorsFull, MakeupsFull, UnknownEvent, EventsFull, ListFull}
-use Rattle.aq_profile.specs.Lines.Spellings.{◌>>=◌}
+use Rattle.aq_rules.specs.Lines.Spellings.{◌>>=◌}
 use Rattle.aq_base.specs.declared.monitor.Duration.{Duration}
-use Rattle.aq_profile.specs.Limits.{MOST_SITES}
-use Rattle.aq_profile.specs.Lines.Reading.{OfOffice}
-use Rattle.aq_profile.specs.Office.Office.{Office, key_of, site_numbers, sites_of, is_same, group_of, group_size, most_in_group, has_monitor, has_its_monitor, duration_at, monitor_duration}
-use Rattle.aq_profile.specs.Office.Refusal.{key_stands, is_taken, is_new_site, is_other_duration}
+use Rattle.aq_rules.specs.Limits.{MOST_SITES}
+use Rattle.aq_rules.specs.Lines.Reading.{OfOffice}
+use Rattle.aq_rules.specs.Office.Office.{Office, key_of, site_numbers, sites_of, is_same, group_of, group_size, most_in_group, has_monitor, has_its_monitor, duration_at, monitor_duration}
+use Rattle.aq_rules.specs.Office.Refusal.{key_stands, is_taken, is_new_site, is_other_duration}
 
 -- the rule of a full list, where as many stand as may
 abbrev pub rule_where_full : ℕ → ℕ → Rule → Option Rule

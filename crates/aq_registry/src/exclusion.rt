@@ -2,8 +2,8 @@
 ghost use Rattle.std.specs.Prelude.{◌≡◌, ◌<◌, false};
 ghost use Rattle.std.specs.List.{list_any};
 ghost use Rattle.std.specs.Option.{option_and_then};
-ghost use Rattle.aq_profile.specs.Office.Exclusion.{asks_exclusion};
-ghost use Rattle.aq_profile.specs.Office.Questions.{record_of};
+ghost use Rattle.aq_rules.specs.Office.Exclusion.{asks_exclusion};
+ghost use Rattle.aq_rules.specs.Office.Questions.{record_of};
 ghost use Rattle.aq_base.specs.declared.office.OfficeKey.TheVariants.{Event as EventKey};
 ghost use Rattle.aq_registry.specs.Agreed.{agreed_span, is_agreed_in, is_noted, leaves_out, number_of, span_at, spans_dropped, spans_put};
 

@@ -1,9 +1,9 @@
 //! What one record says.
 ghost use Rattle.std.specs.Prelude.{◌≡◌, false, option_map, IfSome, IsTrue};
 ghost use Rattle.std.specs.Option.{option_and_then, option_map_or};
-ghost use Rattle.aq_profile.specs.Office.Designation.{designated_poc};
-ghost use Rattle.aq_profile.specs.Office.Office.{is_record};
-ghost use Rattle.aq_profile.specs.Office.Schedule.{asks_for, distance};
+ghost use Rattle.aq_rules.specs.Office.Designation.{designated_poc};
+ghost use Rattle.aq_rules.specs.Office.Office.{is_record};
+ghost use Rattle.aq_rules.specs.Office.Schedule.{asks_for, distance};
 ghost use Rattle.aq_registry.specs.Rules.{duration_in};
 ghost use Rattle.aq_registry.specs.Registry.{agreement_in, coverage_in, days_of, designation_in, schedule_in, missed_by, makeup_in, pair_of, poc_in, registration_in, season_in, site_in};
 

@@ -1,6 +1,6 @@
 //! Where a record stands among the others.
 ghost use Rattle.std.specs.Prelude.{◌≡◌};
-ghost use Rattle.aq_profile.specs.Office.Office.{key_of, parameter_number};
+ghost use Rattle.aq_rules.specs.Office.Office.{key_of, parameter_number};
 ghost use Rattle.aq_registry.specs.Places.{behind_site, of_event, of_kind, of_site, place_of};
 
 use aq_base::{OfficeKey, OfficeRecord, Pollutant, SiteId};

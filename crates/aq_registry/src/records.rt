@@ -3,9 +3,9 @@ ghost use Rattle.std.specs.Prelude.{◌≡◌, ◌<◌, ◌≤◌, ◌^◌, None
 ghost use Rattle.std.specs.List.{last_or, list_any};
 ghost use Rattle.std.specs.List.Sorted.{IsStrictlySortedBy};
 ghost use Rattle.std.specs.Map.{values_of};
-ghost use Rattle.aq_profile.specs.Office.Office.{key_of, key_numbers, record_rank, with_row, without_row};
-ghost use Rattle.aq_profile.specs.Office.Exclusion.{agrees_to};
-ghost use Rattle.aq_profile.specs.Office.Questions.{record_of, following};
+ghost use Rattle.aq_rules.specs.Office.Office.{key_of, key_numbers, record_rank, with_row, without_row};
+ghost use Rattle.aq_rules.specs.Office.Exclusion.{agrees_to};
+ghost use Rattle.aq_rules.specs.Office.Questions.{record_of, following};
 ghost use Rattle.aq_registry.specs.Places.{behind, is_of_between, is_of_from, lies_between, place_cmp, places_of, IsSpan};
 
 use crate::facts;

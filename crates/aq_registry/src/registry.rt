@@ -2,14 +2,14 @@
 ghost use Rattle.std.specs.Prelude.{◌≡◌, ◌≤◌, [], option_map, IfOk};
 ghost use Rattle.std.specs.List.{list_any};
 ghost use Rattle.std.specs.Map.{values_of};
-ghost use Rattle.aq_profile.specs.Office.Monitors.{is_same_site};
-ghost use Rattle.aq_profile.specs.Office.Office.{sites_of, IsOffice};
-ghost use Rattle.aq_profile.specs.Office.Questions as book;
-ghost use Rattle.aq_profile.specs.Office.Designation as designations;
-ghost use Rattle.aq_profile.specs.Office.Schedule as schedules;
-ghost use Rattle.aq_profile.specs.Office.Season as seasons;
-ghost use Rattle.aq_profile.specs.Office.Approval as approvals;
-ghost use Rattle.aq_profile.specs.Office.Exclusion as exclusions;
+ghost use Rattle.aq_rules.specs.Office.Monitors.{is_same_site};
+ghost use Rattle.aq_rules.specs.Office.Office.{sites_of, IsOffice};
+ghost use Rattle.aq_rules.specs.Office.Questions as book;
+ghost use Rattle.aq_rules.specs.Office.Designation as designations;
+ghost use Rattle.aq_rules.specs.Office.Schedule as schedules;
+ghost use Rattle.aq_rules.specs.Office.Season as seasons;
+ghost use Rattle.aq_rules.specs.Office.Approval as approvals;
+ghost use Rattle.aq_rules.specs.Office.Exclusion as exclusions;
 ghost use Rattle.aq_registry.specs.Places.{behind_sites};
 ghost use Rattle.aq_registry.specs.Registry.{days_of, missed_by, office_with, pair_of};
 ghost use Rattle.aq_base.specs.declared.day.TheConstants.{FIRST_YEAR, LAST_YEAR};
@@ -28,7 +28,7 @@ use aq_base::{
     SiteId,
 };
 use aq_cal::year_span;
-use aq_profile::office::valid_load::an_office_of_nothing_is_valid;
+use aq_rules::office::valid_load::an_office_of_nothing_is_valid;
 use std::alloc::Global;
 use std::collections::btree_map::Range;
 use std::iter::Iterator;

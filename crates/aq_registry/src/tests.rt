@@ -1,8 +1,8 @@
 //! What lines change, where memory is ample.
 ghost use Rattle.std.specs.Prelude.{IfOk, IsTrue};
 ghost use Rattle.aq_base.specs.declared.office.OfficeLine.TheVariants.{Put, Change};
-ghost use Rattle.aq_profile.specs.Lines.Canonical.{is_office_line};
-ghost use Rattle.aq_profile.specs.Office.Office.{is_site};
+ghost use Rattle.aq_rules.specs.Lines.Canonical.{is_office_line};
+ghost use Rattle.aq_rules.specs.Office.Office.{is_site};
 
 use crate::*;
 use aq_base::{

@@ -3,7 +3,7 @@ use Rattle.std.proofs.Common.{◌≡◌, ℕ, ◌≤◌, List, [], ◌∷◌, �
 use Rattle.std.specs.List.{join_with_byte}
 use Rattle.std.proofs.lemmas.List.{append-nil}
 use Rattle.csv.specs.Writing.{fields_text, is_blank, row_text}
-use Rattle.aq_profile.specs.Shown.Export.{csv_record}
+use Rattle.aq_rules.specs.Shown.Export.{csv_record}
 use Rattle.aq_reports.specs.Written.{plain}
 
 fields-joined : (field : List ℕ) (fields : List (List ℕ)) → field ++ fields_text plain fields ≡ join_with_byte 44 (field ∷ fields)

@@ -1,6 +1,6 @@
 -- The parts of a sheet, as they are made one after another.
 use Rattle.std.proofs.Common.{◌≡◌, ℕ, List, [], ◌++◌, ap, ◌∙◌}
-use Rattle.aq_profile.specs.Shown.Sheet.{SheetCell, Head, Sheet}
+use Rattle.aq_rules.specs.Shown.Sheet.{SheetCell, Head, Sheet}
 
 -- rows that come in two parts
 pub two_parts : {X : Type 0} (start one all a b : List X) → start ≡ [] → one ≡ start ++ a → all ≡ one ++ b → all ≡ a ++ b

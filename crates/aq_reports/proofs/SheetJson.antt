@@ -15,12 +15,12 @@ use Rattle.serde_json.specs.Data.{Data, string, object, Members, no_members, mem
 use Rattle.serde_json.specs.View.{items_of}
 use Rattle.serde_json.specs.Written.{compact_text, items_text, members_text, has_float, members_have_float}
 use Rattle.aq_base.specs.Decimal.{fixed}
-use Rattle.aq_profile.specs.Office.Office.{comes_before, is_same, with_row}
-use Rattle.aq_profile.specs.Shown.Sheet.{SheetCell, Head, Sheet}
-use Rattle.aq_profile.specs.Shown.Sheet.SheetCell.{Int, Fixed, Text, Missing}
-use Rattle.aq_profile.specs.Shown.Json as book
-use Rattle.aq_profile.specs.Shown.Json.{Member, json_string, json_list, json_cell, json_member, head_member, table_members, members_of}
-use Rattle.aq_profile.specs.Shown.WellFormed.{is_word_byte, is_word, is_whole, is_cell, is_head, is_row, IsWellFormed}
+use Rattle.aq_rules.specs.Office.Office.{comes_before, is_same, with_row}
+use Rattle.aq_rules.specs.Shown.Sheet.{SheetCell, Head, Sheet}
+use Rattle.aq_rules.specs.Shown.Sheet.SheetCell.{Int, Fixed, Text, Missing}
+use Rattle.aq_rules.specs.Shown.Json as book
+use Rattle.aq_rules.specs.Shown.Json.{Member, json_string, json_list, json_cell, json_member, head_member, table_members, members_of}
+use Rattle.aq_rules.specs.Shown.WellFormed.{is_word_byte, is_word, is_whole, is_cell, is_head, is_row, IsWellFormed}
 use Rattle.aq_reports.specs.JsonView.{data_of, list_of, row_of, with_heads, with_table}
 use Rattle.aq_reports.proofs.Words.{fixed-word}
 

@@ -10,7 +10,7 @@ use Rattle.std.proofs.lemmas.Fmt.{decimal_is_IsNumeral}
 use Rattle.std.proofs.lemmas.List.Recursion.{and_from_places}
 use Rattle.std.proofs.lemmas.Str.Parse.{digit_at}
 use Rattle.aq_base.specs.Decimal.{fixed, last_digits}
-use Rattle.aq_profile.specs.Shown.WellFormed.{is_word_byte, is_word}
+use Rattle.aq_rules.specs.Shown.WellFormed.{is_word_byte, is_word}
 
 range-byte : (b : ℕ) → IsInRange 48 57 b → is_word_byte b ≡ true
 range-byte b within = grind (arith, nat_tests)

@@ -1,6 +1,6 @@
 -- The cells of sheets as the book of rules has them.
 use Rattle.std.specs.Prelude.{◌≤◌}
-use Rattle.aq_profile.specs.Shown.Sheet as book
+use Rattle.aq_rules.specs.Shown.Sheet as book
 use Rattle.aq_reports.specs.declared.cell.Content.{Content}
 use Rattle.aq_reports.specs.declared.cell.Content.TheVariants.{Int, Fixed, Text, Missing}
 

@@ -1,8 +1,8 @@
 -- Sheets as JSON data.
 use Rattle.std.specs.Prelude.{ℕ, List, [], ◌∷◌, map, codes}
 use Rattle.aq_base.specs.Decimal.{fixed}
-use Rattle.aq_profile.specs.Shown.Sheet.{SheetCell, Head}
-use Rattle.aq_profile.specs.Shown.Sheet.SheetCell.{Int, Fixed, Text, Missing}
+use Rattle.aq_rules.specs.Shown.Sheet.{SheetCell, Head}
+use Rattle.aq_rules.specs.Shown.Sheet.SheetCell.{Int, Fixed, Text, Missing}
 use Rattle.serde_json.specs.Data.{Data, null, number, string, array, Members, put}
 use Rattle.serde_json.specs.Find.{of_integer}
 use Rattle.serde_json.specs.View.{items_of}

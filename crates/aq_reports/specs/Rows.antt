@@ -1,6 +1,6 @@
 -- Rows and cells as the book of rules has them.
 use Rattle.aq_base.specs.Site.{Site}
-use Rattle.aq_profile.specs.Shown.OtherSheets.{Judged, judged_by}
+use Rattle.aq_rules.specs.Shown.OtherSheets.{Judged, judged_by}
 use Rattle.aq_verdict.specs.declared.design_value.DesignValue.{DesignValue}
 use Rattle.aq_verdict.specs.Designs.{design_of}
 

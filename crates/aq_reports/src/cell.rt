@@ -19,7 +19,7 @@ pub struct SheetCell {
 }
 
 impl Model for SheetCell {
-    ghost use Rattle.aq_profile.specs.Shown.Sheet as book;
+    ghost use Rattle.aq_rules.specs.Shown.Sheet as book;
 
     ghost Value = { book.SheetCell };
 
@@ -32,7 +32,7 @@ impl Model for SheetCell {
 
 impl SheetCell {
     ghost use Rattle.std.specs.Prelude.{◌≡◌, ◌≤◌, IfOk};
-    ghost use Rattle.aq_profile.specs.Shown.Sheet as book;
+    ghost use Rattle.aq_rules.specs.Shown.Sheet as book;
 
     /// A whole number.
     pub fn int(value: i64) -> SheetCell

@@ -4,7 +4,7 @@ ghost use Rattle.std.specs.Int.{IsInRange};
 ghost use Rattle.std.specs.List.{enumerate_from};
 ghost use Rattle.aq_base.specs.Calendar.{days_in_year};
 ghost use Rattle.aq_base.specs.declared.day.TheConstants.{FIRST_YEAR, LAST_DAY, LAST_YEAR};
-ghost use Rattle.aq_profile.specs.Shown.Sheets as book;
+ghost use Rattle.aq_rules.specs.Shown.Sheets as book;
 
 use crate::cell::SheetCell;
 use crate::list::{add_count, add_head, add_text, list, names};
@@ -43,7 +43,7 @@ pub fn days_sheet(
 }
 
 /// The heads of a year.
-#[tactic(auto, unfolding(aq_profile::specs::Shown::Sheets::days_sheet))]
+#[tactic(auto, unfolding(aq_rules::specs::Shown::Sheets::days_sheet))]
 fn days_heads(
     alloc: Global,
     site: SiteId,

@@ -3,8 +3,8 @@ ghost use Rattle.std.specs.Prelude.{◌≡◌, ◌≤◌, ◌++◌, [], IfOk, On
 ghost use Rattle.std.specs.List.{join_with_byte};
 ghost use Rattle.aq_base.specs.Calendar.{day_of_hour, hour_of_day};
 ghost use Rattle.aq_base.specs.Decimal.{last_digits};
-ghost use Rattle.aq_profile.specs.Lines.Canonical as line;
-ghost use Rattle.aq_profile.specs.Shown.Export as book;
+ghost use Rattle.aq_rules.specs.Lines.Canonical as line;
+ghost use Rattle.aq_rules.specs.Shown.Export as book;
 ghost use Rattle.aq_reports.specs.Written.{IsReady, written};
 
 use crate::text::site_text;
@@ -18,7 +18,7 @@ use std::alloc::Global;
 type Records = Writer<Vec<u8>>;
 
 /// The text of these observations: a line of column names, and one for each of them.
-#[tactic(auto, unfolding(aq_profile::specs::Shown::Export::export_of))]
+#[tactic(auto, unfolding(aq_rules::specs::Shown::Export::export_of))]
 pub fn export_of(alloc: Global, rows: &[Shown]) -> Result<Vec<u8>, Memory>
     ensures { IfOk result (λ text. text.items ≡ book.export_of rows.now) }
 {

@@ -1,7 +1,7 @@
 //! Lists of few items, as a sheet has them.
 ghost use Rattle.std.specs.Prelude.{◌≡◌, [], ◌∷◌, ◌++◌, IfOk, OnOk, map};
-ghost use Rattle.aq_profile.specs.Shown.Sheet.{count_cell, head_of};
-ghost use Rattle.aq_profile.specs.Shown.Sheet.SheetCell.{Text};
+ghost use Rattle.aq_rules.specs.Shown.Sheet.{count_cell, head_of};
+ghost use Rattle.aq_rules.specs.Shown.Sheet.SheetCell.{Text};
 
 use crate::cell::SheetCell;
 use crate::sheet::{Head, Heads, Names};

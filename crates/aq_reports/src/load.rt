@@ -1,6 +1,6 @@
 //! The sheet of a load's reply.
 ghost use Rattle.std.specs.Prelude.{◌≡◌, ◌∷◌, [], ◌++◌, IfOk, OnOk, map};
-ghost use Rattle.aq_profile.specs.Shown.Sheets as book;
+ghost use Rattle.aq_rules.specs.Shown.Sheets as book;
 
 use crate::cell::SheetCell;
 use crate::list::{list, names};

@@ -1,8 +1,8 @@
 //! The sheets of a year's PM2.5 and PM10 quarters.
 ghost use Rattle.std.specs.Prelude.{◌≡◌, IfOk, map};
 ghost use Rattle.std.specs.List.{enumerate_from};
-ghost use Rattle.aq_profile.specs.Kept.SummaryVerdicts.{kept_counted};
-ghost use Rattle.aq_profile.specs.Shown.ParticleSheets as book;
+ghost use Rattle.aq_rules.specs.Kept.SummaryVerdicts.{kept_counted};
+ghost use Rattle.aq_rules.specs.Shown.ParticleSheets as book;
 
 use crate::cell::SheetCell;
 use crate::list::{add_count, add_head, add_text, list, names};
@@ -39,7 +39,7 @@ pub fn pm25_sheet(alloc: Global, site: SiteId, year: u16, parts: &PmYear) -> Res
     Ok(Sheet::new(heads, columns, rows))
 }
 
-#[tactic(auto, unfolding(aq_profile::specs::Shown::ParticleSheets::pm25_sheet))]
+#[tactic(auto, unfolding(aq_rules::specs::Shown::ParticleSheets::pm25_sheet))]
 fn pm25_heads(alloc: Global, site: SiteId, year: u16, parts: &PmYear) -> Result<Heads, Memory>
     ensures { IfOk result (λ heads. heads ≡ (book.pm25_sheet site year parts.now).heads) }
 {
@@ -120,7 +120,7 @@ pub fn pm10_sheet(alloc: Global, site: SiteId, year: u16, parts: &Pm10Year) -> R
     Ok(Sheet::new(heads, columns, rows))
 }
 
-#[tactic(auto, unfolding(aq_profile::specs::Shown::ParticleSheets::pm10_sheet))]
+#[tactic(auto, unfolding(aq_rules::specs::Shown::ParticleSheets::pm10_sheet))]
 fn pm10_heads(alloc: Global, site: SiteId, year: u16, parts: &Pm10Year) -> Result<Heads, Memory>
     ensures { IfOk result (λ heads. heads ≡ (book.pm10_sheet site year parts.now).heads) }
 {

@@ -1,6 +1,6 @@
 //! The sheet of a standard's report: the design value and verdict of each site.
 ghost use Rattle.std.specs.Prelude.{◌≡◌, [], IfOk, map};
-ghost use Rattle.aq_profile.specs.Shown.OtherSheets as book;
+ghost use Rattle.aq_rules.specs.Shown.OtherSheets as book;
 ghost use Rattle.aq_reports.specs.Rows.{judged_in};
 
 use crate::cell::SheetCell;
@@ -28,7 +28,7 @@ pub fn report_sheet(
     Ok(Sheet::new(heads, columns, rows))
 }
 
-#[tactic(auto, unfolding(aq_profile::specs::Shown::OtherSheets::report_sheet))]
+#[tactic(auto, unfolding(aq_rules::specs::Shown::OtherSheets::report_sheet))]
 fn report_heads(alloc: Global, standard: Standard, year: u16) -> Result<Heads, Memory>
     ensures { IfOk result (λ heads. heads ≡ (book.report_sheet standard year []).heads) }
 {

@@ -12,7 +12,7 @@ pub struct Head {
 }
 
 impl Model for Head {
-    ghost use Rattle.aq_profile.specs.Shown.Sheet as book;
+    ghost use Rattle.aq_rules.specs.Shown.Sheet as book;
 
     ghost Value = { book.Head };
 
@@ -21,7 +21,7 @@ impl Model for Head {
 
 impl Head {
     ghost use Rattle.std.specs.Prelude.{◌≡◌, IfOk};
-    ghost use Rattle.aq_profile.specs.Shown.Sheet as book;
+    ghost use Rattle.aq_rules.specs.Shown.Sheet as book;
 
     /// The head of this name and value.
     pub fn new(alloc: Global, name: &[u8], cell: SheetCell) -> Result<Head, Memory>
@@ -53,7 +53,7 @@ pub struct Sheet {
 }
 
 impl Model for Sheet {
-    ghost use Rattle.aq_profile.specs.Shown.Sheet as book;
+    ghost use Rattle.aq_rules.specs.Shown.Sheet as book;
 
     ghost Value = { book.Sheet };
 

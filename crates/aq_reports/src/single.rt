@@ -1,9 +1,9 @@
 //! The sheets without columns: of a conflict, an error and a summary.
 ghost use Rattle.std.specs.Prelude.{◌≡◌, ◌<◌, [], ◌∷◌, ◌++◌, IfOk, OnOk, IsTrue, bytes_eq};
 ghost use Rattle.std.specs.List.{list_any};
-ghost use Rattle.aq_profile.specs.Shown.OtherSheets as book;
-ghost use Rattle.aq_profile.specs.Shown.Sheet.{head_of};
-ghost use Rattle.aq_profile.specs.Shown.Sheet.SheetCell.{Text};
+ghost use Rattle.aq_rules.specs.Shown.OtherSheets as book;
+ghost use Rattle.aq_rules.specs.Shown.Sheet.{head_of};
+ghost use Rattle.aq_rules.specs.Shown.Sheet.SheetCell.{Text};
 
 use crate::list::{add_count, add_text};
 use crate::sheet::{Heads, Names, Rows, Sheet};
@@ -12,7 +12,7 @@ use std::alloc::Global;
 
 /// The sheet of a load whose number is kept with another digest: the number, the digest that is kept
 /// and the one that was sent.
-#[tactic(auto, unfolding(aq_profile::specs::Shown::OtherSheets::conflict_sheet))]
+#[tactic(auto, unfolding(aq_rules::specs::Shown::OtherSheets::conflict_sheet))]
 pub fn conflict_sheet(
     alloc: Global,
     number: u32,
@@ -29,7 +29,7 @@ pub fn conflict_sheet(
 }
 
 /// The sheet of an error, by its name.
-#[tactic(auto, unfolding(aq_profile::specs::Shown::OtherSheets::error_sheet))]
+#[tactic(auto, unfolding(aq_rules::specs::Shown::OtherSheets::error_sheet))]
 pub fn error_sheet(alloc: Global, name: &'static str) -> Result<Sheet, Memory>
     requires { IsTrue (list_any (bytes_eq name.now) book.error_names) }
     ensures { IfOk result (λ sheet. sheet ≡ book.error_sheet name.now) }
@@ -41,7 +41,7 @@ pub fn error_sheet(alloc: Global, name: &'static str) -> Result<Sheet, Memory>
 
 /// The sheet of a simulation: how many loads were taken, how many lines they had, and how many
 /// observations stand.
-#[tactic(auto, unfolding(aq_profile::specs::Shown::OtherSheets::summary_sheet))]
+#[tactic(auto, unfolding(aq_rules::specs::Shown::OtherSheets::summary_sheet))]
 pub fn summary_sheet(
     alloc: Global,
     loads: u32,

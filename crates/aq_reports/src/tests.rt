@@ -1,6 +1,6 @@
 //! Sheets as they print, worked out by hand.
 ghost use Rattle.std.specs.Prelude.{◌≡◌, IfOk};
-ghost use Rattle.aq_profile.specs.Particles.ParticleExamples.{one_row};
+ghost use Rattle.aq_rules.specs.Particles.ParticleExamples.{one_row};
 
 use crate::list::{list, names};
 use crate::*;

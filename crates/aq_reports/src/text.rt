@@ -2,7 +2,7 @@
 //! each row.
 ghost use Rattle.std.specs.Prelude.{◌≡◌, ◌++◌, IfOk, OnOk, flat_map};
 ghost use Rattle.aq_base.specs.Text.{site_text};
-ghost use Rattle.aq_profile.specs.Shown.Sheet as book;
+ghost use Rattle.aq_rules.specs.Shown.Sheet as book;
 
 use crate::cell::{Content, SheetCell};
 use crate::sheet::{Cells, Head, Sheet};
@@ -12,7 +12,7 @@ use aq_num::write_fixed;
 use std::alloc::Global;
 
 /// The text of a sheet.
-#[tactic(auto, unfolding(aq_profile::specs::Shown::Sheet::text_of))]
+#[tactic(auto, unfolding(aq_rules::specs::Shown::Sheet::text_of))]
 pub fn text_of(alloc: Global, sheet: &Sheet) -> Result<Vec<u8>, Memory>
     ensures { IfOk result (λ text. text.items ≡ book.text_of sheet.now) }
 {

@@ -1,8 +1,8 @@
 //! The sheet of a design value of any standard: three years, the oldest first.
 ghost use Rattle.std.specs.Prelude.{◌≡◌, ◌-◌, ◌≤◌, IfOk, map};
 ghost use Rattle.std.specs.List.{enumerate_from};
-ghost use Rattle.aq_profile.specs.Shown.Sheets as book;
-ghost use Rattle.aq_profile.specs.Shown.OtherSheets as other;
+ghost use Rattle.aq_rules.specs.Shown.Sheets as book;
+ghost use Rattle.aq_rules.specs.Shown.OtherSheets as other;
 ghost use Rattle.aq_verdict.specs.Designs.{design_of};
 
 use crate::cell::SheetCell;
@@ -17,7 +17,7 @@ use std::alloc::Global;
 
 /// The sheet of a design value of the standard: the value and the test's value in the standard's unit,
 /// the verdict, and a row for each of the three years that end with the year.
-#[tactic(auto, unfolding(aq_profile::specs::Shown::OtherSheets::value_sheet))]
+#[tactic(auto, unfolding(aq_rules::specs::Shown::OtherSheets::value_sheet))]
 pub fn value_sheet(
     alloc: Global,
     standard: Standard,

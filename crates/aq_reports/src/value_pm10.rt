@@ -1,7 +1,7 @@
 //! The sheet of a PM10 design value: three years, the oldest first.
 ghost use Rattle.std.specs.Prelude.{◌≡◌, ◌≤◌, IfOk, map};
 ghost use Rattle.std.specs.List.{enumerate_from};
-ghost use Rattle.aq_profile.specs.Shown.ParticleSheets as book;
+ghost use Rattle.aq_rules.specs.Shown.ParticleSheets as book;
 
 use crate::cell::SheetCell;
 use crate::list::{list, names};

@@ -1,10 +1,10 @@
 //! The sheets of PM2.5 design values: three years, the oldest first.
 ghost use Rattle.std.specs.Prelude.{◌≡◌, ◌≤◌, IfOk, map, zip};
 ghost use Rattle.std.specs.List.{enumerate_from};
-ghost use Rattle.aq_profile.specs.Particles.QuarterCounts.{capture};
-ghost use Rattle.aq_profile.specs.Kept.Summaries.{counts_of};
-ghost use Rattle.aq_profile.specs.Shown.ParticleSheets as book;
-ghost use Rattle.aq_profile.specs.Shown.Sheet.{count_cell};
+ghost use Rattle.aq_rules.specs.Particles.QuarterCounts.{capture};
+ghost use Rattle.aq_rules.specs.Kept.Summaries.{counts_of};
+ghost use Rattle.aq_rules.specs.Shown.ParticleSheets as book;
+ghost use Rattle.aq_rules.specs.Shown.Sheet.{count_cell};
 
 use crate::cell::SheetCell;
 use crate::list::{list, names};

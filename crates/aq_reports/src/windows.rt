@@ -2,7 +2,7 @@
 ghost use Rattle.std.specs.Prelude.{◌≡◌, IfOk, map};
 ghost use Rattle.std.specs.List.{enumerate_from};
 ghost use Rattle.aq_base.specs.Text.{hour_text};
-ghost use Rattle.aq_profile.specs.Shown.Sheets as book;
+ghost use Rattle.aq_rules.specs.Shown.Sheets as book;
 
 use crate::cell::SheetCell;
 use crate::list::{list, names};

@@ -1,8 +1,8 @@
 -- Chains of what one part says after the other, with a test at their end.
 use Rattle.std.proofs.Common.{◌≡◌, Bool, true, false, cond, refl, ap}
 use Rattle.std.specs.Prelude.{Option, Some, None}
-use Rattle.aq_profile.specs.Lines.Spellings.{◌>>=◌}
-use Rattle.aq_profile.specs.Kept.Rows.{only_if}
+use Rattle.aq_rules.specs.Lines.Spellings.{◌>>=◌}
+use Rattle.aq_rules.specs.Kept.Rows.{only_if}
 
 -- a test that the end makes may be made at once, where it fails there
 pub tested : {A B C : Type 0} (m : Option A) (test : A → Bool) (k : A → Option B) (g : B → Option C) (next : A → Option C)

@@ -8,11 +8,11 @@ use Rattle.std.proofs.lemmas.List.Splits.{join_with_byte-slice_split}
 use Rattle.aq_base.specs.Quals.{is_same_code, has_code, all_distinct, with_code}
 use Rattle.aq_base.specs.declared.code.Code.{Code}
 use Rattle.aq_base.specs.declared.quals.TheConstants.{MOST_QUALIFIERS}
-use Rattle.aq_profile.specs.Lines.Spellings.{◌>>=◌, is_code_byte, qualifier_in}
-use Rattle.aq_profile.specs.Lines.Canonical.{code_text}
-use Rattle.aq_profile.specs.Office.Office.{is_qualifier}
-use Rattle.aq_profile.specs.Shown.Export.{codes_text, null_text}
-use Rattle.aq_profile.specs.Kept.Rows.{each, null_of, words}
+use Rattle.aq_rules.specs.Lines.Spellings.{◌>>=◌, is_code_byte, qualifier_in}
+use Rattle.aq_rules.specs.Lines.Canonical.{code_text}
+use Rattle.aq_rules.specs.Office.Office.{is_qualifier}
+use Rattle.aq_rules.specs.Shown.Export.{codes_text, null_text}
+use Rattle.aq_rules.specs.Kept.Rows.{each, null_of, words}
 use Rattle.aq_rows.specs.Observed.{are_quals}
 use Rattle.aq_rows.proofs.Gathered.{FitsInFront}
 

@@ -10,11 +10,11 @@ use Rattle.aq_base.specs.declared.monitor.Duration.{Duration}
 use Rattle.aq_base.specs.declared.observation.ObsKey.{ObsKey}
 use Rattle.aq_base.specs.declared.observation.Observation.{Observation}
 use Rattle.aq_base.specs.declared.office.OfficeRecord.{OfficeRecord}
-use Rattle.aq_profile.specs.Kept.Rows.{Row, OfficeRow, ObsRow, LoadRow, OfOfficeRow, OfObsRow, OfLoadRow, record_in_row, observation_in_row, load_in_row, record_of_row, observation_of_row, load_of_row, says_something, only_if, is_valid}
-use Rattle.aq_profile.specs.Limits.{MOST_OBSERVATIONS, MOST_LOADS}
-use Rattle.aq_profile.specs.Lines.Spellings.{◌>>=◌ as ◌>>-◌}
-use Rattle.aq_profile.specs.Office.Office.{Office, StoredLoad, IsOffice, observation_rank, observation_numbers, load_rank, rises, duration_at, is_kept_hour, is_content, fits_monitors, is_load}
-use Rattle.aq_profile.proofs.ValidOffice.{valid-is_office, office-is_valid}
+use Rattle.aq_rules.specs.Kept.Rows.{Row, OfficeRow, ObsRow, LoadRow, OfOfficeRow, OfObsRow, OfLoadRow, record_in_row, observation_in_row, load_in_row, record_of_row, observation_of_row, load_of_row, says_something, only_if, is_valid}
+use Rattle.aq_rules.specs.Limits.{MOST_OBSERVATIONS, MOST_LOADS}
+use Rattle.aq_rules.specs.Lines.Spellings.{◌>>=◌ as ◌>>-◌}
+use Rattle.aq_rules.specs.Office.Office.{Office, StoredLoad, IsOffice, observation_rank, observation_numbers, load_rank, rises, duration_at, is_kept_hour, is_content, fits_monitors, is_load}
+use Rattle.aq_rules.proofs.ValidOffice.{valid-is_office, office-is_valid}
 use Rattle.aq_registry.specs.Registry.{office_with as records_alone}
 use Rattle.aq_rows.specs.declared.walk.Last.TheVariants.{Record, Observation as Observed, Load}
 use Rattle.aq_rows.specs.declared.walk.RowFault.{RowFault}

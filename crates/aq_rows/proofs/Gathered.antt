@@ -3,8 +3,8 @@ use Rattle.std.proofs.Common.{◌≡◌, ℕ, Bool, true, false, ◌&&◌, cond,
 use Rattle.std.proofs.lemmas.List.{append-nil}
 use Rattle.std.specs.Prelude.{Option, Some, None, option_map}
 use Rattle.std.specs.List.{list_all}
-use Rattle.aq_profile.specs.Lines.Spellings.{◌>>=◌}
-use Rattle.aq_profile.specs.Kept.Rows.{each, only_if}
+use Rattle.aq_rules.specs.Lines.Spellings.{◌>>=◌}
+use Rattle.aq_rules.specs.Kept.Rows.{each, only_if}
 use Rattle.aq_rows.specs.Ranges.{gathered}
 
 -- what fits still fits with less behind it

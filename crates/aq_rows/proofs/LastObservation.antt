@@ -4,8 +4,8 @@ use Rattle.std.specs.List.{list_all}
 use Rattle.std.proofs.lemmas.Bool.{and_from, and_parts}
 use Rattle.aq_base.specs.declared.observation.ObsKey.{ObsKey}
 use Rattle.aq_base.specs.declared.observation.Observation.{Observation}
-use Rattle.aq_profile.specs.Limits.{MOST_OBSERVATIONS, MOST_LOADS}
-use Rattle.aq_profile.specs.Office.Office.{Office, StoredLoad, IsOffice, observation_rank, load_rank, rises, fits_monitors, is_load}
+use Rattle.aq_rules.specs.Limits.{MOST_OBSERVATIONS, MOST_LOADS}
+use Rattle.aq_rules.specs.Office.Office.{Office, StoredLoad, IsOffice, observation_rank, load_rank, rises, fits_monitors, is_load}
 use Rattle.aq_rows.specs.Standing.{can_stand}
 use Rattle.aq_rows.specs.Fitting.{fitting_can_stand}
 use Rattle.aq_rows.specs.OneMoreRow.{has_none, EndsAt}

@@ -14,17 +14,17 @@ use Rattle.aq_base.specs.declared.office.OfficeKey.TheVariants.{Monitor as Monit
 use Rattle.aq_base.specs.declared.office.OfficeLine.TheVariants.{Put, Change}
 use Rattle.aq_base.specs.declared.rule.Rule.{Rule}
 use Rattle.aq_base.specs.declared.rule.Rule.TheVariants.{UnknownMonitor, AlreadyThere, SitesFull, MonitorsFull, MakeupsFull, UnknownEvent, EventsFull, ListFull}
-use Rattle.aq_profile.specs.Limits.{MOST_SITES}
-use Rattle.aq_profile.specs.Lines.Canonical.{record_line, is_line_value}
-use Rattle.aq_profile.specs.Lines.Reading.{OfOffice}
-use Rattle.aq_profile.specs.Lines.Spellings.{◌>>=◌}
-use Rattle.aq_profile.specs.Office.Office.{Office, IsOffice, key_of, key_numbers, record_rank, is_same, rises, site_numbers, with_site, sites_of, monitor_duration, registers, event_stands, group_of, group_size, most_in_group, makes_up_on, makeups_on, has_its_monitor, has_its_event, is_record, fits_records, has_own_makeup_day}
-use Rattle.aq_profile.specs.Office.Refusal.{broken, breaks_office, key_stands, is_taken}
-use Rattle.aq_profile.specs.Office.Load.{changed, with_record}
-use Rattle.aq_profile.proofs.RowsPlaced.{is_same-refl, find_passed, count_joined}
-use Rattle.aq_profile.proofs.SitesCounted.{lists, sites_joined, length-with_site}
-use Rattle.aq_profile.proofs.ValidAfter.{changed-valid}
-use Rattle.aq_profile.proofs.Fronts.{records-front}
+use Rattle.aq_rules.specs.Limits.{MOST_SITES}
+use Rattle.aq_rules.specs.Lines.Canonical.{record_line, is_line_value}
+use Rattle.aq_rules.specs.Lines.Reading.{OfOffice}
+use Rattle.aq_rules.specs.Lines.Spellings.{◌>>=◌}
+use Rattle.aq_rules.specs.Office.Office.{Office, IsOffice, key_of, key_numbers, record_rank, is_same, rises, site_numbers, with_site, sites_of, monitor_duration, registers, event_stands, group_of, group_size, most_in_group, makes_up_on, makeups_on, has_its_monitor, has_its_event, is_record, fits_records, has_own_makeup_day}
+use Rattle.aq_rules.specs.Office.Refusal.{broken, breaks_office, key_stands, is_taken}
+use Rattle.aq_rules.specs.Office.Load.{changed, with_record}
+use Rattle.aq_rules.proofs.RowsPlaced.{is_same-refl, find_passed, count_joined}
+use Rattle.aq_rules.proofs.SitesCounted.{lists, sites_joined, length-with_site}
+use Rattle.aq_rules.proofs.ValidAfter.{changed-valid}
+use Rattle.aq_rules.proofs.Fronts.{records-front}
 use Rattle.aq_rows.proofs.RisingEnds.{with_row-last, absent}
 
 abbrev office_of : List OfficeRecord → Office

@@ -10,10 +10,10 @@ use Rattle.aq_base.specs.declared.reply.ListedLine.{ListedLine}
 use Rattle.aq_base.specs.declared.reply.RestRule.{RestRule}
 use Rattle.aq_base.specs.declared.rule.Rule.{Rule}
 use Rattle.aq_base.specs.declared.rule.Rule.TheVariants.{BadBytes, BadTag, FieldCount, BadAction, BadSite, ParameterOutOfProfile, BadPoc, BadDuration, BadUnit, BadMethod, BadDate, BadTime, ValueAndNull, NeitherValueNorNull, BadValue, ValueOutOfRange, BadNull, BadQualifier, UnknownMonitor, WrongDuration, AlreadyThere, NotThere, ObservationsFull, SitesFull, MonitorsFull, BadSpan, BadInterval, BadSeason, BadMakeup, MakeupsFull, UnknownEvent, EventsFull, BadCode, ListFull}
-use Rattle.aq_profile.specs.Limits.{MOST_LINES, MOST_LISTED, LAST_LOAD_NUMBER}
-use Rattle.aq_profile.specs.Lines.Spellings.{◌>>=◌}
-use Rattle.aq_profile.specs.Office.Office.{StoredLoad, is_load, is_reply, is_listed, is_rest, listed_rank, rest_rank, rises}
-use Rattle.aq_profile.specs.Kept.Rows.{LoadRow, load_of_row, load_row, is_load_row, only_if, whole, each, words, number_in, rule_with, is_colon, listed_in, rest_in}
+use Rattle.aq_rules.specs.Limits.{MOST_LINES, MOST_LISTED, LAST_LOAD_NUMBER}
+use Rattle.aq_rules.specs.Lines.Spellings.{◌>>=◌}
+use Rattle.aq_rules.specs.Office.Office.{StoredLoad, is_load, is_reply, is_listed, is_rest, listed_rank, rest_rank, rises}
+use Rattle.aq_rules.specs.Kept.Rows.{LoadRow, load_of_row, load_row, is_load_row, only_if, whole, each, words, number_in, rule_with, is_colon, listed_in, rest_in}
 use Rattle.aq_rows.specs.Ranges.{is_between}
 use Rattle.aq_rows.specs.Loaded.{is_few, small_number, rule_in, listed_word, rest_word, count_of, are_listed, are_counts, listed_words, rest_words, is_digest, digest_in, fits_reply, load_with, load_in}
 use Rattle.aq_rows.proofs.Chains.{tested, ends, refused, same_first, none_behind}

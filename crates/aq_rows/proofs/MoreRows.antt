@@ -5,7 +5,7 @@ use Rattle.std.specs.List.{list_all}
 use Rattle.std.proofs.lemmas.Bool.{false≢true, and_parts}
 use Rattle.std.proofs.lemmas.Bool.Decides.{nat_tests}
 use Rattle.std.proofs.lemmas.List.Elements.{filter_map-append}
-use Rattle.aq_profile.specs.Kept.Rows.{Row, OfficeRow, ObsRow, LoadRow, OfOfficeRow, OfObsRow, OfLoadRow, record_in_row, observation_in_row, load_in_row, says_something, office_in, table_of, tables_follow, is_valid, are_office_rows}
+use Rattle.aq_rules.specs.Kept.Rows.{Row, OfficeRow, ObsRow, LoadRow, OfOfficeRow, OfObsRow, OfLoadRow, record_in_row, observation_in_row, load_in_row, says_something, office_in, table_of, tables_follow, is_valid, are_office_rows}
 use Rattle.aq_rows.specs.OneMoreRow.{has_none, is_in_turn, with_last, may_follow}
 
 all-last : {X : Type 0} (p : X → Bool) (xs : List X) (x : X) → list_all p (xs ++ x ∷ []) ≡ (list_all p xs && p x)

@@ -15,10 +15,10 @@ use Rattle.aq_base.specs.declared.monitor.Pollutant.{Pollutant}
 use Rattle.aq_base.specs.declared.monitor.Pollutant.TheVariants.{Ozone, Pm25, Pm10}
 use Rattle.aq_base.specs.declared.observation.ObsKey.{ObsKey}
 use Rattle.aq_base.specs.declared.observation.Observation.{Observation}
-use Rattle.aq_profile.specs.Lines.Spellings.{◌>>=◌, qualifier_in}
-use Rattle.aq_profile.specs.Office.Office.{is_site, is_poc, is_measured, is_qualifier, is_content, pollutant_number}
-use Rattle.aq_profile.specs.Kept.Rows.{ObsRow, observation_of_row, obs_row, is_obs_row, only_if, whole, site_with, site_key, pollutant_with, null_of, each, words}
-use Rattle.aq_profile.proofs.Tests.{int_itself}
+use Rattle.aq_rules.specs.Lines.Spellings.{◌>>=◌, qualifier_in}
+use Rattle.aq_rules.specs.Office.Office.{is_site, is_poc, is_measured, is_qualifier, is_content, pollutant_number}
+use Rattle.aq_rules.specs.Kept.Rows.{ObsRow, observation_of_row, obs_row, is_obs_row, only_if, whole, site_with, site_key, pollutant_with, null_of, each, words}
+use Rattle.aq_rules.proofs.Tests.{int_itself}
 use Rattle.aq_rows.specs.Standing.{can_stand}
 use Rattle.aq_rows.specs.Ranges.{is_between}
 use Rattle.aq_rows.specs.Observed.{observation_in, are_quals, quals_in}

@@ -9,10 +9,10 @@ use Rattle.std.specs.Str.Parse.{digits_value}
 use Rattle.aq_base.specs.Decimal.{are_digits}
 use Rattle.aq_base.specs.Rule.{rule_number, all_rules}
 use Rattle.aq_base.specs.declared.rule.Rule.{Rule}
-use Rattle.aq_profile.specs.Limits.{MOST_LINES}
-use Rattle.aq_profile.specs.Lines.Fields.{is_empty}
-use Rattle.aq_profile.specs.Lines.Spellings.{◌>>=◌}
-use Rattle.aq_profile.specs.Kept.Rows.{is_colon, number_in, only_if, rule_with}
+use Rattle.aq_rules.specs.Limits.{MOST_LINES}
+use Rattle.aq_rules.specs.Lines.Fields.{is_empty}
+use Rattle.aq_rules.specs.Lines.Spellings.{◌>>=◌}
+use Rattle.aq_rules.specs.Kept.Rows.{is_colon, number_in, only_if, rule_with}
 use Rattle.aq_rows.specs.Loaded.{is_few, listed_word, rest_word, rule_in, small_number}
 use Rattle.aq_rows.specs.Texts.{is_byte}
 use Rattle.aq_rows.proofs.Chains.{none_behind}

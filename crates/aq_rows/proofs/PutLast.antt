@@ -7,12 +7,12 @@ use Rattle.aq_base.specs.declared.office.OfficeKey.{OfficeKey}
 use Rattle.aq_base.specs.declared.office.OfficeLine.{OfficeLine}
 use Rattle.aq_base.specs.declared.office.OfficeRecord.{OfficeRecord}
 use Rattle.aq_base.specs.declared.rule.Rule.{Rule}
-use Rattle.aq_profile.specs.Lines.Canonical.{record_line, is_line_value}
-use Rattle.aq_profile.specs.Lines.Reading.{OfOffice}
-use Rattle.aq_profile.specs.Office.Load.{changed}
-use Rattle.aq_profile.specs.Office.Office.{IsOffice, key_of, record_rank, observation_rank, rises, content_of}
-use Rattle.aq_profile.specs.Office.Questions.{following, record_of}
-use Rattle.aq_profile.specs.Office.Refusal.{broken}
+use Rattle.aq_rules.specs.Lines.Canonical.{record_line, is_line_value}
+use Rattle.aq_rules.specs.Lines.Reading.{OfOffice}
+use Rattle.aq_rules.specs.Office.Load.{changed}
+use Rattle.aq_rules.specs.Office.Office.{IsOffice, key_of, record_rank, observation_rank, rises, content_of}
+use Rattle.aq_rules.specs.Office.Questions.{following, record_of}
+use Rattle.aq_rules.specs.Office.Refusal.{broken}
 use Rattle.aq_registry.specs.Registry.{office_with}
 use Rattle.aq_registry.specs.Changes.{IsFaultOf}
 use Rattle.aq_registry.specs.declared.changes.RegistryFault.{RegistryFault}

@@ -2,10 +2,10 @@
 use Rattle.std.proofs.Common.{◌≡◌, ℕ, Bool, true, false, cond, ◌&&◌, List, [], ◌∷◌, ◌++◌, refl, sym, ap, ◌∙◌, inl, inr}
 use Rattle.std.specs.Prelude.{Option, Some, None, is_none, find}
 use Rattle.std.proofs.lemmas.Bool.{false≢true, and_from, and_parts, cases_Bool}
-use Rattle.aq_profile.specs.Office.Office.{is_same, comes_before, rises_from, rises, row_at, with_row}
-use Rattle.aq_profile.specs.Office.RowOrder.{before-trans, before-total}
-use Rattle.aq_profile.proofs.RowsPlaced.{is_same-refl, find_none-first}
-use Rattle.aq_profile.proofs.Lookups.{before-other, before-other_way, rises-rest}
+use Rattle.aq_rules.specs.Office.Office.{is_same, comes_before, rises_from, rises, row_at, with_row}
+use Rattle.aq_rules.specs.Office.RowOrder.{before-trans, before-total}
+use Rattle.aq_rules.proofs.RowsPlaced.{is_same-refl, find_none-first}
+use Rattle.aq_rules.proofs.Lookups.{before-other, before-other_way, rises-rest}
 
 alone : (b : Bool) → (b && true) ≡ b
 alone true = refl

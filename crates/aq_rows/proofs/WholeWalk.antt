@@ -3,8 +3,8 @@ use Rattle.std.proofs.Common.{◌≡◌, ℕ, suc, ◌+◌, ◌<◌, ◌≤◌, 
 use Rattle.std.specs.Prelude.{Option, Some, None}
 use Rattle.std.proofs.Math.Seq.{take-suc, drop-cons}
 use Rattle.std.proofs.lemmas.List.{take_all}
-use Rattle.aq_profile.specs.Kept.Rows.{Row, office_in, are_office_rows, office_of_rows, Place, place_of, damaged_at, damage}
-use Rattle.aq_profile.specs.Office.Office.{nothing}
+use Rattle.aq_rules.specs.Kept.Rows.{Row, office_in, are_office_rows, office_of_rows, Place, place_of, damaged_at, damage}
+use Rattle.aq_rules.specs.Office.Office.{nothing}
 use Rattle.aq_rows.specs.declared.walk.Walk.{Walk}
 use Rattle.aq_rows.specs.OneMoreRow.{may_follow, with_last}
 use Rattle.aq_rows.specs.Walking.{standing, IsWalk, Follows, HasTaken}

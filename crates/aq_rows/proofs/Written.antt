@@ -4,7 +4,7 @@ use Rattle.std.specs.List.{join_with_byte, flat_map}
 use Rattle.std.proofs.lemmas.List.{append-nil, take_all, take_more}
 use Rattle.std.proofs.lemmas.List.Folds.{flat_map-map}
 use Rattle.std.proofs.lemmas.Grind.{flat_map-append}
-use Rattle.aq_profile.proofs.Joined.{join-cons}
+use Rattle.aq_rules.proofs.Joined.{join-cons}
 
 -- further words, each behind a space
 abbrev pub behind_spaces : {X : Type 0} → (X → List ℕ) → List X → List ℕ

@@ -12,8 +12,8 @@ use Rattle.aq_base.specs.declared.observation.Observation.{Observation}
 use Rattle.aq_base.specs.declared.office.OfficeRecord.{OfficeRecord}
 use Rattle.aq_base.specs.declared.office.OfficeRecord.TheVariants.{Monitor, Primary, Schedule, Season, Makeup, Event, Concurrence, Approved}
 use Rattle.aq_base.specs.declared.office.OfficeKey.TheVariants.{Monitor as MonitorKey}
-use Rattle.aq_profile.specs.Lines.Spellings.{◌>>=◌}
-use Rattle.aq_profile.specs.Office.Office.{Office, is_same, key_numbers, record_rank, record_at, monitor_duration, duration_at, is_site, is_poc, is_record, is_content, is_kept_hour, has_its_monitor, has_its_event, group_size, most_in_group, fits_records, fits_monitors}
+use Rattle.aq_rules.specs.Lines.Spellings.{◌>>=◌}
+use Rattle.aq_rules.specs.Office.Office.{Office, is_same, key_numbers, record_rank, record_at, monitor_duration, duration_at, is_site, is_poc, is_record, is_content, is_kept_hour, has_its_monitor, has_its_event, group_size, most_in_group, fits_records, fits_monitors}
 use Rattle.aq_rows.specs.Standing.{can_stand}
 
 is_record-of : (office : Office) (r : OfficeRecord) → fits_records office r ≡ true → is_record r ≡ true

@@ -5,10 +5,10 @@ use Rattle.aq_base.specs.declared.reply.ListedLine.{ListedLine}
 use Rattle.aq_base.specs.declared.reply.LoadReply.{LoadReply}
 use Rattle.aq_base.specs.declared.reply.RestRule.{RestRule}
 use Rattle.aq_base.specs.declared.rule.Rule.{Rule}
-use Rattle.aq_profile.specs.Limits.{MOST_LINES, MOST_LISTED, LAST_LOAD_NUMBER}
-use Rattle.aq_profile.specs.Lines.Spellings.{◌>>=◌}
-use Rattle.aq_profile.specs.Office.Office.{StoredLoad, rises, listed_rank, rest_rank, is_listed, is_rest}
-use Rattle.aq_profile.specs.Kept.Rows.{LoadRow, load_row, is_load_row, only_if, words, is_colon, number_in, rule_with}
+use Rattle.aq_rules.specs.Limits.{MOST_LINES, MOST_LISTED, LAST_LOAD_NUMBER}
+use Rattle.aq_rules.specs.Lines.Spellings.{◌>>=◌}
+use Rattle.aq_rules.specs.Office.Office.{StoredLoad, rises, listed_rank, rest_rank, is_listed, is_rest}
+use Rattle.aq_rules.specs.Kept.Rows.{LoadRow, load_row, is_load_row, only_if, words, is_colon, number_in, rule_with}
 use Rattle.aq_rows.specs.Ranges.{between, gathered}
 
 -- a number that a body of the most lines has

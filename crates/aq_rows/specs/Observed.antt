@@ -8,9 +8,9 @@ use Rattle.aq_base.specs.declared.quals.TheConstants.{MOST_QUALIFIERS}
 use Rattle.aq_base.specs.declared.monitor.Pollutant.{Pollutant}
 use Rattle.aq_base.specs.declared.observation.ObsKey.{ObsKey}
 use Rattle.aq_base.specs.declared.observation.Observation.{Observation}
-use Rattle.aq_profile.specs.Lines.Spellings.{◌>>=◌, qualifier_in}
-use Rattle.aq_profile.specs.Office.Office.{is_measured}
-use Rattle.aq_profile.specs.Kept.Rows.{ObsRow, whole, only_if, site_with, pollutant_with, null_of, words}
+use Rattle.aq_rules.specs.Lines.Spellings.{◌>>=◌, qualifier_in}
+use Rattle.aq_rules.specs.Office.Office.{is_measured}
+use Rattle.aq_rules.specs.Kept.Rows.{ObsRow, whole, only_if, site_with, pollutant_with, null_of, words}
 use Rattle.aq_rows.specs.Ranges.{between, gathered}
 
 abbrev pub site_in : ℤ → Option Site

@@ -2,8 +2,8 @@
 use Rattle.aq_base.specs.declared.observation.ObsKey.{ObsKey}
 use Rattle.aq_base.specs.declared.observation.Observation.{Observation}
 use Rattle.aq_base.specs.declared.office.OfficeRecord.{OfficeRecord}
-use Rattle.aq_profile.specs.Kept.Rows as book
-use Rattle.aq_profile.specs.Office.Office.{StoredLoad}
+use Rattle.aq_rules.specs.Kept.Rows as book
+use Rattle.aq_rules.specs.Office.Office.{StoredLoad}
 
 abbrev pub record_row : OfficeRecord → book.Row
 record_row r = book.OfOfficeRow (book.office_row r)

@@ -1,7 +1,7 @@
 -- One more row behind the rows of an office.
 use Rattle.std.specs.Prelude.{◌≡◌, ℕ, Bool, true, false, ◌&&◌, List, [], ◌∷◌, ◌++◌, filter_map}
-use Rattle.aq_profile.specs.Office.Office.{Office, comes_before, rises}
-use Rattle.aq_profile.specs.Kept.Rows.{Row, OfOfficeRow, OfObsRow, OfLoadRow, record_in_row, observation_in_row, load_in_row, says_something, is_valid}
+use Rattle.aq_rules.specs.Office.Office.{Office, comes_before, rises}
+use Rattle.aq_rules.specs.Kept.Rows.{Row, OfOfficeRow, OfObsRow, OfLoadRow, record_in_row, observation_in_row, load_in_row, says_something, is_valid}
 
 abbrev pub has_none : {X : Type 0} → List X → Bool
 has_none [] = true

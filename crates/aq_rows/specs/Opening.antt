@@ -1,6 +1,6 @@
 -- When an office is not opened.
 use Rattle.std.specs.Prelude.{◌≡◌, List, Some}
-use Rattle.aq_profile.specs.Kept.Rows.{Row, damage}
+use Rattle.aq_rules.specs.Kept.Rows.{Row, damage}
 use Rattle.aq_rows.specs.declared.opening.OpenFault.{OpenFault}
 use Rattle.aq_rows.specs.declared.opening.OpenFault.TheVariants.{Damaged, Memory}
 

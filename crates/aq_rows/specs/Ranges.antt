@@ -1,7 +1,7 @@
 -- Numbers of rows that are in a range, and what words say as far as it fits.
 use Rattle.std.specs.Prelude.{ℕ, Bool, ◌&&◌, nat_le, if◌then◌else◌, Option, Some, None, List, [], ◌∷◌, ◌++◌, ℤ}
-use Rattle.aq_profile.specs.Lines.Spellings.{◌>>=◌}
-use Rattle.aq_profile.specs.Kept.Rows.{whole, only_if}
+use Rattle.aq_rules.specs.Lines.Spellings.{◌>>=◌}
+use Rattle.aq_rules.specs.Kept.Rows.{whole, only_if}
 
 -- a whole number from a first to a last one
 abbrev pub is_between : ℕ → ℕ → ℕ → Bool

@@ -3,7 +3,7 @@ use Rattle.std.specs.Prelude.{Bool, ◌&&◌, nat_le}
 use Rattle.aq_base.specs.declared.day.TheConstants.{LAST_HOUR}
 use Rattle.aq_base.specs.declared.observation.ObsKey.{ObsKey}
 use Rattle.aq_base.specs.declared.observation.Observation.{Observation}
-use Rattle.aq_profile.specs.Office.Office.{is_site, is_poc, is_content}
+use Rattle.aq_rules.specs.Office.Office.{is_site, is_poc, is_content}
 
 -- the site, the POC and the hour are in their ranges, and the content is one of its pollutant
 abbrev pub can_stand : ObsKey × Observation → Bool

@@ -2,7 +2,7 @@
 use Rattle.std.specs.Prelude.{ℕ, Bool, ◌==◌, Option, Some, None, List, []}
 use Rattle.std.specs.Borrow.{Bor}
 use Rattle.std.specs.List.{slice_split}
-use Rattle.aq_profile.specs.Lines.Fields.{is_space}
+use Rattle.aq_rules.specs.Lines.Fields.{is_space}
 
 abbrev pub is_byte : ℕ → ℕ → Bool
 is_byte wanted byte = byte == wanted

@@ -4,8 +4,8 @@ use Rattle.aq_base.specs.declared.monitor.Duration.{Duration}
 use Rattle.aq_base.specs.declared.observation.ObsKey.{ObsKey}
 use Rattle.aq_base.specs.declared.observation.Observation.{Observation}
 use Rattle.aq_base.specs.declared.office.OfficeRecord.{OfficeRecord}
-use Rattle.aq_profile.specs.Office.Office.{Office, StoredLoad, IsOffice, observation_numbers, observation_rank, load_rank, duration_at}
-use Rattle.aq_profile.specs.Kept.Rows.{Row, Place, office_in, are_office_rows, damaged_at}
+use Rattle.aq_rules.specs.Office.Office.{Office, StoredLoad, IsOffice, observation_numbers, observation_rank, load_rank, duration_at}
+use Rattle.aq_rules.specs.Kept.Rows.{Row, Place, office_in, are_office_rows, damaged_at}
 use Rattle.aq_rows.specs.declared.walk.Last.{Last}
 use Rattle.aq_rows.specs.declared.walk.Last.TheVariants.{Record, Observation as Observed, Load}
 use Rattle.aq_rows.specs.declared.walk.RowFault.{RowFault}

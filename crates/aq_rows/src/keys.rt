@@ -1,8 +1,8 @@
 //! The keys of rows.
 ghost use Rattle.std.specs.Prelude.{◌≡◌, IfOk, pos};
-ghost use Rattle.aq_profile.specs.Kept.RowChanges as book;
-ghost use Rattle.aq_profile.specs.Kept.Rows.{site_key};
-ghost use Rattle.aq_profile.specs.Office.Office.{kind_of, pollutant_number};
+ghost use Rattle.aq_rules.specs.Kept.RowChanges as book;
+ghost use Rattle.aq_rules.specs.Kept.Rows.{site_key};
+ghost use Rattle.aq_rules.specs.Office.Office.{kind_of, pollutant_number};
 
 use aq_base::{Bytes, Memory, ObsKey, OfficeKey, Pollutant, SiteId};
 use aq_forms::print_key;

@@ -2,10 +2,10 @@
 ghost use Rattle.std.specs.Prelude.{◌≡◌, ◌+◌, ◌≤◌, ◌&&◌, IfOk, IfSome, length, option_map, sum_by, bytes_eq};
 ghost use Rattle.std.specs.List.{list_all};
 ghost use Rattle.std.specs.Ordering.{int_eq};
-ghost use Rattle.aq_profile.specs.Limits.{MOST_LINES, MOST_LISTED};
-ghost use Rattle.aq_profile.specs.Lines.Spellings.{◌>>=◌ as ◌>>-◌};
-ghost use Rattle.aq_profile.specs.Office.Office.{is_load, is_listed, is_rest, listed_rank, rest_rank, rises};
-ghost use Rattle.aq_profile.specs.Kept.Rows as book;
+ghost use Rattle.aq_rules.specs.Limits.{MOST_LINES, MOST_LISTED};
+ghost use Rattle.aq_rules.specs.Lines.Spellings.{◌>>=◌ as ◌>>-◌};
+ghost use Rattle.aq_rules.specs.Office.Office.{is_load, is_listed, is_rest, listed_rank, rest_rank, rises};
+ghost use Rattle.aq_rules.specs.Kept.Rows as book;
 ghost use Rattle.aq_loads.specs.KeptLoads.{stored_as, stored_entry};
 ghost use Rattle.aq_rows.specs.Loaded.{count_of, digest_in, fits_reply, listed_words, load_in, rest_words};
 

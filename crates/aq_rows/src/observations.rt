@@ -3,9 +3,9 @@ ghost use Rattle.std.specs.Prelude.{◌≡◌, true, IfOk};
 ghost use Rattle.std.specs.List.{list_all};
 ghost use Rattle.aq_base.specs.declared.observation.ObsKey as key;
 ghost use Rattle.aq_base.specs.declared.observation.Observation as content;
-ghost use Rattle.aq_profile.specs.Lines.Spellings.{◌>>=◌ as ◌>>-◌, is_code_byte, is_in_range, qualifier_in};
-ghost use Rattle.aq_profile.specs.Office.Office.{Office, fits_monitors, fits_records, is_measured, is_null_code};
-ghost use Rattle.aq_profile.specs.Kept.Rows as book;
+ghost use Rattle.aq_rules.specs.Lines.Spellings.{◌>>=◌ as ◌>>-◌, is_code_byte, is_in_range, qualifier_in};
+ghost use Rattle.aq_rules.specs.Office.Office.{Office, fits_monitors, fits_records, is_measured, is_null_code};
+ghost use Rattle.aq_rules.specs.Kept.Rows as book;
 ghost use Rattle.aq_rows.specs.Standing.{can_stand};
 ghost use Rattle.aq_rows.specs.Observed.{observation_in, site_in, pollutant_in, quals_in, content_in};
 

@@ -1,6 +1,6 @@
 //! The rows of an office.
 ghost use Rattle.std.specs.Prelude.{◌≡◌, ◌++◌, map, IfOk, OnOk};
-ghost use Rattle.aq_profile.specs.Kept.Rows as book;
+ghost use Rattle.aq_rules.specs.Kept.Rows as book;
 ghost use Rattle.aq_rows.specs.OfficeRows.{load_row, observation_row, record_row};
 ghost use Rattle.aq_rows.specs.Walking.{office_with};
 
@@ -16,7 +16,7 @@ use std::alloc::Global;
 
 /// The rows of the office of these records, observations and loads, in the order of tables and keys, by
 /// one walk over each.
-#[tactic(auto, unfolding(aq_profile::specs::Kept::Rows::rows_of))]
+#[tactic(auto, unfolding(aq_rules::specs::Kept::Rows::rows_of))]
 pub fn rows_of(
     alloc: Global,
     registry: &Registry,

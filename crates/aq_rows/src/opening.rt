@@ -1,6 +1,6 @@
 //! An office opened from its rows.
 ghost use Rattle.std.specs.Prelude.{◌≡◌, Some, IfErr, IfOk};
-ghost use Rattle.aq_profile.specs.Kept.Rows as book;
+ghost use Rattle.aq_rules.specs.Kept.Rows as book;
 ghost use Rattle.aq_rows.specs.Opening.{IsOpenFault};
 
 use crate::walk::{RowFault, Walk};
@@ -22,7 +22,7 @@ pub struct Opened {
 }
 
 impl Model for Opened {
-    ghost use Rattle.aq_profile.specs.Office.Office.{IsOffice, Office};
+    ghost use Rattle.aq_rules.specs.Office.Office.{IsOffice, Office};
     ghost use Rattle.aq_rows.specs.Walking.{office_with};
 
     ghost Value = { Office };
@@ -41,7 +41,7 @@ pub struct Place {
 }
 
 impl Model for Place {
-    ghost use Rattle.aq_profile.specs.Kept.Rows as book;
+    ghost use Rattle.aq_rules.specs.Kept.Rows as book;
 
     ghost Value = { book.Place };
 

@@ -1,7 +1,7 @@
 //! Pairs of numbers with a colon between them: listed lines, and the rules of the rest.
 ghost use Rattle.std.specs.Prelude.{◌≡◌, ◌≤◌, ◌==◌, IfSome, find};
 ghost use Rattle.aq_base.specs.Rule.{rule_number};
-ghost use Rattle.aq_profile.specs.Limits.{MOST_LINES};
+ghost use Rattle.aq_rules.specs.Limits.{MOST_LINES};
 ghost use Rattle.aq_rows.specs.Loaded.{listed_word, rest_word, rule_in, small_number};
 
 use crate::texts::cut_at;

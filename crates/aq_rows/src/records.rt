@@ -1,10 +1,10 @@
 //! The row of a record, and the record that a row says.
 ghost use Rattle.std.specs.Prelude.{◌≡◌, IfOk, IfSome, IsTrue};
-ghost use Rattle.aq_profile.specs.Lines.Canonical.{is_office_line, record_line};
-ghost use Rattle.aq_profile.specs.Lines.Spellings.{◌>>=◌ as ◌>>-◌};
-ghost use Rattle.aq_profile.specs.Lines.Reading.{line_value, OfOffice};
-ghost use Rattle.aq_profile.specs.Office.Office.{key_of};
-ghost use Rattle.aq_profile.specs.Kept.Rows as book;
+ghost use Rattle.aq_rules.specs.Lines.Canonical.{is_office_line, record_line};
+ghost use Rattle.aq_rules.specs.Lines.Spellings.{◌>>=◌ as ◌>>-◌};
+ghost use Rattle.aq_rules.specs.Lines.Reading.{line_value, OfOffice};
+ghost use Rattle.aq_rules.specs.Office.Office.{key_of};
+ghost use Rattle.aq_rules.specs.Kept.Rows as book;
 
 use crate::keys::kind_of;
 use aq_base::{Bytes, Memory, OfficeKey, OfficeLine, OfficeRecord};
@@ -27,7 +27,7 @@ pub fn office_row(alloc: Global, entry: &OfficeRecord) -> Result<OfficeRow, Memo
 }
 
 /// The record that a row says, where the row is the row of that record.
-#[tactic(auto, unfolding(aq_profile::specs::Kept::Rows::record_of_row))]
+#[tactic(auto, unfolding(aq_rules::specs::Kept::Rows::record_of_row))]
 pub fn record_of(alloc: Global, row: &OfficeRow) -> Result<Option<OfficeRecord>, Memory>
     ensures value { IfOk result (λ found. found ≡ book.record_of_row row.now) }
     // it is one that a line can spell

@@ -2,9 +2,9 @@
 //! them.
 ghost use Rattle.std.specs.Prelude.{◌≡◌, ◌<◌, ◌∷◌, ◌++◌, OnOk, MatchOption, length};
 ghost use Rattle.std.specs.List.{after_first, before_first, position_or_len, slice_split};
-ghost use Rattle.aq_profile.specs.Kept.Rows.{pair_text, words, listed_text, rest_text};
-ghost use Rattle.aq_profile.specs.Lines.Fields.{is_space};
-ghost use Rattle.aq_profile.specs.Shown.Export.{codes_text, null_text};
+ghost use Rattle.aq_rules.specs.Kept.Rows.{pair_text, words, listed_text, rest_text};
+ghost use Rattle.aq_rules.specs.Lines.Fields.{is_space};
+ghost use Rattle.aq_rules.specs.Shown.Export.{codes_text, null_text};
 ghost use Rattle.aq_rows.specs.Texts.{is_byte, words_left};
 
 use aq_base::{Code, ListedLine, Memory, RestRule};

@@ -3,11 +3,11 @@ ghost use Rattle.std.specs.Prelude.{◌≡◌, ◌<◌, ◌++◌, ◌∷◌, ◌
 ghost use Rattle.aq_base.specs.declared.observation.Observation.{Observation};
 ghost use Rattle.aq_loads.specs.KeptLoads.{stored_entry};
 ghost use Rattle.aq_loads.specs.declared.loads.KeptLoad.{KeptLoad};
-ghost use Rattle.aq_profile.specs.Kept.Rows as book;
-ghost use Rattle.aq_profile.specs.Lines.Canonical.{is_office_line, record_line};
-ghost use Rattle.aq_profile.specs.Limits.{MOST_LOADS, MOST_OBSERVATIONS};
-ghost use Rattle.aq_profile.specs.Office.Office as offices;
-ghost use Rattle.aq_profile.specs.Office.Office.{IsOffice, duration_at, load_rank, observation_numbers, observation_rank, record_rank, rises};
+ghost use Rattle.aq_rules.specs.Kept.Rows as book;
+ghost use Rattle.aq_rules.specs.Lines.Canonical.{is_office_line, record_line};
+ghost use Rattle.aq_rules.specs.Limits.{MOST_LOADS, MOST_OBSERVATIONS};
+ghost use Rattle.aq_rules.specs.Office.Office as offices;
+ghost use Rattle.aq_rules.specs.Office.Office.{IsOffice, duration_at, load_rank, observation_numbers, observation_rank, record_rank, rises};
 ghost use Rattle.aq_registry.specs.Registry as registries;
 ghost use Rattle.aq_rows.specs.OneMoreRow.{has_none, may_follow};
 ghost use Rattle.aq_rows.specs.Standing.{can_stand};

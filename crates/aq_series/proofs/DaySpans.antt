@@ -12,12 +12,12 @@ use Rattle.aq_base.specs.declared.monitor.MonitorId.{MonitorId}
 use Rattle.aq_base.specs.declared.observation.ObsKey.{ObsKey}
 use Rattle.aq_base.specs.declared.observation.Observation.{Observation}
 use Rattle.aq_base.specs.declared.office.OfficeRecord.{OfficeRecord}
-use Rattle.aq_profile.specs.Office.Exclusion.{excluded}
-use Rattle.aq_profile.specs.Office.Monitors.{is_same_monitor}
-use Rattle.aq_profile.specs.Office.Office.{observation_rank, rises}
-use Rattle.aq_profile.specs.Office.Sameness.{same_monitor}
-use Rattle.aq_profile.specs.Ozone.SiteHour.{Cell}
-use Rattle.aq_profile.specs.Particles.ParticleDay.{starts_on}
+use Rattle.aq_rules.specs.Office.Exclusion.{excluded}
+use Rattle.aq_rules.specs.Office.Monitors.{is_same_monitor}
+use Rattle.aq_rules.specs.Office.Office.{observation_rank, rises}
+use Rattle.aq_rules.specs.Office.Sameness.{same_monitor}
+use Rattle.aq_rules.specs.Ozone.SiteHour.{Cell}
+use Rattle.aq_rules.specs.Particles.ParticleDay.{starts_on}
 use Rattle.aq_shelf.specs.Standing.{hour_content, in_span, observations_in}
 use Rattle.aq_series.specs.declared.day_tally.DayTally.{DayTally}
 use Rattle.aq_series.specs.DayCells.{cell_of, cells_in, hours_of, key_at, IsOfParticles, IsParticle, IsTallyOf}

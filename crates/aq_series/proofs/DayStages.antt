@@ -15,12 +15,12 @@ use Rattle.aq_base.specs.declared.monitor.Pollutant.TheVariants.{Ozone}
 use Rattle.aq_base.specs.declared.observation.ObsKey.{ObsKey}
 use Rattle.aq_base.specs.declared.observation.Observation.{Observation}
 use Rattle.aq_base.specs.declared.office.OfficeRecord.{OfficeRecord}
-use Rattle.aq_profile.specs.Office.Designation.{primary_on}
-use Rattle.aq_profile.specs.Office.Exclusion.{excluded}
-use Rattle.aq_profile.specs.Office.Monitors.{is_eligible, is_same_pollutant, is_same_site}
-use Rattle.aq_profile.specs.Office.Office.{IsOffice}
-use Rattle.aq_profile.specs.Office.Questions.{next_poc}
-use Rattle.aq_profile.specs.Ozone.SiteHour.{Cell, Sample, chosen, is_of_poc, is_ozone_at, mean_of, sample_of, site_hour}
+use Rattle.aq_rules.specs.Office.Designation.{primary_on}
+use Rattle.aq_rules.specs.Office.Exclusion.{excluded}
+use Rattle.aq_rules.specs.Office.Monitors.{is_eligible, is_same_pollutant, is_same_site}
+use Rattle.aq_rules.specs.Office.Office.{IsOffice}
+use Rattle.aq_rules.specs.Office.Questions.{next_poc}
+use Rattle.aq_rules.specs.Ozone.SiteHour.{Cell, Sample, chosen, is_of_poc, is_ozone_at, mean_of, sample_of, site_hour}
 use Rattle.aq_registry.specs.Registry.{office_with}
 use Rattle.aq_shelf.specs.Standing.{IsShelf, IsStanding}
 use Rattle.aq_series.proofs.Walk.{samples-are}

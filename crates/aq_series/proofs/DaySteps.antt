@@ -11,9 +11,9 @@ use Rattle.aq_base.specs.declared.monitor.MonitorId.{MonitorId}
 use Rattle.aq_base.specs.declared.observation.ObsKey.{ObsKey}
 use Rattle.aq_base.specs.declared.observation.Observation.{Observation}
 use Rattle.aq_base.specs.declared.office.OfficeRecord.{OfficeRecord}
-use Rattle.aq_profile.specs.Office.Office.{observation_rank, rises}
-use Rattle.aq_profile.specs.Office.Monitors.{is_same_monitor}
-use Rattle.aq_profile.specs.Ozone.SiteHour.{Cell}
+use Rattle.aq_rules.specs.Office.Office.{observation_rank, rises}
+use Rattle.aq_rules.specs.Office.Monitors.{is_same_monitor}
+use Rattle.aq_rules.specs.Ozone.SiteHour.{Cell}
 use Rattle.aq_shelf.specs.Standing.{content_at, hour_content, in_span, observations_in}
 use Rattle.aq_series.specs.declared.day_hours.HourState.{HourState}
 use Rattle.aq_series.specs.DayStates.{Adds, AddsValue, standing_at, stood_at}

@@ -9,8 +9,8 @@ use Rattle.std.proofs.lemmas.List.Folds.{list_any-append}
 use Rattle.std.proofs.Math.Bool.{or-false}
 use Rattle.std.proofs.Math.Nat.{div-le_of_le-mul}
 use Rattle.aq_base.specs.Decimal.{truncated}
-use Rattle.aq_profile.specs.Lists.{total}
-use Rattle.aq_profile.specs.Ozone.SiteHour.{Cell, Sample}
+use Rattle.aq_rules.specs.Lists.{total}
+use Rattle.aq_rules.specs.Ozone.SiteHour.{Cell, Sample}
 use Rattle.aq_series.specs.declared.tally.Tally.{Tally}
 use Rattle.aq_series.specs.Samples.{IsOfEight, IsOzone, IsTally}
 

@@ -16,15 +16,15 @@ use Rattle.aq_base.specs.declared.observation.Observation.{Observation}
 use Rattle.aq_base.specs.declared.office.OfficeRecord.{OfficeRecord}
 use Rattle.aq_base.specs.declared.office.OfficeRecord.TheVariants.{Monitor}
 use Rattle.aq_base.specs.declared.office.OfficeKey.TheVariants.{Monitor as MonitorKey}
-use Rattle.aq_profile.specs.Lines.Spellings.{◌>>=◌}
-use Rattle.aq_profile.specs.Office.Exclusion.{excluded}
-use Rattle.aq_profile.specs.Office.Monitors.{is_same_site, is_same_pollutant, is_same_monitor, is_eligible}
-use Rattle.aq_profile.specs.Office.Office.{IsOffice, comes_before, content_of, duration_at, is_same, key_numbers, monitor_duration, observation_numbers, observation_rank, pollutant_number, record_rank, rises, row_at}
-use Rattle.aq_profile.specs.Office.Questions.{registration_by, registration_of}
-use Rattle.aq_profile.specs.Office.Sameness.{same_monitor, number_itself}
-use Rattle.aq_profile.specs.Ozone.SiteHour.{Cell}
-use Rattle.aq_profile.specs.Particles.ParticleDay.{day_cell, monitor_day, starts_on}
-use Rattle.aq_profile.specs.Particles.ParticleDay as book
+use Rattle.aq_rules.specs.Lines.Spellings.{◌>>=◌}
+use Rattle.aq_rules.specs.Office.Exclusion.{excluded}
+use Rattle.aq_rules.specs.Office.Monitors.{is_same_site, is_same_pollutant, is_same_monitor, is_eligible}
+use Rattle.aq_rules.specs.Office.Office.{IsOffice, comes_before, content_of, duration_at, is_same, key_numbers, monitor_duration, observation_numbers, observation_rank, pollutant_number, record_rank, rises, row_at}
+use Rattle.aq_rules.specs.Office.Questions.{registration_by, registration_of}
+use Rattle.aq_rules.specs.Office.Sameness.{same_monitor, number_itself}
+use Rattle.aq_rules.specs.Ozone.SiteHour.{Cell}
+use Rattle.aq_rules.specs.Particles.ParticleDay.{day_cell, monitor_day, starts_on}
+use Rattle.aq_rules.specs.Particles.ParticleDay as book
 use Rattle.aq_registry.specs.Registry.{office_with, pair_of}
 use Rattle.aq_series.specs.OfficeView.{office_of}
 use Rattle.aq_series.specs.DayCells.{cell_at, cell_of, cells_in, hours_of, key_at}

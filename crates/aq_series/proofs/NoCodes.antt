@@ -5,7 +5,7 @@ use Rattle.aq_base.specs.declared.code.Code.{Code}
 use Rattle.aq_base.specs.declared.observation.ObsKey.{ObsKey}
 use Rattle.aq_base.specs.declared.office.OfficeRecord.{OfficeRecord}
 use Rattle.aq_base.specs.declared.office.OfficeRecord.TheVariants.{Monitor, Primary, Schedule, Season, Makeup, Event, Concurrence, Approved}
-use Rattle.aq_profile.specs.Office.Exclusion.{agrees_to, asks_exclusion, excluded, is_within, takes_out}
+use Rattle.aq_rules.specs.Office.Exclusion.{agrees_to, asks_exclusion, excluded, is_within, takes_out}
 
 and_false : (b : Bool) → (b && false) ≡ false
 and_false true = refl

@@ -11,10 +11,10 @@ use Rattle.aq_base.specs.declared.monitor.MonitorId.{MonitorId}
 use Rattle.aq_base.specs.declared.office.OfficeRecord.{OfficeRecord}
 use Rattle.aq_base.specs.declared.office.OfficeRecord.TheVariants.{Monitor}
 use Rattle.aq_base.specs.declared.office.OfficeKey.TheVariants.{Monitor as MonitorKey}
-use Rattle.aq_profile.specs.Office.Monitors.{is_same_monitor, makes_eligible, is_eligible}
-use Rattle.aq_profile.specs.Office.Office.{IsOffice, comes_before, key_numbers, record_rank, rises}
-use Rattle.aq_profile.specs.Office.Questions.{registration_by, registration_of, next_poc}
-use Rattle.aq_profile.specs.Office.Sameness.{same_monitor}
+use Rattle.aq_rules.specs.Office.Monitors.{is_same_monitor, makes_eligible, is_eligible}
+use Rattle.aq_rules.specs.Office.Office.{IsOffice, comes_before, key_numbers, record_rank, rises}
+use Rattle.aq_rules.specs.Office.Questions.{registration_by, registration_of, next_poc}
+use Rattle.aq_rules.specs.Office.Sameness.{same_monitor}
 use Rattle.aq_registry.specs.Registry.{office_with, pair_of}
 use Rattle.aq_series.specs.Samples.{pocs_above}
 use Rattle.aq_series.proofs.SitePocs as pollutants

@@ -6,8 +6,8 @@ use Rattle.std.specs.Option.{option_and_then}
 use Rattle.std.proofs.lemmas.Bool.{false≢true, and_parts}
 use Rattle.std.proofs.lemmas.Bool.Decides.{nat_tests}
 use Rattle.std.proofs.lemmas.Slice.Eq.{bytes_eq-Decides}
-use Rattle.aq_profile.specs.Office.RowOrder.{before-trans}
-use Rattle.aq_profile.specs.Office.Office.{is_same, comes_before, rises, rises_from, row_at}
+use Rattle.aq_rules.specs.Office.RowOrder.{before-trans}
+use Rattle.aq_rules.specs.Office.Office.{is_same, comes_before, rises, rises_from, row_at}
 
 some_is : {X : Type 0} (x y : X) → Some x ≡ Some y → x ≡ y
 some_is x y h = cc

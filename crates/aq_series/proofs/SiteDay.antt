@@ -16,15 +16,15 @@ use Rattle.aq_base.specs.declared.monitor.Pollutant.TheVariants.{Pm25, Pm10}
 use Rattle.aq_base.specs.declared.office.OfficeRecord.{OfficeRecord}
 use Rattle.aq_base.specs.declared.office.OfficeRecord.TheVariants.{Monitor}
 use Rattle.aq_base.specs.declared.office.OfficeKey.TheVariants.{Monitor as MonitorKey}
-use Rattle.aq_profile.specs.Lists.{total}
-use Rattle.aq_profile.specs.Office.Designation.{primary_on}
-use Rattle.aq_profile.specs.Office.Monitors.{is_same_site, is_same_pollutant, is_eligible, makes_eligible}
-use Rattle.aq_profile.specs.Office.Office.{IsOffice, Office, comes_before, duration_at, key_numbers, record_rank}
-use Rattle.aq_profile.specs.Office.Questions.{next_poc}
-use Rattle.aq_profile.specs.Office.Sameness.{same_site, same_pollutant}
-use Rattle.aq_profile.specs.Ozone.SiteHour.{Cell, Sample, chosen, is_of_poc}
-use Rattle.aq_profile.specs.Ozone.SiteHour as hour
-use Rattle.aq_profile.specs.Particles.ParticleDay.{counting_poc, day_of_samples, eligible_poc, eligible_pocs, lower_poc, lowest_poc, monitor_day, sample_on, samples_on, site_day}
+use Rattle.aq_rules.specs.Lists.{total}
+use Rattle.aq_rules.specs.Office.Designation.{primary_on}
+use Rattle.aq_rules.specs.Office.Monitors.{is_same_site, is_same_pollutant, is_eligible, makes_eligible}
+use Rattle.aq_rules.specs.Office.Office.{IsOffice, Office, comes_before, duration_at, key_numbers, record_rank}
+use Rattle.aq_rules.specs.Office.Questions.{next_poc}
+use Rattle.aq_rules.specs.Office.Sameness.{same_site, same_pollutant}
+use Rattle.aq_rules.specs.Ozone.SiteHour.{Cell, Sample, chosen, is_of_poc}
+use Rattle.aq_rules.specs.Ozone.SiteHour as hour
+use Rattle.aq_rules.specs.Particles.ParticleDay.{counting_poc, day_of_samples, eligible_poc, eligible_pocs, lower_poc, lowest_poc, monitor_day, sample_on, samples_on, site_day}
 use Rattle.aq_registry.specs.Registry.{office_with}
 use Rattle.aq_series.specs.declared.day_tally.DayTally.{DayTally}
 use Rattle.aq_series.specs.DayCells.{cells_on, mean_of, monitor_at, monitor_steps, pocs_after, pocs_of, site_steps, steps_beside, steps_by, IsTallyOf}

@@ -14,11 +14,11 @@ use Rattle.aq_base.specs.declared.monitor.MonitorId.{MonitorId}
 use Rattle.aq_base.specs.declared.office.OfficeRecord.{OfficeRecord}
 use Rattle.aq_base.specs.declared.office.OfficeRecord.TheVariants.{Monitor}
 use Rattle.aq_base.specs.declared.office.OfficeKey.TheVariants.{Monitor as MonitorKey}
-use Rattle.aq_profile.specs.Lines.Spellings.{◌>>=◌}
-use Rattle.aq_profile.specs.Office.Monitors.{is_same_site, is_same_pollutant, is_same_monitor, makes_eligible, is_eligible}
-use Rattle.aq_profile.specs.Office.Office.{IsOffice, comes_before, fits_records, group_of, group_size, has_its_event, has_its_monitor, duration_at, is_poc, monitor_duration, parameter_number, is_record, row_at, is_same, is_site, key_numbers, record_rank, rises, series_numbers}
-use Rattle.aq_profile.specs.Office.Questions.{poc_above, next_poc}
-use Rattle.aq_profile.specs.Office.Sameness.{same_site, same_pollutant, same_monitor, site_itself, pollutant_itself}
+use Rattle.aq_rules.specs.Lines.Spellings.{◌>>=◌}
+use Rattle.aq_rules.specs.Office.Monitors.{is_same_site, is_same_pollutant, is_same_monitor, makes_eligible, is_eligible}
+use Rattle.aq_rules.specs.Office.Office.{IsOffice, comes_before, fits_records, group_of, group_size, has_its_event, has_its_monitor, duration_at, is_poc, monitor_duration, parameter_number, is_record, row_at, is_same, is_site, key_numbers, record_rank, rises, series_numbers}
+use Rattle.aq_rules.specs.Office.Questions.{poc_above, next_poc}
+use Rattle.aq_rules.specs.Office.Sameness.{same_site, same_pollutant, same_monitor, site_itself, pollutant_itself}
 use Rattle.aq_registry.specs.Registry.{office_with}
 use Rattle.aq_series.specs.DayCells.{monitor_at, pocs_after, pocs_of}
 use Rattle.aq_series.proofs.Rising.{Later, Rising, rising-given}

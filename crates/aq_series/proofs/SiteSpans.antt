@@ -9,12 +9,12 @@ use Rattle.std.proofs.lemmas.Grind.{get_or-set_at}
 use Rattle.std.proofs.lemmas.List.{append-nil, get_or-set_other}
 use Rattle.aq_base.specs.Site.{Site}
 use Rattle.aq_base.specs.declared.monitor.Pollutant.TheVariants.{Pm25}
-use Rattle.aq_profile.specs.Office.Designation.{primary_on}
-use Rattle.aq_profile.specs.Office.Monitors.{is_eligible}
-use Rattle.aq_profile.specs.Office.Office.{IsOffice, Office}
-use Rattle.aq_profile.specs.Office.Questions.{next_poc}
-use Rattle.aq_profile.specs.Ozone.SiteHour.{Cell}
-use Rattle.aq_profile.specs.Particles.ParticleDay.{monitor_day, site_day}
+use Rattle.aq_rules.specs.Office.Designation.{primary_on}
+use Rattle.aq_rules.specs.Office.Monitors.{is_eligible}
+use Rattle.aq_rules.specs.Office.Office.{IsOffice, Office}
+use Rattle.aq_rules.specs.Office.Questions.{next_poc}
+use Rattle.aq_rules.specs.Ozone.SiteHour.{Cell}
+use Rattle.aq_rules.specs.Particles.ParticleDay.{monitor_day, site_day}
 use Rattle.aq_registry.specs.Registry.{office_with}
 use Rattle.aq_series.specs.declared.site_spans.DayState.{DayState}
 use Rattle.aq_series.specs.DayCells.{cells_on, mean_of, monitor_at, pocs_after, pocs_of, IsOfParticles, IsParticle, IsTallyOf}

@@ -10,9 +10,9 @@ use Rattle.aq_base.specs.declared.monitor.Pollutant.{Pollutant}
 use Rattle.aq_base.specs.declared.monitor.Pollutant.TheVariants.{Ozone, Pm25, Pm10}
 use Rattle.aq_base.specs.declared.observation.ObsKey.{ObsKey}
 use Rattle.aq_base.specs.declared.observation.Observation.{Observation}
-use Rattle.aq_profile.specs.Office.Monitors.{is_same_monitor, is_same_pollutant, is_same_site}
-use Rattle.aq_profile.specs.Office.Office.{comes_before, content_of, is_same, observation_numbers, observation_rank, pollutant_number, rises, row_at}
-use Rattle.aq_profile.specs.Office.Sameness.{number_itself, same_monitor}
+use Rattle.aq_rules.specs.Office.Monitors.{is_same_monitor, is_same_pollutant, is_same_site}
+use Rattle.aq_rules.specs.Office.Office.{comes_before, content_of, is_same, observation_numbers, observation_rank, pollutant_number, rises, row_at}
+use Rattle.aq_rules.specs.Office.Sameness.{number_itself, same_monitor}
 use Rattle.aq_shelf.specs.Standing.{content_at, hour_content, in_span, observations_in}
 use Rattle.aq_series.proofs.Rising.{Rising, found, found-given, rising-given}
 

@@ -12,10 +12,10 @@ use Rattle.aq_base.specs.declared.monitor.Pollutant.TheVariants.{Ozone}
 use Rattle.aq_base.specs.declared.observation.ObsKey.{ObsKey}
 use Rattle.aq_base.specs.declared.observation.Observation.{Observation}
 use Rattle.aq_base.specs.declared.office.OfficeRecord.{OfficeRecord}
-use Rattle.aq_profile.specs.Office.Designation.{primary_on}
-use Rattle.aq_profile.specs.Office.Office.{IsOffice, observation_rank, rises}
-use Rattle.aq_profile.specs.Office.Questions.{next_poc}
-use Rattle.aq_profile.specs.Ozone.SiteHour.{Cell, Sample, chosen, is_of_poc, mean_of, site_hour}
+use Rattle.aq_rules.specs.Office.Designation.{primary_on}
+use Rattle.aq_rules.specs.Office.Office.{IsOffice, observation_rank, rises}
+use Rattle.aq_rules.specs.Office.Questions.{next_poc}
+use Rattle.aq_rules.specs.Ozone.SiteHour.{Cell, Sample, chosen, is_of_poc, mean_of, site_hour}
 use Rattle.aq_registry.specs.Registry.{office_with}
 use Rattle.aq_series.specs.declared.tally.Tally.{Tally}
 use Rattle.aq_series.specs.OfficeView.{office_of}

@@ -11,11 +11,11 @@ use Rattle.aq_base.specs.declared.monitor.Pollutant.TheVariants.{Ozone, Pm25, Pm
 use Rattle.aq_base.specs.declared.observation.ObsKey.{ObsKey}
 use Rattle.aq_base.specs.declared.observation.Observation.{Observation}
 use Rattle.aq_base.specs.declared.office.OfficeRecord.{OfficeRecord}
-use Rattle.aq_profile.specs.Office.Exclusion.{excluded}
-use Rattle.aq_profile.specs.Office.Monitors.{is_same_site, is_same_pollutant, is_eligible}
-use Rattle.aq_profile.specs.Office.Office.{IsOffice, comes_before, content_of, is_same, observation_numbers, observation_rank, pollutant_number, rises, row_at}
-use Rattle.aq_profile.specs.Office.Sameness.{same_site, same_pollutant, number_itself}
-use Rattle.aq_profile.specs.Ozone.SiteHour.{Cell, Sample, is_ozone_at, sample_of, samples_at}
+use Rattle.aq_rules.specs.Office.Exclusion.{excluded}
+use Rattle.aq_rules.specs.Office.Monitors.{is_same_site, is_same_pollutant, is_eligible}
+use Rattle.aq_rules.specs.Office.Office.{IsOffice, comes_before, content_of, is_same, observation_numbers, observation_rank, pollutant_number, rises, row_at}
+use Rattle.aq_rules.specs.Office.Sameness.{same_site, same_pollutant, number_itself}
+use Rattle.aq_rules.specs.Ozone.SiteHour.{Cell, Sample, is_ozone_at, sample_of, samples_at}
 use Rattle.aq_registry.specs.Registry.{office_with}
 use Rattle.aq_series.specs.OfficeView.{office_of}
 use Rattle.aq_series.specs.Samples.{cell_at, cell_of, ozone_key, pocs_above, sample_at, samples_above}

@@ -14,12 +14,12 @@ use Rattle.aq_base.specs.declared.monitor.Pollutant.TheVariants.{Ozone, Pm25}
 use Rattle.aq_base.specs.declared.observation.ObsKey.{ObsKey}
 use Rattle.aq_base.specs.declared.observation.Observation.{Observation}
 use Rattle.aq_base.specs.declared.office.OfficeRecord.{OfficeRecord}
-use Rattle.aq_profile.specs.Lists.{total}
-use Rattle.aq_profile.specs.Office.Exclusion.{excluded}
-use Rattle.aq_profile.specs.Office.Office.{Office, duration_at}
-use Rattle.aq_profile.specs.Office.Questions.{poc_above}
-use Rattle.aq_profile.specs.Ozone.SiteHour.{Cell}
-use Rattle.aq_profile.specs.Particles.ParticleDay.{monitor_day}
+use Rattle.aq_rules.specs.Lists.{total}
+use Rattle.aq_rules.specs.Office.Exclusion.{excluded}
+use Rattle.aq_rules.specs.Office.Office.{Office, duration_at}
+use Rattle.aq_rules.specs.Office.Questions.{poc_above}
+use Rattle.aq_rules.specs.Ozone.SiteHour.{Cell}
+use Rattle.aq_rules.specs.Particles.ParticleDay.{monitor_day}
 use Rattle.aq_registry.specs.Registry.{office_with}
 use Rattle.aq_shelf.specs.Standing.{content_at}
 use Rattle.aq_series.specs.declared.day_tally.DayTally.{DayTally}

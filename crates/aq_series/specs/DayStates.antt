@@ -9,9 +9,9 @@ use Rattle.aq_base.specs.declared.monitor.Pollutant.TheVariants.{Ozone}
 use Rattle.aq_base.specs.declared.observation.ObsKey.{ObsKey}
 use Rattle.aq_base.specs.declared.observation.Observation.{Observation}
 use Rattle.aq_base.specs.declared.office.OfficeRecord.{OfficeRecord}
-use Rattle.aq_profile.specs.Office.Designation.{primary_on}
-use Rattle.aq_profile.specs.Office.Office.{Office}
-use Rattle.aq_profile.specs.Ozone.SiteHour.{Cell, Sample, site_hour}
+use Rattle.aq_rules.specs.Office.Designation.{primary_on}
+use Rattle.aq_rules.specs.Office.Office.{Office}
+use Rattle.aq_rules.specs.Ozone.SiteHour.{Cell, Sample, site_hour}
 use Rattle.aq_shelf.specs.Standing.{content_at}
 use Rattle.aq_series.specs.Samples.{cell_of, IsOfEight, IsTally}
 use Rattle.aq_series.specs.declared.day_hours.HourState.{HourState}

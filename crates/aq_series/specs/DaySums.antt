@@ -1,7 +1,7 @@
 -- What one more monitor changes in the state of a site's day.
 use Rattle.std.specs.Prelude.{◌≡◌, ◌+◌, ◌<◌, ◌≤◌, ℕ, ◌==◌, Bool, true, false, Option, Some, None, List, [], ◌++◌, IfSome}
 use Rattle.std.specs.Option.{option_eq, option_or, option_to_list}
-use Rattle.aq_profile.specs.Ozone.SiteHour.{Cell}
+use Rattle.aq_rules.specs.Ozone.SiteHour.{Cell}
 use Rattle.aq_series.specs.DayCells.{IsOfParticles, IsParticle, IsTallyOf}
 use Rattle.aq_series.specs.declared.site_spans.DayState.{DayState}
 

@@ -5,8 +5,8 @@ use Rattle.aq_base.specs.Site.{Site}
 use Rattle.aq_base.specs.declared.observation.ObsKey.{ObsKey}
 use Rattle.aq_base.specs.declared.observation.Observation.{Observation}
 use Rattle.aq_base.specs.declared.office.OfficeRecord.{OfficeRecord}
-use Rattle.aq_profile.specs.Office.Office.{Office}
-use Rattle.aq_profile.specs.Ozone.SiteHour.{site_hour}
+use Rattle.aq_rules.specs.Office.Office.{Office}
+use Rattle.aq_rules.specs.Ozone.SiteHour.{site_hour}
 
 -- the office of these records and observations, without loads
 abbrev pub office_of : List OfficeRecord → List (ObsKey × Observation) → Office

@@ -7,11 +7,11 @@ use Rattle.aq_base.specs.declared.monitor.Pollutant.TheVariants.{Ozone}
 use Rattle.aq_base.specs.declared.observation.ObsKey.{ObsKey}
 use Rattle.aq_base.specs.declared.observation.Observation.{Observation}
 use Rattle.aq_base.specs.declared.office.OfficeRecord.{OfficeRecord}
-use Rattle.aq_profile.specs.Lists.{total}
-use Rattle.aq_profile.specs.Office.Exclusion.{excluded}
-use Rattle.aq_profile.specs.Office.Monitors.{is_eligible}
-use Rattle.aq_profile.specs.Office.Questions.{poc_above}
-use Rattle.aq_profile.specs.Ozone.SiteHour.{Cell, Sample}
+use Rattle.aq_rules.specs.Lists.{total}
+use Rattle.aq_rules.specs.Office.Exclusion.{excluded}
+use Rattle.aq_rules.specs.Office.Monitors.{is_eligible}
+use Rattle.aq_rules.specs.Office.Questions.{poc_above}
+use Rattle.aq_rules.specs.Ozone.SiteHour.{Cell, Sample}
 use Rattle.aq_shelf.specs.Standing.{content_at}
 use Rattle.aq_series.specs.declared.tally.Tally.{Tally}
 

@@ -1,8 +1,8 @@
 //! The ozone values of a site for the hours of some days, with one span for each monitor.
 ghost use Rattle.std.specs.Prelude.{◌≡◌, ℕ, ◌+◌, ◌*◌, ◌/◌, ◌<◌, ◌≤◌, List, None, IfSome, get_or, length};
 ghost use Rattle.aq_base.specs.declared.monitor.Pollutant.TheVariants.{Ozone};
-ghost use Rattle.aq_profile.specs.Office.Office.{IsOffice};
-ghost use Rattle.aq_profile.specs.Ozone.SiteHour.{mean_of, Sample};
+ghost use Rattle.aq_rules.specs.Office.Office.{IsOffice};
+ghost use Rattle.aq_rules.specs.Ozone.SiteHour.{mean_of, Sample};
 ghost use Rattle.aq_registry.specs.Registry.{office_with};
 ghost use Rattle.aq_series.specs.DayStates as states;
 ghost use Rattle.aq_series.specs.DayStates.{Adds, HasRoom, IsUnread, stood_at, standing_at};

@@ -24,8 +24,8 @@ impl DayTally {
     ghost use Rattle.std.specs.Prelude.{◌≡◌, ◌<◌, ◌≤◌, ◌+◌, [], ◌++◌, List, IfSome};
     ghost use Rattle.std.specs.Option.{option_to_list};
     ghost use Rattle.aq_base.specs.declared.monitor.Duration.TheVariants.{Hour};
-    ghost use Rattle.aq_profile.specs.Ozone.SiteHour.{Cell};
-    ghost use Rattle.aq_profile.specs.Particles.ParticleDay.{day_cell};
+    ghost use Rattle.aq_rules.specs.Ozone.SiteHour.{Cell};
+    ghost use Rattle.aq_rules.specs.Particles.ParticleDay.{day_cell};
     ghost use Rattle.aq_series.specs.DayCells.{mean_of, IsOfParticles, IsParticle, IsParticulate, IsTallyOf};
 
     /// No values.

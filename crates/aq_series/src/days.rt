@@ -4,9 +4,9 @@ ghost use Rattle.std.specs.Prelude.{◌≡◌, ◌+◌, ◌≤◌, None, sum_by,
 ghost use Rattle.std.specs.Option.{option_and_then, option_map_or, option_or};
 ghost use Rattle.aq_base.specs.declared.day.TheConstants.{LAST_HOUR};
 ghost use Rattle.aq_base.specs.declared.monitor.Pollutant.TheVariants.{Pm25, Pm10};
-ghost use Rattle.aq_profile.specs.Office.Designation.{primary_on};
-ghost use Rattle.aq_profile.specs.Office.Office.{IsOffice};
-ghost use Rattle.aq_profile.specs.Particles.ParticleDay as book;
+ghost use Rattle.aq_rules.specs.Office.Designation.{primary_on};
+ghost use Rattle.aq_rules.specs.Office.Office.{IsOffice};
+ghost use Rattle.aq_rules.specs.Particles.ParticleDay as book;
 ghost use Rattle.aq_registry.specs.Registry.{office_with};
 ghost use Rattle.aq_series.specs.OfficeView.{office_of};
 ghost use Rattle.aq_series.specs.DayCells.{cell_at, cells_in, cells_on, hours_of, mean_of, monitor_at, monitor_steps, pocs_of, site_steps, steps_beside, IsOfParticles, IsParticle, IsParticulate, IsTallyOf};

@@ -2,10 +2,10 @@
 ghost use Rattle.std.specs.Prelude.{◌≡◌, ◌+◌, ◌≤◌, IfSome};
 ghost use Rattle.aq_base.specs.Values.{HasValueInRange};
 ghost use Rattle.aq_base.specs.declared.monitor.Pollutant.TheVariants.{Ozone};
-ghost use Rattle.aq_profile.specs.Office.Exclusion as exclusions;
-ghost use Rattle.aq_profile.specs.Office.Monitors as monitors;
-ghost use Rattle.aq_profile.specs.Office.Office.{IsOffice};
-ghost use Rattle.aq_profile.specs.Ozone.SiteHour as book;
+ghost use Rattle.aq_rules.specs.Office.Exclusion as exclusions;
+ghost use Rattle.aq_rules.specs.Office.Monitors as monitors;
+ghost use Rattle.aq_rules.specs.Office.Office.{IsOffice};
+ghost use Rattle.aq_rules.specs.Ozone.SiteHour as book;
 ghost use Rattle.aq_registry.specs.Registry.{office_with};
 ghost use Rattle.aq_series.specs.OfficeView.{office_of};
 ghost use Rattle.aq_series.specs.Samples.{cell_at, cell_of, IsOzone};
@@ -26,7 +26,7 @@ pub struct Cell {
 }
 
 impl Model for Cell {
-    ghost use Rattle.aq_profile.specs.Ozone.SiteHour as book;
+    ghost use Rattle.aq_rules.specs.Ozone.SiteHour as book;
 
     ghost Value = { book.Cell };
 

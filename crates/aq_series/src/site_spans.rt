@@ -2,10 +2,10 @@
 ghost use Rattle.std.specs.Prelude.{◌≡◌, ℕ, ◌+◌, ◌<◌, ◌≤◌, List, None, IfSome, get_or, length};
 ghost use Rattle.aq_base.specs.declared.day.TheConstants.{LAST_DAY};
 ghost use Rattle.aq_base.specs.declared.monitor.Pollutant.TheVariants.{Pm25};
-ghost use Rattle.aq_profile.specs.Office.Designation.{primary_on};
-ghost use Rattle.aq_profile.specs.Office.Office.{IsOffice};
-ghost use Rattle.aq_profile.specs.Ozone.SiteHour as sites;
-ghost use Rattle.aq_profile.specs.Particles.ParticleDay as book;
+ghost use Rattle.aq_rules.specs.Office.Designation.{primary_on};
+ghost use Rattle.aq_rules.specs.Office.Office.{IsOffice};
+ghost use Rattle.aq_rules.specs.Ozone.SiteHour as sites;
+ghost use Rattle.aq_rules.specs.Particles.ParticleDay as book;
 ghost use Rattle.aq_registry.specs.Registry.{office_with};
 ghost use Rattle.aq_series.specs.DayCells.{mean_of, IsOfParticles, IsParticle, IsParticulate, IsTallyOf};
 ghost use Rattle.aq_series.specs.DaySums.{AddsDay, HasDayRoom, IsNew};
@@ -34,7 +34,7 @@ struct DayState {
 impl DayState {
     ghost use Rattle.std.specs.Prelude.{◌≡◌, List, IfSome};
     ghost use Rattle.std.specs.Option.{option_or};
-    ghost use Rattle.aq_profile.specs.Ozone.SiteHour as sites;
+    ghost use Rattle.aq_rules.specs.Ozone.SiteHour as sites;
     ghost use Rattle.aq_series.specs.DayCells.{mean_of, IsOfParticles, IsParticle, IsTallyOf};
     ghost use Rattle.aq_series.specs.DaySums.{AddsDay, HasDayRoom};
 

@@ -14,7 +14,7 @@ pub(crate) struct Tally {
 
 impl Tally {
     ghost use Rattle.std.specs.Prelude.{◌≡◌, ℕ, ◌<◌, ◌+◌, [], ◌∷◌, ◌++◌, List, IfSome};
-    ghost use Rattle.aq_profile.specs.Ozone.SiteHour.{Sample, mean_of};
+    ghost use Rattle.aq_rules.specs.Ozone.SiteHour.{Sample, mean_of};
     ghost use Rattle.aq_series.specs.Samples.{IsOfEight, IsOzone, IsTally};
 
     /// No values.

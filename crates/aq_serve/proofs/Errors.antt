@@ -1,7 +1,7 @@
 -- The body of a reply that is an error.
 use Rattle.std.proofs.Common.{◌≡◌, ℕ, List, ◌++◌, codes, ap, append_assoc}
-use Rattle.aq_profile.specs.Shown.Json.{json_of}
-use Rattle.aq_profile.specs.Shown.OtherSheets.{error_sheet}
+use Rattle.aq_rules.specs.Shown.Json.{json_of}
+use Rattle.aq_rules.specs.Shown.OtherSheets.{error_sheet}
 use Rattle.aq_serve.specs.Answered.{error_body, error_name}
 
 pub error_sheet_is : (name : List ℕ) → json_of (error_sheet name) ≡ codes "{\"error\":\"" ++ (name ++ codes "\"}")

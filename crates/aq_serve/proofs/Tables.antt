@@ -2,8 +2,8 @@
 use Rattle.std.proofs.Common.{◌≡◌, List, refl, sym, ap, ◌∙◌, subst, Option, Some, None}
 use Rattle.std.specs.Prelude.{IfSome}
 use Rattle.std.specs.Option.{option_map}
-use Rattle.aq_profile.specs.Kept.Rows.{Row, rows_of}
-use Rattle.aq_profile.specs.Office.Office.{Office}
+use Rattle.aq_rules.specs.Kept.Rows.{Row, rows_of}
+use Rattle.aq_rules.specs.Office.Office.{Office}
 use Rattle.aq_serve.specs.Service.{AreOfOffice, Become, Keeps, ServiceView}
 
 mapped_again : (t : Option (List Row)) (x y : List Row) → option_map (λ _. y) (option_map (λ _. x) t) ≡ option_map (λ _. y) t

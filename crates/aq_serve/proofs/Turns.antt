@@ -4,7 +4,7 @@ use Rattle.std.specs.Prelude.{⊤}
 use Rattle.std.proofs.lemmas.List.{drop-append-le}
 use Rattle.aq_base.specs.Faults.{HasRisen}
 use Rattle.aq_base.specs.declared.refusal.Memory.{Memory}
-use Rattle.aq_profile.specs.Office.Office.{Office}
+use Rattle.aq_rules.specs.Office.Office.{Office}
 use Rattle.aq_http.specs.Step.{IsStep, More}
 use Rattle.aq_serve.specs.Service.{AreOfOffice, Become}
 use Rattle.aq_serve.specs.Session.{AreTurns, GoesOn, IsCut, IsTurn, Turn, office_behind, replies}

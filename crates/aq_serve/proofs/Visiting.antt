@@ -4,7 +4,7 @@ use Rattle.std.specs.Prelude.{◌==◌}
 use Rattle.std.proofs.lemmas.List.{append-nil}
 use Rattle.aq_base.specs.Faults.{HasRisen}
 use Rattle.aq_base.specs.declared.refusal.Memory.{Memory}
-use Rattle.aq_profile.specs.Office.Office.{Office}
+use Rattle.aq_rules.specs.Office.Office.{Office}
 use Rattle.aq_serve.specs.Door.{Both, DoorView, Ends, Exchange, HasSameTransfers, IsDry, IsIdle, Nobody, Passes, TakesNext, Wire}
 use Rattle.aq_serve.specs.Service.{AreOfOffice, Counts, Keeps, ServiceView}
 use Rattle.aq_serve.specs.Session.{IsFront, IsSession, Turn, failed_commits, office_behind}

@@ -1,13 +1,13 @@
 -- What a whole request is answered with over an office: the status and body of the reply, and the office behind it (own).
 use Rattle.std.specs.Prelude.{ℕ, ◌==◌, Bool, true, false, if◌then◌else◌, List, [], codes}
 use Rattle.sha2.specs.Sha256.{sha256}
-use Rattle.aq_profile.specs.Office.Office.{Office}
-use Rattle.aq_profile.specs.Office.Load.{Posted, TooManyLines, Repeated, Differing, NoRoom, Taken, posted}
-use Rattle.aq_profile.specs.Shown.Answer.{Answer, OfSheet, OfExport, NoSite, NoLoad, answer}
-use Rattle.aq_profile.specs.Shown.Json.{json_of}
-use Rattle.aq_profile.specs.Shown.OtherSheets.{conflict_sheet, error_sheet}
-use Rattle.aq_profile.specs.Shown.Sheet.{Sheet}
-use Rattle.aq_profile.specs.Shown.Sheets.{load_sheet}
+use Rattle.aq_rules.specs.Office.Office.{Office}
+use Rattle.aq_rules.specs.Office.Load.{Posted, TooManyLines, Repeated, Differing, NoRoom, Taken, posted}
+use Rattle.aq_rules.specs.Shown.Answer.{Answer, OfSheet, OfExport, NoSite, NoLoad, answer}
+use Rattle.aq_rules.specs.Shown.Json.{json_of}
+use Rattle.aq_rules.specs.Shown.OtherSheets.{conflict_sheet, error_sheet}
+use Rattle.aq_rules.specs.Shown.Sheet.{Sheet}
+use Rattle.aq_rules.specs.Shown.Sheets.{load_sheet}
 use Rattle.aq_http.specs.Reply.{reply_text}
 use Rattle.aq_http.specs.Routes.{found}
 use Rattle.aq_http.specs.declared.routes.Found.{Found}

@@ -2,8 +2,8 @@
 use Rattle.std.specs.Prelude.{◌≡◌, ℕ, ◌==◌, ◌⊎◌, Bool, true, false, List, Option, IfSome}
 use Rattle.std.specs.Option.{option_map}
 use Rattle.aq_base.specs.Faults.{HasRisen}
-use Rattle.aq_profile.specs.Kept.Rows.{Row, rows_of}
-use Rattle.aq_profile.specs.Office.Office.{Office}
+use Rattle.aq_rules.specs.Kept.Rows.{Row, rows_of}
+use Rattle.aq_rules.specs.Office.Office.{Office}
 use Rattle.aq_http.specs.declared.verb.Verb.{Verb}
 use Rattle.aq_serve.specs.Answered.{answered, reply_of}
 

@@ -1,7 +1,7 @@
 -- Connections that are served one after the other: what became of each, and how serving ends (own).
 use Rattle.std.specs.Prelude.{◌≡◌, ℕ, ◌+◌, ◌-◌, ◌^◌, ◌<◌, ◌≤◌, ◌⊎◌, Bool, true, false, List, [], ◌∷◌, ◌++◌, length, map, flat_map, count_by, IfSome, Option, Result, Ok, Err}
 use Rattle.aq_base.specs.Faults.{HasRisen}
-use Rattle.aq_profile.specs.Office.Office.{Office}
+use Rattle.aq_rules.specs.Office.Office.{Office}
 use Rattle.aq_serve.specs.Door.{Both, DoorView, Line, Wire}
 use Rattle.aq_serve.specs.Service.{AreOfOffice, Become, Keeps, ServiceView}
 use Rattle.aq_serve.specs.Session.{IsCut, IsFront, IsSession, Turn, failed_commits, office_behind, replies}

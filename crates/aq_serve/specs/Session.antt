@@ -1,6 +1,6 @@
 -- The session over a connection's bytes: the requests, one after the other, and the replies to them (RFC 9112, sections 9.2 and 9.3; the limit of 1,000 requests is (own)).
 use Rattle.std.specs.Prelude.{⊤, ◌≡◌, ℕ, ◌+◌, ◌<◌, ◌==◌, ◌||◌, Bool, true, false, List, [], ◌∷◌, ◌++◌, length, take, drop, flat_map, count_by}
-use Rattle.aq_profile.specs.Office.Office.{Office}
+use Rattle.aq_rules.specs.Office.Office.{Office}
 use Rattle.aq_http.specs.Step.{IsStep, Step, More, Refuse, Request, Whole}
 use Rattle.aq_serve.specs.Answered.{Answered, answered, refused, reply_of}
 use Rattle.aq_serve.specs.declared.limits.TheConstants.{MOST_REQUESTS}

@@ -2,7 +2,7 @@
 use Rattle.std.specs.Prelude.{⊤, ◌≡◌, ℕ, ◌≤◌, ◌+◌, ◌<◌, ◌⊎◌, Bool, true, false, List, [], ◌∷◌, ◌++◌, length, take, drop, Option, Some, None, Result, Ok, Err}
 use Rattle.aq_base.specs.Faults.{HasRisen}
 use Rattle.aq_base.specs.declared.refusal.Memory.{Memory}
-use Rattle.aq_profile.specs.Office.Office.{Office}
+use Rattle.aq_rules.specs.Office.Office.{Office}
 use Rattle.aq_http.specs.Head.{head_in, IsHeadStep}
 use Rattle.aq_http.specs.Head as head
 use Rattle.aq_http.specs.Places.{HeadPlaces}

@@ -1,6 +1,6 @@
 //! The service: an office, and the keeper in which it stands.
 ghost use Rattle.std.specs.Prelude.{◌≤◌, length, IfOk, OnErr};
-ghost use Rattle.aq_profile.specs.Limits.{MOST_BYTES};
+ghost use Rattle.aq_rules.specs.Limits.{MOST_BYTES};
 ghost use Rattle.aq_serve.specs.Service.{Answers, Loses, ServiceView};
 
 use aq_base::Memory;

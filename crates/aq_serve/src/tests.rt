@@ -11,7 +11,7 @@ struct NoMemory;
 
 impl Service<()> for NoMemory {
     ghost use Rattle.std.specs.Prelude.{None};
-    ghost use Rattle.aq_profile.specs.Office.Office.{nothing};
+    ghost use Rattle.aq_rules.specs.Office.Office.{nothing};
 
     ghost seen = { λ _ _. record { office = nothing; tables = None; faults = 0 } };
 

@@ -11,22 +11,22 @@ use Rattle.aq_base.specs.declared.monitor.Pollutant.{Pollutant}
 use Rattle.aq_base.specs.declared.reply.LoadReply.{LoadReply}
 use Rattle.aq_base.specs.declared.standard.Standard.{Standard}
 use Rattle.aq_loads.specs.KeptLoads.{reply_in}
-use Rattle.aq_profile.specs.DesignValues.{DesignValue, design_value}
-use Rattle.aq_profile.specs.Kept.Summaries.{PmYear, pm25_summary}
-use Rattle.aq_profile.specs.Office.Approval.{is_approved}
-use Rattle.aq_profile.specs.Office.Office.{Office, StoredLoad, load_at}
-use Rattle.aq_profile.specs.Office.Season.{season_of}
-use Rattle.aq_profile.specs.Ozone.EightHour.{WindowRow}
-use Rattle.aq_profile.specs.Ozone.OzoneDay.{OzoneDay, windows}
-use Rattle.aq_profile.specs.Ozone.OzoneYear.{OzoneYear, days_of, ozone_days, ozone_year}
-use Rattle.aq_profile.specs.Particles.Pm10Estimate.{Pm10Quarter, pm10_year}
-use Rattle.aq_profile.specs.Standards.{pollutant_of}
-use Rattle.aq_profile.specs.Shown.Answer.{Answer, OfSheet, OfExport, NoSite, NoLoad, Reply, Windows, Days, Pm25, Pm10, Value, Report, Export, answer, is_registered, of_load, of_site}
-use Rattle.aq_profile.specs.Shown.Export.{Shown, export_answer, export_of, shown_of}
-use Rattle.aq_profile.specs.Shown.OtherSheets.{Judged, judged, report_answer, report_sheet, sites_with, value_answer, value_sheet}
-use Rattle.aq_profile.specs.Shown.ParticleSheets.{pm10_answer, pm10_sheet, pm25_answer, pm25_sheet}
-use Rattle.aq_profile.specs.Shown.Sheet.{Sheet}
-use Rattle.aq_profile.specs.Shown.Sheets.{days_answer, days_sheet, load_sheet, windows_answer, windows_sheet}
+use Rattle.aq_rules.specs.DesignValues.{DesignValue, design_value}
+use Rattle.aq_rules.specs.Kept.Summaries.{PmYear, pm25_summary}
+use Rattle.aq_rules.specs.Office.Approval.{is_approved}
+use Rattle.aq_rules.specs.Office.Office.{Office, StoredLoad, load_at}
+use Rattle.aq_rules.specs.Office.Season.{season_of}
+use Rattle.aq_rules.specs.Ozone.EightHour.{WindowRow}
+use Rattle.aq_rules.specs.Ozone.OzoneDay.{OzoneDay, windows}
+use Rattle.aq_rules.specs.Ozone.OzoneYear.{OzoneYear, days_of, ozone_days, ozone_year}
+use Rattle.aq_rules.specs.Particles.Pm10Estimate.{Pm10Quarter, pm10_year}
+use Rattle.aq_rules.specs.Standards.{pollutant_of}
+use Rattle.aq_rules.specs.Shown.Answer.{Answer, OfSheet, OfExport, NoSite, NoLoad, Reply, Windows, Days, Pm25, Pm10, Value, Report, Export, answer, is_registered, of_load, of_site}
+use Rattle.aq_rules.specs.Shown.Export.{Shown, export_answer, export_of, shown_of}
+use Rattle.aq_rules.specs.Shown.OtherSheets.{Judged, judged, report_answer, report_sheet, sites_with, value_answer, value_sheet}
+use Rattle.aq_rules.specs.Shown.ParticleSheets.{pm10_answer, pm10_sheet, pm25_answer, pm25_sheet}
+use Rattle.aq_rules.specs.Shown.Sheet.{Sheet}
+use Rattle.aq_rules.specs.Shown.Sheets.{days_answer, days_sheet, load_sheet, windows_answer, windows_sheet}
 
 -- ---- a load
 

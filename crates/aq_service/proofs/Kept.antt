@@ -12,8 +12,8 @@ use Rattle.aq_http.specs.declared.route.Route.{Route}
 use Rattle.aq_http.specs.declared.routes.Found.TheVariants.{Ask as Asks, NotAllowed}
 use Rattle.aq_http.specs.declared.verb.Verb.{Verb}
 use Rattle.aq_http.specs.declared.verb.Verb.TheVariants.{Get, Post, Other}
-use Rattle.aq_profile.specs.Office.Office.{Office}
-use Rattle.aq_profile.specs.Shown.Answer.{answer}
+use Rattle.aq_rules.specs.Office.Office.{Office}
+use Rattle.aq_rules.specs.Shown.Answer.{answer}
 use Rattle.aq_serve.specs.Answered.{answered, to_question}
 use Rattle.aq_service.specs.Answers.{AreAnswers, IsAnsweredWith, with_text}
 

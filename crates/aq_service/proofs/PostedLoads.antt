@@ -3,14 +3,14 @@ use Rattle.std.proofs.Common.{◌≡◌, ℕ, ◌≤◌, Bool, true, false, cond
 use Rattle.std.specs.Prelude.{nat_le, nat_lt, ◌==◌, bytes_eq, IsTrue}
 use Rattle.std.proofs.lemmas.Bool.Decides.{nat_tests}
 use Rattle.std.proofs.lemmas.Bool.{and_parts}
-use Rattle.aq_profile.proofs.Loads.{posted-few}
-use Rattle.aq_profile.proofs.Lookups.{found-with, same-itself}
-use Rattle.aq_profile.specs.Limits.{LAST_LOAD_NUMBER, MOST_LINES, MOST_LOADS}
-use Rattle.aq_profile.specs.Lines.Lines.{line_count, body_lines}
-use Rattle.aq_profile.specs.Office.Load.{Repeat, Conflict, Full, New, TooManyLines, Repeated, Differing, NoRoom, Taken, after_all, decide, decide_known, load, office_after, post, posted, posted_anew, posted_beside, reply, stored}
-use Rattle.aq_profile.specs.Office.Load as book
-use Rattle.aq_profile.specs.Office.Office.{Office, StoredLoad, load_at, load_rank, row_at, with_row}
-use Rattle.aq_profile.specs.Shown.Answer.{is_load_number}
+use Rattle.aq_rules.proofs.Loads.{posted-few}
+use Rattle.aq_rules.proofs.Lookups.{found-with, same-itself}
+use Rattle.aq_rules.specs.Limits.{LAST_LOAD_NUMBER, MOST_LINES, MOST_LOADS}
+use Rattle.aq_rules.specs.Lines.Lines.{line_count, body_lines}
+use Rattle.aq_rules.specs.Office.Load.{Repeat, Conflict, Full, New, TooManyLines, Repeated, Differing, NoRoom, Taken, after_all, decide, decide_known, load, office_after, post, posted, posted_anew, posted_beside, reply, stored}
+use Rattle.aq_rules.specs.Office.Load as book
+use Rattle.aq_rules.specs.Office.Office.{Office, StoredLoad, load_at, load_rank, row_at, with_row}
+use Rattle.aq_rules.specs.Shown.Answer.{is_load_number}
 use Rattle.aq_serve.specs.Service.{ServiceView}
 use Rattle.aq_service.specs.Posting.{IsPosted, TakenBy}
 use Rattle.aq_service.specs.declared.posting.Posted.{Posted}

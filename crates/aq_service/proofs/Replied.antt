@@ -5,14 +5,14 @@ use Rattle.std.specs.Option.{option_map}
 use Rattle.aq_base.specs.Site.{Site}
 use Rattle.aq_base.specs.declared.monitor.Pollutant.{Pollutant}
 use Rattle.aq_base.specs.declared.reply.LoadReply.{LoadReply}
-use Rattle.aq_profile.specs.Kept.Rows.{rows_of}
-use Rattle.aq_profile.specs.Office.Load.{TooManyLines, Repeated, Differing, NoRoom, Taken, load, office_after, post, posted, reply, stored}
-use Rattle.aq_profile.specs.Office.Load as book
-use Rattle.aq_profile.specs.Office.Office.{Office, StoredLoad, load_at}
-use Rattle.aq_profile.specs.Shown.Answer.{OfExport, NoSite, Export, answer, is_registered}
-use Rattle.aq_profile.specs.Shown.Export.{export_answer}
-use Rattle.aq_profile.specs.Shown.OtherSheets.{conflict_sheet}
-use Rattle.aq_profile.specs.Shown.Sheets.{load_sheet}
+use Rattle.aq_rules.specs.Kept.Rows.{rows_of}
+use Rattle.aq_rules.specs.Office.Load.{TooManyLines, Repeated, Differing, NoRoom, Taken, load, office_after, post, posted, reply, stored}
+use Rattle.aq_rules.specs.Office.Load as book
+use Rattle.aq_rules.specs.Office.Office.{Office, StoredLoad, load_at}
+use Rattle.aq_rules.specs.Shown.Answer.{OfExport, NoSite, Export, answer, is_registered}
+use Rattle.aq_rules.specs.Shown.Export.{export_answer}
+use Rattle.aq_rules.specs.Shown.OtherSheets.{conflict_sheet}
+use Rattle.aq_rules.specs.Shown.Sheets.{load_sheet}
 use Rattle.aq_http.specs.declared.verb.Verb.{Verb}
 use Rattle.aq_http.specs.Routes.{found}
 use Rattle.aq_serve.proofs.Tables.{become_same}

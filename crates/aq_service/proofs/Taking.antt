@@ -2,12 +2,12 @@
 use Rattle.std.proofs.Common.{◌≡◌, ℕ, ◌≤◌, inl, inr, List, Option, Some, None, sym, ap, ◌∙◌, subst}
 use Rattle.std.specs.Prelude.{IfOk, IfSome, IsTrue, OnErr, Result, Ok, Err, map, true}
 use Rattle.std.specs.Option.{option_map}
-use Rattle.aq_profile.specs.Kept.RowChanges.{GivesRowsAfter, RowChange, changed_key, keys_rise, row_batch, with_row_changes}
-use Rattle.aq_profile.specs.Kept.Rows.{Row, rows_of}
-use Rattle.aq_profile.specs.Limits.{MOST_LINES}
-use Rattle.aq_profile.specs.Lines.Lines.{line_count}
-use Rattle.aq_profile.specs.Office.Load.{New, decide, load}
-use Rattle.aq_profile.specs.Office.Office.{Office}
+use Rattle.aq_rules.specs.Kept.RowChanges.{GivesRowsAfter, RowChange, changed_key, keys_rise, row_batch, with_row_changes}
+use Rattle.aq_rules.specs.Kept.Rows.{Row, rows_of}
+use Rattle.aq_rules.specs.Limits.{MOST_LINES}
+use Rattle.aq_rules.specs.Lines.Lines.{line_count}
+use Rattle.aq_rules.specs.Office.Load.{New, decide, load}
+use Rattle.aq_rules.specs.Office.Office.{Office}
 use Rattle.aq_serve.proofs.Tables.{become_same}
 use Rattle.aq_service.proofs.PostedLoads.{post_new}
 use Rattle.aq_service.specs.Posting.{LosesLoad, TakenBy}

@@ -3,9 +3,9 @@ use Rattle.std.specs.Prelude.{◌≡◌, ℕ, ⊤, Bool, List, [], Contains, Opt
 use Rattle.std.specs.Global.{Vec}
 use Rattle.aq_http.specs.declared.verb.Verb.{Verb}
 use Rattle.aq_http.specs.declared.verb.Verb.TheVariants.{Get}
-use Rattle.aq_profile.specs.Office.Office.{Office}
-use Rattle.aq_profile.specs.Shown.Answer.{Answer, Ask, Export}
-use Rattle.aq_profile.specs.Shown.Answer as book
+use Rattle.aq_rules.specs.Office.Office.{Office}
+use Rattle.aq_rules.specs.Shown.Answer.{Answer, Ask, Export}
+use Rattle.aq_rules.specs.Shown.Answer as book
 use Rattle.aq_serve.specs.Answered.{Answered, answered, refused, reply_of}
 use Rattle.aq_service.specs.declared.answers.Unanswered.{Unanswered}
 use Rattle.aq_service.specs.declared.answers.Unanswered.TheVariants.{NoSite, NoLoad, Memory}

@@ -1,9 +1,9 @@
 -- What becomes of a load that is posted over a keeper, by what the book of rules says of it.
 use Rattle.std.specs.Prelude.{◌≡◌, ℕ, ◌⊎◌, List}
 use Rattle.aq_base.specs.Faults.{HasRisen}
-use Rattle.aq_profile.specs.Office.Load as book
-use Rattle.aq_profile.specs.Office.Load.{TooManyLines, Repeated, Differing, NoRoom, Taken}
-use Rattle.aq_profile.specs.Office.Office.{Office}
+use Rattle.aq_rules.specs.Office.Load as book
+use Rattle.aq_rules.specs.Office.Load.{TooManyLines, Repeated, Differing, NoRoom, Taken}
+use Rattle.aq_rules.specs.Office.Office.{Office}
 use Rattle.aq_serve.specs.Service.{AreOfOffice, Become, Keeps, ServiceView}
 use Rattle.aq_service.specs.declared.posting.Posted.{Posted}
 use Rattle.aq_service.specs.declared.posting.Posted.TheVariants.{Done, Lines, Conflict, Full, Failed}

@@ -1,9 +1,9 @@
 -- Replies over an office, as parts of what a whole request is answered with.
 use Rattle.std.specs.Prelude.{◌≡◌, ℕ, ◌==◌, ◌⊎◌, ⊤, Bool, true, false, List, codes, Option, IfSome, IsSome}
 use Rattle.aq_base.specs.Faults.{HasRisen}
-use Rattle.aq_profile.specs.Office.Office.{Office, StoredLoad, load_at}
-use Rattle.aq_profile.specs.Shown.OtherSheets.{conflict_sheet}
-use Rattle.aq_profile.specs.Shown.Sheets.{load_sheet}
+use Rattle.aq_rules.specs.Office.Office.{Office, StoredLoad, load_at}
+use Rattle.aq_rules.specs.Shown.OtherSheets.{conflict_sheet}
+use Rattle.aq_rules.specs.Shown.Sheets.{load_sheet}
 use Rattle.aq_serve.specs.Answered.{Answered, refused, reply_of, shown}
 use Rattle.aq_serve.specs.Service.{AreOfOffice, Become, Counts, Keeps, ServiceView}
 use Rattle.aq_service.specs.declared.posting.Posted.{Posted}

@@ -2,7 +2,7 @@
 ghost use Rattle.std.specs.Prelude.{◌≡◌, ◌<◌, ◌+◌, ◌≤◌, IfErr, IfOk, IsTrue};
 ghost use Rattle.aq_base.specs.declared.day.TheConstants.{FIRST_YEAR, LAST_YEAR};
 ghost use Rattle.aq_base.specs.declared.ask.Ask.TheVariants.{Reply, Windows, Pm25, Pm10, Value, Report, Export};
-ghost use Rattle.aq_profile.specs.Shown.Answer.{OfExport, OfSheet, answer, is_asked};
+ghost use Rattle.aq_rules.specs.Shown.Answer.{OfExport, OfSheet, answer, is_asked};
 ghost use Rattle.aq_service.specs.Answers.{AsksForSheet, IsUnanswered};
 
 use crate::days::days_of;

@@ -2,9 +2,9 @@
 ghost use Rattle.std.specs.Prelude.{◌≡◌, ◌≤◌, IfErr, IfOk, map};
 ghost use Rattle.aq_base.specs.declared.day.TheConstants.{FIRST_YEAR, LAST_YEAR};
 ghost use Rattle.aq_base.specs.declared.ask.Ask.TheVariants.{Days};
-ghost use Rattle.aq_profile.specs.Office.Approval.{is_approved};
-ghost use Rattle.aq_profile.specs.Ozone.OzoneYear as years;
-ghost use Rattle.aq_profile.specs.Shown.Answer.{OfSheet, answer};
+ghost use Rattle.aq_rules.specs.Office.Approval.{is_approved};
+ghost use Rattle.aq_rules.specs.Ozone.OzoneYear as years;
+ghost use Rattle.aq_rules.specs.Shown.Answer.{OfSheet, answer};
 ghost use Rattle.aq_service.specs.Answers.{IsUnanswered};
 
 use crate::answers::Unanswered;

@@ -1,17 +1,17 @@
 //! Loads that are posted: checked, staged, committed, and then taken.
 ghost use Rattle.std.specs.Prelude.{◌≡◌, ◌≤◌, length, IfOk, OnErr};
 ghost use Rattle.sha2.specs.Sha256.{sha256};
-ghost use Rattle.aq_profile.specs.Limits.{MOST_BYTES, MOST_LINES};
-ghost use Rattle.aq_profile.specs.Lines.Lines.{line_count};
-ghost use Rattle.aq_profile.specs.Office.Load.{New, decide, load, posted, reply};
-ghost use Rattle.aq_profile.specs.Office.Office.{IsOffice};
+ghost use Rattle.aq_rules.specs.Limits.{MOST_BYTES, MOST_LINES};
+ghost use Rattle.aq_rules.specs.Lines.Lines.{line_count};
+ghost use Rattle.aq_rules.specs.Office.Load.{New, decide, load, posted, reply};
+ghost use Rattle.aq_rules.specs.Office.Office.{IsOffice};
 ghost use Rattle.aq_service.specs.Posting.{IsPosted, LosesLoad, TakenBy};
 
 use aq_base::{MOST_LINES, Memory};
 use aq_book::{Book, LoadCheck};
 use aq_forms::count_lines;
 use aq_keeper::{Keeper, KeeperFault};
-use aq_profile::kept::row_changes::{batch_gives_the_rows_after, batch_is_in_order};
+use aq_rules::kept::row_changes::{batch_gives_the_rows_after, batch_is_in_order};
 use sha2::{Digest, Sha256};
 use std::alloc::Global;
 

@@ -1,12 +1,12 @@
 //! The bytes of replies over an office.
 ghost use Rattle.std.specs.Prelude.{◌≡◌, [], IfOk, IfSome, IsSome, IsTrue};
 ghost use Rattle.aq_http.specs.Reply.{is_reply_status, reply_text};
-ghost use Rattle.aq_profile.specs.Office.Office.{IsOffice, load_at};
-ghost use Rattle.aq_profile.specs.Shown.Answer.{answer, is_asked};
-ghost use Rattle.aq_profile.specs.Shown.OtherSheets.{conflict_sheet};
-ghost use Rattle.aq_profile.specs.Shown.Json as book;
-ghost use Rattle.aq_profile.specs.Shown.Sheets.{load_sheet};
-ghost use Rattle.aq_profile.specs.Shown.WellFormed.{IsWellFormed};
+ghost use Rattle.aq_rules.specs.Office.Office.{IsOffice, load_at};
+ghost use Rattle.aq_rules.specs.Shown.Answer.{answer, is_asked};
+ghost use Rattle.aq_rules.specs.Shown.OtherSheets.{conflict_sheet};
+ghost use Rattle.aq_rules.specs.Shown.Json as book;
+ghost use Rattle.aq_rules.specs.Shown.Sheets.{load_sheet};
+ghost use Rattle.aq_rules.specs.Shown.WellFormed.{IsWellFormed};
 ghost use Rattle.aq_serve.specs.Answered.{error_body, reply_of, shown, to_question};
 ghost use Rattle.aq_service.specs.Answers.{AsksForSheet, IsTextOf};
 ghost use Rattle.aq_service.specs.Replies.{IsLoadReply, Stands, methods};
@@ -17,7 +17,7 @@ use aq_base::{Ask, Memory};
 use aq_book::Book;
 use aq_http::reply_bytes;
 use aq_loads::digest_is_32_bytes;
-use aq_profile::shown::well_formed::{answers_are_well_formed, other_sheets_are_well_formed};
+use aq_rules::shown::well_formed::{answers_are_well_formed, other_sheets_are_well_formed};
 use aq_reports::{Sheet, conflict_sheet, json_of, load_sheet};
 use aq_serve::error_body;
 use std::alloc::Global;

@@ -4,10 +4,10 @@ ghost use Rattle.sha2.specs.Sha256.{sha256};
 ghost use Rattle.aq_http.specs.Routes.{IsFound, found as found_in};
 ghost use Rattle.aq_http.specs.declared.routes.Found.TheVariants.{Ask as Asks};
 ghost use Rattle.aq_http.specs.declared.verb.Verb.TheVariants.{Get};
-ghost use Rattle.aq_profile.specs.Limits.{MOST_BYTES};
-ghost use Rattle.aq_profile.specs.Office.Load.{posted};
-ghost use Rattle.aq_profile.specs.Office.Office.{IsOffice};
-ghost use Rattle.aq_profile.specs.Shown.Answer.{answer, is_asked, is_load_number};
+ghost use Rattle.aq_rules.specs.Limits.{MOST_BYTES};
+ghost use Rattle.aq_rules.specs.Office.Load.{posted};
+ghost use Rattle.aq_rules.specs.Office.Office.{IsOffice};
+ghost use Rattle.aq_rules.specs.Shown.Answer.{answer, is_asked, is_load_number};
 ghost use Rattle.aq_serve.specs.Answered.{reply_of, to_found, to_load, to_question};
 ghost use Rattle.aq_service.specs.Answers.{IsKnownReply};
 ghost use Rattle.aq_service.specs.Replies.{AnswersBy, LosesBy};
@@ -18,7 +18,7 @@ use aq_base::{Ask, Memory};
 use aq_book::Book;
 use aq_http::{Found, Routes, Verb, reply_bytes};
 use aq_keeper::Keeper;
-use aq_profile::office::valid_load::an_office_of_nothing_is_valid;
+use aq_rules::office::valid_load::an_office_of_nothing_is_valid;
 use aq_serve::Service;
 use lru::LruCache;
 use std::alloc::Global;
@@ -39,7 +39,7 @@ pub struct OfficeService {
 }
 
 impl Model for OfficeService {
-    ghost use Rattle.aq_profile.specs.Office.Office.{IsOffice, Office};
+    ghost use Rattle.aq_rules.specs.Office.Office.{IsOffice, Office};
     ghost use Rattle.aq_service.specs.Answers.{AreAnswers};
 
     ghost Value = { Office };

@@ -11,8 +11,8 @@ use Rattle.std.proofs.lemmas.Map.Keys.{sorted_head, sorted_tail}
 use Rattle.aq_base.specs.declared.monitor.MonitorId.{MonitorId}
 use Rattle.aq_base.specs.declared.observation.ObsKey.{ObsKey}
 use Rattle.aq_base.specs.declared.observation.Observation.{Observation}
-use Rattle.aq_profile.specs.Office.Office.{observation_numbers, observation_rank, comes_before, is_same, content_of, row_at, with_row, without_row, rises, rises_from}
-use Rattle.aq_profile.specs.Office.RowOrder.{with_row-rises, without_row-rises}
+use Rattle.aq_rules.specs.Office.Office.{observation_numbers, observation_rank, comes_before, is_same, content_of, row_at, with_row, without_row, rises, rises_from}
+use Rattle.aq_rules.specs.Office.RowOrder.{with_row-rises, without_row-rises}
 use Rattle.aq_shelf.specs.Places.{place_of, StandsAt, IsGapAt}
 use Rattle.aq_shelf.specs.Standing.{content_at}
 use Rattle.aq_shelf.specs.Stretches.{between, rows_of}

@@ -15,9 +15,9 @@ use Rattle.aq_base.specs.contracts.monitor.PollutantOrd.TheImpl as pollutant_der
 use Rattle.aq_base.specs.contracts.monitor.MonitorIdOrd.TheImpl as monitor_derived
 use Rattle.aq_base.specs.contracts.monitor.MonitorIdOrd.TheImpl.Laws as monitor_laws
 use Rattle.aq_base.specs.contracts.observation.ObsKeyOrd.TheImpl as key_derived
-use Rattle.aq_profile.specs.Office.Monitors.{is_same_site, is_same_pollutant, is_same_monitor, is_same_key}
-use Rattle.aq_profile.specs.Office.Office.{observation_numbers, pollutant_number, is_same, comes_before}
-use Rattle.aq_profile.specs.Office.Sameness as sameness
+use Rattle.aq_rules.specs.Office.Monitors.{is_same_site, is_same_pollutant, is_same_monitor, is_same_key}
+use Rattle.aq_rules.specs.Office.Office.{observation_numbers, pollutant_number, is_same, comes_before}
+use Rattle.aq_rules.specs.Office.Sameness as sameness
 use Rattle.aq_shelf.specs.declared.stretch.Stretch.{Stretch}
 use Rattle.aq_shelf.specs.contracts.stretch.StretchOrd.TheImpl as stretch_derived
 use Rattle.aq_shelf.specs.contracts.stretch.StretchOrd.TheImpl.Laws as stretch_laws

@@ -6,8 +6,8 @@ use Rattle.std.proofs.lemmas.Bool.{false≢true}
 use Rattle.std.proofs.lemmas.Bool.Decides.{nat_tests}
 use Rattle.std.proofs.lemmas.List.Elements.{filter-append}
 use Rattle.std.proofs.lemmas.Slice.Eq.{bytes_eq-Decides}
-use Rattle.aq_profile.specs.Office.RowOrder.{before-trans}
-use Rattle.aq_profile.specs.Office.Office.{is_same, comes_before, rises, rises_from, row_at, with_row, without_row}
+use Rattle.aq_rules.specs.Office.RowOrder.{before-trans}
+use Rattle.aq_rules.specs.Office.Office.{is_same, comes_before, rises, rises_from, row_at, with_row, without_row}
 
 -- ---- ranks
 

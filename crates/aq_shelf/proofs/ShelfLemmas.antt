@@ -7,11 +7,11 @@ use Rattle.aq_base.specs.Values.{HasValueInRange}
 use Rattle.aq_base.specs.declared.monitor.MonitorId.{MonitorId}
 use Rattle.aq_base.specs.declared.observation.ObsKey.{ObsKey}
 use Rattle.aq_base.specs.declared.observation.Observation.{Observation}
-use Rattle.aq_profile.specs.Limits.{MOST_OBSERVATIONS}
-use Rattle.aq_profile.specs.Office.Monitors.{is_same_monitor}
-use Rattle.aq_profile.specs.Office.Office.{content_of, is_same, observation_numbers, observation_rank, row_at, with_row, without_row}
-use Rattle.aq_profile.specs.Office.RowOrder.{with_row-rises, without_row-rises}
-use Rattle.aq_profile.specs.Office.Sameness.{same_key}
+use Rattle.aq_rules.specs.Limits.{MOST_OBSERVATIONS}
+use Rattle.aq_rules.specs.Office.Monitors.{is_same_monitor}
+use Rattle.aq_rules.specs.Office.Office.{content_of, is_same, observation_numbers, observation_rank, row_at, with_row, without_row}
+use Rattle.aq_rules.specs.Office.RowOrder.{with_row-rises, without_row-rises}
+use Rattle.aq_rules.specs.Office.Sameness.{same_key}
 use Rattle.aq_shelf.specs.declared.fault.ShelfFault.{ShelfFault}
 use Rattle.aq_shelf.specs.declared.fault.ShelfFault.TheVariants.{AlreadyThere, Full, Memory}
 use Rattle.aq_shelf.specs.Standing.{ChangesOnly, content_at, hour_content, in_span, observations_in, IsInsertFault, IsPutFault, IsShelf, IsStanding}

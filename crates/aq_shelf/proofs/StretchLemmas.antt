@@ -18,9 +18,9 @@ use Rattle.std.proofs.lemmas.Map.Steps.{set_value_same}
 use Rattle.aq_base.specs.declared.monitor.MonitorId.{MonitorId}
 use Rattle.aq_base.specs.declared.observation.ObsKey.{ObsKey}
 use Rattle.aq_base.specs.declared.observation.Observation.{Observation}
-use Rattle.aq_profile.specs.Office.Monitors.{is_same_monitor}
-use Rattle.aq_profile.specs.Office.Office.{observation_numbers, observation_rank, comes_before, content_of, row_at, with_row, without_row, rises}
-use Rattle.aq_profile.specs.Office.RowOrder.{with_row-rises, without_row-rises}
+use Rattle.aq_rules.specs.Office.Monitors.{is_same_monitor}
+use Rattle.aq_rules.specs.Office.Office.{observation_numbers, observation_rank, comes_before, content_of, row_at, with_row, without_row, rises}
+use Rattle.aq_rules.specs.Office.RowOrder.{with_row-rises, without_row-rises}
 use Rattle.aq_shelf.specs.declared.stretch.Stretch.{Stretch}
 use Rattle.aq_shelf.specs.Standing.{content_at, in_span, hour_content, observations_in}
 use Rattle.aq_shelf.specs.Stretches.{stretch_of, rows_of, rows_in, rows_under, joined, LieIn, AreStretches, between, hours_between}

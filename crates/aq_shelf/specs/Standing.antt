@@ -6,9 +6,9 @@ use Rattle.aq_base.specs.declared.day.TheConstants.{LAST_HOUR}
 use Rattle.aq_base.specs.declared.monitor.MonitorId.{MonitorId}
 use Rattle.aq_base.specs.declared.observation.ObsKey.{ObsKey}
 use Rattle.aq_base.specs.declared.observation.Observation.{Observation}
-use Rattle.aq_profile.specs.Limits.{MOST_OBSERVATIONS}
-use Rattle.aq_profile.specs.Office.Monitors.{is_same_monitor, is_same_key}
-use Rattle.aq_profile.specs.Office.Office.{content_of, observation_numbers, observation_rank, row_at, rises}
+use Rattle.aq_rules.specs.Limits.{MOST_OBSERVATIONS}
+use Rattle.aq_rules.specs.Office.Monitors.{is_same_monitor, is_same_key}
+use Rattle.aq_rules.specs.Office.Office.{content_of, observation_numbers, observation_rank, row_at, rises}
 use Rattle.aq_shelf.specs.declared.fault.ShelfFault.{ShelfFault}
 use Rattle.aq_shelf.specs.declared.fault.ShelfFault.TheVariants.{AlreadyThere, Full, Memory}
 

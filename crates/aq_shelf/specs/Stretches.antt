@@ -5,7 +5,7 @@ use Rattle.std.specs.declared.cmp.Reverse.{Reverse}
 use Rattle.aq_base.specs.declared.monitor.MonitorId.{MonitorId}
 use Rattle.aq_base.specs.declared.observation.ObsKey.{ObsKey}
 use Rattle.aq_base.specs.declared.observation.Observation.{Observation}
-use Rattle.aq_profile.specs.Office.Office.{observation_rank, rises}
+use Rattle.aq_rules.specs.Office.Office.{observation_rank, rises}
 use Rattle.aq_shelf.specs.declared.stretch.Stretch.{Stretch}
 use Rattle.aq_shelf.specs.declared.stretch.TheConstants.{STRETCH_HOURS}
 

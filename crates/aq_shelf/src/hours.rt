@@ -3,7 +3,7 @@ ghost use Rattle.std.specs.Prelude.{◌≡◌, ◌<◌, ◌≤◌, false, None, 
 ghost use Rattle.std.specs.Map.{keys_of};
 ghost use Rattle.std.specs.List.Sorted.{IsStrictlySortedBy};
 ghost use Rattle.std.specs.Ordering.{nat_cmp};
-ghost use Rattle.aq_profile.specs.Office.Office.{observation_numbers, observation_rank, with_row, without_row};
+ghost use Rattle.aq_rules.specs.Office.Office.{observation_numbers, observation_rank, with_row, without_row};
 ghost use Rattle.aq_shelf.specs.Places.{place_of, StandsAt, IsGapAt};
 ghost use Rattle.aq_shelf.specs.Standing.{content_at, IsPutFault};
 ghost use Rattle.aq_shelf.specs.Stretches.{between, rows_of};

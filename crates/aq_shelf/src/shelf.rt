@@ -2,7 +2,7 @@
 ghost use Rattle.std.specs.Prelude.{◌≡◌, ◌+◌, ◌-◌, ◌<◌, ◌≤◌, false, Some, None, [], length, IfSome, IfNone, IfOk, IfErr, OnSome, OnOk, OnErr};
 ghost use Rattle.std.specs.List.{AllByRecursion};
 ghost use Rattle.aq_base.specs.Values.{HasValueInRange};
-ghost use Rattle.aq_profile.specs.Office.Office.{observation_numbers, observation_rank, with_row, without_row};
+ghost use Rattle.aq_rules.specs.Office.Office.{observation_numbers, observation_rank, with_row, without_row};
 ghost use Rattle.aq_shelf.specs.Standing.{ChangesOnly, content_at, observations_in, IsShelf, IsInsertFault, IsPutFault};
 ghost use Rattle.aq_shelf.specs.Stretches.{hours_between, joined, AreStretches};
 

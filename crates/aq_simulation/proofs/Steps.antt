@@ -7,14 +7,14 @@ use Rattle.std.proofs.lemmas.Nat.{mul-le}
 use Rattle.sha2.specs.Sha256.{sha256}
 use Rattle.aq_base.specs.Standard.{standards}
 use Rattle.aq_base.specs.declared.standard.Standard.{Standard}
-use Rattle.aq_profile.specs.Limits.{MOST_LINES}
-use Rattle.aq_profile.specs.Lines.Lines.{line_count}
-use Rattle.aq_profile.specs.Office.Office.{Office, nothing}
-use Rattle.aq_profile.specs.Office.Load.{post}
-use Rattle.aq_profile.specs.Shown.Answer.{Answer, OfSheet, NoSite, NoLoad, Report, answer}
-use Rattle.aq_profile.specs.Shown.Generator.{generate, generated_lines, generated_load, generated_office, load_count, loads_to_take, simulation, FIRST_GENERATED_YEAR}
-use Rattle.aq_profile.specs.Shown.OtherSheets.{report_answer, summary_sheet}
-use Rattle.aq_profile.specs.Shown.Sheet.{Sheet, text_of}
+use Rattle.aq_rules.specs.Limits.{MOST_LINES}
+use Rattle.aq_rules.specs.Lines.Lines.{line_count}
+use Rattle.aq_rules.specs.Office.Office.{Office, nothing}
+use Rattle.aq_rules.specs.Office.Load.{post}
+use Rattle.aq_rules.specs.Shown.Answer.{Answer, OfSheet, NoSite, NoLoad, Report, answer}
+use Rattle.aq_rules.specs.Shown.Generator.{generate, generated_lines, generated_load, generated_office, load_count, loads_to_take, simulation, FIRST_GENERATED_YEAR}
+use Rattle.aq_rules.specs.Shown.OtherSheets.{report_answer, summary_sheet}
+use Rattle.aq_rules.specs.Shown.Sheet.{Sheet, text_of}
 
 -- ---- the load that is taken
 

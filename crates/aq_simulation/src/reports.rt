@@ -2,8 +2,8 @@
 ghost use Rattle.std.specs.Prelude.{◌≡◌, ◌++◌, ◌+◌, ◌≤◌, flat_map, length, IfOk, OnOk};
 ghost use Rattle.aq_base.specs.Standard.{standards};
 ghost use Rattle.aq_base.specs.declared.day.TheConstants.{FIRST_YEAR, LAST_YEAR};
-ghost use Rattle.aq_profile.specs.Shown.OtherSheets.{report_answer, summary_sheet};
-ghost use Rattle.aq_profile.specs.Shown.Sheet.{text_of};
+ghost use Rattle.aq_rules.specs.Shown.OtherSheets.{report_answer, summary_sheet};
+ghost use Rattle.aq_rules.specs.Shown.Sheet.{text_of};
 
 use crate::taken::Taken;
 use aq_base::{Ask, Memory, Standard};

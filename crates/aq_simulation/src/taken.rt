@@ -1,10 +1,10 @@
 //! Generated loads, taken one after the other.
 ghost use Rattle.std.specs.Prelude.{◌≡◌, ◌+◌, ◌-◌, ◌*◌, ◌≤◌, length, IfOk, OnOk};
 ghost use Rattle.sha2.specs.Sha256.{sha256};
-ghost use Rattle.aq_profile.specs.Limits.{MOST_BYTES, MOST_LINES};
-ghost use Rattle.aq_profile.specs.Lines.Lines.{line_count};
-ghost use Rattle.aq_profile.specs.Office.Load.{post};
-ghost use Rattle.aq_profile.specs.Shown.Generator.{generated_lines, generated_load, generated_office, load_count};
+ghost use Rattle.aq_rules.specs.Limits.{MOST_BYTES, MOST_LINES};
+ghost use Rattle.aq_rules.specs.Lines.Lines.{line_count};
+ghost use Rattle.aq_rules.specs.Office.Load.{post};
+ghost use Rattle.aq_rules.specs.Shown.Generator.{generated_lines, generated_load, generated_office, load_count};
 
 use aq_base::Memory;
 use aq_book::Book;

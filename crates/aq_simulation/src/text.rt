@@ -1,7 +1,7 @@
 //! The text of a simulation.
 ghost use Rattle.std.specs.Prelude.{◌≡◌, ◌≤◌, IfOk};
 ghost use Rattle.sha2.specs.Sha256.{sha256};
-ghost use Rattle.aq_profile.specs.Shown.Generator.{simulation};
+ghost use Rattle.aq_rules.specs.Shown.Generator.{simulation};
 
 use crate::reports::{add_reports, summary_text};
 use crate::taken::take_all;

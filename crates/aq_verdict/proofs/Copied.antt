@@ -7,9 +7,9 @@ use Rattle.std.proofs.lemmas.Bool.Decides.{nat_tests}
 use Rattle.std.proofs.lemmas.Int.{ints}
 use Rattle.std.proofs.Math.IntN.{suc_ℤ-*ℤ, *ℤ_comm, *ℤ-zero}
 use Rattle.aq_base.specs.declared.monitor.Pollutant.TheVariants.{Pm25}
-use Rattle.aq_profile.specs.Lists.{total}
+use Rattle.aq_rules.specs.Lists.{total}
 use Rattle.aq_verdict.specs.QuarterlyMean.{IsMean}
-use Rattle.aq_profile.specs.Kept.Summaries.{PmQuarter, KeepsPmQuarter, is_value}
+use Rattle.aq_rules.specs.Kept.Summaries.{PmQuarter, KeepsPmQuarter, is_value}
 
 times-more : (a : ℤ) (n : ℕ) → a *ℤ pos (suc n) ≡ (a *ℤ pos n) +ℤ a
 times-more a n = *ℤ_comm a (pos (suc n)) ∙ suc_ℤ-*ℤ (pos n) a ∙ ap (λ (z : ℤ). z +ℤ a) (*ℤ_comm (pos n) a)

@@ -4,8 +4,8 @@ use Rattle.std.specs.Prelude.{Option, Some, None, ℤ, int_lt, int_le, slice_get
 use Rattle.std.proofs.lemmas.Bool.{false≢true}
 use Rattle.std.proofs.lemmas.Int.{ints}
 use Rattle.std.proofs.Math.Seq.{take-nil}
-use Rattle.aq_profile.specs.Lists.{ranked_in, ranked}
-use Rattle.aq_profile.specs.Kept.Summaries.{falls}
+use Rattle.aq_rules.specs.Lists.{ranked_in, ranked}
+use Rattle.aq_rules.specs.Kept.Summaries.{falls}
 use Rattle.aq_verdict.specs.Top.{given, is_no_higher, descends}
 use Rattle.aq_verdict.specs.Places.{descends-rest, given-empty}
 use Rattle.aq_verdict.specs.Inserted.{inserted, is_higher, higher, lower, moved, joined}

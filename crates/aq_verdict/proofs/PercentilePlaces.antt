@@ -5,10 +5,10 @@ use Rattle.std.specs.List.{flat_map}
 use Rattle.std.proofs.lemmas.List.{append_assoc, append-nil, length-append, length-replicate}
 use Rattle.std.proofs.lemmas.List.Elements.{All-head, All-tail}
 use Rattle.std.proofs.lemmas.List.Sorted.{IsPermutation-append_comm}
-use Rattle.aq_profile.specs.Lists.{ranked, all_of}
-use Rattle.aq_profile.specs.Particles.Percentile.{rank_of, percentile}
-use Rattle.aq_profile.specs.Kept.Summaries.{PmQuarter, PmYear, KeepsPmQuarter, KeepsPmYear, scheduled_in, falls}
-use Rattle.aq_profile.specs.Kept.SummaryVerdicts.{kept_counted}
+use Rattle.aq_rules.specs.Lists.{ranked, all_of}
+use Rattle.aq_rules.specs.Particles.Percentile.{rank_of, percentile}
+use Rattle.aq_rules.specs.Kept.Summaries.{PmQuarter, PmYear, KeepsPmQuarter, KeepsPmYear, scheduled_in, falls}
+use Rattle.aq_rules.specs.Kept.SummaryVerdicts.{kept_counted}
 use Rattle.aq_verdict.specs.declared.substitution.Copies.{Copies}
 use Rattle.aq_verdict.specs.Inserted.{inserted}
 use Rattle.aq_verdict.specs.Filled.{copies_of, FillsUp}

@@ -4,10 +4,10 @@ use Rattle.std.specs.Prelude.{Option, Some, None, option_map, option_and_then, s
 use Rattle.std.specs.List.{flat_map}
 use Rattle.std.proofs.lemmas.Option.{slice_get-get_or}
 use Rattle.std.proofs.lemmas.List.{append-nil, map-append}
-use Rattle.aq_profile.specs.Lists.{all_of}
-use Rattle.aq_profile.specs.Particles.Substitution.{same_part, matched}
-use Rattle.aq_profile.specs.Kept.Summaries.{PmQuarter, PmYear}
-use Rattle.aq_profile.specs.Kept.SummaryVerdicts.{of_summaries}
+use Rattle.aq_rules.specs.Lists.{all_of}
+use Rattle.aq_rules.specs.Particles.Substitution.{same_part, matched}
+use Rattle.aq_rules.specs.Kept.Summaries.{PmQuarter, PmYear}
+use Rattle.aq_rules.specs.Kept.SummaryVerdicts.{of_summaries}
 use Rattle.aq_verdict.specs.Filled.{joined_three}
 
 -- three places of a list of three, and four of one of four

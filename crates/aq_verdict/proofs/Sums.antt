@@ -6,7 +6,7 @@ use Rattle.std.proofs.lemmas.Bool.{false≢true}
 use Rattle.std.proofs.lemmas.List.Folds.{list_all-append}
 use Rattle.std.proofs.lemmas.List.Elements.{All-append, All-cons, All-nil, All-head, All-tail}
 use Rattle.aq_num.specs.Fractions.{sum_of_fractions, fraction_sum}
-use Rattle.aq_profile.specs.Particles.Means.{Fraction, has_days, sum_of_fractions as sum_of_means}
+use Rattle.aq_rules.specs.Particles.Means.{Fraction, has_days, sum_of_fractions as sum_of_means}
 use Rattle.aq_verdict.specs.QuarterlyMean.{IsMean, nothing_more}
 
 -- both words of a sum of fractions say the same

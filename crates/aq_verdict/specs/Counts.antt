@@ -1,7 +1,7 @@
 -- Counts of quarters and years, over what is kept of them.
 use Rattle.std.specs.Prelude.{ℕ, Bool, nat_le, List, map, sum_by}
-use Rattle.aq_profile.specs.Particles.QuarterCounts.{QuarterCounts, capture}
-use Rattle.aq_profile.specs.Kept.Summaries.{PmQuarter, counts_of}
+use Rattle.aq_rules.specs.Particles.QuarterCounts.{QuarterCounts, capture}
+use Rattle.aq_rules.specs.Kept.Summaries.{PmQuarter, counts_of}
 
 abbrev pub is_quarter_captured : PmQuarter → Bool
 is_quarter_captured q = nat_le 75 (capture (counts_of q))

@@ -1,5 +1,5 @@
 -- A design value as the book of rules has it.
-use Rattle.aq_profile.specs.DesignValues.{DesignValue as Design, OfOzone, OfAnnual, OfDaily, OfPm10}
+use Rattle.aq_rules.specs.DesignValues.{DesignValue as Design, OfOzone, OfAnnual, OfDaily, OfPm10}
 use Rattle.aq_verdict.specs.declared.design_value.DesignValue.{DesignValue}
 use Rattle.aq_verdict.specs.declared.design_value.DesignValue.TheVariants.{Ozone, Annual, Daily, Pm10}
 

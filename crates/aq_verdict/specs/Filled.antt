@@ -2,10 +2,10 @@
 use Rattle.std.specs.Prelude.{◌+◌, ◌≤◌, IsTrue, List, ◌++◌, replicate, filter_map, sum_by, Option, Some, None, ℤ, unsigned_abs}
 use Rattle.std.specs.Int.{int_min, int_max}
 use Rattle.aq_base.specs.declared.monitor.Pollutant.TheVariants.{Pm25}
-use Rattle.aq_profile.specs.Lists.{least, greatest}
-use Rattle.aq_profile.specs.Particles.Substitution.{Matched, minimum_for, maximum_for}
-use Rattle.aq_profile.specs.Kept.Summaries.{PmQuarter, is_value}
-use Rattle.aq_profile.specs.Kept.SummaryVerdicts.{of_summaries}
+use Rattle.aq_rules.specs.Lists.{least, greatest}
+use Rattle.aq_rules.specs.Particles.Substitution.{Matched, minimum_for, maximum_for}
+use Rattle.aq_rules.specs.Kept.Summaries.{PmQuarter, is_value}
+use Rattle.aq_rules.specs.Kept.SummaryVerdicts.{of_summaries}
 use Rattle.aq_verdict.specs.declared.substitution.Copies.{Copies}
 use Rattle.aq_verdict.specs.declared.substitution.Test.{Test}
 use Rattle.aq_verdict.specs.declared.substitution.Test.TheVariants.{Minimum, Maximum}

@@ -1,6 +1,6 @@
 -- Values that join others which fall.
 use Rattle.std.specs.Prelude.{Bool, true, false, if◌then◌else◌, List, [], ◌∷◌, Option, Some, None, ℤ, int_lt}
-use Rattle.aq_profile.specs.Lists.{ranked_in}
+use Rattle.aq_rules.specs.Lists.{ranked_in}
 
 -- the values put into the others, one after another from the last
 abbrev pub inserted : List ℤ → List ℤ → List ℤ

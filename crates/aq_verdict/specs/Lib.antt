@@ -1,4 +1,4 @@
--- What the calls of this crate promise, over the definitions of aq_profile.
+-- What the calls of this crate promise, over the definitions of aq_rules.
 pub mod Top
 pub mod Places
 pub mod Inserted

@@ -1,6 +1,6 @@
 -- A quarterly mean of values in the range of PM2.5.
 use Rattle.std.specs.Prelude.{◌*◌, ◌≤◌, List, [], ◌∷◌, pos, unsigned_abs}
-use Rattle.aq_profile.specs.Particles.Means.{Fraction}
+use Rattle.aq_rules.specs.Particles.Means.{Fraction}
 
 -- of at most 103 values, 92 days and 11 copies, none above 9999.9 µg/m3
 pub record IsMean (mean : Fraction) : Type 0 where

@@ -1,9 +1,9 @@
 -- The percentile among the greatest values of a year, which fall.
 use Rattle.std.specs.Prelude.{ℕ, ◌+◌, ◌-◌, ◌==◌, if◌then◌else◌, List, length, slice_get, Option, None, ℤ}
 use Rattle.std.specs.List.{flat_map}
-use Rattle.aq_profile.specs.Particles.Percentile.{rank_of}
-use Rattle.aq_profile.specs.Kept.Summaries.{PmQuarter}
-use Rattle.aq_profile.specs.Kept.SummaryVerdicts.{kept_counted}
+use Rattle.aq_rules.specs.Particles.Percentile.{rank_of}
+use Rattle.aq_rules.specs.Kept.Summaries.{PmQuarter}
+use Rattle.aq_rules.specs.Kept.SummaryVerdicts.{kept_counted}
 use Rattle.aq_verdict.specs.declared.substitution.Copies.{Copies}
 use Rattle.aq_verdict.specs.Filled.{copies_of}
 

@@ -1,10 +1,10 @@
 //! The annual PM2.5 design value and its verdict (40 CFR Part 50, Appendix N, 4.1 and 4.4).
 ghost use Rattle.std.specs.Prelude.{◌≡◌, ◌<◌, [], ◌∷◌, map, All, pos};
 ghost use Rattle.std.specs.Option.{IfSome};
-ghost use Rattle.aq_profile.specs.Lists.{all_of};
-ghost use Rattle.aq_profile.specs.Particles.Substitution.{same_part, matched, minimum_for, maximum_for};
-ghost use Rattle.aq_profile.specs.Particles.AnnualVerdict.{annual_value, is_annual_year, annual_test, annual_verdict, filled_mean, filled_value, counts_in, mean_of};
-ghost use Rattle.aq_profile.specs.Kept.SummaryVerdicts.{of_summaries, kept_annual_dv};
+ghost use Rattle.aq_rules.specs.Lists.{all_of};
+ghost use Rattle.aq_rules.specs.Particles.Substitution.{same_part, matched, minimum_for, maximum_for};
+ghost use Rattle.aq_rules.specs.Particles.AnnualVerdict.{annual_value, is_annual_year, annual_test, annual_verdict, filled_mean, filled_value, counts_in, mean_of};
+ghost use Rattle.aq_rules.specs.Kept.SummaryVerdicts.{of_summaries, kept_annual_dv};
 ghost use Rattle.aq_verdict.specs.Filled.{copies_in_test, joined_three};
 ghost use Rattle.aq_verdict.specs.QuarterlyMean.{IsMean};
 
@@ -29,7 +29,7 @@ pub struct AnnualDv {
 }
 
 impl Model for AnnualDv {
-    ghost use Rattle.aq_profile.specs.Particles.AnnualVerdict.{ParticleDv as Design};
+    ghost use Rattle.aq_rules.specs.Particles.AnnualVerdict.{ParticleDv as Design};
 
     ghost Value = { Design };
 

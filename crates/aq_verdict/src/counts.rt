@@ -1,10 +1,10 @@
 //! Whether a PM2.5 quarter and year have enough samples.
 ghost use Rattle.std.specs.Prelude.{◌≡◌};
 ghost use Rattle.std.specs.List.{list_all};
-ghost use Rattle.aq_profile.specs.Particles.QuarterCounts.{capture};
-ghost use Rattle.aq_profile.specs.Particles.AnnualVerdict.{is_captured, has_eleven_each, counts_in};
-ghost use Rattle.aq_profile.specs.Kept.Summaries.{counts_of};
-ghost use Rattle.aq_profile.specs.Kept.SummaryVerdicts.{of_summaries, kept_counted};
+ghost use Rattle.aq_rules.specs.Particles.QuarterCounts.{capture};
+ghost use Rattle.aq_rules.specs.Particles.AnnualVerdict.{is_captured, has_eleven_each, counts_in};
+ghost use Rattle.aq_rules.specs.Kept.Summaries.{counts_of};
+ghost use Rattle.aq_rules.specs.Kept.SummaryVerdicts.{of_summaries, kept_counted};
 ghost use Rattle.aq_verdict.specs.Counts.{is_quarter_captured, has_eleven, creditable_in};
 
 use crate::pm_quarter::PmQuarter;

@@ -3,11 +3,11 @@ ghost use Rattle.std.specs.Prelude.{◌≡◌, ◌≤◌, [], ◌∷◌, map, po
 ghost use Rattle.std.specs.List.{flat_map};
 ghost use Rattle.std.specs.Option.{IfSome, option_map};
 ghost use Rattle.aq_base.specs.Decimal.{half_up};
-ghost use Rattle.aq_profile.specs.Lists.{all_of};
-ghost use Rattle.aq_profile.specs.Particles.Percentile.{daily_value};
-ghost use Rattle.aq_profile.specs.Particles.AnnualVerdict.{counts_in};
-ghost use Rattle.aq_profile.specs.Particles.DailyVerdict.{rounded, is_daily_year, daily_test, daily_verdict, daily_value_of, percentile_of, copies_in, filled_percentile, value_of_three};
-ghost use Rattle.aq_profile.specs.Kept.SummaryVerdicts.{of_summaries, kept_daily_dv};
+ghost use Rattle.aq_rules.specs.Lists.{all_of};
+ghost use Rattle.aq_rules.specs.Particles.Percentile.{daily_value};
+ghost use Rattle.aq_rules.specs.Particles.AnnualVerdict.{counts_in};
+ghost use Rattle.aq_rules.specs.Particles.DailyVerdict.{rounded, is_daily_year, daily_test, daily_verdict, daily_value_of, percentile_of, copies_in, filled_percentile, value_of_three};
+ghost use Rattle.aq_rules.specs.Kept.SummaryVerdicts.{of_summaries, kept_daily_dv};
 ghost use Rattle.aq_verdict.specs.Filled.{copies_of};
 ghost use Rattle.aq_verdict.specs.Ranks.{counted_with};
 
@@ -34,7 +34,7 @@ pub struct DailyDv {
 }
 
 impl Model for DailyDv {
-    ghost use Rattle.aq_profile.specs.Particles.AnnualVerdict.{ParticleDv as Design};
+    ghost use Rattle.aq_rules.specs.Particles.AnnualVerdict.{ParticleDv as Design};
 
     ghost Value = { Design };
 

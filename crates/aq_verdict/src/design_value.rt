@@ -1,6 +1,6 @@
 //! The design value of any standard.
 ghost use Rattle.std.specs.Prelude.{◌≡◌};
-ghost use Rattle.aq_profile.specs.DesignValues.{value_in, verdict_in};
+ghost use Rattle.aq_rules.specs.DesignValues.{value_in, verdict_in};
 ghost use Rattle.aq_verdict.specs.Designs.{design_of};
 
 use crate::annual_value::AnnualDv;

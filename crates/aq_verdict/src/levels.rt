@@ -1,7 +1,7 @@
 //! Values against a level, and the years that are valid.
 ghost use Rattle.std.specs.Prelude.{◌≡◌};
-ghost use Rattle.aq_profile.specs.Standards.{is_above, is_at_or_below};
-ghost use Rattle.aq_profile.specs.Particles.AnnualVerdict.{are_all};
+ghost use Rattle.aq_rules.specs.Standards.{is_above, is_at_or_below};
+ghost use Rattle.aq_rules.specs.Particles.AnnualVerdict.{are_all};
 
 /// Whether there is a value above the level.
 pub(crate) fn is_above(level: i32, value: Option<i32>) -> bool

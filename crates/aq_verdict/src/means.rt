@@ -3,7 +3,7 @@ ghost use Rattle.std.specs.Prelude.{◌≡◌, ◌≤◌, ◌*◌, ◌++◌, IsT
 ghost use Rattle.std.specs.List.{list_all};
 ghost use Rattle.aq_base.specs.Decimal.{half_up};
 ghost use Rattle.aq_num.specs.Fractions.{sum_of_fractions};
-ghost use Rattle.aq_profile.specs.Particles.Means.{has_days, mean_of_means};
+ghost use Rattle.aq_rules.specs.Particles.Means.{has_days, mean_of_means};
 ghost use Rattle.aq_verdict.specs.QuarterlyMean.{IsMean, nothing_more};
 
 use crate::rounded::rounded;

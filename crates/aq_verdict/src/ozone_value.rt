@@ -1,7 +1,7 @@
 //! The ozone design value and its verdict (40 CFR Part 50, Appendix U, 3(e) and 4).
 ghost use Rattle.std.specs.Prelude.{◌≡◌, pos, ◌+ℤ◌};
 ghost use Rattle.aq_base.specs.Decimal.{truncated};
-ghost use Rattle.aq_profile.specs.Ozone.OzoneVerdict.{design_value_of, is_average_kept, is_complete, is_season_kept, ozone_dv, ozone_verdict};
+ghost use Rattle.aq_rules.specs.Ozone.OzoneVerdict.{design_value_of, is_average_kept, is_complete, is_season_kept, ozone_dv, ozone_verdict};
 
 use crate::ozone_year::OzoneYear;
 use aq_base::Verdict;
@@ -19,7 +19,7 @@ pub struct OzoneDv {
 }
 
 impl Model for OzoneDv {
-    ghost use Rattle.aq_profile.specs.Ozone.OzoneVerdict.{OzoneDv as Design};
+    ghost use Rattle.aq_rules.specs.Ozone.OzoneVerdict.{OzoneDv as Design};
 
     ghost Value = { Design };
 

@@ -13,8 +13,8 @@ pub struct OzoneYear {
 }
 
 impl Model for OzoneYear {
-    ghost use Rattle.aq_profile.specs.Ozone.OzoneYear.{OzoneYear as Year};
-    ghost use Rattle.aq_profile.specs.Kept.Summaries.{KeepsOzoneYear};
+    ghost use Rattle.aq_rules.specs.Ozone.OzoneYear.{OzoneYear as Year};
+    ghost use Rattle.aq_rules.specs.Kept.Summaries.{KeepsOzoneYear};
 
     ghost Value = { Year };
 
@@ -27,7 +27,7 @@ impl Model for OzoneYear {
 
 impl OzoneYear {
     ghost use Rattle.std.specs.Prelude.{◌≡◌};
-    ghost use Rattle.aq_profile.specs.Kept.Summaries.{KeepsOzoneYear};
+    ghost use Rattle.aq_rules.specs.Kept.Summaries.{KeepsOzoneYear};
 
     /// The year of these parts.
     pub fn new(season_days: u16, season_valid: u16, ranked: u16, fourth: Option<i32>) -> OzoneYear

@@ -1,9 +1,9 @@
 //! The 98th percentile of a PM2.5 year (40 CFR Part 50, Appendix N, 4.5 and Table 1).
 ghost use Rattle.std.specs.Prelude.{◌≡◌, ◌≤◌, take, length};
 ghost use Rattle.std.specs.List.{flat_map};
-ghost use Rattle.aq_profile.specs.Particles.Percentile.{rank_of};
-ghost use Rattle.aq_profile.specs.Particles.DailyVerdict.{percentile_of};
-ghost use Rattle.aq_profile.specs.Kept.SummaryVerdicts.{of_summaries};
+ghost use Rattle.aq_rules.specs.Particles.Percentile.{rank_of};
+ghost use Rattle.aq_rules.specs.Particles.DailyVerdict.{percentile_of};
+ghost use Rattle.aq_rules.specs.Kept.SummaryVerdicts.{of_summaries};
 ghost use Rattle.aq_verdict.specs.Filled.{copies_of};
 ghost use Rattle.aq_verdict.specs.Inserted.{inserted};
 ghost use Rattle.aq_verdict.specs.Ranks.{percentile_in, counted_with};
@@ -29,7 +29,7 @@ pub(crate) fn percentile_with(year: &PmYear, copies: &[Copies; 4]) -> Option<i32
 {
     // The year keeps its facts, and the order of the copies does not matter.
     let _ = year.quarters();
-    aq_profile::lists::ranking_forgets_the_order();
+    aq_rules::lists::ranking_forgets_the_order();
     percentile(
         &top_with(year, copies),
         counted_in(year) + number_of(copies),

@@ -2,11 +2,11 @@
 ghost use Rattle.std.specs.Prelude.{◌≡◌, ◌≤◌, [], ◌∷◌, pos};
 ghost use Rattle.std.specs.Option.{option_map};
 ghost use Rattle.aq_base.specs.Decimal.{half_up};
-ghost use Rattle.aq_profile.specs.Lists.{total, all_of};
-ghost use Rattle.aq_profile.specs.Standards.{level_of, is_above};
+ghost use Rattle.aq_rules.specs.Lists.{total, all_of};
+ghost use Rattle.aq_rules.specs.Standards.{level_of, is_above};
 ghost use Rattle.aq_base.specs.declared.standard.Standard.TheVariants.{Pm10Of1987};
-ghost use Rattle.aq_profile.specs.Particles.Pm10Estimate.{mean_of_years, quarter_estimate, quarter_lower, year_of_quarters};
-ghost use Rattle.aq_profile.specs.Particles.Pm10Verdict.{exceedances_in, is_complete_quarter, is_complete_year, is_unambiguous, pm10_dv, pm10_verdict};
+ghost use Rattle.aq_rules.specs.Particles.Pm10Estimate.{mean_of_years, quarter_estimate, quarter_lower, year_of_quarters};
+ghost use Rattle.aq_rules.specs.Particles.Pm10Verdict.{exceedances_in, is_complete_quarter, is_complete_year, is_unambiguous, pm10_dv, pm10_verdict};
 
 use crate::pm10_year::{Pm10Quarter, Pm10Year};
 use crate::rounded::{rounded, rounded_four, rounded_three};
@@ -24,7 +24,7 @@ pub struct Pm10Dv {
 }
 
 impl Model for Pm10Dv {
-    ghost use Rattle.aq_profile.specs.Particles.Pm10Verdict.{Pm10Dv as Design};
+    ghost use Rattle.aq_rules.specs.Particles.Pm10Verdict.{Pm10Dv as Design};
 
     ghost Value = { Design };
 

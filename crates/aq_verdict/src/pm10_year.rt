@@ -1,6 +1,6 @@
 //! What is kept of a site's PM10 quarters and year.
 ghost use Rattle.std.specs.Prelude.{◌≡◌};
-ghost use Rattle.aq_profile.specs.Kept.Summaries.{KeepsPm10Quarter, KeepsPm10Year};
+ghost use Rattle.aq_rules.specs.Kept.Summaries.{KeepsPm10Quarter, KeepsPm10Year};
 
 use std::marker::Model;
 
@@ -22,8 +22,8 @@ pub struct Pm10Quarter {
 }
 
 impl Model for Pm10Quarter {
-    ghost use Rattle.aq_profile.specs.Particles.Pm10Estimate.{Pm10Quarter as Quarter};
-    ghost use Rattle.aq_profile.specs.Kept.Summaries.{KeepsPm10Quarter};
+    ghost use Rattle.aq_rules.specs.Particles.Pm10Estimate.{Pm10Quarter as Quarter};
+    ghost use Rattle.aq_rules.specs.Kept.Summaries.{KeepsPm10Quarter};
 
     ghost Value = { Quarter };
 
@@ -127,8 +127,8 @@ pub struct Pm10Year {
 
 impl Model for Pm10Year {
     ghost use Rattle.std.specs.Prelude.{List};
-    ghost use Rattle.aq_profile.specs.Particles.Pm10Estimate.{Pm10Quarter as Quarter};
-    ghost use Rattle.aq_profile.specs.Kept.Summaries.{KeepsPm10Year};
+    ghost use Rattle.aq_rules.specs.Particles.Pm10Estimate.{Pm10Quarter as Quarter};
+    ghost use Rattle.aq_rules.specs.Kept.Summaries.{KeepsPm10Year};
 
     ghost Value = { List Quarter };
 

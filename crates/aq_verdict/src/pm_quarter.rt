@@ -1,6 +1,6 @@
 //! What is kept of a site's PM2.5 quarters.
 ghost use Rattle.std.specs.Prelude.{◌≡◌};
-ghost use Rattle.aq_profile.specs.Kept.Summaries.{KeepsPmQuarter};
+ghost use Rattle.aq_rules.specs.Kept.Summaries.{KeepsPmQuarter};
 
 use std::marker::Model;
 
@@ -20,7 +20,7 @@ pub struct PmQuarter {
 }
 
 impl Model for PmQuarter {
-    ghost use Rattle.aq_profile.specs.Kept.Summaries.{PmQuarter as Quarter, KeepsPmQuarter};
+    ghost use Rattle.aq_rules.specs.Kept.Summaries.{PmQuarter as Quarter, KeepsPmQuarter};
 
     ghost Value = { Quarter };
 

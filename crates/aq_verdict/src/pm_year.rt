@@ -1,6 +1,6 @@
 //! What is kept of a site's PM2.5 year.
 ghost use Rattle.std.specs.Prelude.{◌≡◌, IsTrue};
-ghost use Rattle.aq_profile.specs.Kept.Summaries.{KeepsPmYear};
+ghost use Rattle.aq_rules.specs.Kept.Summaries.{KeepsPmYear};
 ghost use Rattle.aq_verdict.specs.Top.{given, placed, descends};
 
 use crate::pm_quarter::PmQuarter;
@@ -16,7 +16,7 @@ pub struct PmYear {
 }
 
 impl Model for PmYear {
-    ghost use Rattle.aq_profile.specs.Kept.Summaries.{PmYear as Year, KeepsPmYear};
+    ghost use Rattle.aq_rules.specs.Kept.Summaries.{PmYear as Year, KeepsPmYear};
 
     ghost Value = { Year };
 

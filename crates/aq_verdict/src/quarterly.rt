@@ -1,7 +1,7 @@
 //! The quarterly means of PM2.5 years, with copies and without.
 ghost use Rattle.std.specs.Prelude.{◌≡◌, ◌++◌, [], map, All};
-ghost use Rattle.aq_profile.specs.Particles.AnnualVerdict.{mean_of};
-ghost use Rattle.aq_profile.specs.Kept.SummaryVerdicts.{of_summaries};
+ghost use Rattle.aq_rules.specs.Particles.AnnualVerdict.{mean_of};
+ghost use Rattle.aq_rules.specs.Kept.SummaryVerdicts.{of_summaries};
 ghost use Rattle.aq_verdict.specs.Filled.{copies_of, Fills};
 ghost use Rattle.aq_verdict.specs.QuarterlyMean.{IsMean};
 

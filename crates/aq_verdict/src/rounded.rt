@@ -1,7 +1,7 @@
 //! A quotient with one rounding, in 32 bits.
 ghost use Rattle.std.specs.Prelude.{◌≡◌, ◌≤◌, [], ◌∷◌, ◌*◌, ◌-◌, ◌^◌, pos, neg_ℤ, ◌≤ℤ◌, ◌<ℤ◌, unsigned_abs};
 ghost use Rattle.aq_base.specs.Decimal.{half_up};
-ghost use Rattle.aq_profile.specs.Lists.{total};
+ghost use Rattle.aq_rules.specs.Lists.{total};
 
 use aq_num::round_half_up;
 

@@ -3,9 +3,9 @@
 ghost use Rattle.std.specs.Prelude.{◌≡◌, ◌<◌, ◌≤◌, ◌-◌, IsTrue, replicate, max, [], ◌∷◌};
 ghost use Rattle.std.specs.Option.{IfSome, option_map};
 ghost use Rattle.aq_base.specs.declared.monitor.Pollutant.TheVariants.{Pm25};
-ghost use Rattle.aq_profile.specs.Particles.Substitution.{minimum_copies, maximum_copies, minimum_for, maximum_for, same_part};
-ghost use Rattle.aq_profile.specs.Kept.Summaries.{counts_of, is_value};
-ghost use Rattle.aq_profile.specs.Kept.SummaryVerdicts.{of_summaries};
+ghost use Rattle.aq_rules.specs.Particles.Substitution.{minimum_copies, maximum_copies, minimum_for, maximum_for, same_part};
+ghost use Rattle.aq_rules.specs.Kept.Summaries.{counts_of, is_value};
+ghost use Rattle.aq_rules.specs.Kept.SummaryVerdicts.{of_summaries};
 ghost use Rattle.aq_verdict.specs.Filled.{copies_of, lesser_of, greater_of, together, IsCombined, copies_in_test, Fills, FillsUp};
 
 use crate::counts::capture;

@@ -1,6 +1,6 @@
 //! The eight greatest values of a year.
 ghost use Rattle.std.specs.Prelude.{◌≡◌, ◌≤◌, ◌-◌, IsTrue, take, replicate, length, slice_get};
-ghost use Rattle.aq_profile.specs.Lists.{ranked_in};
+ghost use Rattle.aq_rules.specs.Lists.{ranked_in};
 ghost use Rattle.aq_verdict.specs.Inserted.{inserted, is_higher, higher, lower, joined};
 ghost use Rattle.aq_verdict.specs.Top.{given, placed, descends, HoldsTop};
 

@@ -5,9 +5,9 @@ use Rattle.aq_base.specs.Calendar.{is_year}
 use Rattle.aq_base.specs.declared.ask.Ask.{Ask}
 use Rattle.aq_base.specs.declared.ask.Ask.TheVariants.{Value, Report, Export}
 use Rattle.aq_base.specs.declared.standard.Standard.{Standard}
-use Rattle.aq_profile.specs.Limits.{LAST_LOAD_NUMBER}
-use Rattle.aq_profile.specs.Lines.Spellings.{◌>>=◌, parameter_in, year_in}
-use Rattle.aq_profile.specs.Shown.Answer.{is_design_year, is_load_number}
+use Rattle.aq_rules.specs.Limits.{LAST_LOAD_NUMBER}
+use Rattle.aq_rules.specs.Lines.Spellings.{◌>>=◌, parameter_in, year_in}
+use Rattle.aq_rules.specs.Shown.Answer.{is_design_year, is_load_number}
 use Rattle.aq_rd.specs.Words.{site_word, day_word, number_to}
 use Rattle.aq_words.specs.declared.words.Command.{Command}
 use Rattle.aq_words.specs.declared.words.Command.TheVariants.{Scan, Load, Serve, Simulate}

@@ -2,7 +2,7 @@
 ghost use Rattle.std.specs.Prelude.{◌≡◌, ◌≤◌, bytes_eq, find, map, string_bytes, IfSome, IsTrue};
 ghost use Rattle.std.specs.Option.{option_map};
 ghost use Rattle.aq_base.specs.Standard.{standard_name};
-ghost use Rattle.aq_profile.specs.Shown.Answer.{is_design_year};
+ghost use Rattle.aq_rules.specs.Shown.Answer.{is_design_year};
 ghost use Rattle.aq_words.specs.Words.{command_of, is_command, design_year, load_of, option_of, pair_of, scan_of, serve_of, served_by, show_of, simulate_of, start_in, report_of, export_of, years_in};
 
 use aq_base::{Ask, Day, FIRST_YEAR, LAST_LOAD_NUMBER, SiteId, Standard};

@@ -1,11 +1,11 @@
 //! Lines of the office, applied.
 ghost use Rattle.std.specs.Prelude.{◌≡◌, None, length, option_map, IfErr, IfOk, IsTrue, OnErr, OnOk};
 ghost use Rattle.aq_base.specs.declared.office.OfficeLine.TheVariants.{Drop};
-ghost use Rattle.aq_profile.specs.Lines.Canonical.{is_office_line};
-ghost use Rattle.aq_profile.specs.Lines.Reading.{OfOffice};
-ghost use Rattle.aq_profile.specs.Office.Load.{changed, without_key};
-ghost use Rattle.aq_profile.specs.Office.Office.{IsOffice, record_rank, sites_of, with_row};
-ghost use Rattle.aq_profile.specs.Office.Refusal.{broken};
+ghost use Rattle.aq_rules.specs.Lines.Canonical.{is_office_line};
+ghost use Rattle.aq_rules.specs.Lines.Reading.{OfOffice};
+ghost use Rattle.aq_rules.specs.Office.Load.{changed, without_key};
+ghost use Rattle.aq_rules.specs.Office.Office.{IsOffice, record_rank, sites_of, with_row};
+ghost use Rattle.aq_rules.specs.Office.Refusal.{broken};
 ghost use Rattle.aq_registry.specs.Changes.{changes_of, drop_changes, dropped_with, dropping, IsFaultOf, putting};
 ghost use Rattle.aq_registry.specs.Registry.{adds_event, drops_event, events_in, office_with};
 
@@ -15,7 +15,7 @@ use crate::exclusion::{is_agreed, note_drop, note_put};
 use crate::place::key;
 use crate::records::Records;
 use aq_base::{Memory, OfficeKey, OfficeLine, OfficeRecord};
-use aq_profile::office::valid_load::lines_leave_the_office_valid;
+use aq_rules::office::valid_load::lines_leave_the_office_valid;
 
 impl Registry {
     /// Applies a line that a body can spell: a record is new, is changed or is dropped, an event with its

@@ -1,10 +1,10 @@
 //! The first rule of the office that a line breaks.
 ghost use Rattle.std.specs.Prelude.{◌≡◌, count_by, IsTrue};
 ghost use Rattle.aq_base.specs.declared.office.OfficeLine.TheVariants.{Put};
-ghost use Rattle.aq_profile.specs.Lines.Canonical.{is_office_line};
-ghost use Rattle.aq_profile.specs.Lines.Reading.{OfOffice};
-ghost use Rattle.aq_profile.specs.Office.Office as offices;
-ghost use Rattle.aq_profile.specs.Office.Refusal as refusals;
+ghost use Rattle.aq_rules.specs.Lines.Canonical.{is_office_line};
+ghost use Rattle.aq_rules.specs.Lines.Reading.{OfOffice};
+ghost use Rattle.aq_rules.specs.Office.Office as offices;
+ghost use Rattle.aq_rules.specs.Office.Refusal as refusals;
 ghost use Rattle.aq_registry.specs.Places.{is_of};
 ghost use Rattle.aq_registry.specs.Registry.{office_with};
 ghost use Rattle.aq_registry.specs.Rules as rules;

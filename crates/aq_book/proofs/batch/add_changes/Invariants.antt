@@ -1,6 +1,6 @@
 use Rattle.std.proofs.Common.{◌≡◌, ◌++◌, map, drop}
-use Rattle.aq_load.specs.Batch.{changes_in}
-use Rattle.aq_profile.specs.Kept.RowChanges.{row_change}
+use Rattle.aq_staging.specs.Batch.{changes_in}
+use Rattle.aq_rules.specs.Kept.RowChanges.{row_change}
 use Rattle.aq_book.proofs.batch.add_changes.Given as goal
 
 abbrev pub invariant-loop-change : goal.invariant-loop-change

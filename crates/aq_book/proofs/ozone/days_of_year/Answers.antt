@@ -1,5 +1,5 @@
 use Rattle.std.proofs.Common.{◌≡◌, ◌+◌, List, [], ◌∷◌, ◌++◌, ap, ◌∙◌, arith}
-use Rattle.aq_profile.specs.Ozone.OzoneDay.{OzoneDay}
+use Rattle.aq_rules.specs.Ozone.OzoneDay.{OzoneDay}
 use Rattle.aq_series.specs.OfficeView.{office_of}
 use Rattle.aq_book.proofs.OzoneLemmas.{day-is, days-more, days-all}
 use Rattle.aq_book.proofs.ozone.days_of_year.Goals as goal

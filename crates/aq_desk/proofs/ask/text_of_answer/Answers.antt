@@ -1,5 +1,5 @@
 use Rattle.aq_desk.proofs.Asking.{may_be, stop_is}
-use Rattle.aq_profile.specs.Shown.Answer.{answer}
+use Rattle.aq_rules.specs.Shown.Answer.{answer}
 use Rattle.aq_desk.proofs.ask.text_of_answer.Goals as goal
 
 pub stop_of-requires : goal.stop_of-requires

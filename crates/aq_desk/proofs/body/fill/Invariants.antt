@@ -1,6 +1,6 @@
 use Rattle.std.proofs.Common.{◌≡◌, ◌++◌, ◌+◌, ◌-◌, ◌≤◌, vec_len}
 use Rattle.std.specs.Option.{option_map}
-use Rattle.aq_profile.specs.Limits.{MOST_BYTES}
+use Rattle.aq_rules.specs.Limits.{MOST_BYTES}
 use Rattle.aq_desk.proofs.body.fill.Given as goal
 
 abbrev pub invariant-loop-body : goal.invariant-loop-body

@@ -1,5 +1,5 @@
 use Rattle.std.proofs.Common.{◌≡◌, [], ◌∷◌}
-use Rattle.aq_profile.specs.Shown.OtherSheets.{digest_text}
+use Rattle.aq_rules.specs.Shown.OtherSheets.{digest_text}
 use Rattle.aq_desk.proofs.Telling.{digest_split, writes_cut, writes_same, writes_then}
 use Rattle.aq_desk.proofs.messages.+write_digest.Goals as goal
 

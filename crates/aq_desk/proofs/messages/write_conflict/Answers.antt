@@ -1,6 +1,6 @@
 use Rattle.std.proofs.Common.{◌++◌, codes}
 use Rattle.std.specs.Prelude.{decimal}
-use Rattle.aq_profile.specs.Shown.OtherSheets.{digest_text}
+use Rattle.aq_rules.specs.Shown.OtherSheets.{digest_text}
 use Rattle.aq_desk.proofs.Telling.{conflict_message, writes_cut, writes_same, writes_then}
 use Rattle.aq_desk.proofs.messages.write_conflict.Goals as goal
 

@@ -1,6 +1,6 @@
 use Rattle.std.proofs.Common.{◌++◌, ◌∙◌, codes, refl}
 use Rattle.std.specs.Prelude.{Ok, Err, decimal}
-use Rattle.aq_profile.specs.Kept.RowChanges.{table_name}
+use Rattle.aq_rules.specs.Kept.RowChanges.{table_name}
 use Rattle.aq_desk.proofs.Telling.{damaged_message, writes_cut, writes_same, writes_then}
 use Rattle.aq_desk.proofs.messages.write_damaged.Goals as goal
 

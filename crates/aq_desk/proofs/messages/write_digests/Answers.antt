@@ -1,5 +1,5 @@
 use Rattle.std.proofs.Common.{◌++◌, codes}
-use Rattle.aq_profile.specs.Shown.OtherSheets.{digest_text}
+use Rattle.aq_rules.specs.Shown.OtherSheets.{digest_text}
 use Rattle.aq_desk.proofs.Telling.{writes_cut, writes_then}
 use Rattle.aq_desk.proofs.messages.write_digests.Goals as goal
 

@@ -1,5 +1,5 @@
 use Rattle.std.proofs.Common.{◌++◌, codes, refl}
-use Rattle.aq_profile.specs.Shown.Sheet.{site_text}
+use Rattle.aq_rules.specs.Shown.Sheet.{site_text}
 use Rattle.aq_desk.proofs.Telling.{site_message, writes_cut, writes_same, writes_then}
 use Rattle.aq_desk.proofs.messages.write_no_site.Goals as goal
 

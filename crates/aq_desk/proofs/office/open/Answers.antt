@@ -1,5 +1,5 @@
 use Rattle.std.proofs.Common.{sym, ap, ◌∙◌}
-use Rattle.aq_profile.specs.Kept.Rows.{office_of_rows}
+use Rattle.aq_rules.specs.Kept.Rows.{office_of_rows}
 use Rattle.aq_desk.proofs.Opening.{opened_over}
 use Rattle.aq_desk.proofs.office.open.Goals as goal
 

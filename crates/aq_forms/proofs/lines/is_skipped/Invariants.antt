@@ -1,5 +1,5 @@
 use Rattle.std.proofs.Common.{◌≡◌, drop}
-use Rattle.aq_profile.specs.Lines.Lines.{is_skipped}
+use Rattle.aq_rules.specs.Lines.Lines.{is_skipped}
 use Rattle.aq_forms.proofs.lines.is_skipped.Given as goal
 
 -- only spaces were passed over

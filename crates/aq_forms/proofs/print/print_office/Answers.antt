@@ -1,5 +1,5 @@
 use Rattle.std.proofs.Common.{◌++◌, ◌∙◌, List, ℕ, ap}
-use Rattle.aq_profile.specs.Lines.Canonical.{canonical_office}
+use Rattle.aq_rules.specs.Lines.Canonical.{canonical_office}
 use Rattle.aq_forms.specs.OfficeReading.{has_rd_tag}
 use Rattle.aq_forms.proofs.OfficePrinted.{no_rd-line}
 use Rattle.aq_forms.proofs.print.print_office.Goals as goal

@@ -1,4 +1,4 @@
-use Rattle.aq_profile.specs.Lines.Reading.{line_value, reading_rule}
+use Rattle.aq_rules.specs.Lines.Reading.{line_value, reading_rule}
 use Rattle.aq_forms.proofs.OfficeOrder.{reads-line, ok-line, unbroken-line, rule-line, refused-line, spelled-line}
 use Rattle.aq_forms.proofs.read.read_office.Goals as goal
 

@@ -1,7 +1,7 @@
 use Rattle.std.proofs.Common.{◌≡◌, ◌+◌, ◌-◌, ◌++◌, ◌∙◌, ℕ, List, ap, sym, arith, refl, map}
 use Rattle.std.specs.Prelude.{flat_map}
 use Rattle.std.specs.List.{range_with_len}
-use Rattle.aq_profile.specs.Shown.Generator.{generated_season, generated_years, record_text}
+use Rattle.aq_rules.specs.Shown.Generator.{generated_season, generated_years, record_text}
 use Rattle.aq_generator.proofs.Walks.{walk-step, walk-end}
 use Rattle.aq_generator.proofs.office.add_seasons.Goals as goal
 

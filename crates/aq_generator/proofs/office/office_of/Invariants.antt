@@ -1,7 +1,7 @@
 use Rattle.std.proofs.Common.{◌≡◌, ◌-◌, ◌++◌, ◌≤◌}
 use Rattle.std.specs.Prelude.{flat_map}
 use Rattle.std.specs.List.{range_with_len}
-use Rattle.aq_profile.specs.Shown.Generator.{generated_records, record_text}
+use Rattle.aq_rules.specs.Shown.Generator.{generated_records, record_text}
 use Rattle.aq_generator.proofs.office.office_of.Given as goal
 
 abbrev pub invariant-loop-number : goal.invariant-loop-number

@@ -1,5 +1,5 @@
 use Rattle.std.proofs.Common.{◌≡◌, map, drop}
-use Rattle.aq_profile.specs.Kept.RowChanges.{row_key, keys_rise, keys_rise_from}
+use Rattle.aq_rules.specs.Kept.RowChanges.{row_key, keys_rise, keys_rise_from}
 use Rattle.aq_keeper.proofs.order.are_in_order.Given as goal
 
 abbrev pub invariant-loop-row : goal.invariant-loop-row

@@ -1,6 +1,6 @@
 use Rattle.std.proofs.Common.{◌∙◌, ◌++◌, ap, sym, subst, List}
 use Rattle.std.specs.Prelude.{reverse}
-use Rattle.aq_profile.specs.Kept.Rows.{Row}
+use Rattle.aq_rules.specs.Kept.Rows.{Row}
 use Rattle.aq_keeper.specs.Rising.{without_first, Rise, keys_of_rows}
 use Rattle.aq_keeper.proofs.RisingLemmas.{make-change, rise-made}
 use Rattle.aq_keeper.proofs.tables.make.Goals as goal

@@ -1,8 +1,8 @@
 use Rattle.std.proofs.Common.{◌≡◌, ◌∙◌, ◌∷◌, ◌++◌, ap, sym, subst, List, length, arith}
 use Rattle.std.specs.Prelude.{reverse}
 use Rattle.std.specs.Vec.Iter.{into_iter_items}
-use Rattle.aq_profile.specs.Kept.Rows.{Row}
-use Rattle.aq_profile.specs.Kept.RowChanges.{RowChange, with_row_change, with_row_changes}
+use Rattle.aq_rules.specs.Kept.Rows.{Row}
+use Rattle.aq_rules.specs.Kept.RowChanges.{RowChange, with_row_change, with_row_changes}
 use Rattle.aq_keeper.specs.Rising.{AreBefore, AreBeforeFirst, Rise, keys_of_changes}
 use Rattle.aq_keeper.proofs.RisingLemmas.{before_first-put}
 use Rattle.aq_keeper.proofs.tables.make_all.Goals as goal

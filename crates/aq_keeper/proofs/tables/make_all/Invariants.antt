@@ -1,7 +1,7 @@
 use Rattle.std.proofs.Common.{◌≡◌, ◌+◌, ◌≤◌, ◌++◌, length}
 use Rattle.std.specs.Prelude.{reverse, vec_len, vec_capacity}
 use Rattle.std.specs.Vec.Iter.{into_iter_items, into_iter_len}
-use Rattle.aq_profile.specs.Kept.RowChanges.{with_row_changes}
+use Rattle.aq_rules.specs.Kept.RowChanges.{with_row_changes}
 use Rattle.aq_keeper.specs.Rising.{AreBeforeFirst, Rise, keys_of_rows, keys_of_changes}
 use Rattle.aq_keeper.proofs.tables.make_all.Given as goal
 

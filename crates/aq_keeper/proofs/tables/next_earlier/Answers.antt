@@ -1,7 +1,7 @@
 use Rattle.std.proofs.Common.{◌≡◌, ◌∙◌, ap, sym, true, ◌-◌, List, length, Some}
 use Rattle.std.specs.Prelude.{slice_get}
-use Rattle.aq_profile.specs.Kept.Rows.{Row}
-use Rattle.aq_profile.specs.Kept.RowChanges.{row_key, key_before}
+use Rattle.aq_rules.specs.Kept.Rows.{Row}
+use Rattle.aq_rules.specs.Kept.RowChanges.{row_key, key_before}
 use Rattle.aq_keeper.specs.KeyView.{key_seen}
 use Rattle.aq_keeper.proofs.RisingLemmas.{popped}
 use Rattle.aq_keeper.proofs.tables.next_earlier.Goals as goal

@@ -1,5 +1,5 @@
 use Rattle.std.proofs.Common.{ℕ, ◌≡◌, ◌∙◌, ap, sym, ◌+◌, ◌-◌, ◌/◌, ◌<◌, length, true, arith}
-use Rattle.aq_profile.specs.Kept.RowChanges.{row_key, key_before}
+use Rattle.aq_rules.specs.Kept.RowChanges.{row_key, key_before}
 use Rattle.aq_keeper.specs.KeyView.{key_seen}
 use Rattle.aq_keeper.proofs.RisingLemmas.{before-found}
 use Rattle.aq_keeper.proofs.tables.place_of.Goals as goal

@@ -1,5 +1,5 @@
 use Rattle.std.proofs.Common.{◌≡◌, ◌≤◌, ◌+◌, ◌*◌, ◌^◌, length, map, sum}
-use Rattle.aq_profile.specs.Lines.Lines.{body_lines}
+use Rattle.aq_rules.specs.Lines.Lines.{body_lines}
 use Rattle.aq_measure.specs.Counts.{field_count_in}
 use Rattle.aq_measure.proofs.counts.fields_in.Given as goal
 

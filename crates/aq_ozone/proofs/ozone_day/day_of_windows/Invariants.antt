@@ -1,6 +1,6 @@
 use Rattle.std.proofs.Common.{◌≡◌, fold, ◌+◌, ◌≤◌, drop, length}
-use Rattle.aq_profile.specs.Lists as lists
-use Rattle.aq_profile.specs.Ozone.OzoneDay.{full_averages, net_averages}
+use Rattle.aq_rules.specs.Lists as lists
+use Rattle.aq_rules.specs.Ozone.OzoneDay.{full_averages, net_averages}
 use Rattle.aq_ozone.proofs.ozone_day.day_of_windows.Given as goal
 
 abbrev pub invariant-loop-row : goal.invariant-loop-row

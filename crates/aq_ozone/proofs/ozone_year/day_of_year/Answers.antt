@@ -1,7 +1,7 @@
 use Rattle.std.proofs.Common.{sym, subst, ap, ◌∙◌}
 use Rattle.std.specs.Prelude.{ℤ, Option, IfSome}
-use Rattle.aq_profile.specs.Ozone.OzoneDay.{OzoneDay}
-use Rattle.aq_profile.specs.Ozone.OzoneYear.{ranked_maximum}
+use Rattle.aq_rules.specs.Ozone.OzoneDay.{OzoneDay}
+use Rattle.aq_rules.specs.Ozone.OzoneYear.{ranked_maximum}
 use Rattle.aq_series.specs.Samples.{IsOzone}
 use Rattle.aq_ozone.proofs.RangeLemmas.{maximum_range}
 use Rattle.aq_ozone.proofs.ozone_year.day_of_year.Goals as goal

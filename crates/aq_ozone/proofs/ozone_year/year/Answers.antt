@@ -1,12 +1,12 @@
 use Rattle.std.proofs.Common.{◌≡◌, ℕ, ◌+◌, ◌≤◌, List, map, ap, sym, subst, ◌∙◌, arith}
 use Rattle.std.specs.Prelude.{ℤ, Option}
 use Rattle.std.specs.List.{range_with_len}
-use Rattle.aq_profile.specs.Kept.Summaries.{KeepsOzoneYear}
-use Rattle.aq_profile.specs.Office.Season.{Season}
+use Rattle.aq_rules.specs.Kept.Summaries.{KeepsOzoneYear}
+use Rattle.aq_rules.specs.Office.Season.{Season}
 use Rattle.aq_registry.specs.Registry.{office_with}
 use Rattle.aq_series.specs.OfficeView.{office_of}
 use Rattle.aq_ozone.specs.declared.ozone_year.DayOfYear.{DayOfYear}
-use Rattle.aq_profile.specs.Ozone.OzoneDay as book
+use Rattle.aq_rules.specs.Ozone.OzoneDay as book
 use Rattle.aq_ozone.specs.DaySpans.{IsAt}
 use Rattle.aq_ozone.specs.YearDays.{day_in, IsTallyOf}
 use Rattle.aq_ozone.proofs.YearLemmas.{days_more, few, year_is, year_keeps}

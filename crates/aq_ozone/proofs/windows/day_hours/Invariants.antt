@@ -1,6 +1,6 @@
 use Rattle.std.proofs.Common.{◌≡◌, ℕ, ◌+◌, ◌*◌, ◌<◌, ◌≤◌, None, length, get_or}
 use Rattle.std.specs.Prelude.{IfSome}
-use Rattle.aq_profile.specs.Ozone.SiteHour.{Cell}
+use Rattle.aq_rules.specs.Ozone.SiteHour.{Cell}
 use Rattle.aq_series.specs.OfficeView.{office_of}
 use Rattle.aq_series.specs.Samples.{IsOzone}
 use Rattle.aq_series.specs.DayStates.{hour_at}

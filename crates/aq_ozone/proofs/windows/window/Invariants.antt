@@ -1,7 +1,7 @@
 use Rattle.std.proofs.Common.{◌≡◌, ◌+◌, ◌*◌, ◌≤◌, fold, drop, length}
 use Rattle.std.specs.Prelude.{◌+ℤ◌, unsigned_abs}
-use Rattle.aq_profile.specs.Lists.{total}
-use Rattle.aq_profile.specs.Ozone.EightHour.{full_values, net_values}
+use Rattle.aq_rules.specs.Lists.{total}
+use Rattle.aq_rules.specs.Ozone.EightHour.{full_values, net_values}
 use Rattle.aq_series.specs.Samples.{AreOzone}
 use Rattle.aq_ozone.specs.DayHours.{cells_in}
 use Rattle.aq_ozone.proofs.windows.window.Given as goal

@@ -1,5 +1,5 @@
 use Rattle.std.proofs.Common.{◌≡◌, ℕ, ◌+◌, ◌-◌, ◌<◌, length, get_or, take, drop}
-use Rattle.aq_profile.specs.Ozone.EightHour.{WindowRow, row_of}
+use Rattle.aq_rules.specs.Ozone.EightHour.{WindowRow, row_of}
 use Rattle.aq_ozone.specs.DayHours.{cells_in}
 use Rattle.aq_ozone.proofs.windows.windows_of.Given as goal
 

@@ -1,5 +1,5 @@
 use Rattle.std.proofs.Common.{◌≡◌, ◌+◌, List, sym, subst, ◌∙◌, arith}
-use Rattle.aq_profile.specs.Kept.Summaries.{KeepsPm10Quarter}
+use Rattle.aq_rules.specs.Kept.Summaries.{KeepsPm10Quarter}
 use Rattle.aq_series.specs.OfficeView.{office_of}
 use Rattle.aq_pm10.specs.declared.days.DayOfQuarter.{DayOfQuarter}
 use Rattle.aq_pm10.specs.QuarterDays.{IsTallyOf}

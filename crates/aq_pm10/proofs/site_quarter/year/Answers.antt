@@ -1,8 +1,8 @@
 use Rattle.std.proofs.Common.{◌≡◌, ℕ, [], ◌∷◌, ap, ◌∙◌}
 use Rattle.aq_base.specs.Calendar.{quarter_number}
 use Rattle.aq_base.specs.Site.{Site}
-use Rattle.aq_profile.specs.Office.Office.{Office}
-use Rattle.aq_profile.specs.Particles.Pm10Estimate.{Pm10Quarter, pm10_quarter, pm10_year}
+use Rattle.aq_rules.specs.Office.Office.{Office}
+use Rattle.aq_rules.specs.Particles.Pm10Estimate.{Pm10Quarter, pm10_quarter, pm10_year}
 use Rattle.aq_series.specs.OfficeView.{office_of}
 use Rattle.aq_pm10.proofs.site_quarter.year.Goals as goal
 

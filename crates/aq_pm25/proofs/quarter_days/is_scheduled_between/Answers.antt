@@ -1,6 +1,6 @@
 use Rattle.std.proofs.Common.{◌+◌, ap, sym, ◌∙◌}
 use Rattle.aq_base.specs.declared.monitor.Pollutant.TheVariants.{Pm25}
-use Rattle.aq_profile.specs.Office.Schedule.{is_scheduled}
+use Rattle.aq_rules.specs.Office.Schedule.{is_scheduled}
 use Rattle.aq_pm25.proofs.DayTallies.{rest-after}
 use Rattle.aq_pm25.proofs.quarter_days.is_scheduled_between.Goals as goal
 

@@ -1,7 +1,7 @@
 use Rattle.std.proofs.Common.{◌≡◌, ◌-◌}
 use Rattle.std.specs.List.{list_any, range_with_len}
 use Rattle.aq_base.specs.declared.monitor.Pollutant.TheVariants.{Pm25}
-use Rattle.aq_profile.specs.Office.Schedule.{is_scheduled}
+use Rattle.aq_rules.specs.Office.Schedule.{is_scheduled}
 use Rattle.aq_pm25.proofs.quarter_days.is_scheduled_between.Given as goal
 
 abbrev pub invariant-loop-day : goal.invariant-loop-day

@@ -1,5 +1,5 @@
 use Rattle.std.proofs.Common.{subst, sym, ap, ◌∙◌}
-use Rattle.aq_profile.specs.Kept.Summaries.{KeepsPmQuarter, PmQuarter}
+use Rattle.aq_rules.specs.Kept.Summaries.{KeepsPmQuarter, PmQuarter}
 use Rattle.aq_pm25.specs.QuarterValues.{places_after, AreParticles}
 use Rattle.aq_pm25.proofs.Facts.{facts-kept, quarter-values, summary-is}
 use Rattle.aq_pm25.proofs.quarters.kept_quarter.Goals as goal

@@ -1,6 +1,6 @@
 use Rattle.std.proofs.Common.{◌≡◌, ◌+◌, List, map, subst, ◌∙◌, arith}
 use Rattle.std.specs.List.{range_with_len}
-use Rattle.aq_profile.specs.Particles.QuarterCounts.{days_of_quarter}
+use Rattle.aq_rules.specs.Particles.QuarterCounts.{days_of_quarter}
 use Rattle.aq_series.specs.OfficeView.{office_of}
 use Rattle.aq_pm25.specs.QuarterDays.{day_in, IsTallyOf}
 use Rattle.aq_pm25.specs.declared.quarter_days.DayOfQuarter.{DayOfQuarter}

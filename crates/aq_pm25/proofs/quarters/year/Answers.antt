@@ -1,8 +1,8 @@
 use Rattle.std.proofs.Common.{ℕ, subst, sym, ap, ◌∙◌, ◌∷◌, []}
 use Rattle.aq_base.specs.Calendar.{quarter_number}
 use Rattle.aq_base.specs.declared.monitor.Pollutant.TheVariants.{Pm25}
-use Rattle.aq_profile.specs.Kept.Summaries.{KeepsPmQuarter, KeepsPmYear, PmYear, summary_of_quarter}
-use Rattle.aq_profile.specs.Particles.QuarterCounts.{pm25_quarter, quarter_values}
+use Rattle.aq_rules.specs.Kept.Summaries.{KeepsPmQuarter, KeepsPmYear, PmYear, summary_of_quarter}
+use Rattle.aq_rules.specs.Particles.QuarterCounts.{pm25_quarter, quarter_values}
 use Rattle.aq_series.specs.OfficeView.{office_of}
 use Rattle.aq_pm25.specs.QuarterValues.{AreParticles}
 use Rattle.aq_pm25.proofs.Years.{by-part, places-are, year-descends, year-is, year-keeps}

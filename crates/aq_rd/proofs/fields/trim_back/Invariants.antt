@@ -1,5 +1,5 @@
 use Rattle.std.proofs.Common.{◌≡◌, ◌≤◌, length, take}
-use Rattle.aq_profile.specs.Lines.Fields.{without_back}
+use Rattle.aq_rules.specs.Lines.Fields.{without_back}
 use Rattle.aq_rd.proofs.fields.trim_back.Given as goal
 
 abbrev pub invariant-loop-end : goal.invariant-loop-end

@@ -1,5 +1,5 @@
 use Rattle.std.proofs.Common.{◌≡◌, length}
-use Rattle.aq_profile.specs.Lines.Fields.{without_front}
+use Rattle.aq_rules.specs.Lines.Fields.{without_front}
 use Rattle.aq_rd.proofs.fields.trim_front.Given as goal
 
 abbrev pub invariant-loop-rest : goal.invariant-loop-rest

@@ -1,5 +1,5 @@
 use Rattle.std.proofs.Common.{◌++◌, ◌∙◌, List, ℕ, ap}
-use Rattle.aq_profile.specs.Lines.Canonical.{canonical_rd}
+use Rattle.aq_rules.specs.Lines.Canonical.{canonical_rd}
 use Rattle.aq_rd.specs.RdReading.{value_of}
 use Rattle.aq_rd.specs.Tags.{has_office_tag}
 use Rattle.aq_rd.proofs.Printed.{no_office-line}

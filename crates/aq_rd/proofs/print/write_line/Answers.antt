@@ -1,5 +1,5 @@
 use Rattle.std.proofs.Common.{◌++◌, ◌∷◌, ◌∙◌, List, ℕ, ap, sym}
-use Rattle.aq_profile.specs.Lines.Canonical.{rd_texts, canonical_rd, texts_behind, monitor_texts, start_texts}
+use Rattle.aq_rules.specs.Lines.Canonical.{rd_texts, canonical_rd, texts_behind, monitor_texts, start_texts}
 use Rattle.aq_rd.specs.RdReading.{value_of}
 use Rattle.aq_rd.proofs.Printed.{put-written, delete-written}
 use Rattle.aq_rd.proofs.print.write_line.Goals as goal

@@ -1,5 +1,5 @@
 use Rattle.std.proofs.Common.{◌≡◌, ◌++◌, map, take}
-use Rattle.aq_profile.specs.Lines.Canonical.{code_text}
+use Rattle.aq_rules.specs.Lines.Canonical.{code_text}
 use Rattle.aq_rd.specs.Printing.{behind_bars}
 use Rattle.aq_rd.proofs.print.write_quals.Given as goal
 

@@ -1,4 +1,4 @@
-use Rattle.aq_profile.specs.Lines.Reading.{line_value, reading_rule}
+use Rattle.aq_rules.specs.Lines.Reading.{line_value, reading_rule}
 use Rattle.aq_rd.proofs.ReadingOrder.{reads-line, ok-line, unbroken-line, rule-line, refused-line, spelled-line, ranged-line}
 use Rattle.aq_rd.proofs.read.read_rd.Goals as goal
 

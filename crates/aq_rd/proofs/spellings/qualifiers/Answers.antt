@@ -1,8 +1,8 @@
 use Rattle.std.proofs.Common.{◌≡◌, ◌+◌, ◌-◌, ◌∙◌, Option, length, take, drop, sym, ap, arith}
 use Rattle.aq_base.specs.declared.code.Code.{Code}
 use Rattle.aq_base.specs.Quals.{with_code}
-use Rattle.aq_profile.specs.Lines.Spellings.{◌>>=◌, qualifiers_in, qualifiers_onto}
-use Rattle.aq_profile.specs.Lines.RdForm.{qualifier_fields}
+use Rattle.aq_rules.specs.Lines.Spellings.{◌>>=◌, qualifiers_in, qualifiers_onto}
+use Rattle.aq_rules.specs.Lines.RdForm.{qualifier_fields}
 use Rattle.aq_rd.proofs.QualifierSteps.{step-none, step-some, length-with_code}
 use Rattle.aq_rd.proofs.spellings.qualifiers.Goals as goal
 use Rattle.aq_rd.proofs.spellings.qualifiers.Goals.{then-not-is_empty+in_ok-qualifier_in, else-not-is_empty}

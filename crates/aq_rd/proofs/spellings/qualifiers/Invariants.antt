@@ -1,6 +1,6 @@
 use Rattle.std.proofs.Common.{◌≡◌, ◌≤◌, ◌+◌, ◌-◌, length, take, drop}
-use Rattle.aq_profile.specs.Lines.Spellings.{qualifiers_in, qualifiers_onto}
-use Rattle.aq_profile.specs.Lines.RdForm.{qualifier_fields}
+use Rattle.aq_rules.specs.Lines.Spellings.{qualifiers_in, qualifiers_onto}
+use Rattle.aq_rules.specs.Lines.RdForm.{qualifier_fields}
 use Rattle.aq_rd.proofs.spellings.qualifiers.Given as goal
 
 abbrev pub invariant-loop-number : goal.invariant-loop-number

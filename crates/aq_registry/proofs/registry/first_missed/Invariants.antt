@@ -1,6 +1,6 @@
 use Rattle.std.proofs.Common.{◌≡◌}
 use Rattle.std.specs.Map.{values_of}
-use Rattle.aq_profile.specs.Office.Questions.{first_given}
+use Rattle.aq_rules.specs.Office.Questions.{first_given}
 use Rattle.aq_registry.specs.Registry.{missed_by}
 use Rattle.aq_registry.proofs.registry.first_missed.Given as goal
 

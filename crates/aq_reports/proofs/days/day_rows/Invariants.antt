@@ -1,6 +1,6 @@
 use Rattle.std.proofs.Common.{◌≡◌, ◌+◌, ◌++◌, map, drop, zip}
 use Rattle.std.specs.List.{enumerate_from}
-use Rattle.aq_profile.specs.Shown.Sheets as book
+use Rattle.aq_rules.specs.Shown.Sheets as book
 use Rattle.aq_reports.proofs.days.day_rows.Given as goal
 
 abbrev pub invariant-loop-place : goal.invariant-loop-place

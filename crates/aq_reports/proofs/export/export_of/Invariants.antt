@@ -1,5 +1,5 @@
 use Rattle.std.proofs.Common.{◌≡◌, ◌++◌, drop, flat_map}
-use Rattle.aq_profile.specs.Shown.Export as book
+use Rattle.aq_rules.specs.Shown.Export as book
 use Rattle.aq_reports.specs.Written.{IsReady, written}
 use Rattle.aq_reports.proofs.export.export_of.Given as goal
 

@@ -1,6 +1,6 @@
 use Rattle.std.proofs.Common.{◌≡◌, [], map, drop, ap, arith}
 use Rattle.std.proofs.lemmas.List.{drop_all}
-use Rattle.aq_profile.specs.Lines.Canonical as line
+use Rattle.aq_rules.specs.Lines.Canonical as line
 use Rattle.aq_reports.proofs.Lines.{words_done}
 use Rattle.aq_reports.proofs.export.write_codes.Goals as goal
 

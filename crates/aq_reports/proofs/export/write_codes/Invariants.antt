@@ -1,5 +1,5 @@
 use Rattle.std.proofs.Common.{◌≡◌, [], ◌++◌, map, drop}
-use Rattle.aq_profile.specs.Lines.Canonical as line
+use Rattle.aq_rules.specs.Lines.Canonical as line
 use Rattle.aq_reports.proofs.Lines.{words_behind}
 use Rattle.aq_reports.proofs.export.write_codes.Given as goal
 

@@ -2,7 +2,7 @@ use Rattle.std.proofs.Common.{◌≡◌, ◌∙◌, ap, subst, [], Some}
 use Rattle.serde_json.specs.Data.{Data, object}
 use Rattle.serde_json.specs.Events.{SendsValue}
 use Rattle.serde_json.proofs.FreeTexts.{text_of_value}
-use Rattle.aq_profile.specs.Shown.Sheet.{Sheet}
+use Rattle.aq_rules.specs.Shown.Sheet.{Sheet}
 use Rattle.aq_reports.specs.JsonView.{with_heads, with_table}
 use Rattle.aq_reports.specs.PartView.{parts_data}
 use Rattle.aq_reports.proofs.SheetJson.{members_in, sheet-plain, sheet-text}

@@ -1,5 +1,5 @@
 use Rattle.std.proofs.Common.{◌≡◌, ◌++◌, map, drop}
-use Rattle.aq_profile.specs.Shown.Sheets as book
+use Rattle.aq_rules.specs.Shown.Sheets as book
 use Rattle.aq_reports.proofs.load.add_listed.Given as goal
 
 abbrev pub invariant-loop-listed : goal.invariant-loop-listed

@@ -1,5 +1,5 @@
 use Rattle.std.proofs.Common.{◌≡◌, [], ◌∷◌, ◌++◌, map, codes}
-use Rattle.aq_profile.specs.Shown.Sheets as book
+use Rattle.aq_rules.specs.Shown.Sheets as book
 use Rattle.aq_reports.proofs.Parts.{two_parts}
 use Rattle.aq_reports.proofs.load.load_sheet.Goals as goal
 

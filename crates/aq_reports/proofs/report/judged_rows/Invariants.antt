@@ -1,5 +1,5 @@
 use Rattle.std.proofs.Common.{◌≡◌, ◌++◌, map, drop}
-use Rattle.aq_profile.specs.Shown.OtherSheets as book
+use Rattle.aq_rules.specs.Shown.OtherSheets as book
 use Rattle.aq_reports.specs.Rows.{judged_in}
 use Rattle.aq_reports.proofs.report.judged_rows.Given as goal
 

@@ -1,5 +1,5 @@
 use Rattle.std.proofs.Common.{◌≡◌, [], ◌∷◌, codes}
-use Rattle.aq_profile.specs.Shown.OtherSheets as book
+use Rattle.aq_rules.specs.Shown.OtherSheets as book
 use Rattle.aq_reports.proofs.report.report_sheet.Goals as goal
 
 pub returns : goal.returns

@@ -1,5 +1,5 @@
 use Rattle.std.proofs.Common.{◌≡◌, ◌++◌, drop}
-use Rattle.aq_profile.specs.Shown.OtherSheets as book
+use Rattle.aq_rules.specs.Shown.OtherSheets as book
 use Rattle.aq_reports.proofs.single.digest_text.Given as goal
 
 abbrev pub invariant-loop-byte : goal.invariant-loop-byte

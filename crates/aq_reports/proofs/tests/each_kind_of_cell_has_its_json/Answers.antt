@@ -1,8 +1,8 @@
 use Rattle.std.proofs.Common.{refl, sym, subst}
 use Rattle.aq_base.specs.Decimal.{last_digits}
 use Rattle.aq_base.specs.Text.{site_text}
-use Rattle.aq_profile.specs.Shown.Sheet.{Sheet}
-use Rattle.aq_profile.specs.Shown.WellFormed.{IsWellFormed}
+use Rattle.aq_rules.specs.Shown.Sheet.{Sheet}
+use Rattle.aq_rules.specs.Shown.WellFormed.{IsWellFormed}
 use Rattle.aq_reports.proofs.tests.each_kind_of_cell_has_its_json.Goals as goal
 
 pub json_of-requires : goal.json_of-requires

@@ -1,7 +1,7 @@
 use Rattle.std.proofs.Common.{refl, sym, subst}
-use Rattle.aq_profile.specs.Shown.OtherSheets.{error_sheet}
-use Rattle.aq_profile.specs.Shown.Sheet.{Sheet}
-use Rattle.aq_profile.specs.Shown.WellFormed.{IsWellFormed}
+use Rattle.aq_rules.specs.Shown.OtherSheets.{error_sheet}
+use Rattle.aq_rules.specs.Shown.Sheet.{Sheet}
+use Rattle.aq_rules.specs.Shown.WellFormed.{IsWellFormed}
 use Rattle.aq_reports.proofs.tests.error_has_one_member_in_json.Goals as goal
 
 pub json_of-requires : goal.json_of-requires

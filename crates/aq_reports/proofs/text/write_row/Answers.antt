@@ -1,6 +1,6 @@
 use Rattle.std.proofs.Common.{◌≡◌, [], map, drop, ap, arith}
 use Rattle.std.proofs.lemmas.List.{drop_all}
-use Rattle.aq_profile.specs.Shown.Sheet as book
+use Rattle.aq_rules.specs.Shown.Sheet as book
 use Rattle.aq_reports.proofs.Lines.{line_done}
 use Rattle.aq_reports.proofs.text.write_row.Goals as goal
 

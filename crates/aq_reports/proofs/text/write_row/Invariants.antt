@@ -1,5 +1,5 @@
 use Rattle.std.proofs.Common.{◌≡◌, [], ◌++◌, map, drop}
-use Rattle.aq_profile.specs.Shown.Sheet as book
+use Rattle.aq_rules.specs.Shown.Sheet as book
 use Rattle.aq_reports.proofs.Lines.{words_behind}
 use Rattle.aq_reports.proofs.text.write_row.Given as goal
 

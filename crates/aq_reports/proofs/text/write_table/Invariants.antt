@@ -1,5 +1,5 @@
 use Rattle.std.proofs.Common.{◌≡◌, ◌++◌, drop, flat_map}
-use Rattle.aq_profile.specs.Shown.Sheet as book
+use Rattle.aq_rules.specs.Shown.Sheet as book
 use Rattle.aq_reports.proofs.text.write_table.Given as goal
 
 abbrev pub invariant-loop-row : goal.invariant-loop-row

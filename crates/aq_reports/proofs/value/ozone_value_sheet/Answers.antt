@@ -1,7 +1,7 @@
 use Rattle.std.proofs.Common.{◌≡◌, ℕ, ◌-◌, [], ◌∷◌, map, ap, ◌∙◌, codes}
 use Rattle.std.specs.List.{enumerate_from}
-use Rattle.aq_profile.specs.Ozone.OzoneVerdict.{OzoneDv}
-use Rattle.aq_profile.specs.Shown.Sheets as book
+use Rattle.aq_rules.specs.Ozone.OzoneVerdict.{OzoneDv}
+use Rattle.aq_rules.specs.Shown.Sheets as book
 use Rattle.aq_reports.proofs.Parts.{same_sheet}
 use Rattle.aq_reports.proofs.value.ozone_value_sheet.Goals as goal
 

@@ -1,6 +1,6 @@
 use Rattle.std.proofs.Common.{◌≡◌, ◌+◌, ◌++◌, map, drop}
 use Rattle.std.specs.List.{enumerate_from}
-use Rattle.aq_profile.specs.Shown.ParticleSheets as book
+use Rattle.aq_rules.specs.Shown.ParticleSheets as book
 use Rattle.aq_reports.proofs.value_pm10.pm10_rows.Given as goal
 
 abbrev pub invariant-loop-kept : goal.invariant-loop-kept

@@ -1,7 +1,7 @@
 use Rattle.std.proofs.Common.{◌≡◌, ℕ, ◌-◌, [], ◌∷◌, map, zip, ap, ◌∙◌, codes}
 use Rattle.std.specs.List.{enumerate_from}
-use Rattle.aq_profile.specs.Particles.AnnualVerdict.{ParticleDv}
-use Rattle.aq_profile.specs.Shown.ParticleSheets as book
+use Rattle.aq_rules.specs.Particles.AnnualVerdict.{ParticleDv}
+use Rattle.aq_rules.specs.Shown.ParticleSheets as book
 use Rattle.aq_reports.proofs.Parts.{same_sheet}
 use Rattle.aq_reports.proofs.value_pm25.annual_value_sheet.Goals as goal
 

@@ -1,5 +1,5 @@
 use Rattle.std.proofs.Common.{◌≡◌, drop}
-use Rattle.aq_profile.specs.Office.Office.{rest_rank, rises, rises_from}
+use Rattle.aq_rules.specs.Office.Office.{rest_rank, rises, rises_from}
 use Rattle.aq_rows.proofs.loads.do_rules_rise.Given as goal
 
 abbrev pub invariant-loop-counted : goal.invariant-loop-counted

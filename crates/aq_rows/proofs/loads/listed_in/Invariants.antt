@@ -1,5 +1,5 @@
 use Rattle.std.proofs.Common.{◌≡◌, ◌≤◌, length}
-use Rattle.aq_profile.specs.Limits.{MOST_LISTED}
+use Rattle.aq_rules.specs.Limits.{MOST_LISTED}
 use Rattle.aq_rows.specs.Ranges.{gathered}
 use Rattle.aq_rows.specs.Loaded.{are_listed, listed_word, listed_words}
 use Rattle.aq_rows.proofs.loads.listed_in.Given as goal

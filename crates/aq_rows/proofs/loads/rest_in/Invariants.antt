@@ -1,5 +1,5 @@
 use Rattle.std.proofs.Common.{◌≡◌, ◌≤◌, sum_by}
-use Rattle.aq_profile.specs.Limits.{MOST_LINES}
+use Rattle.aq_rules.specs.Limits.{MOST_LINES}
 use Rattle.aq_rows.specs.Ranges.{gathered}
 use Rattle.aq_rows.specs.Loaded.{are_counts, count_of, rest_word, rest_words}
 use Rattle.aq_rows.proofs.loads.rest_in.Given as goal

@@ -1,5 +1,5 @@
 use Rattle.std.proofs.Common.{◌≡◌}
-use Rattle.aq_profile.specs.Lines.Spellings.{qualifier_in}
+use Rattle.aq_rules.specs.Lines.Spellings.{qualifier_in}
 use Rattle.aq_rows.specs.Ranges.{gathered}
 use Rattle.aq_rows.specs.Observed.{are_quals, quals_in}
 use Rattle.aq_rows.proofs.observations.quals_in.Given as goal

@@ -1,5 +1,5 @@
 use Rattle.std.proofs.Common.{◌∙◌, sym, ap, subst, Some}
-use Rattle.aq_profile.specs.Kept.Rows.{damage}
+use Rattle.aq_rules.specs.Kept.Rows.{damage}
 use Rattle.aq_rows.specs.OneMoreRow.{may_follow}
 use Rattle.aq_rows.specs.Walking.{IsRowFault, standing}
 use Rattle.aq_rows.proofs.WholeWalk.{start, step, stopped, opened}

@@ -1,5 +1,5 @@
 use Rattle.std.proofs.Common.{take, drop}
-use Rattle.aq_profile.specs.Kept.Rows.{damage}
+use Rattle.aq_rules.specs.Kept.Rows.{damage}
 use Rattle.aq_rows.specs.Walking.{HasTaken}
 use Rattle.aq_rows.proofs.opening.open.Given as goal
 

@@ -1,7 +1,7 @@
 use Rattle.std.proofs.Common.{◌≡◌, ◌≤◌, true, take}
 use Rattle.std.specs.Str.Parse.{digits_value}
 use Rattle.aq_base.specs.Decimal.{are_digits}
-use Rattle.aq_profile.specs.Limits.{MOST_LINES}
+use Rattle.aq_rules.specs.Limits.{MOST_LINES}
 use Rattle.aq_rows.proofs.pairs.small_number.Given as goal
 
 abbrev pub invariant-loop-digit : goal.invariant-loop-digit

@@ -1,6 +1,6 @@
 use Rattle.std.proofs.Common.{◌≡◌, ◌∷◌, arith}
 use Rattle.std.proofs.lemmas.Grind.{common_steps}
-use Rattle.aq_profile.specs.Lines.Canonical.{code_text}
+use Rattle.aq_rules.specs.Lines.Canonical.{code_text}
 use Rattle.aq_rows.proofs.Written.{all_words}
 use Rattle.aq_rows.proofs.texts.write_codes.Goals as goal
 

@@ -1,5 +1,5 @@
 use Rattle.std.proofs.Common.{◌≡◌, ◌++◌, take}
-use Rattle.aq_profile.specs.Lines.Canonical.{code_text}
+use Rattle.aq_rules.specs.Lines.Canonical.{code_text}
 use Rattle.aq_rows.proofs.Written.{behind_spaces}
 use Rattle.aq_rows.proofs.texts.write_codes.Given as goal
 

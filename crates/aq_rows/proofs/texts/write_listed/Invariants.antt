@@ -1,5 +1,5 @@
 use Rattle.std.proofs.Common.{◌≡◌, ◌++◌, take}
-use Rattle.aq_profile.proofs.RowTexts.{listed_write}
+use Rattle.aq_rules.proofs.RowTexts.{listed_write}
 use Rattle.aq_rows.proofs.Written.{behind_spaces}
 use Rattle.aq_rows.proofs.texts.write_listed.Given as goal
 

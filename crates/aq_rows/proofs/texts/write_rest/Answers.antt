@@ -1,6 +1,6 @@
 use Rattle.std.proofs.Common.{◌≡◌, ◌∷◌, arith}
 use Rattle.std.proofs.lemmas.Grind.{common_steps}
-use Rattle.aq_profile.proofs.RowTexts.{rest_write}
+use Rattle.aq_rules.proofs.RowTexts.{rest_write}
 use Rattle.aq_rows.proofs.Written.{all_words}
 use Rattle.aq_rows.proofs.texts.write_rest.Goals as goal
 

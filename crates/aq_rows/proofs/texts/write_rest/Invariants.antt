@@ -1,5 +1,5 @@
 use Rattle.std.proofs.Common.{◌≡◌, ◌++◌, take}
-use Rattle.aq_profile.proofs.RowTexts.{rest_write}
+use Rattle.aq_rules.proofs.RowTexts.{rest_write}
 use Rattle.aq_rows.proofs.Written.{behind_spaces}
 use Rattle.aq_rows.proofs.texts.write_rest.Given as goal
 

@@ -1,5 +1,5 @@
 use Rattle.std.proofs.Common.{◌∙◌}
-use Rattle.aq_profile.specs.Office.Office.{observation_rank}
+use Rattle.aq_rules.specs.Office.Office.{observation_rank}
 use Rattle.aq_rows.proofs.PutLast.{not-there}
 use Rattle.aq_rows.proofs.RisingEnds.{with_row-last}
 use Rattle.aq_rows.proofs.walk.put_observation.Goals as goal

@@ -1,6 +1,6 @@
 use Rattle.std.proofs.Common.{◌≡◌, ℕ, zero, suc, None, get_or, replicate, refl, sym, subst, arith}
 use Rattle.std.specs.Prelude.{Option, IfSome}
-use Rattle.aq_profile.specs.Ozone.SiteHour.{Cell}
+use Rattle.aq_rules.specs.Ozone.SiteHour.{Cell}
 use Rattle.aq_series.specs.Samples.{IsOzone}
 use Rattle.aq_series.proofs.day_hours.cells.Goals as goal
 

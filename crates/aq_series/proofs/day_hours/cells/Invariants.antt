@@ -1,6 +1,6 @@
 use Rattle.std.proofs.Common.{◌≡◌, ℕ, ◌<◌, None, List, length, get_or}
 use Rattle.std.specs.Prelude.{IfSome}
-use Rattle.aq_profile.specs.Ozone.SiteHour.{Cell, Sample, mean_of}
+use Rattle.aq_rules.specs.Ozone.SiteHour.{Cell, Sample, mean_of}
 use Rattle.aq_series.specs.Samples.{IsOzone, IsTally}
 use Rattle.aq_series.specs.declared.day_hours.HourState.{HourState}
 use Rattle.aq_series.proofs.day_hours.cells.Given as goal

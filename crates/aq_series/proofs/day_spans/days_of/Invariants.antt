@@ -1,8 +1,8 @@
 use Rattle.std.proofs.Common.{◌≡◌, ℕ, ◌<◌, None, List, length, get_or}
 use Rattle.std.specs.Prelude.{IfSome}
 use Rattle.aq_base.specs.declared.monitor.Duration.TheVariants.{Hour}
-use Rattle.aq_profile.specs.Ozone.SiteHour.{Cell}
-use Rattle.aq_profile.specs.Particles.ParticleDay.{day_cell}
+use Rattle.aq_rules.specs.Ozone.SiteHour.{Cell}
+use Rattle.aq_rules.specs.Particles.ParticleDay.{day_cell}
 use Rattle.aq_series.specs.DayCells.{IsParticle, IsTallyOf}
 use Rattle.aq_series.specs.declared.day_tally.DayTally.{DayTally}
 use Rattle.aq_series.proofs.day_spans.days_of.Given as goal

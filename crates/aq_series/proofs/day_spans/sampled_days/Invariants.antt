@@ -1,7 +1,7 @@
 use Rattle.std.proofs.Common.{◌≡◌, ℕ, ◌+◌, ◌<◌, None, length, get_or}
 use Rattle.std.specs.Prelude.{IfSome}
 use Rattle.aq_base.specs.Calendar.{hour_number}
-use Rattle.aq_profile.specs.Ozone.SiteHour.{Cell}
+use Rattle.aq_rules.specs.Ozone.SiteHour.{Cell}
 use Rattle.aq_series.specs.DayCells.{cell_at, IsParticle}
 use Rattle.aq_series.proofs.day_spans.sampled_days.Given as goal
 

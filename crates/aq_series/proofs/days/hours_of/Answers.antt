@@ -1,6 +1,6 @@
 use Rattle.std.proofs.Common.{◌≡◌, ◌+◌, ◌*◌, List, subst, arith}
 use Rattle.std.specs.List.{range_with_len}
-use Rattle.aq_profile.specs.Ozone.SiteHour.{Cell}
+use Rattle.aq_rules.specs.Ozone.SiteHour.{Cell}
 use Rattle.aq_series.specs.DayCells.{cell_at, cells_in, hours_of, IsTallyOf}
 use Rattle.aq_series.proofs.DayLists.{given_more}
 use Rattle.aq_series.proofs.days.hours_of.Goals as goal

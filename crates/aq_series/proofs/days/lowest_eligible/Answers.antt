@@ -1,5 +1,5 @@
 use Rattle.std.proofs.Common.{◌∙◌, sym, ap, arith}
-use Rattle.aq_profile.specs.Office.Monitors.{is_eligible}
+use Rattle.aq_rules.specs.Office.Monitors.{is_eligible}
 use Rattle.aq_series.proofs.SiteDay.{at_poc, fewer, lowest-is, no_poc, past_poc}
 use Rattle.aq_series.proofs.days.lowest_eligible.Goals as goal
 

@@ -1,6 +1,6 @@
 use Rattle.std.proofs.Common.{◌≡◌, length}
 use Rattle.std.specs.Prelude.{find}
-use Rattle.aq_profile.specs.Office.Monitors.{is_eligible}
+use Rattle.aq_rules.specs.Office.Monitors.{is_eligible}
 use Rattle.aq_series.specs.DayCells.{monitor_at, pocs_after, pocs_of}
 use Rattle.aq_series.proofs.days.lowest_eligible.Given as goal
 

@@ -1,7 +1,7 @@
 use Rattle.std.proofs.Common.{◌≡◌, ◌∙◌, ap, sym, arith, Some, Bool, true, false, cond, refl, not}
 use Rattle.std.specs.Prelude.{◌==◌}
 use Rattle.std.specs.Option.{option_eq}
-use Rattle.aq_profile.specs.Particles.ParticleDay.{monitor_day}
+use Rattle.aq_rules.specs.Particles.ParticleDay.{monitor_day}
 use Rattle.aq_series.specs.OfficeView.{office_of}
 use Rattle.aq_series.specs.DayCells.{mean_of, monitor_at, monitor_steps}
 use Rattle.aq_series.proofs.SiteDay.{day-done, day-more, day-past, day-room, fewer, is_primary, primary-none, steps-from}

@@ -5,7 +5,7 @@ use Rattle.aq_base.specs.declared.code.Code.{Code}
 use Rattle.aq_base.specs.declared.observation.ObsKey.{ObsKey}
 use Rattle.aq_base.specs.declared.office.OfficeRecord.{OfficeRecord}
 use Rattle.aq_base.specs.declared.office.OfficeRecord.TheVariants.{Monitor, Primary, Schedule, Season, Makeup, Event, Concurrence, Approved}
-use Rattle.aq_profile.specs.Office.Exclusion.{asks_exclusion, excluded, takes_out}
+use Rattle.aq_rules.specs.Office.Exclusion.{asks_exclusion, excluded, takes_out}
 use Rattle.aq_series.proofs.hours.is_excluded.Goals as goal
 
 none_flagged : (a b c : Bool) → (((a && false) && b) && c) ≡ false

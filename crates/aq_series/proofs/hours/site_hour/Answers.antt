@@ -1,8 +1,8 @@
 use Rattle.std.proofs.Common.{ℕ, ◌/◌, length, arith, sym, ap, ◌∙◌}
 use Rattle.std.specs.Prelude.{option_map}
 use Rattle.aq_base.specs.declared.monitor.Pollutant.TheVariants.{Ozone}
-use Rattle.aq_profile.specs.Office.Designation.{primary_on}
-use Rattle.aq_profile.specs.Ozone.SiteHour.{Cell, Sample}
+use Rattle.aq_rules.specs.Office.Designation.{primary_on}
+use Rattle.aq_rules.specs.Ozone.SiteHour.{Cell, Sample}
 use Rattle.aq_series.proofs.Pocs.{pocs-few, pocs-next}
 use Rattle.aq_series.proofs.Stages.{hour-mean, hour-primary, of_poc, primary-found, room, walked-more, walked-past}
 use Rattle.aq_series.proofs.hours.site_hour.Goals as goal

@@ -1,6 +1,6 @@
 use Rattle.std.proofs.Common.{◌<◌, None, get_or, length, subst, ◌∙◌, arith, Option}
 use Rattle.std.proofs.lemmas.List.{get_or_default, length-set}
-use Rattle.aq_profile.specs.Ozone.SiteHour.{Cell}
+use Rattle.aq_rules.specs.Ozone.SiteHour.{Cell}
 use Rattle.aq_series.specs.DaySums.{AddsDay}
 use Rattle.aq_series.specs.declared.site_spans.DayState.{DayState}
 use Rattle.aq_series.proofs.SiteSpans.{days-set, rest-set}

@@ -1,5 +1,5 @@
 use Rattle.std.proofs.Common.{◌+◌, None, Some, Option, get_or, refl, subst, sym, ◌∙◌, arith}
-use Rattle.aq_profile.specs.Ozone.SiteHour.{Cell}
+use Rattle.aq_rules.specs.Ozone.SiteHour.{Cell}
 use Rattle.aq_series.specs.DaySums.{AddsDay}
 use Rattle.aq_series.proofs.MonitorDay.{uncounted-day}
 use Rattle.aq_series.proofs.SiteSpans.{adds-none}

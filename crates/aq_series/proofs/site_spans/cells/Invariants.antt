@@ -1,7 +1,7 @@
 use Rattle.std.proofs.Common.{◌≡◌, ℕ, ◌<◌, None, List, length, get_or}
 use Rattle.std.specs.Prelude.{IfSome}
 use Rattle.std.specs.Option.{option_or}
-use Rattle.aq_profile.specs.Ozone.SiteHour.{Cell}
+use Rattle.aq_rules.specs.Ozone.SiteHour.{Cell}
 use Rattle.aq_series.specs.DayCells.{mean_of, IsParticle, IsTallyOf}
 use Rattle.aq_series.specs.declared.site_spans.DayState.{DayState}
 use Rattle.aq_series.proofs.site_spans.cells.Given as goal

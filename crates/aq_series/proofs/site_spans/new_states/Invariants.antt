@@ -1,6 +1,6 @@
 use Rattle.std.proofs.Common.{◌≡◌, ℕ, ◌+◌, ◌<◌, length, get_or}
 use Rattle.aq_base.specs.declared.monitor.Pollutant.TheVariants.{Pm25}
-use Rattle.aq_profile.specs.Office.Designation.{primary_on}
+use Rattle.aq_rules.specs.Office.Designation.{primary_on}
 use Rattle.aq_series.specs.DaySums.{IsNew}
 use Rattle.aq_series.specs.declared.site_spans.DayState.{DayState}
 use Rattle.aq_series.proofs.site_spans.new_states.Given as goal

@@ -2,7 +2,7 @@ use Rattle.std.specs.Prelude.{pos, false, None}
 use Rattle.std.proofs.Common.{ℕ, ◌+◌, ◌<◌, ◌≤◌, ◌⊎◌, inl, inr, get_or, subst, sym, ◌∙◌, arith}
 use Rattle.aq_base.specs.declared.monitor.Pollutant.TheVariants.{Pm25}
 use Rattle.aq_base.specs.declared.monitor.MonitorId.{MonitorId}
-use Rattle.aq_profile.specs.Particles.ParticleDay.{monitor_day}
+use Rattle.aq_rules.specs.Particles.ParticleDay.{monitor_day}
 use Rattle.aq_series.specs.DaySums.{AddsDay, IsNew}
 use Rattle.aq_series.specs.OfficeView.{office_of}
 use Rattle.aq_series.specs.declared.site_spans.DayState.{DayState}

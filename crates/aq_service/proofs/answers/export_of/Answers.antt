@@ -1,6 +1,6 @@
 use Rattle.std.proofs.Common.{subst, sym, ◌∙◌}
 use Rattle.aq_book.specs.Questions.{IsAskFault}
-use Rattle.aq_profile.specs.Shown.Answer.{is_registered}
+use Rattle.aq_rules.specs.Shown.Answer.{is_registered}
 use Rattle.aq_service.proofs.Asked.{export_told, no_export}
 use Rattle.aq_service.proofs.answers.export_of.Goals as goal
 

@@ -1,6 +1,6 @@
 use Rattle.std.proofs.Common.{subst, sym, ◌∙◌}
 use Rattle.aq_book.specs.Questions.{IsAskFault}
-use Rattle.aq_profile.specs.Shown.Answer.{is_registered}
+use Rattle.aq_rules.specs.Shown.Answer.{is_registered}
 use Rattle.aq_service.proofs.Asked.{days_told, each_approval, each_day, no_days}
 use Rattle.aq_service.proofs.days.days_of.Goals as goal
 

@@ -1,7 +1,7 @@
 use Rattle.std.proofs.Common.{◌≤◌, subst}
 use Rattle.sha2.specs.Sha256.{sha256}
-use Rattle.aq_profile.specs.Limits.{MOST_LINES}
-use Rattle.aq_profile.specs.Lines.Lines.{line_count}
+use Rattle.aq_rules.specs.Limits.{MOST_LINES}
+use Rattle.aq_rules.specs.Lines.Lines.{line_count}
 use Rattle.aq_service.proofs.PostedLoads.{is_taken}
 use Rattle.aq_service.proofs.Taking.{if_ok}
 use Rattle.aq_service.proofs.posting.post.Goals as goal

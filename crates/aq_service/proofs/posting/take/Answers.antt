@@ -1,6 +1,6 @@
 use Rattle.std.proofs.Common.{Err, refl, sym, subst, ◌∙◌}
 use Rattle.aq_keeper.specs.Told.{HasCause}
-use Rattle.aq_profile.specs.Office.Office.{IsOffice}
+use Rattle.aq_rules.specs.Office.Office.{IsOffice}
 use Rattle.aq_service.proofs.Taking.{in_order, lost_before, lost_behind, on_err, taken}
 use Rattle.aq_service.proofs.posting.take.Goals as goal
 

@@ -1,5 +1,5 @@
-use Rattle.aq_profile.specs.Office.Office.{load_at}
-use Rattle.aq_profile.specs.Shown.WellFormed.{IsWellFormed}
+use Rattle.aq_rules.specs.Office.Office.{load_at}
+use Rattle.aq_rules.specs.Shown.WellFormed.{IsWellFormed}
 use Rattle.aq_service.proofs.Asked.{kept_sheet}
 use Rattle.aq_service.proofs.replies.kept_reply.Goals as goal
 

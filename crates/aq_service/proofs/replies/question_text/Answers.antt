@@ -1,5 +1,5 @@
 use Rattle.std.proofs.Common.{ap, ◌∙◌}
-use Rattle.aq_profile.specs.Shown.Answer.{answer}
+use Rattle.aq_rules.specs.Shown.Answer.{answer}
 use Rattle.aq_serve.specs.Answered.{to_question}
 use Rattle.aq_service.proofs.Replied.{export_answer_is}
 use Rattle.aq_service.proofs.replies.question_text.Goals as goal

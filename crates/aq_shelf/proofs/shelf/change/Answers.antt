@@ -1,5 +1,5 @@
 use Rattle.std.proofs.Common.{◌∙◌, sym, Some, None}
-use Rattle.aq_profile.specs.Office.Office.{observation_rank, with_row}
+use Rattle.aq_rules.specs.Office.Office.{observation_rank, with_row}
 use Rattle.aq_shelf.proofs.Cases.{on_some, if_none, changed_or_not}
 use Rattle.aq_shelf.proofs.StretchLemmas.{found-at, written-at, content_at-joined, changes-put, changed-joined, unchanged-joined, AreStretches-change}
 use Rattle.aq_shelf.proofs.shelf.change.Goals as goal

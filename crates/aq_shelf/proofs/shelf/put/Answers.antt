@@ -3,7 +3,7 @@ use Rattle.std.specs.BTreeMap.{insert_entry}
 use Rattle.std.specs.declared.cmp.Reverse.{Reverse}
 use Rattle.std.proofs.lemmas.Result.{err_from_is_err_and}
 use Rattle.aq_base.specs.declared.observation.Observation.{Observation}
-use Rattle.aq_profile.specs.Office.Office.{observation_rank, with_row}
+use Rattle.aq_rules.specs.Office.Office.{observation_rank, with_row}
 use Rattle.aq_shelf.specs.declared.stretch.Stretch.{Stretch}
 use Rattle.aq_shelf.specs.Standing.{content_at}
 use Rattle.aq_shelf.specs.Stretches.{rows_of}

@@ -1,6 +1,6 @@
 use Rattle.std.proofs.Common.{◌≡◌, ◌++◌, drop, flat_map}
-use Rattle.aq_profile.specs.Shown.OtherSheets.{report_answer}
-use Rattle.aq_profile.specs.Shown.Sheet.{text_of}
+use Rattle.aq_rules.specs.Shown.OtherSheets.{report_answer}
+use Rattle.aq_rules.specs.Shown.Sheet.{text_of}
 use Rattle.aq_simulation.proofs.reports.add_each.Given as goal
 
 abbrev pub invariant-loop-standard : goal.invariant-loop-standard

@@ -1,5 +1,5 @@
 use Rattle.std.proofs.Common.{inl, inr, subst}
-use Rattle.aq_profile.specs.Shown.Answer.{Report, answer}
+use Rattle.aq_rules.specs.Shown.Answer.{Report, answer}
 use Rattle.aq_service.specs.Answers.{IsUnanswered}
 use Rattle.aq_simulation.proofs.Steps.{has_report, report_sheet_is, text_is}
 use Rattle.aq_simulation.proofs.reports.report_text.Goals as goal

@@ -1,5 +1,5 @@
 use Rattle.std.proofs.Common.{◌≡◌, ◌≤◌, arith}
-use Rattle.aq_profile.specs.Shown.Generator.{load_count}
+use Rattle.aq_rules.specs.Shown.Generator.{load_count}
 use Rattle.aq_simulation.proofs.Steps.{takes_all, takes_first, takes_next}
 use Rattle.aq_simulation.proofs.taken.take_all.Goals as goal
 

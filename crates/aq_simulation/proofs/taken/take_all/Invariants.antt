@@ -1,5 +1,5 @@
 use Rattle.std.proofs.Common.{◌+◌, ◌-◌}
-use Rattle.aq_profile.specs.Shown.Generator.{load_count}
+use Rattle.aq_rules.specs.Shown.Generator.{load_count}
 use Rattle.aq_simulation.proofs.Steps.{TakesOn}
 use Rattle.aq_simulation.proofs.taken.take_all.Given as goal
 

@@ -2,8 +2,8 @@ use Rattle.std.proofs.Common.{◌≡◌, ℕ, ◌+◌, List, Vec, Global, ap, su
 use Rattle.std.specs.Prelude.{OnOk}
 use Rattle.std.specs.Option.{option_map}
 use Rattle.sha2.specs.Sha256.{sha256}
-use Rattle.aq_profile.specs.Lines.Lines.{line_count}
-use Rattle.aq_profile.specs.Office.Load.{post}
+use Rattle.aq_rules.specs.Lines.Lines.{line_count}
+use Rattle.aq_rules.specs.Office.Load.{post}
 use Rattle.aq_simulation.proofs.Steps.{body_is, not_none}
 use Rattle.aq_simulation.proofs.taken.take_load.Goals as goal
 

@@ -3,10 +3,10 @@ use Rattle.std.specs.Prelude.{Option}
 use Rattle.std.specs.Int.{w32}
 use Rattle.std.proofs.lemmas.Int.{to_z-of_z}
 use Rattle.aq_base.specs.declared.standard.Verdict.{Verdict}
-use Rattle.aq_profile.specs.Particles.Substitution.{minimum_for, maximum_for}
-use Rattle.aq_profile.specs.Particles.AnnualVerdict.{ParticleDv, annual_value, is_annual_year, annual_test, annual_verdict, filled_value, mean_of, counts_in}
-use Rattle.aq_profile.specs.Kept.Summaries.{PmYear}
-use Rattle.aq_profile.specs.Kept.SummaryVerdicts.{of_summaries, kept_annual_dv}
+use Rattle.aq_rules.specs.Particles.Substitution.{minimum_for, maximum_for}
+use Rattle.aq_rules.specs.Particles.AnnualVerdict.{ParticleDv, annual_value, is_annual_year, annual_test, annual_verdict, filled_value, mean_of, counts_in}
+use Rattle.aq_rules.specs.Kept.Summaries.{PmYear}
+use Rattle.aq_rules.specs.Kept.SummaryVerdicts.{of_summaries, kept_annual_dv}
 use Rattle.aq_verdict.proofs.annual_value.annual.Goals as goal
 
 -- the four parts are those of the rule

@@ -1,9 +1,9 @@
 use Rattle.std.proofs.Common.{◌++◌, ◌∙◌, ap}
 use Rattle.std.specs.Prelude.{[]}
 use Rattle.std.proofs.lemmas.List.Elements.{All-append}
-use Rattle.aq_profile.specs.Particles.Means.{mean_of_means}
-use Rattle.aq_profile.specs.Kept.Summaries.{PmYear}
-use Rattle.aq_profile.specs.Kept.SummaryVerdicts.{of_summaries}
+use Rattle.aq_rules.specs.Particles.Means.{mean_of_means}
+use Rattle.aq_rules.specs.Kept.Summaries.{PmYear}
+use Rattle.aq_rules.specs.Kept.SummaryVerdicts.{of_summaries}
 use Rattle.aq_verdict.specs.QuarterlyMean.{IsMean}
 use Rattle.aq_verdict.proofs.Rows.{three-of, map-three}
 use Rattle.aq_verdict.proofs.annual_value.annual_value.Goals as goal

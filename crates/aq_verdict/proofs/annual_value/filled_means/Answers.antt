@@ -1,7 +1,7 @@
 use Rattle.std.proofs.Common.{[], ◌∷◌, ◌∙◌, ap, map}
-use Rattle.aq_profile.specs.Lists.{all_of}
-use Rattle.aq_profile.specs.Particles.AnnualVerdict.{filled_mean}
-use Rattle.aq_profile.specs.Kept.SummaryVerdicts.{of_summaries}
+use Rattle.aq_rules.specs.Lists.{all_of}
+use Rattle.aq_rules.specs.Particles.AnnualVerdict.{filled_mean}
+use Rattle.aq_rules.specs.Kept.SummaryVerdicts.{of_summaries}
 use Rattle.aq_verdict.specs.Filled.{copies_in_test}
 use Rattle.aq_verdict.proofs.Rows.{matched-four}
 use Rattle.aq_verdict.proofs.annual_value.filled_means.Goals as goal

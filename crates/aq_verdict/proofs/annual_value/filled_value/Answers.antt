@@ -1,9 +1,9 @@
 use Rattle.std.proofs.Common.{◌∙◌, ap}
 use Rattle.std.specs.Prelude.{option_and_then}
-use Rattle.aq_profile.specs.Particles.Means.{mean_of_means}
-use Rattle.aq_profile.specs.Particles.Substitution.{matched}
-use Rattle.aq_profile.specs.Particles.AnnualVerdict.{filled_mean}
-use Rattle.aq_profile.specs.Kept.SummaryVerdicts.{of_summaries}
+use Rattle.aq_rules.specs.Particles.Means.{mean_of_means}
+use Rattle.aq_rules.specs.Particles.Substitution.{matched}
+use Rattle.aq_rules.specs.Particles.AnnualVerdict.{filled_mean}
+use Rattle.aq_rules.specs.Kept.SummaryVerdicts.{of_summaries}
 use Rattle.aq_verdict.specs.Filled.{copies_in_test}
 use Rattle.aq_verdict.proofs.Rows.{three-of, all-three}
 use Rattle.aq_verdict.proofs.annual_value.filled_value.Goals as goal

@@ -2,9 +2,9 @@ use Rattle.std.proofs.Common.{◌≡◌, [], ◌∷◌, ◌∙◌, ap, map, sym,
 use Rattle.std.specs.Prelude.{Option}
 use Rattle.std.specs.Int.{w32}
 use Rattle.std.proofs.lemmas.Int.{to_z-of_z}
-use Rattle.aq_profile.specs.Particles.AnnualVerdict.{is_annual_year, mean_of, counts_in}
-use Rattle.aq_profile.specs.Kept.Summaries.{PmYear}
-use Rattle.aq_profile.specs.Kept.SummaryVerdicts.{of_summaries}
+use Rattle.aq_rules.specs.Particles.AnnualVerdict.{is_annual_year, mean_of, counts_in}
+use Rattle.aq_rules.specs.Kept.Summaries.{PmYear}
+use Rattle.aq_rules.specs.Kept.SummaryVerdicts.{of_summaries}
 use Rattle.aq_verdict.proofs.Rows.{three-of}
 use Rattle.aq_verdict.proofs.annual_value.valid_years.Goals as goal
 

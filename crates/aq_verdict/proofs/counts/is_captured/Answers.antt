@@ -2,8 +2,8 @@ use Rattle.std.proofs.Common.{◌∙◌, sym, ap}
 use Rattle.std.specs.Prelude.{nat_le}
 use Rattle.std.specs.List.{list_all}
 use Rattle.std.proofs.lemmas.List.Folds.{list_all-map}
-use Rattle.aq_profile.specs.Particles.QuarterCounts.{capture}
-use Rattle.aq_profile.specs.Kept.Summaries.{counts_of}
+use Rattle.aq_rules.specs.Particles.QuarterCounts.{capture}
+use Rattle.aq_rules.specs.Kept.Summaries.{counts_of}
 use Rattle.aq_verdict.specs.Counts.{is_quarter_captured}
 use Rattle.aq_verdict.proofs.counts.is_captured.Goals as goal
 

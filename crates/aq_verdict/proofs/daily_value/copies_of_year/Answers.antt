@@ -1,9 +1,9 @@
 use Rattle.std.proofs.Common.{[], ◌∷◌, ◌∙◌, ap, map}
 use Rattle.std.specs.Prelude.{option_map}
 use Rattle.std.specs.List.{flat_map}
-use Rattle.aq_profile.specs.Lists.{all_of}
-use Rattle.aq_profile.specs.Particles.Substitution.{maximum_for}
-use Rattle.aq_profile.specs.Kept.SummaryVerdicts.{of_summaries}
+use Rattle.aq_rules.specs.Lists.{all_of}
+use Rattle.aq_rules.specs.Particles.Substitution.{maximum_for}
+use Rattle.aq_rules.specs.Kept.SummaryVerdicts.{of_summaries}
 use Rattle.aq_verdict.specs.Filled.{copies_of}
 use Rattle.aq_verdict.proofs.Rows.{matched-four}
 use Rattle.aq_verdict.proofs.PercentilePlaces.{all-copies, filled-year-few}

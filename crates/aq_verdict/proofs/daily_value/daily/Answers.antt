@@ -1,10 +1,10 @@
 use Rattle.std.proofs.Common.{◌≡◌, ◌∙◌, ap, map, List, Bool}
 use Rattle.std.specs.Prelude.{Option, ℤ}
 use Rattle.aq_base.specs.declared.standard.Verdict.{Verdict}
-use Rattle.aq_profile.specs.Particles.AnnualVerdict.{ParticleDv, counts_in}
-use Rattle.aq_profile.specs.Particles.DailyVerdict.{is_daily_year, daily_test, daily_verdict, daily_value_of, percentile_of, filled_percentile, value_of_three}
-use Rattle.aq_profile.specs.Kept.Summaries.{PmYear}
-use Rattle.aq_profile.specs.Kept.SummaryVerdicts.{of_summaries, kept_daily_dv}
+use Rattle.aq_rules.specs.Particles.AnnualVerdict.{ParticleDv, counts_in}
+use Rattle.aq_rules.specs.Particles.DailyVerdict.{is_daily_year, daily_test, daily_verdict, daily_value_of, percentile_of, filled_percentile, value_of_three}
+use Rattle.aq_rules.specs.Kept.Summaries.{PmYear}
+use Rattle.aq_rules.specs.Kept.SummaryVerdicts.{of_summaries, kept_daily_dv}
 use Rattle.aq_verdict.proofs.daily_value.daily.Goals as goal
 
 -- the four parts are those of the rule

@@ -1,6 +1,6 @@
 use Rattle.std.proofs.Common.{◌∙◌, ap, List, ℤ}
 use Rattle.std.specs.Prelude.{option_and_then}
-use Rattle.aq_profile.specs.Kept.SummaryVerdicts.{of_summaries}
+use Rattle.aq_rules.specs.Kept.SummaryVerdicts.{of_summaries}
 use Rattle.aq_verdict.proofs.daily_value.filled_percentile.Goals as goal
 
 pub returns-in_err-copies_of_year : goal.returns-in_err-copies_of_year

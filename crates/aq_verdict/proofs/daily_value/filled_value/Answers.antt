@@ -1,7 +1,7 @@
 use Rattle.std.proofs.Common.{◌∙◌, ap, map, sym}
-use Rattle.aq_profile.specs.Particles.Percentile.{daily_value}
-use Rattle.aq_profile.specs.Particles.DailyVerdict.{filled_percentile, value_of_three}
-use Rattle.aq_profile.specs.Kept.SummaryVerdicts.{of_summaries}
+use Rattle.aq_rules.specs.Particles.Percentile.{daily_value}
+use Rattle.aq_rules.specs.Particles.DailyVerdict.{filled_percentile, value_of_three}
+use Rattle.aq_rules.specs.Kept.SummaryVerdicts.{of_summaries}
 use Rattle.aq_verdict.proofs.Rows.{three-of}
 use Rattle.aq_verdict.proofs.daily_value.filled_value.Goals as goal
 

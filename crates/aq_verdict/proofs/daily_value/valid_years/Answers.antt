@@ -1,8 +1,8 @@
 use Rattle.std.proofs.Common.{[], ◌∷◌, ◌∙◌, ap, map, sym}
-use Rattle.aq_profile.specs.Particles.AnnualVerdict.{counts_in}
-use Rattle.aq_profile.specs.Particles.DailyVerdict.{is_daily_year, percentile_of}
-use Rattle.aq_profile.specs.Kept.Summaries.{PmYear}
-use Rattle.aq_profile.specs.Kept.SummaryVerdicts.{of_summaries}
+use Rattle.aq_rules.specs.Particles.AnnualVerdict.{counts_in}
+use Rattle.aq_rules.specs.Particles.DailyVerdict.{is_daily_year, percentile_of}
+use Rattle.aq_rules.specs.Kept.Summaries.{PmYear}
+use Rattle.aq_rules.specs.Kept.SummaryVerdicts.{of_summaries}
 use Rattle.aq_verdict.proofs.Rows.{three-of}
 use Rattle.aq_verdict.proofs.daily_value.valid_years.Goals as goal
 

@@ -4,7 +4,7 @@ use Rattle.std.specs.Int.{w32}
 use Rattle.std.specs.List.{list_all}
 use Rattle.std.proofs.lemmas.Int.{to_z-of_z}
 use Rattle.aq_base.specs.Decimal.{half_up}
-use Rattle.aq_profile.specs.Particles.Means.{Fraction, has_days}
+use Rattle.aq_rules.specs.Particles.Means.{Fraction, has_days}
 use Rattle.aq_verdict.proofs.Sums.{same-sum}
 use Rattle.aq_verdict.proofs.means.mean_of_three_years.Goals as goal
 

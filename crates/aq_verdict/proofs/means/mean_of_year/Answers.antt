@@ -5,7 +5,7 @@ use Rattle.std.specs.Prelude.{Some}
 use Rattle.std.specs.List.{list_all}
 use Rattle.aq_base.specs.Decimal.{half_up}
 use Rattle.aq_num.specs.Fractions.{sum_of_fractions}
-use Rattle.aq_profile.specs.Particles.Means.{Fraction, has_days, sum_of_fractions as sum_of_means}
+use Rattle.aq_rules.specs.Particles.Means.{Fraction, has_days, sum_of_fractions as sum_of_means}
 use Rattle.aq_verdict.proofs.Sums.{same-sum-more, each-more, days-more}
 use Rattle.aq_verdict.proofs.means.mean_of_year.Goals as goal
 

@@ -1,5 +1,5 @@
 use Rattle.std.proofs.Common.{◌+◌, ◌∙◌, arith}
-use Rattle.aq_profile.specs.Kept.SummaryVerdicts.{kept_counted}
+use Rattle.aq_rules.specs.Kept.SummaryVerdicts.{kept_counted}
 use Rattle.aq_verdict.specs.Ranks.{percentile_in}
 use Rattle.aq_verdict.proofs.PercentilePlaces.{counted-few, percentile-itself}
 use Rattle.aq_verdict.proofs.percentile.percentile_of.Goals as goal

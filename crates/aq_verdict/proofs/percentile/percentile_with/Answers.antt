@@ -1,6 +1,6 @@
 use Rattle.std.proofs.Common.{◌+◌, ◌∙◌, length}
 use Rattle.std.specs.List.{flat_map}
-use Rattle.aq_profile.specs.Kept.SummaryVerdicts.{kept_counted}
+use Rattle.aq_rules.specs.Kept.SummaryVerdicts.{kept_counted}
 use Rattle.aq_verdict.specs.Filled.{copies_of}
 use Rattle.aq_verdict.specs.Ranks.{percentile_in}
 use Rattle.aq_verdict.proofs.PercentilePlaces.{percentile-places}

@@ -2,7 +2,7 @@ use Rattle.std.proofs.Common.{◌≡◌, ◌+◌, sym, pos, ◌+ℤ◌, ◌*ℤ�
 use Rattle.std.specs.Int.{w32}
 use Rattle.std.proofs.lemmas.Int.{ints, to_z-of_z}
 use Rattle.std.proofs.lemmas.List.{length-replicate}
-use Rattle.aq_profile.specs.Lists.{total}
+use Rattle.aq_rules.specs.Lists.{total}
 use Rattle.aq_verdict.proofs.Copied.{total-copies, copies-within, sum-within, is_mean-filled}
 use Rattle.aq_verdict.proofs.quarterly.mean_with.Goals as goal
 

@@ -1,9 +1,9 @@
 use Rattle.std.proofs.Common.{ap, w32, ◌∙◌}
 use Rattle.std.specs.Prelude.{ℤ}
 use Rattle.std.proofs.lemmas.Int.{to_z-of_z}
-use Rattle.aq_profile.specs.Kept.SummaryVerdicts.{kept_annual_dv}
-use Rattle.aq_profile.specs.DesignValues.{pm25_years}
-use Rattle.aq_profile.specs.Office.Office.{Office}
+use Rattle.aq_rules.specs.Kept.SummaryVerdicts.{kept_annual_dv}
+use Rattle.aq_rules.specs.DesignValues.{pm25_years}
+use Rattle.aq_rules.specs.Office.Office.{Office}
 use Rattle.aq_book.proofs.DesignLemmas.{annual-value}
 use Rattle.aq_book.proofs.LoadlessAnswers.{pm25_years_are}
 use Rattle.aq_book.proofs.book.Book.annual_value.Goals as goal

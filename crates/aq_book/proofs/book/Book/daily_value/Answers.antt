@@ -1,6 +1,6 @@
 use Rattle.std.proofs.Common.{ap, subst, ◌∙◌}
-use Rattle.aq_profile.specs.DesignValues.{pm25_years}
-use Rattle.aq_profile.specs.Office.Office.{IsOffice, Office}
+use Rattle.aq_rules.specs.DesignValues.{pm25_years}
+use Rattle.aq_rules.specs.Office.Office.{IsOffice, Office}
 use Rattle.aq_book.proofs.DesignLemmas.{daily-value}
 use Rattle.aq_book.proofs.LoadlessAnswers.{pm25_years_are}
 use Rattle.aq_book.proofs.book.Book.daily_value.Goals as goal

@@ -1,6 +1,6 @@
 use Rattle.std.proofs.Common.{is_some, ap, subst, ◌∙◌}
-use Rattle.aq_profile.specs.Office.Office.{IsOffice, Office}
-use Rattle.aq_profile.specs.Office.Questions.{next_poc}
+use Rattle.aq_rules.specs.Office.Office.{IsOffice, Office}
+use Rattle.aq_rules.specs.Office.Questions.{next_poc}
 use Rattle.aq_book.proofs.RisingSites.{monitor-there}
 use Rattle.aq_book.proofs.book.Book.measures.Goals as goal
 

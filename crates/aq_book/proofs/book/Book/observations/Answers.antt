@@ -1,6 +1,6 @@
 use Rattle.std.proofs.Common.{ap, ◌∙◌}
-use Rattle.aq_profile.specs.Office.Office.{Office}
-use Rattle.aq_profile.specs.Shown.Export.{shown_of}
+use Rattle.aq_rules.specs.Office.Office.{Office}
+use Rattle.aq_rules.specs.Shown.Export.{shown_of}
 use Rattle.aq_book.proofs.LoadlessAnswers.{shown_are}
 use Rattle.aq_book.proofs.book.Book.observations.Goals as goal
 

@@ -1,6 +1,6 @@
 use Rattle.std.proofs.Common.{ap, ◌∙◌}
-use Rattle.aq_profile.specs.Office.Office.{Office}
-use Rattle.aq_profile.specs.Ozone.OzoneYear.{ozone_days}
+use Rattle.aq_rules.specs.Office.Office.{Office}
+use Rattle.aq_rules.specs.Ozone.OzoneYear.{ozone_days}
 use Rattle.aq_book.proofs.LoadlessAnswers.{ozone_days_are}
 use Rattle.aq_book.proofs.book.Book.ozone_days.Goals as goal
 

@@ -1,6 +1,6 @@
 use Rattle.std.proofs.Common.{ap, ◌∙◌}
-use Rattle.aq_profile.specs.Ozone.OzoneVerdict.{three_years}
-use Rattle.aq_profile.specs.Office.Office.{Office}
+use Rattle.aq_rules.specs.Ozone.OzoneVerdict.{three_years}
+use Rattle.aq_rules.specs.Office.Office.{Office}
 use Rattle.aq_book.proofs.DesignLemmas.{ozone-value}
 use Rattle.aq_book.proofs.LoadlessAnswers.{three_years_are}
 use Rattle.aq_book.proofs.book.Book.ozone_value.Goals as goal

@@ -1,6 +1,6 @@
 use Rattle.std.proofs.Common.{ap, ◌∙◌}
-use Rattle.aq_profile.specs.DesignValues.{pm10_years}
-use Rattle.aq_profile.specs.Office.Office.{Office}
+use Rattle.aq_rules.specs.DesignValues.{pm10_years}
+use Rattle.aq_rules.specs.Office.Office.{Office}
 use Rattle.aq_book.proofs.DesignLemmas.{pm10-value}
 use Rattle.aq_book.proofs.LoadlessAnswers.{pm10_years_are}
 use Rattle.aq_book.proofs.book.Book.pm10_value.Goals as goal

@@ -1,6 +1,6 @@
 use Rattle.std.proofs.Common.{ap, ◌∙◌}
-use Rattle.aq_profile.specs.Particles.Pm10Estimate.{pm10_year}
-use Rattle.aq_profile.specs.Office.Office.{Office}
+use Rattle.aq_rules.specs.Particles.Pm10Estimate.{pm10_year}
+use Rattle.aq_rules.specs.Office.Office.{Office}
 use Rattle.aq_book.proofs.LoadlessAnswers.{pm10_year_is}
 use Rattle.aq_book.proofs.book.Book.pm10_year.Goals as goal
 

@@ -1,6 +1,6 @@
 use Rattle.std.proofs.Common.{ap, ◌∙◌}
-use Rattle.aq_profile.specs.Kept.Summaries.{pm25_summary}
-use Rattle.aq_profile.specs.Office.Office.{Office}
+use Rattle.aq_rules.specs.Kept.Summaries.{pm25_summary}
+use Rattle.aq_rules.specs.Office.Office.{Office}
 use Rattle.aq_book.proofs.LoadlessAnswers.{pm25_summary_is}
 use Rattle.aq_book.proofs.book.Book.pm25_year.Goals as goal
 

@@ -1,10 +1,10 @@
 use Rattle.std.proofs.Common.{◌≡◌, Some, None, cond, List, [], ◌∷◌, ◌++◌, length, map, ap, sym, subst, ◌∙◌, arith}
 use Rattle.std.proofs.lemmas.List.{append-nil}
 use Rattle.aq_base.specs.Site.{Site}
-use Rattle.aq_profile.specs.Office.Office.{IsOffice, Office, has_monitor}
-use Rattle.aq_profile.specs.Office.Questions.{next_site}
-use Rattle.aq_profile.specs.Shown.OtherSheets.{judged}
-use Rattle.aq_profile.specs.Standards.{pollutant_of}
+use Rattle.aq_rules.specs.Office.Office.{IsOffice, Office, has_monitor}
+use Rattle.aq_rules.specs.Office.Questions.{next_site}
+use Rattle.aq_rules.specs.Shown.OtherSheets.{judged}
+use Rattle.aq_rules.specs.Standards.{pollutant_of}
 use Rattle.aq_verdict.specs.declared.design_value.DesignValue.{DesignValue}
 use Rattle.aq_book.specs.Questions.{judged_in}
 use Rattle.aq_book.proofs.ReportLemmas.{judged-more}

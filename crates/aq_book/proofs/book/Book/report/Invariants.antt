@@ -1,7 +1,7 @@
 use Rattle.std.proofs.Common.{◌≡◌, ◌+◌, ◌*◌, ◌≤◌, ◌++◌, length, map}
 use Rattle.aq_base.specs.declared.standard.Standard.TheVariants.{Ozone2015}
-use Rattle.aq_profile.specs.Shown.OtherSheets.{judged, sites_with}
-use Rattle.aq_profile.specs.Standards.{pollutant_of}
+use Rattle.aq_rules.specs.Shown.OtherSheets.{judged, sites_with}
+use Rattle.aq_rules.specs.Standards.{pollutant_of}
 use Rattle.aq_book.specs.Questions.{judged_in}
 use Rattle.aq_book.proofs.RisingSites.{sites_above, with_monitor}
 use Rattle.aq_book.proofs.book.Book.report.Given as goal

@@ -1,5 +1,5 @@
 use Rattle.std.proofs.Common.{sym, subst, arith}
-use Rattle.aq_profile.specs.Office.Office.{IsOffice}
+use Rattle.aq_rules.specs.Office.Office.{IsOffice}
 use Rattle.aq_book.proofs.StageLemmas.{after-is, office-is, reply-is, staged_on, valid-loaded}
 use Rattle.aq_book.proofs.book.Book.stage.Goals as goal
 

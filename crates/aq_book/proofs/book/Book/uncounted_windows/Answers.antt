@@ -1,6 +1,6 @@
 use Rattle.std.proofs.Common.{ap, ◌∙◌}
-use Rattle.aq_profile.specs.Office.Office.{Office}
-use Rattle.aq_profile.specs.Ozone.OzoneDay.{windows}
+use Rattle.aq_rules.specs.Office.Office.{Office}
+use Rattle.aq_rules.specs.Ozone.OzoneDay.{windows}
 use Rattle.aq_book.proofs.LoadlessAnswers.{windows_are}
 use Rattle.aq_book.proofs.book.Book.uncounted_windows.Goals as goal
 

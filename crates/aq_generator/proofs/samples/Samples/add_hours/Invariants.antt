@@ -1,7 +1,7 @@
 use Rattle.std.proofs.Common.{◌≡◌, ◌-◌, ◌++◌, List, map}
 use Rattle.std.specs.List.{range_with_len}
 use Rattle.aq_base.specs.declared.monitor.Pollutant.TheVariants.{Ozone}
-use Rattle.aq_profile.specs.Shown.Generator.{Wanted}
+use Rattle.aq_rules.specs.Shown.Generator.{Wanted}
 use Rattle.aq_generator.specs.Samples.{wanted, completed}
 use Rattle.aq_generator.proofs.samples.Samples.add_hours.Given as goal
 

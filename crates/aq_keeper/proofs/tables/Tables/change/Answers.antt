@@ -1,5 +1,5 @@
 use Rattle.std.proofs.Common.{List, sym, subst}
-use Rattle.aq_profile.specs.Kept.RowChanges.{RowChange}
+use Rattle.aq_rules.specs.Kept.RowChanges.{RowChange}
 use Rattle.aq_keeper.specs.Rising.{Rise, keys_of_changes}
 use Rattle.aq_keeper.proofs.RisingLemmas.{rise-keys}
 use Rattle.aq_keeper.proofs.tables.Tables.change.Goals as goal

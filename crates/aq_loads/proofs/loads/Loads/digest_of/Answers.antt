@@ -1,6 +1,6 @@
 use Rattle.std.proofs.Common.{ℕ, ◌∷◌, [], List, refl, ap, ◌∙◌}
 use Rattle.std.specs.Prelude.{option_map}
-use Rattle.aq_profile.specs.Office.Office.{StoredLoad, load_rank, row_at}
+use Rattle.aq_rules.specs.Office.Office.{StoredLoad, load_rank, row_at}
 use Rattle.aq_loads.specs.declared.loads.KeptLoad.{KeptLoad}
 use Rattle.aq_loads.specs.KeptLoads.{digest_in}
 use Rattle.aq_loads.proofs.LoadMap.{found_in}

@@ -1,5 +1,5 @@
 use Rattle.std.proofs.Common.{List, ap, ◌∙◌}
-use Rattle.aq_profile.specs.Office.Office.{StoredLoad, load_rank, with_row}
+use Rattle.aq_rules.specs.Office.Office.{StoredLoad, load_rank, with_row}
 use Rattle.aq_loads.specs.KeptLoads.{stored_as, stored_in}
 use Rattle.aq_loads.proofs.LoadMap.{put_in}
 use Rattle.aq_loads.proofs.loads.Loads.put.Goals as goal

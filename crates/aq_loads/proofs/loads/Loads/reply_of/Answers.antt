@@ -1,7 +1,7 @@
 use Rattle.std.proofs.Common.{Bor, ◌∷◌, [], List, refl, ap, ◌∙◌}
 use Rattle.std.specs.Prelude.{option_map}
 use Rattle.aq_base.specs.declared.reply.LoadReply.{LoadReply}
-use Rattle.aq_profile.specs.Office.Office.{StoredLoad, load_rank, row_at}
+use Rattle.aq_rules.specs.Office.Office.{StoredLoad, load_rank, row_at}
 use Rattle.aq_loads.specs.declared.loads.KeptLoad.{KeptLoad}
 use Rattle.aq_loads.specs.KeptLoads.{reply_in}
 use Rattle.aq_loads.proofs.LoadMap.{found_in}

@@ -1,5 +1,5 @@
 use Rattle.std.proofs.Common.{refl}
-use Rattle.aq_profile.specs.Lists.{ranked}
+use Rattle.aq_rules.specs.Lists.{ranked}
 use Rattle.aq_ozone.proofs.ozone_year.YearTally.new.Goals as goal
 
 pub returns : goal.returns

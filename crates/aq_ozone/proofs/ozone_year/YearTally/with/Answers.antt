@@ -2,7 +2,7 @@ use Rattle.std.proofs.Common.{◌<◌, w32, arith, ◌≡◌, Bool, true, false,
 use mir.Val.{bool_byte}
 use Rattle.std.proofs.lemmas.Int.{ints, fits_signed_from_abs, to_z-of_z}
 use Rattle.std.specs.Prelude.{ℤ, unsigned_abs, Option, is_some, IfSome}
-use Rattle.aq_profile.specs.Lists.{ranked_in}
+use Rattle.aq_rules.specs.Lists.{ranked_in}
 use Rattle.aq_series.specs.Samples.{IsOzone}
 use Rattle.aq_ozone.specs.FourGreatest.{four_of}
 use Rattle.aq_ozone.proofs.YearLemmas.{more_with, more_without}

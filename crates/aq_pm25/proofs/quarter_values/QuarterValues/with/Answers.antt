@@ -1,7 +1,7 @@
 use Rattle.std.proofs.Common.{subst, ap, ◌∙◌, w32}
 use Rattle.std.specs.Prelude.{ℤ, Option, Some, IfSome}
 use Rattle.std.proofs.lemmas.Int.{to_z-of_z}
-use Rattle.aq_profile.specs.Lists.{greater, lesser}
+use Rattle.aq_rules.specs.Lists.{greater, lesser}
 use Rattle.aq_series.specs.DayCells.{IsParticle}
 use Rattle.aq_pm25.specs.Pushed.{pushed}
 use Rattle.aq_pm25.proofs.Values.{one-given, sum-fits, sum-held, sum-is, value-fits}

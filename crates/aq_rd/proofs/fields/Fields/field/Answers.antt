@@ -1,5 +1,5 @@
 use Rattle.std.proofs.Common.{◌-◌, ◌∙◌, get_or, sym, ap}
-use Rattle.aq_profile.specs.Lines.Fields.{field}
+use Rattle.aq_rules.specs.Lines.Fields.{field}
 use Rattle.aq_rd.proofs.FieldSteps.{trimmed-dense}
 use Rattle.aq_rd.proofs.fields.Fields.field.Goals as goal
 use Rattle.aq_rd.proofs.fields.Fields.field.Goals.{then-number-self, else-number-self}

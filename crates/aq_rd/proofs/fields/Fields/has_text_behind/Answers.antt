@@ -2,7 +2,7 @@ use Rattle.std.proofs.Common.{◌≡◌, ◌-◌, ◌≤◌, ◌∙◌, nat_lt, 
 use Rattle.std.specs.List.{list_any}
 use Rattle.std.proofs.lemmas.Bool.Decides.{nat_tests}
 use Rattle.std.proofs.lemmas.List.{take_all, drop_all, length-drop}
-use Rattle.aq_profile.specs.Lines.Fields.{fields, is_bar, is_space}
+use Rattle.aq_rules.specs.Lines.Fields.{fields, is_bar, is_space}
 use Rattle.aq_rd.specs.FieldPlaces.{has_text}
 use Rattle.aq_rd.proofs.FieldSteps.{has_text-bytes}
 use Rattle.aq_rd.proofs.fields.Fields.has_text_behind.Goals as goal

@@ -1,5 +1,5 @@
 use Rattle.std.proofs.Common.{◌∙◌, ap}
-use Rattle.aq_profile.specs.Office.Questions.{following}
+use Rattle.aq_rules.specs.Office.Questions.{following}
 use Rattle.aq_registry.proofs.EntryLemmas.{following-entries}
 use Rattle.aq_registry.proofs.records.Records.following.Goals as goal
 

@@ -1,5 +1,5 @@
 use Rattle.std.proofs.Common.{◌∙◌, ap}
-use Rattle.aq_profile.specs.Office.Questions.{record_of}
+use Rattle.aq_rules.specs.Office.Questions.{record_of}
 use Rattle.aq_registry.proofs.EntryLemmas.{lookup-place}
 use Rattle.aq_registry.proofs.records.Records.get.Goals as goal
 

@@ -1,6 +1,6 @@
 use Rattle.std.proofs.Common.{◌≡◌, ◌∙◌, ap}
 use Rattle.std.specs.Map.{values_of}
-use Rattle.aq_profile.specs.Office.Office.{key_of, record_rank, with_row}
+use Rattle.aq_rules.specs.Office.Office.{key_of, record_rank, with_row}
 use Rattle.aq_registry.specs.Places.{place_of}
 use Rattle.aq_registry.proofs.EntryLemmas.{values-put, AreEntries-put}
 use Rattle.aq_registry.proofs.records.Records.put.Goals as goal

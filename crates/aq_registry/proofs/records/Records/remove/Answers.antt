@@ -1,7 +1,7 @@
 use Rattle.std.proofs.Common.{◌∙◌, ap}
 use Rattle.std.specs.Map.{values_of}
 use Rattle.std.specs.BTreeMap.{is_at}
-use Rattle.aq_profile.specs.Office.Office.{key_numbers, record_rank, without_row}
+use Rattle.aq_rules.specs.Office.Office.{key_numbers, record_rank, without_row}
 use Rattle.aq_registry.specs.Places.{place_cmp}
 use Rattle.aq_registry.proofs.EntryLemmas.{values-removed, AreEntries-remove_entry}
 use Rattle.aq_registry.proofs.records.Records.remove.Goals as goal

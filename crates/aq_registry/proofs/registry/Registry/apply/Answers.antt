@@ -1,8 +1,8 @@
 use Rattle.std.proofs.Common.{◌∙◌, ap, sym, subst}
 use Rattle.aq_base.specs.declared.office.OfficeLine.TheVariants.{Put, Change, Drop}
-use Rattle.aq_profile.specs.Lines.Reading.{OfOffice}
-use Rattle.aq_profile.specs.Office.Load.{changed}
-use Rattle.aq_profile.specs.Office.Office.{IsOffice}
+use Rattle.aq_rules.specs.Lines.Reading.{OfOffice}
+use Rattle.aq_rules.specs.Office.Load.{changed}
+use Rattle.aq_rules.specs.Office.Office.{IsOffice}
 use Rattle.aq_registry.specs.Changes.{changes_of}
 use Rattle.aq_registry.specs.Registry.{office_with}
 use Rattle.aq_registry.proofs.RowCounts.{put_changes, change_changes, dropped_changes}

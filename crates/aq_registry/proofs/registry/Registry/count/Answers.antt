@@ -1,6 +1,6 @@
 use Rattle.std.proofs.Common.{◌∙◌, ◌+◌, ap}
 use Rattle.std.specs.Prelude.{count_by}
-use Rattle.aq_profile.specs.Office.Office.{parameter_number}
+use Rattle.aq_rules.specs.Office.Office.{parameter_number}
 use Rattle.aq_registry.specs.Places.{lies_between, of_site}
 use Rattle.aq_registry.proofs.SeriesLemmas.{count-series}
 use Rattle.aq_registry.proofs.registry.Registry.count.Goals as goal

@@ -1,6 +1,6 @@
 use Rattle.std.proofs.Common.{◌≡◌, ◌∙◌, length, ap, sym, subst, true}
-use Rattle.aq_profile.specs.Office.Load.{without_key}
-use Rattle.aq_profile.specs.Office.Office.{IsOffice, record_rank, rises, sites_of}
+use Rattle.aq_rules.specs.Office.Load.{without_key}
+use Rattle.aq_rules.specs.Office.Office.{IsOffice, record_rank, rises, sites_of}
 use Rattle.aq_registry.specs.Registry.{events_in, office_with}
 use Rattle.aq_registry.specs.Agreed.{AreAgreedOf, number_of}
 use Rattle.aq_registry.proofs.HeldLemmas.{held-dropped, unnoted}

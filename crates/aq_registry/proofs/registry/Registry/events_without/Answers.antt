@@ -1,5 +1,5 @@
 use Rattle.std.proofs.Common.{◌≡◌, ◌∙◌, ap, sym, subst, arith}
-use Rattle.aq_profile.specs.Office.Office.{IsOffice}
+use Rattle.aq_rules.specs.Office.Office.{IsOffice}
 use Rattle.aq_registry.specs.Registry.{events_in, office_with}
 use Rattle.aq_registry.proofs.RowCounts.{one_where, events_dropped}
 use Rattle.aq_registry.proofs.registry.Registry.events_without.Goals as goal

@@ -1,6 +1,6 @@
 use Rattle.std.proofs.Common.{◌∙◌, ap}
 use Rattle.std.specs.List.{list_any}
-use Rattle.aq_profile.specs.Office.Exclusion.{excluded}
+use Rattle.aq_rules.specs.Office.Exclusion.{excluded}
 use Rattle.aq_registry.specs.Agreed.{leaves_out}
 use Rattle.aq_registry.proofs.LeftOutLemmas.{left_out}
 use Rattle.aq_registry.proofs.registry.Registry.excluded.Goals as goal

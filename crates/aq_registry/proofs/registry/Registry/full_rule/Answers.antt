@@ -1,6 +1,6 @@
 use Rattle.std.proofs.Common.{◌∙◌, ap, sym}
 use Rattle.aq_base.specs.declared.rule.Rule.TheVariants.{MonitorsFull, MakeupsFull, ListFull}
-use Rattle.aq_profile.specs.Limits.{MOST_MONITORS, MOST_IN_LIST, MOST_MAKEUPS}
+use Rattle.aq_rules.specs.Limits.{MOST_MONITORS, MOST_IN_LIST, MOST_MAKEUPS}
 use Rattle.aq_registry.specs.Registry.{office_with}
 use Rattle.aq_registry.specs.Rules.{full_rule, rule_where_full}
 use Rattle.aq_registry.proofs.RuleLemmas.{monitors_counted, primaries_counted, schedules_counted}

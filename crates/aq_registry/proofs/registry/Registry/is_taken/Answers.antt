@@ -1,5 +1,5 @@
 use Rattle.std.proofs.Common.{ℕ, ◌∙◌, Option, ap, is_some, sym}
-use Rattle.aq_profile.specs.Office.Refusal.{is_taken}
+use Rattle.aq_rules.specs.Office.Refusal.{is_taken}
 use Rattle.aq_registry.specs.Registry.{office_with}
 use Rattle.aq_registry.proofs.RuleLemmas.{taken_found}
 use Rattle.aq_registry.proofs.registry.Registry.is_taken.Goals as goal

@@ -1,7 +1,7 @@
 use Rattle.std.proofs.Common.{◌≡◌, ◌∙◌, ◌+◌, ap, sym, subst}
 use Rattle.std.specs.Prelude.{count_by}
 use Rattle.aq_base.specs.Calendar.{quarter_of, quarter_first, days_in_quarter}
-use Rattle.aq_profile.specs.Office.Office.{IsOffice}
+use Rattle.aq_rules.specs.Office.Office.{IsOffice}
 use Rattle.aq_registry.specs.Places.{lies_between, of_site}
 use Rattle.aq_registry.specs.Registry.{office_with}
 use Rattle.aq_registry.proofs.RuleLemmas.{makeups_counted}

@@ -1,7 +1,7 @@
 use Rattle.std.proofs.Common.{◌∙◌, ◌-◌, ap, sym, subst}
 use Rattle.std.specs.Prelude.{filter}
 use Rattle.std.specs.Map.{values_of}
-use Rattle.aq_profile.specs.Office.Office.{IsOffice}
+use Rattle.aq_rules.specs.Office.Office.{IsOffice}
 use Rattle.aq_registry.specs.Places.{lies_between, of_site}
 use Rattle.aq_registry.specs.Registry.{office_with}
 use Rattle.aq_registry.proofs.ScheduleLemmas.{missed_found}

@@ -1,5 +1,5 @@
 use Rattle.std.proofs.Common.{◌≡◌, ◌∙◌, length, ap, sym, subst, true}
-use Rattle.aq_profile.specs.Office.Office.{IsOffice, key_of, record_rank, rises, sites_of, with_row}
+use Rattle.aq_rules.specs.Office.Office.{IsOffice, key_of, record_rank, rises, sites_of, with_row}
 use Rattle.aq_registry.specs.Agreed.{AreAgreedOf, is_agreed_in, is_noted, number_of, spans_put}
 use Rattle.aq_registry.specs.Registry.{IsRegistry, events_in, office_with}
 use Rattle.aq_registry.proofs.HeldLemmas.{held-put, unnoted}

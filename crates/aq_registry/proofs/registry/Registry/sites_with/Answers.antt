@@ -1,5 +1,5 @@
 use Rattle.std.proofs.Common.{◌≡◌, ◌∙◌, length, ap, sym, arith}
-use Rattle.aq_profile.specs.Office.Office.{sites_of}
+use Rattle.aq_rules.specs.Office.Office.{sites_of}
 use Rattle.aq_registry.proofs.RowCounts.{one_where, sites_put}
 use Rattle.aq_registry.proofs.registry.Registry.sites_with.Goals as goal
 

@@ -1,7 +1,7 @@
 use Rattle.std.proofs.Common.{◌∙◌, sym, refl, Some, None, ◌++◌, ◌∷◌, []}
 use Rattle.std.proofs.lemmas.Bool.{and_parts}
 use Rattle.std.proofs.lemmas.Result.{err_from_is_err_and}
-use Rattle.aq_profile.specs.Office.Office.{observation_rank, rises}
+use Rattle.aq_rules.specs.Office.Office.{observation_rank, rises}
 use Rattle.aq_rows.specs.OneMoreRow.{has_none}
 use Rattle.aq_rows.specs.Walking.{standing}
 use Rattle.aq_rows.proofs.Following.{observation-unsaid, observation-can_stand, observation-not-next, observation-not-kept, observation-refused, observation-follows}

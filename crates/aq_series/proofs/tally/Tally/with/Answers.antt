@@ -1,6 +1,6 @@
 use Rattle.std.proofs.Common.{◌≡◌, ◌∙◌, refl, sym, ap, ◌||◌, ◌+◌}
 use Rattle.std.specs.Prelude.{◌+ℤ◌}
-use Rattle.aq_profile.specs.Ozone.SiteHour.{Cell}
+use Rattle.aq_rules.specs.Ozone.SiteHour.{Cell}
 use Rattle.aq_series.proofs.Means.{eight_more, sum_is, tally_more}
 use Rattle.aq_series.proofs.tally.Tally.with.Goals as goal
 

@@ -1,8 +1,8 @@
 use Rattle.std.proofs.Common.{subst, sym, ◌∙◌}
 use Rattle.sha2.specs.Sha256.{sha256}
-use Rattle.aq_profile.specs.Lines.Lines.{line_count}
-use Rattle.aq_profile.specs.Office.Load.{posted}
-use Rattle.aq_profile.specs.Office.Office.{IsOffice, Office}
+use Rattle.aq_rules.specs.Lines.Lines.{line_count}
+use Rattle.aq_rules.specs.Office.Load.{posted}
+use Rattle.aq_rules.specs.Office.Office.{IsOffice, Office}
 use Rattle.aq_serve.specs.Service.{ServiceView}
 use Rattle.aq_service.specs.Posting.{IsPosted}
 use Rattle.aq_service.proofs.PostedLoads.{is_numbered}

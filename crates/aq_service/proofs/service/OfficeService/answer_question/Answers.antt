@@ -1,5 +1,5 @@
 use Rattle.std.proofs.Common.{ℕ, List, subst, sym}
-use Rattle.aq_profile.specs.Shown.Answer.{answer}
+use Rattle.aq_rules.specs.Shown.Answer.{answer}
 use Rattle.aq_serve.specs.Answered.{to_question}
 use Rattle.aq_service.proofs.Kept.{put_answers, text_answers}
 use Rattle.aq_service.specs.Answers.{IsAnsweredWith, IsTextOf}

@@ -1,7 +1,7 @@
 use Rattle.std.proofs.Common.{ℕ, List, [], nat_eq, ap, subst, sym, ◌∙◌, IfOk, IfSome}
 use Rattle.std.specs.Cmp.Lexicographic.{pointwise}
 use Rattle.aq_http.specs.Reply.{reply_text}
-use Rattle.aq_profile.specs.Office.Office.{IsOffice, Office}
+use Rattle.aq_rules.specs.Office.Office.{IsOffice, Office}
 use Rattle.aq_service.proofs.Kept.{got_answers, kept_answers}
 use Rattle.aq_service.specs.Answers.{AreAnswers, IsAnsweredWith, IsKnownReply}
 use Rattle.aq_service.specs.declared.service.OfficeService.TheInside.{Inside}

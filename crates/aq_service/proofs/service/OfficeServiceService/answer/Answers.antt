@@ -1,6 +1,6 @@
 use Rattle.std.proofs.Common.{subst, sym, ◌∙◌}
 use Rattle.std.specs.Prelude.{IfOk, OnErr}
-use Rattle.aq_profile.specs.Office.Office.{Office}
+use Rattle.aq_rules.specs.Office.Office.{Office}
 use Rattle.aq_service.proofs.Kept.{asked_by_get}
 use Rattle.aq_service.proofs.Replied.{answers_found, loses_found}
 use Rattle.aq_service.proofs.Taking.{if_err, if_ok}

@@ -1,6 +1,6 @@
 use Rattle.std.proofs.Common.{◌∙◌, ap, sym, List, ℕ, is_some}
 use Rattle.aq_base.specs.declared.observation.Observation.{Observation}
-use Rattle.aq_profile.specs.Office.Office.{observation_rank, with_row}
+use Rattle.aq_rules.specs.Office.Office.{observation_rank, with_row}
 use Rattle.aq_shelf.specs.Places.{IsGapAt}
 use Rattle.aq_shelf.specs.Standing.{content_at}
 use Rattle.aq_shelf.specs.Stretches.{rows_of}

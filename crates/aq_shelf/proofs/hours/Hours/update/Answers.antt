@@ -1,5 +1,5 @@
 use Rattle.std.proofs.Common.{◌∙◌, ap, sym, List, ℕ}
-use Rattle.aq_profile.specs.Office.Office.{observation_rank, with_row}
+use Rattle.aq_rules.specs.Office.Office.{observation_rank, with_row}
 use Rattle.aq_base.specs.declared.observation.Observation.{Observation}
 use Rattle.aq_shelf.specs.Standing.{content_at}
 use Rattle.aq_shelf.specs.Stretches.{rows_of}

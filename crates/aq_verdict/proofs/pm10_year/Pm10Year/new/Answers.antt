@@ -1,5 +1,5 @@
 use Rattle.std.proofs.Common.{◌≡◌, length, arith}
-use Rattle.aq_profile.specs.Kept.Summaries.{KeepsPm10Quarter}
+use Rattle.aq_rules.specs.Kept.Summaries.{KeepsPm10Quarter}
 use Rattle.aq_verdict.proofs.Lists.{all-four}
 use Rattle.aq_verdict.proofs.pm10_year.Pm10Year.new.Goals as goal
 

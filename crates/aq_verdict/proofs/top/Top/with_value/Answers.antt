@@ -2,7 +2,7 @@ use Rattle.std.proofs.Common.{◌≡◌, ◌∙◌, ap, take}
 use Rattle.std.specs.Prelude.{Some}
 use Rattle.std.specs.Int.{w32}
 use Rattle.std.proofs.lemmas.Int.{to_z-of_z}
-use Rattle.aq_profile.specs.Lists.{ranked_in}
+use Rattle.aq_rules.specs.Lists.{ranked_in}
 use Rattle.aq_verdict.specs.Top.{given}
 use Rattle.aq_verdict.specs.Inserted.{joined}
 use Rattle.aq_verdict.proofs.Inserted.{descends-joined, given-joined}

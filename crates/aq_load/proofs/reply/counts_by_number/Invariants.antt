@@ -1,9 +1,0 @@
-use Rattle.std.proofs.Common.{◌≡◌, length, take}
-use Rattle.aq_load.specs.Counts.{CountsByNumber}
-use Rattle.aq_load.proofs.reply.counts_by_number.Given as goal
-
-abbrev pub invariant-loop-line : goal.invariant-loop-line
-invariant-loop-line l = record {
-  numbers : length l.counts ≡ 256;
-  counted : CountsByNumber (take l.line-index l.refused) l.counts;
-}

@@ -1,5 +1,0 @@
-use Rattle.aq_profile.proofs.BatchAlters.{batch-alters}
-use Rattle.aq_profile.proofs.kept.row_changes.batch_holds_what_changes.Goals as goal
-
-pub returns : goal.returns
-returns c office number digest body valid new = batch-alters office valid number digest body new

@@ -1,5 +1,0 @@
-use Rattle.aq_profile.proofs.ValidOffice.{valid-is_office, office-is_valid}
-use Rattle.aq_profile.proofs.kept.tables.valid_offices_pass_the_test.Goals as goal
-
-pub returns : goal.returns
-returns c = λ office. (valid-is_office office, office-is_valid office)

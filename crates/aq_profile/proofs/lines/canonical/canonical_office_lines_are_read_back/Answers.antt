@@ -1,5 +1,0 @@
-use Rattle.aq_profile.proofs.RoundTrip.{round-office}
-use Rattle.aq_profile.proofs.lines.canonical.canonical_office_lines_are_read_back.Goals as goal
-
-pub returns : goal.returns
-returns c line is = round-office line is

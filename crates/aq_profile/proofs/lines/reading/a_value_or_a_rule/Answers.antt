@@ -1,5 +1,0 @@
-use Rattle.aq_profile.proofs.Agree.{agree-line}
-use Rattle.aq_profile.proofs.lines.reading.a_value_or_a_rule.Goals as goal
-
-pub returns : goal.returns
-returns c line = agree-line line

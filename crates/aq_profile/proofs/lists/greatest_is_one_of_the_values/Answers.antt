@@ -1,5 +1,0 @@
-use Rattle.aq_profile.proofs.Greatest.{greatest-is}
-use Rattle.aq_profile.proofs.lists.greatest_is_one_of_the_values.Goals as goal
-
-pub returns : goal.returns
-returns c = greatest-is

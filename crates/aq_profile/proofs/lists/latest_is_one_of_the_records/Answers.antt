@@ -1,6 +1,0 @@
-use Rattle.aq_profile.proofs.Greatest.{latest-is}
-use Rattle.aq_profile.specs.Office.Designation.{Designation}
-use Rattle.aq_profile.proofs.lists.latest_is_one_of_the_records.Goals as goal
-
-pub returns : goal.returns
-returns c = latest-is (λ (d : Designation). d.from)

@@ -1,5 +1,0 @@
-use Rattle.aq_profile.proofs.Ranked.{ranked-in_any_order}
-use Rattle.aq_profile.proofs.lists.ranking_forgets_the_order.Goals as goal
-
-pub returns : goal.returns
-returns c = ranked-in_any_order

@@ -1,5 +1,0 @@
-use Rattle.aq_profile.specs.Ozone.Unexcluded.{row-unexcluded}
-use Rattle.aq_profile.proofs.ozone.eight_hour.net_average_is_full_without_exclusions.Goals as goal
-
-pub returns : goal.returns
-returns c = row-unexcluded

@@ -1,5 +1,0 @@
-use Rattle.aq_profile.proofs.OtherHours.{site_hour-own}
-use Rattle.aq_profile.proofs.ozone.site_hour.site_hour_reads_its_own_observations.Goals as goal
-
-pub returns : goal.returns
-returns c = site_hour-own

@@ -1,5 +1,0 @@
-use Rattle.aq_profile.proofs.DaysInOrder.{mean-any_order}
-use Rattle.aq_profile.proofs.particles.particle_day.mean_forgets_the_order.Goals as goal
-
-pub returns : goal.returns
-returns c = mean-any_order

@@ -1,8 +1,0 @@
-use Rattle.aq_profile.proofs.Cuts.{strata-six, strata-alone}
-use Rattle.aq_profile.proofs.particles.strata.strata_are_short.Goals as goal
-
-pub returns-clause-six : goal.returns-clause-six
-returns-clause-six c = strata-six
-
-pub returns-clause-scheduled : goal.returns-clause-scheduled
-returns-clause-scheduled c = strata-alone

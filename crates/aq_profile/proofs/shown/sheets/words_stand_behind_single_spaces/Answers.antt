@@ -1,5 +1,0 @@
-use Rattle.aq_profile.proofs.Joined.{line_of-cons}
-use Rattle.aq_profile.proofs.shown.sheets.words_stand_behind_single_spaces.Goals as goal
-
-pub returns : goal.returns
-returns c = line_of-cons

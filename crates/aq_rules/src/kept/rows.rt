@@ -1,0 +1,94 @@
+//! What a row of each table must keep, on both sides of each limit.
+#![tactic(auto)]
+
+ghost use Rattle.std.specs.Prelude.{◌≡◌, ◌<◌, ◌≤◌, IsTrue, true, false, List, length, ◌∷◌, [], ◌++◌, codes, map, replicate, Some, None, pos, negsuc};
+ghost use Rattle.std.specs.List.{range_with_len};
+ghost use Rattle.aq_base.specs.declared.office.OfficeRecord.TheVariants.{Concurrence};
+ghost use Rattle.aq_base.specs.declared.rule.Rule.TheVariants.{AlreadyThere, BadTag, ParameterOutOfProfile};
+ghost use Rattle.aq_rules.specs.Lines.LineExamples.{many_monitors, many_sites, refused_lines};
+ghost use Rattle.aq_rules.specs.Office.Office.{IsOffice, Office, StoredLoad, is_load, load_at};
+ghost use Rattle.aq_rules.specs.Office.Load.{with_load};
+ghost use Rattle.aq_rules.specs.Kept.Rows.{are_office_rows, is_valid, load_row, office_row};
+ghost use Rattle.aq_rules.specs.Kept.RowExamples.{kept_load, load_of, load_with, monitor_row, nine_monitors, record_with, sample_with};
+
+/// A record's row has its kind, its key and its canonical line; a concurrence has its event.
+pub fn record_rows()
+    ensures monitor { are_office_rows (monitor_row ∷ []) ≡ true }
+    ensures kind { are_office_rows (record_with (pos 2) (codes "06|037|1103|88101|01") (codes "XM|I|06|037|1103|88101|1|7|Y") ∷ []) ≡ false }
+    ensures key { are_office_rows (record_with (pos 1) (codes "06|037|1103|88101|1") (codes "XM|I|06|037|1103|88101|1|7|Y") ∷ []) ≡ false }
+    ensures another_key { are_office_rows (record_with (pos 1) (codes "06|037|1103|88101|02") (codes "XM|I|06|037|1103|88101|1|7|Y") ∷ []) ≡ false }
+    ensures zeros { are_office_rows (record_with (pos 1) (codes "06|037|1103|88101|01") (codes "XM|I|06|037|1103|88101|01|7|Y") ∷ []) ≡ false }
+    ensures spaces { are_office_rows (record_with (pos 1) (codes "06|037|1103|88101|01") (codes "XM|I|06|037|1103|88101|1|7| Y") ∷ []) ≡ false }
+    ensures update { are_office_rows (record_with (pos 1) (codes "06|037|1103|88101|01") (codes "XM|U|06|037|1103|88101|1|7|Y") ∷ []) ≡ false }
+    ensures hours_of_a_day { are_office_rows (record_with (pos 1) (codes "06|037|1103|44201|01") (codes "XM|I|06|037|1103|44201|1|7|Y") ∷ []) ≡ false }
+    ensures event { are_office_rows (monitor_row ∷ record_with (pos 6) (codes "000012") (codes "XE|I|12|06|037|1103|88101|20240101|00:00|20240101|05:00|RT") ∷ record_with (pos 7) (codes "000012") (codes "XC|U|12|Y") ∷ []) ≡ true }
+    ensures three_digits { are_office_rows (monitor_row ∷ record_with (pos 6) (codes "000012") (codes "XE|I|12|06|037|1103|88101|20240101|00:00|20240101|05:00|RT") ∷ record_with (pos 7) (codes "012") (codes "XC|U|12|Y") ∷ []) ≡ false }
+    ensures no_event { are_office_rows (monitor_row ∷ record_with (pos 7) (codes "000012") (codes "XC|U|12|Y") ∷ []) ≡ false }
+    ensures no_monitor { are_office_rows (record_with (pos 6) (codes "000012") (codes "XE|I|12|06|037|1103|88101|20240101|00:00|20240101|05:00|RT") ∷ []) ≡ false }
+    ensures twice { are_office_rows (monitor_row ∷ monitor_row ∷ []) ≡ false }
+    ensures concurrence { office_row (Concurrence 12 true) ≡ record { kind = pos 7; key = codes "000012"; line = codes "XC|U|12|Y" } }
+{}
+
+/// An observation's row has a value in range or a null code, and at most ten distinct qualifiers.
+pub fn observation_rows()
+    ensures value { are_office_rows (monitor_row ∷ sample_with (Some (pos 120)) [] (codes "V RT") ∷ []) ≡ true }
+    ensures greatest { are_office_rows (monitor_row ∷ sample_with (Some (pos 99999)) [] [] ∷ []) ≡ true }
+    ensures too_great { are_office_rows (monitor_row ∷ sample_with (Some (pos 100000)) [] [] ∷ []) ≡ false }
+    ensures least { are_office_rows (monitor_row ∷ sample_with (Some (negsuc 998)) [] [] ∷ []) ≡ true }
+    ensures too_small { are_office_rows (monitor_row ∷ sample_with (Some (negsuc 999)) [] [] ∷ []) ≡ false }
+    ensures null { are_office_rows (monitor_row ∷ sample_with None (codes "AN") [] ∷ []) ≡ true }
+    ensures both { are_office_rows (monitor_row ∷ sample_with (Some (pos 120)) (codes "AN") [] ∷ []) ≡ false }
+    ensures neither { are_office_rows (monitor_row ∷ sample_with None [] [] ∷ []) ≡ false }
+    ensures short_null { are_office_rows (monitor_row ∷ sample_with None (codes "A") [] ∷ []) ≡ false }
+    ensures small_letter { are_office_rows (monitor_row ∷ sample_with None (codes "aN") [] ∷ []) ≡ false }
+    ensures ten { are_office_rows (monitor_row ∷ sample_with (Some (pos 120)) [] (codes "1 2 3 4 5 6 7 8 9 A") ∷ []) ≡ true }
+    ensures eleven { are_office_rows (monitor_row ∷ sample_with (Some (pos 120)) [] (codes "1 2 3 4 5 6 7 8 9 A B") ∷ []) ≡ false }
+    ensures twice { are_office_rows (monitor_row ∷ sample_with (Some (pos 120)) [] (codes "V V") ∷ []) ≡ false }
+    ensures two_spaces { are_office_rows (monitor_row ∷ sample_with (Some (pos 120)) [] (codes "V  RT") ∷ []) ≡ false }
+{}
+
+/// A load's row has a number, a digest of 32 bytes, at most 120,000 lines, rising lines with rules, and no
+/// more accepted and refused lines than lines.
+pub fn load_rows()
+    ensures lines { are_office_rows (load_with (pos 3) (pos 1) (codes "2:21 3:6") [] ∷ []) ≡ true }
+    ensures most_lines { are_office_rows (load_with (pos 120000) (pos 0) [] [] ∷ []) ≡ true }
+    ensures too_many_lines { are_office_rows (load_with (pos 120001) (pos 0) [] [] ∷ []) ≡ false }
+    ensures below_zero { are_office_rows (load_with (pos 3) (negsuc 0) [] [] ∷ []) ≡ false }
+    ensures too_many_accepted { are_office_rows (load_with (pos 3) (pos 2) (codes "2:21 3:6") [] ∷ []) ≡ false }
+    ensures line_zero { are_office_rows (load_with (pos 3) (pos 0) (codes "0:21") [] ∷ []) ≡ false }
+    ensures line_beyond { are_office_rows (load_with (pos 3) (pos 0) (codes "4:21") [] ∷ []) ≡ false }
+    ensures falling { are_office_rows (load_with (pos 3) (pos 0) (codes "3:6 2:21") [] ∷ []) ≡ false }
+    ensures one_line_twice { are_office_rows (load_with (pos 3) (pos 0) (codes "2:6 2:21") [] ∷ []) ≡ false }
+    ensures last_rule { are_office_rows (load_with (pos 3) (pos 0) (codes "2:34") [] ∷ []) ≡ true }
+    ensures no_rule { are_office_rows (load_with (pos 3) (pos 0) (codes "2:35") [] ∷ []) ≡ false }
+    ensures rule_99 { are_office_rows (load_with (pos 3) (pos 0) (codes "2:99") [] ∷ []) ≡ false }
+    ensures zeros { are_office_rows (load_with (pos 3) (pos 0) (codes "02:21") [] ∷ []) ≡ false }
+    ensures spaces { are_office_rows (load_with (pos 3) (pos 0) (codes "2:21  3:6") [] ∷ []) ≡ false }
+    ensures no_colon { are_office_rows (load_with (pos 3) (pos 0) (codes "2 21") [] ∷ []) ≡ false }
+    ensures rest_of_few { are_office_rows (load_with (pos 3) (pos 0) (codes "2:21") (codes "6:1") ∷ []) ≡ false }
+    ensures number { are_office_rows (load_of (pos 4294967295) (replicate 32 9) ∷ []) ≡ true }
+    ensures great_number { are_office_rows (load_of (pos 4294967296) (replicate 32 9) ∷ []) ≡ false }
+    ensures short_digest { are_office_rows (load_of (pos 7) (replicate 31 9) ∷ []) ≡ false }
+    ensures no_byte { are_office_rows (load_of (pos 7) (replicate 32 256) ∷ []) ≡ false }
+    ensures rest { (load_row (kept_load 700 50 602 (refused_lines 500) (record { rule = BadTag; count = 100 } ∷ record { rule = ParameterOutOfProfile; count = 2 } ∷ []))).rest ≡ codes "2:100 6:2" }
+{}
+
+/// Beyond 500 listed lines the others are counted by rule, in rising number, each once at least. Nine
+/// monitors of a site may stand where they are of two pollutants, and of one eight.
+pub fn rests_and_monitors()
+    ensures rest { is_load (kept_load 700 50 602 (refused_lines 500) (record { rule = BadTag; count = 100 } ∷ record { rule = ParameterOutOfProfile; count = 2 } ∷ [])) ≡ true }
+    ensures falling { is_load (kept_load 700 50 602 (refused_lines 500) (record { rule = ParameterOutOfProfile; count = 2 } ∷ record { rule = BadTag; count = 100 } ∷ [])) ≡ false }
+    ensures none { is_load (kept_load 700 50 500 (refused_lines 500) (record { rule = BadTag; count = 0 } ∷ [])) ≡ false }
+    ensures after_499 { is_load (kept_load 700 50 500 (refused_lines 499) (record { rule = BadTag; count = 1 } ∷ [])) ≡ false }
+    ensures listed_501 { is_load (kept_load 700 50 501 (refused_lines 501) []) ≡ false }
+    ensures other_number { is_load (kept_load 700 50 600 (refused_lines 500) (record { rule = BadTag; count = 102 } ∷ [])) ≡ false }
+    ensures two_pollutants { is_valid nine_monitors ≡ true }
+    ensures eight { is_valid (many_monitors 8) ≡ true }
+    ensures nine { is_valid (many_monitors 9) ≡ false }
+{}
+
+/// As long as fewer than 100,000 loads stand, one more may; and no more than that stand.
+pub fn a_hundred_thousand_loads_may_stand()
+    ensures room { (office : Office) (load : StoredLoad) → IsOffice office → length office.loads < 100000 → IsTrue (is_load load) → IsOffice (with_load load office) }
+    ensures most { (office : Office) → IsOffice office → length office.loads ≤ 100000 }
+{}

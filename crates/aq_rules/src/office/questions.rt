@@ -1,0 +1,55 @@
+//! What is asked of the records of an office, worked out over those of two sites.
+ghost use Rattle.std.specs.Prelude.{◌≡◌, Some, None, true, false};
+ghost use Rattle.aq_base.specs.declared.monitor.Pollutant.TheVariants.{Ozone, Pm10, Pm25};
+ghost use Rattle.aq_base.specs.declared.monitor.Duration.TheVariants.{Hour, Day};
+ghost use Rattle.aq_base.specs.declared.office.OfficeKey.TheVariants.{Monitor as MonitorKey, Primary as PrimaryKey, Event as EventKey, Concurrence as ConcurrenceKey};
+ghost use Rattle.aq_base.specs.declared.office.OfficeRecord.TheVariants.{Monitor, Primary, Makeup, Concurrence};
+ghost use Rattle.aq_rules.specs.Office.Questions.{covers, following, makeup_of, missed_of, next_poc, next_site, record_of, registration_of};
+ghost use Rattle.aq_rules.specs.Office.QuestionExamples.{coast, desert, monitor_at, two_sites, valley};
+
+/// A record is found by its key, and the next one by any key, whether or not a record has it. PM10
+/// comes before PM2.5. A monitor's duration and eligibility, the registered POC that comes next, and
+/// the site.
+#[tactic(auto, unfolding(crate::specs::Office::Questions::following, crate::specs::Office::Questions::registration_of, crate::specs::Office::Questions::next_poc, crate::specs::Office::Questions::next_site))]
+pub fn records_and_monitors_asked_for()
+    ensures found { record_of two_sites (PrimaryKey coast Ozone 8766) ≡ Some (Primary coast Ozone 8766 4) }
+    ensures absent { record_of two_sites (PrimaryKey coast Ozone 8767) ≡ None }
+    ensures first { following two_sites None ≡ Some (Monitor (monitor_at coast Ozone 1) Hour true) }
+    ensures next { following two_sites (Some (MonitorKey (monitor_at coast Ozone 4))) ≡ Some (Monitor (monitor_at coast Pm10 2) Day true) }
+    ensures between { following two_sites (Some (MonitorKey (monitor_at coast Pm10 7))) ≡ Some (Monitor (monitor_at coast Pm25 3) Day false) }
+    ensures next_kind { following two_sites (Some (PrimaryKey coast Ozone 8766)) ≡ Some (Makeup coast 8772 8774) }
+    ensures behind_events { following two_sites (Some (EventKey 15)) ≡ Some (Concurrence 12 true) }
+    ensures behind_all { following two_sites (Some (ConcurrenceKey 12)) ≡ None }
+    ensures hours { registration_of two_sites (monitor_at coast Ozone 4) ≡ Some (record { duration = Hour; eligible = false }) }
+    ensures days { registration_of two_sites (monitor_at coast Pm10 2) ≡ Some (record { duration = Day; eligible = true }) }
+    ensures other_pollutant { registration_of two_sites (monitor_at coast Pm10 4) ≡ None }
+    ensures least_poc { next_poc two_sites coast Ozone 0 ≡ Some 1 }
+    ensures next_poc { next_poc two_sites coast Ozone 1 ≡ Some 4 }
+    ensures no_poc { next_poc two_sites coast Ozone 4 ≡ None }
+    ensures poc_of_site { next_poc two_sites valley Pm25 3 ≡ Some 5 }
+    ensures first_site { next_site two_sites None ≡ Some coast }
+    ensures next_site { next_site two_sites (Some coast) ≡ Some valley }
+    ensures no_site { next_site two_sites (Some valley) ≡ None }
+    ensures monitors_and_sites_behind_all { next_site two_sites (Some desert) ≡ None }
+{}
+
+/// A missed day has its make-up day, and a make-up day its missed day, each at its own site.
+#[tactic(auto, unfolding(crate::specs::Office::Questions::makeup_of, crate::specs::Office::Questions::missed_of))]
+pub fn days_that_are_made_up()
+    ensures makeup { makeup_of two_sites coast 8790 ≡ Some 8793 }
+    ensures missed { missed_of two_sites coast 8793 ≡ Some 8790 }
+    ensures own_makeup { makeup_of two_sites valley 8772 ≡ Some 8775 }
+    ensures other_site { missed_of two_sites coast 8775 ≡ None }
+    ensures not_missed { makeup_of two_sites coast 8774 ≡ None }
+{}
+
+/// An event covers its hours from the first to the last; of an unknown event nothing is said.
+#[tactic(auto, unfolding(crate::specs::Office::Questions::covers))]
+pub fn hours_of_an_event()
+    ensures before { covers two_sites 12 209999 ≡ Some false }
+    ensures first { covers two_sites 12 210000 ≡ Some true }
+    ensures last { covers two_sites 12 210023 ≡ Some true }
+    ensures after { covers two_sites 12 210024 ≡ Some false }
+    ensures other { covers two_sites 15 210024 ≡ Some true }
+    ensures unknown { covers two_sites 13 210010 ≡ None }
+{}

@@ -1,0 +1,50 @@
+//! What is shown is well formed.
+#![tactic(auto)]
+
+ghost use Rattle.std.specs.Prelude.{◌≡◌, ℕ, ◌^◌, ◌<◌, ◌≤◌, List, length, nat_lt, IsTrue, All, Some};
+ghost use Rattle.std.specs.List.{list_all};
+ghost use Rattle.aq_base.specs.Site.{Site};
+ghost use Rattle.aq_base.specs.declared.reply.LoadReply.{LoadReply};
+ghost use Rattle.aq_base.specs.declared.standard.Standard.{Standard};
+ghost use Rattle.aq_rules.specs.Limits.{LAST_LOAD_NUMBER};
+ghost use Rattle.aq_rules.specs.Office.Office.{IsOffice, Office, StoredLoad, is_reply, load_at};
+ghost use Rattle.aq_rules.specs.Shown.Sheet.{Sheet};
+ghost use Rattle.aq_rules.specs.Shown.Sheets.{days_answer, load_sheet, windows_answer};
+ghost use Rattle.aq_rules.specs.Shown.ParticleSheets.{pm10_answer, pm25_answer};
+ghost use Rattle.aq_rules.specs.Shown.OtherSheets.{conflict_sheet, error_names, error_sheet, report_answer, summary_sheet, value_answer};
+ghost use Rattle.aq_rules.specs.Shown.Answer.{Ask, Days, OfSheet, Pm10, Pm25, Report, Value, Windows, answer, is_asked};
+ghost use Rattle.aq_rules.specs.Shown.WellFormed.{IsWellFormed};
+
+/// Each sheet that answers a question about a valid office is well formed.
+pub fn answers_are_well_formed()
+    ensures answer { (office : Office) (ask : Ask) (sheet : Sheet)
+        → IsOffice office → IsTrue (is_asked ask) → answer office ask ≡ OfSheet sheet → IsWellFormed sheet }
+    ensures reply { (office : Office) (number : ℕ) (load : StoredLoad)
+        → IsOffice office → load_at office number ≡ Some load → IsWellFormed (load_sheet load.reply) }
+    ensures windows { (office : Office) (site : Site) (day : ℕ)
+        → IsOffice office → IsTrue (is_asked (Windows site day)) → IsWellFormed (windows_answer office site day) }
+    ensures days { (office : Office) (site : Site) (year : ℕ)
+        → IsOffice office → IsTrue (is_asked (Days site year)) → IsWellFormed (days_answer office site year) }
+    ensures fine { (office : Office) (site : Site) (year : ℕ)
+        → IsOffice office → IsTrue (is_asked (Pm25 site year)) → IsWellFormed (pm25_answer office site year) }
+    ensures coarse { (office : Office) (site : Site) (year : ℕ)
+        → IsOffice office → IsTrue (is_asked (Pm10 site year)) → IsWellFormed (pm10_answer office site year) }
+    ensures value { (office : Office) (standard : Standard) (site : Site) (year : ℕ)
+        → IsOffice office → IsTrue (is_asked (Value standard site year)) → IsWellFormed (value_answer standard office site year) }
+    ensures report { (office : Office) (standard : Standard) (year : ℕ)
+        → IsOffice office → IsTrue (is_asked (Report standard year)) → IsWellFormed (report_answer standard office year) }
+{}
+
+/// So are the sheets of a load's reply, of a conflict of two digests, of each error, and of a summary
+/// whose counts are below 2^63.
+pub fn other_sheets_are_well_formed()
+    ensures load { (reply : LoadReply) → IsTrue (is_reply reply) → reply.number ≤ LAST_LOAD_NUMBER → IsWellFormed (load_sheet reply) }
+    ensures conflict { (number : ℕ) (kept sent : List ℕ)
+        → number ≤ LAST_LOAD_NUMBER
+        → length kept ≡ 32 → IsTrue (list_all (λ byte. nat_lt byte 256) kept)
+        → length sent ≡ 32 → IsTrue (list_all (λ byte. nat_lt byte 256) sent)
+        → IsWellFormed (conflict_sheet number kept sent) }
+    ensures error { All (λ name. IsWellFormed (error_sheet name)) error_names }
+    ensures summary { (loads lines observations : ℕ)
+        → loads < 2 ^ 63 → lines < 2 ^ 63 → observations < 2 ^ 63 → IsWellFormed (summary_sheet loads lines observations) }
+{}

@@ -1,0 +1,95 @@
+//! The changes that a load makes to the records and observations.
+ghost use Rattle.std.specs.Prelude.{◌≡◌, true, ◌++◌, map, option_map, IfOk, OnOk};
+ghost use Rattle.std.specs.List.{filter_map};
+ghost use Rattle.std.specs.Option.{option_to_list};
+ghost use Rattle.aq_staging.specs.Batch.{change_in, observation_change_at, record_change_at, AreChangesOf};
+ghost use Rattle.aq_staging.specs.Changes.{with_changes, AreChanges};
+ghost use Rattle.aq_staging.specs.Keys.{either_keys, keys_in};
+ghost use Rattle.aq_staging.specs.Staged.{IsStagedOn};
+ghost use Rattle.aq_rules.specs.Office.Office.{key_of, record_rank, rises};
+
+use crate::change::{OfficeChange, key_of, observation_change, record_change};
+use crate::changes::Changes;
+use crate::keys::EitherKeys;
+use crate::list::OfficeChanges;
+use crate::staged::Staged;
+use aq_base::{Memory, OfficeKey};
+use aq_registry::{Records, Registry};
+use aq_shelf::Shelf;
+use std::alloc::Global;
+
+impl Staged {
+    /// The changes that a load makes to the records and observations that it was staged on, in the order of
+    /// their tables and keys. A record or an observation that is the same after the load is not among them.
+    /// It costs a few searches for each record and observation that the load touched, and no walk over those
+    /// that it did not.
+    pub fn changes(
+        &self,
+        alloc: Global,
+        registry: &Registry,
+        shelf: &Shelf,
+    ) -> Result<OfficeChanges, Memory>
+        requires staged { IsStagedOn registry.now shelf.now self.now }
+        requires order { rises record_rank registry.now ≡ true }
+        ensures { IfOk result (AreChangesOf registry.now shelf.now self.now) }
+    {
+        let mut changes = OfficeChanges::new(alloc);
+        add_records(&mut changes, &self.touched, registry, &self.registry)?;
+        add_observations(&mut changes, &self.changes, shelf)?;
+        Ok(changes)
+    }
+}
+
+/// Adds what becomes of the records of the touched keys.
+fn add_records(
+    changes: &mut OfficeChanges,
+    touched: &Records,
+    before: &Registry,
+    now: &Registry,
+) -> Result<(), Memory>
+    ensures { OnOk result (changes.new ≡ changes.old ++ filter_map (record_change_at before.now now.now) (map key_of touched.now)) }
+{
+    for row in touched.rows() {
+        add_record(changes, &key_of(&row), before, now)?;
+    }
+    Ok(())
+}
+
+/// Adds what becomes of the observations that were put, changed or taken away.
+fn add_observations(
+    changes: &mut OfficeChanges,
+    staged: &Changes,
+    shelf: &Shelf,
+) -> Result<(), Memory>
+    requires { AreChanges shelf.now staged.now }
+    ensures { OnOk result (changes.new ≡ changes.old ++ filter_map (observation_change_at shelf.now (with_changes staged.now shelf.now)) (either_keys (keys_in staged.now.dropped) (keys_in staged.now.left))) }
+{
+    for key in EitherKeys::new(staged.dropped.rows(), staged.left.rows()) {
+        let change = observation_change(&key, &shelf.get(&key), &staged.at(shelf, &key));
+        add(changes, change)?;
+    }
+    Ok(())
+}
+
+/// Adds what becomes of the record of a key.
+fn add_record(
+    changes: &mut OfficeChanges,
+    key: &OfficeKey,
+    before: &Registry,
+    now: &Registry,
+) -> Result<(), Memory>
+    ensures { OnOk result (changes.new ≡ changes.old ++ option_to_list (record_change_at before.now now.now key.now)) }
+{
+    let change = record_change(key, &before.get(*key), &now.get(*key));
+    add(changes, change)
+}
+
+/// Adds a change, if there is one.
+fn add(changes: &mut OfficeChanges, change: Option<OfficeChange>) -> Result<(), Memory>
+    ensures { OnOk result (changes.new ≡ changes.old ++ option_to_list (option_map change_in change)) }
+{
+    if let Some(change) = change {
+        changes.push(change)?;
+    }
+    Ok(())
+}

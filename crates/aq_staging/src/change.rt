@@ -1,0 +1,114 @@
+//! A change of one record or observation.
+ghost use Rattle.std.specs.Prelude.{◌≡◌, option_map};
+ghost use Rattle.aq_staging.specs.Batch.{change_in};
+ghost use Rattle.aq_rules.specs.Office.Load as book;
+ghost use Rattle.aq_rules.specs.Office.Office.{key_of};
+
+use aq_base::{ObsKey, Observation, OfficeKey, OfficeRecord};
+
+/// What a load does to one record or observation of an office.
+#[derive(Clone, Copy, Debug, PartialEq, Eq)]
+pub enum OfficeChange {
+    /// The record is new, or takes the place of the one with its key.
+    PutRecord(OfficeRecord),
+    /// The record of the key is gone.
+    DropRecord(OfficeKey),
+    /// The observation at the key is new, or takes the place of the one there.
+    PutObservation(ObsKey, Observation),
+    /// The observation at the key is gone.
+    DropObservation(ObsKey),
+}
+
+/// What becomes of the record of a key: nothing where it is the same before and now.
+pub(crate) fn record_change(
+    key: &OfficeKey,
+    before: &Option<OfficeRecord>,
+    now: &Option<OfficeRecord>,
+) -> Option<OfficeChange>
+    ensures { option_map change_in result ≡ book.record_change key.now before.now now.now }
+{
+    match (before, now) {
+        (None, None) => None,
+        (None, Some(now)) => Some(OfficeChange::PutRecord(*now)),
+        (Some(_), None) => Some(OfficeChange::DropRecord(*key)),
+        (Some(before), Some(now)) => {
+            if before == now {
+                None
+            } else {
+                Some(OfficeChange::PutRecord(*now))
+            }
+        }
+    }
+}
+
+/// What becomes of the observation at a key: nothing where it is the same before and now.
+pub(crate) fn observation_change(
+    key: &ObsKey,
+    before: &Option<Observation>,
+    now: &Option<Observation>,
+) -> Option<OfficeChange>
+    ensures { option_map change_in result ≡ book.observation_change key.now before.now now.now }
+{
+    match (before, now) {
+        (None, None) => None,
+        (None, Some(now)) => Some(OfficeChange::PutObservation(*key, *now)),
+        (Some(_), None) => Some(OfficeChange::DropObservation(*key)),
+        (Some(before), Some(now)) => {
+            if is_same_content(before, now) {
+                None
+            } else {
+                Some(OfficeChange::PutObservation(*key, *now))
+            }
+        }
+    }
+}
+
+/// Whether two observations have equal values, null codes and qualifiers.
+fn is_same_content(a: &Observation, b: &Observation) -> bool
+    ensures { result ≡ book.is_same_content a.now b.now }
+{
+    a.value == b.value && a.null == b.null && a.quals.codes() == b.quals.codes()
+}
+
+/// The key of a record.
+pub(crate) fn key_of(row: &OfficeRecord) -> OfficeKey
+    ensures { result ≡ key_of row.now }
+{
+    match row {
+        OfficeRecord::Monitor { id, .. } => OfficeKey::Monitor { id: *id },
+        OfficeRecord::Primary {
+            site,
+            pollutant,
+            from,
+            ..
+        } => OfficeKey::Primary {
+            site: *site,
+            pollutant: *pollutant,
+            from: *from,
+        },
+        OfficeRecord::Schedule {
+            site,
+            pollutant,
+            from,
+            ..
+        } => OfficeKey::Schedule {
+            site: *site,
+            pollutant: *pollutant,
+            from: *from,
+        },
+        OfficeRecord::Season { site, year, .. } => OfficeKey::Season {
+            site: *site,
+            year: *year,
+        },
+        OfficeRecord::Makeup { site, missed, .. } => OfficeKey::Makeup {
+            site: *site,
+            missed: *missed,
+        },
+        OfficeRecord::Event { number, .. } => OfficeKey::Event { number: *number },
+        OfficeRecord::Concurrence { number, .. } => OfficeKey::Concurrence { number: *number },
+        OfficeRecord::Approved { site, day } => OfficeKey::Approved {
+            site: *site,
+            day: *day,
+        },
+    }
+}

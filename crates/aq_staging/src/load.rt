@@ -1,0 +1,75 @@
+//! A load's lines, taken in their order beside the office.
+ghost use Rattle.std.specs.Prelude.{◌≡◌, ◌≤◌, ◌++◌, length, IfOk, OnOk};
+ghost use Rattle.aq_staging.specs.Refusals.{office_in, AreNoted};
+ghost use Rattle.aq_staging.specs.Staged.{after_lines, IsStagedOn};
+ghost use Rattle.aq_rules.specs.Limits.{MOST_BYTES};
+ghost use Rattle.aq_rules.specs.Lines.Lines.{body_lines};
+ghost use Rattle.aq_rules.specs.Office.Load.{after, after_all, listed_for, refusal, reply};
+ghost use Rattle.aq_staging.specs.OfficeView.{office_of};
+
+use crate::reply::reply_of;
+use crate::staged::Staged;
+use crate::staging::{Refusal, Staging};
+use aq_base::{ListedLine, Memory};
+use aq_forms::{count_lines, lines_of};
+use aq_registry::Registry;
+use aq_shelf::Shelf;
+use std::alloc::Global;
+
+/// What the lines of a body make of an office of these records and observations, which are not changed.
+/// A body has at most 8,388,608 bytes. It costs a copy of the records, and for each line some searches of
+/// them, of the observations, and of those that the lines before it changed.
+pub fn stage_load(
+    alloc: Global,
+    registry: &Registry,
+    shelf: &Shelf,
+    number: u32,
+    digest: [u8; 32],
+    body: &[u8],
+) -> Result<Staged, Memory>
+    requires { length body.now ≤ MOST_BYTES }
+    ensures reply { IfOk result (λ staged. staged.reply ≡ reply (office_of registry.now shelf.now) number body.now) }
+    ensures load { IfOk result (λ staged. (staged.number ≡ number) × (staged.digest ≡ digest)) }
+    ensures staged_on { IfOk result (IsStagedOn registry.now shelf.now) }
+    ensures office { IfOk result (λ staged. after_lines staged (office_of registry.now shelf.now) ≡ after_all (office_of registry.now shelf.now) (body_lines body.now)) }
+{
+    let mut staging = Staging::new(alloc, registry, shelf)?;
+    let mut refused = Vec::new(alloc);
+    let mut taken = 0;
+    for line in lines_of(body) {
+        take_line(&mut staging, &mut refused, line.number, line.text)?;
+        taken += 1;
+    }
+    let reply = reply_of(alloc, number, count_lines(body), taken, &refused)?;
+    Ok(Staged {
+        registry: staging.registry,
+        touched: staging.touched,
+        changes: staging.observations.into_changes(),
+        number,
+        digest,
+        reply,
+    })
+}
+
+/// Takes one line, and puts it behind the refused ones where it is refused.
+fn take_line(
+    staging: &mut Staging<'_>,
+    refused: &mut Vec<ListedLine>,
+    number: u32,
+    text: &[u8],
+) -> Result<(), Memory>
+    ensures office { OnOk result (office_in staging.new ≡ after (office_in staging.old) text.now) }
+    ensures refused { OnOk result (refused.new.items ≡ refused.old.items ++ listed_for number (refusal (office_in staging.old) text.now)) }
+    ensures before { staging.new.observations.before ≡ staging.old.observations.before }
+    ensures touched { OnOk result (AreNoted staging.old staging.new) }
+{
+    match staging.take(text) {
+        Ok(()) => Ok(()),
+        Err(Refusal::Broken(rule)) => {
+            let line = ListedLine { line: number, rule };
+            refused.push(line)?;
+            Ok(())
+        }
+        Err(Refusal::Memory) => Err(Memory),
+    }
+}
