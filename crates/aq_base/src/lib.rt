@@ -27,7 +27,9 @@ mod steps;
 
 pub use ask::{Ask, Shown};
 pub use code::Code;
-pub use day::{Day, FIRST_YEAR, Hour, LAST_DAY, LAST_HOUR, LAST_YEAR, QUARTERS, Quarter};
+pub use day::{
+    Day, FIRST_YEAR, HOURS_BEFORE_2000, Hour, LAST_DAY, LAST_HOUR, LAST_YEAR, QUARTERS, Quarter,
+};
 pub use items::{Bytes, Items};
 pub use limits::{
     LAST_EVENT_NUMBER, LAST_LOAD_NUMBER, MOST_BYTES, MOST_EVENT_HOURS, MOST_EVENTS, MOST_IN_LIST,

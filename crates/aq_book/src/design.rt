@@ -27,8 +27,8 @@ const SECONDARY_LEVEL: i32 = 150;
 impl Book {
     /// The design value of a standard for a site and the three years that end with a year, with what is
     /// kept of these and the verdict (40 CFR Part 50, Appendix U, 3(e) and 4, Appendix N, 4 and 5, and
-    /// Appendix K, 2.1). It takes no memory. For ozone it makes at most 200 steps a day. The year is 2002
-    /// to 2049.
+    /// Appendix K, 2.1). It takes no memory. For ozone it makes at most 200 steps a day. The year is 1992
+    /// to 2059.
     pub fn design_value<L: Ledger>(
         &self,
         standard: Standard,

@@ -19,7 +19,7 @@ pub type SiteValues = Items<(SiteId, DesignValue)>;
 impl Book {
     /// The design value of a standard for each site that has a registered monitor of its pollutant, eligible
     /// or not, and the three years that end with a year, in rising order of sites. Each site is asked once.
-    /// For ozone it makes at most 200 steps a day of each. The year is 2002 to 2049.
+    /// For ozone it makes at most 200 steps a day of each. The year is 1992 to 2059.
     pub fn report<L: Ledger>(
         &self,
         alloc: Global,
