@@ -66,7 +66,7 @@ impl Standard {
     /// Its level, in the unit of its design value: thousandths of a ppm of ozone, tenths of a µg/m3 of a
     /// PM2.5 year, whole µg/m3 of a PM2.5 day, tenths of a PM10 exceedance a year (40 CFR 50.6, 50.13,
     /// 50.18, 50.19 and 50.20).
-    pub const fn level(self) -> i32
+    pub fn level(self) -> i32
         ensures { result ≡ level_of self }
     {
         match self {

@@ -35,7 +35,7 @@ impl Book {
         let mut values = SiteValues::new(alloc);
         let mut after = None;
         while let Some(site) = self.registry.next_site(after) {
-            if self.measures(site, pollutant_of(standard)) {
+            if self.measures(site, standard.pollutant()) {
                 let value = self.value_of(standard, site, year, steps);
                 values.push((site, value))?;
             }
@@ -49,16 +49,5 @@ impl Book {
         ensures { result ≡ offices.has_monitor self.now site pollutant }
     {
         self.registry.next_poc(site, pollutant, 0).is_some()
-    }
-}
-
-/// The pollutant of a standard.
-fn pollutant_of(standard: Standard) -> Pollutant
-    ensures { result ≡ standards.pollutant_of standard }
-{
-    match standard {
-        Standard::Ozone2015 => Pollutant::Ozone,
-        Standard::Annual2012 | Standard::AnnualSecondary | Standard::Daily2006 => Pollutant::Pm25,
-        Standard::Pm10Of1987 => Pollutant::Pm10,
     }
 }

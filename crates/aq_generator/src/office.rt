@@ -128,7 +128,7 @@ fn add_seasons(alloc: Global, text: &mut Vec<u8>, number: u16, years: u8) -> Res
 
 fn add_season(alloc: Global, text: &mut Vec<u8>, number: u16, year: u16) -> Result<(), Memory>
     requires number { number ≤ 9999 }
-    requires year { IsInRange 2000 2049 year }
+    requires year { IsInRange FIRST_YEAR LAST_YEAR year }
     ensures { OnOk result (text.new.items ≡ text.old.items ++ record_text (generated_season number year)) }
 {
     let entry = OfficeRecord::Season {
