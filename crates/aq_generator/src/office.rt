@@ -2,6 +2,7 @@
 ghost use Rattle.std.specs.Prelude.{◌≡◌, ◌+◌, ◌≤◌, ◌++◌, true, OnOk, IfOk, map, flat_map};
 ghost use Rattle.std.specs.Int.{IsInRange};
 ghost use Rattle.std.specs.List.{range_with_len};
+ghost use Rattle.aq_base.specs.declared.day.TheConstants.{FIRST_YEAR, LAST_YEAR};
 ghost use Rattle.aq_base.specs.declared.office.OfficeRecord.TheVariants.{Monitor, Primary, Schedule};
 ghost use Rattle.aq_rules.specs.Shown.Generator.{generated_site, generated_records, generated_season, generated_years, office_load, record_text};
 ghost use Rattle.aq_generator.specs.Samples as samples;
