@@ -18,7 +18,7 @@ use Rattle.aq_rules.specs.Particles.AnnualVerdict.{ParticleDv, is_captured, are_
 abbrev pub rounded : Option ℤ → Option ℤ
 rounded value = option_map (λ v. half_up v (pos 10)) value
 
--- a capture of 75 in each quarter; or one creditable sample, with the percentile or the design value above the level
+-- a capture of at least 75 in each quarter; or at least one creditable sample in the year, with the percentile or the design value above the level
 abbrev pub is_daily_year : Option ℤ → Option ℤ → List QuarterCounts → Bool
 is_daily_year value percentile quarters =
     is_captured quarters

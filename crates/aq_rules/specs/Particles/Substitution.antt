@@ -6,7 +6,7 @@ use Rattle.aq_rules.specs.Particles.YearParts.{Parts}
 
 -- ---- one quarter: the copies that join its list, or nothing where the test is not to be had
 
--- minimum test: a quarter with fewer than 11 creditable samples gets as many copies as it has fewer, of the least value of its calendar quarter in the three years, which needs 30 days of values in them
+-- minimum test: a quarter with fewer than 11 creditable samples gets as many copies as it has fewer, of the least value of its calendar quarter in the three years, which needs at least 30 days of values in them
 abbrev pub minimum_copies : QuarterCounts → ℕ → Option ℤ → Option (List ℤ)
 minimum_copies counts days least =
     if nat_le 11 counts.creditable then Some []
