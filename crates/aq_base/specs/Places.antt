@@ -1,4 +1,4 @@
--- The places in which qualifier codes are kept, and the list that they hold.
+-- Lemmas, no definition: the places in which qualifier codes are kept, and the list that they hold.
 use Rattle.std.proofs.Common.{◌≡◌, ℕ, suc, ◌+◌, ◌-◌, ◌<◌, ◌≤◌, Bool, true, false, not, ◌&&◌, ◌||◌, List, [], ◌∷◌, ◌++◌, length, take, set, replicate, refl, sym, ap, ◌∙◌, arith, rules}
 use Rattle.std.proofs.lemmas.List.{length-append, length-replicate, length-take, take_more_set}
 use Rattle.std.proofs.lemmas.Grind.{common_steps}

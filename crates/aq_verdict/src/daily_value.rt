@@ -127,7 +127,7 @@ fn filled_value(years: &[PmYear; 3]) -> Option<i32>
     )
 }
 
-// Where a year is not valid, the maximum test decides, whether the value is above the level or not.
+// If a year is not valid, the maximum test decides. A value above the level makes all three years valid.
 fn daily_verdict(value: Option<i32>, valid: &[bool; 3], test: Option<i32>) -> Verdict
     ensures { result ≡ daily_verdict value valid.now test }
 {
