@@ -36,7 +36,7 @@ pub fn last_numbers_are_those_of_the_years()
 {}
 
 /// A day of the profile, by the number of days since its first. Contracts see the number.
-#[derive(Clone, Copy, Debug, PartialEq, Eq, PartialOrd, Ord, Hash)]
+#[derive(Clone, Copy, Debug, PartialEq, Eq, PartialOrd, Ord)]
 pub struct Day {
     number: u16,
 }
@@ -71,7 +71,7 @@ impl Day {
 
 /// An hour of the profile, which starts at a full hour, by the number of hours since the profile's
 /// first. Contracts see the number.
-#[derive(Clone, Copy, Debug, PartialEq, Eq, PartialOrd, Ord, Hash)]
+#[derive(Clone, Copy, Debug, PartialEq, Eq, PartialOrd, Ord)]
 pub struct Hour {
     number: u32,
 }
@@ -106,7 +106,7 @@ impl Hour {
 
 /// A calendar quarter of the profile, by the number of quarters since its first. Contracts see the
 /// number.
-#[derive(Clone, Copy, Debug, PartialEq, Eq, PartialOrd, Ord, Hash)]
+#[derive(Clone, Copy, Debug, PartialEq, Eq, PartialOrd, Ord)]
 pub struct Quarter {
     number: u16,
 }
