@@ -3,7 +3,7 @@ ghost use Rattle.std.specs.Prelude.{◌≡◌, [], ◌∷◌, length, nat_le, na
 ghost use Rattle.std.specs.List.{list_all};
 ghost use Rattle.aq_rules.specs.Limits.{MOST_LOADS};
 ghost use Rattle.aq_rules.specs.Office.Office.{load_rank, row_at, with_row};
-ghost use Rattle.aq_loads.specs.KeptLoads.{digest_in, reply_in, stored_as, stored_in, with_kept};
+ghost use Rattle.aq_rows.specs.KeptLoads.{digest_in, reply_in, stored_as, stored_in, with_kept};
 
 use aq_base::{LoadReply, MOST_LOADS, Memory};
 use std::alloc::Global;
@@ -27,7 +27,7 @@ pub struct Loads {
 impl Model for Loads {
     ghost use Rattle.std.specs.Prelude.{List};
     ghost use Rattle.aq_rules.specs.Office.Office.{StoredLoad};
-    ghost use Rattle.aq_loads.specs.KeptLoads.{stored_in};
+    ghost use Rattle.aq_rows.specs.KeptLoads.{stored_in};
 
     ghost Value = { List StoredLoad };
 

@@ -8,8 +8,8 @@ use Rattle.std.specs.Map.{lookup}
 use Rattle.std.specs.BTreeMap.{insert_entry, is_at}
 use Rattle.std.proofs.lemmas.Bool.Decides.{nat_tests}
 use Rattle.aq_rules.specs.Office.Office.{StoredLoad, comes_before, is_same, load_rank, row_at, with_row}
-use Rattle.aq_loads.specs.declared.loads.KeptLoad.{KeptLoad}
-use Rattle.aq_loads.specs.KeptLoads.{stored_entry, stored_in}
+use Rattle.aq_rows.specs.declared.kept_loads.KeptLoad.{KeptLoad}
+use Rattle.aq_rows.specs.KeptLoads.{stored_entry, stored_in}
 
 same_number : (number other : ℕ) → is_same (other ∷ []) (number ∷ []) ≡ is_eq (nat_cmp number other)
 same_number number other = grind (arith, nat_tests)

@@ -2,7 +2,7 @@
 use Rattle.std.specs.Prelude.{ℕ, ◌==◌, if◌then◌else◌, List, map}
 use Rattle.aq_base.specs.declared.reply.LoadReply.{LoadReply}
 use Rattle.aq_rules.specs.Office.Office.{StoredLoad, load_rank, with_row}
-use Rattle.aq_loads.specs.declared.loads.KeptLoad.{KeptLoad}
+use Rattle.aq_rows.specs.declared.kept_loads.KeptLoad.{KeptLoad}
 
 abbrev pub stored_as : ℕ → List ℕ → LoadReply → StoredLoad
 stored_as number digest reply = record { number = number; digest = digest; reply = reply }

@@ -1,8 +1,8 @@
 use Rattle.std.proofs.Common.{List, ap, ◌∙◌}
 use Rattle.aq_rules.specs.Office.Office.{StoredLoad, load_rank, with_row}
-use Rattle.aq_loads.specs.KeptLoads.{stored_as, stored_in}
-use Rattle.aq_loads.proofs.LoadMap.{put_in}
-use Rattle.aq_loads.proofs.loads.Loads.put.Goals as goal
+use Rattle.aq_rows.specs.KeptLoads.{stored_as, stored_in}
+use Rattle.aq_rows.proofs.LoadMap.{put_in}
+use Rattle.aq_rows.proofs.kept_loads.Loads.put.Goals as goal
 
 pub returns-clause-ok : goal.returns-clause-ok
 returns-clause-ok c =

@@ -2,10 +2,10 @@ use Rattle.std.proofs.Common.{Bor, ◌∷◌, [], List, refl, ap, ◌∙◌}
 use Rattle.std.specs.Prelude.{option_map}
 use Rattle.aq_base.specs.declared.reply.LoadReply.{LoadReply}
 use Rattle.aq_rules.specs.Office.Office.{StoredLoad, load_rank, row_at}
-use Rattle.aq_loads.specs.declared.loads.KeptLoad.{KeptLoad}
-use Rattle.aq_loads.specs.KeptLoads.{reply_in}
-use Rattle.aq_loads.proofs.LoadMap.{found_in}
-use Rattle.aq_loads.proofs.loads.Loads.reply_of.Goals as goal
+use Rattle.aq_rows.specs.declared.kept_loads.KeptLoad.{KeptLoad}
+use Rattle.aq_rows.specs.KeptLoads.{reply_in}
+use Rattle.aq_rows.proofs.LoadMap.{found_in}
+use Rattle.aq_rows.proofs.kept_loads.Loads.reply_of.Goals as goal
 
 abbrev reply_kept : KeptLoad → LoadReply
 reply_kept kept = kept.reply

@@ -1,10 +1,10 @@
 use Rattle.std.proofs.Common.{ℕ, ◌∷◌, [], List, refl, ap, ◌∙◌}
 use Rattle.std.specs.Prelude.{option_map}
 use Rattle.aq_rules.specs.Office.Office.{StoredLoad, load_rank, row_at}
-use Rattle.aq_loads.specs.declared.loads.KeptLoad.{KeptLoad}
-use Rattle.aq_loads.specs.KeptLoads.{digest_in}
-use Rattle.aq_loads.proofs.LoadMap.{found_in}
-use Rattle.aq_loads.proofs.loads.Loads.digest_of.Goals as goal
+use Rattle.aq_rows.specs.declared.kept_loads.KeptLoad.{KeptLoad}
+use Rattle.aq_rows.specs.KeptLoads.{digest_in}
+use Rattle.aq_rows.proofs.LoadMap.{found_in}
+use Rattle.aq_rows.proofs.kept_loads.Loads.digest_of.Goals as goal
 
 abbrev digest_of : KeptLoad → List ℕ
 digest_of kept = kept.digest

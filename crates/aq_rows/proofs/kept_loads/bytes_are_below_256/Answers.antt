@@ -2,7 +2,7 @@ use Rattle.std.proofs.Common.{◌≡◌, ℕ, suc, ◌<◌, ◌&&◌, Bool, true
 use Rattle.std.specs.Prelude.{get_or, nat_lt}
 use Rattle.std.specs.List.{list_all}
 use Rattle.std.proofs.lemmas.Bool.Decides.{nat_tests}
-use Rattle.aq_loads.proofs.loads.bytes_are_below_256.Goals as goal
+use Rattle.aq_rows.proofs.kept_loads.bytes_are_below_256.Goals as goal
 
 is_byte : (n : ℕ) → n < 256 → nat_lt n 256 ≡ true
 is_byte n low = grind (arith, nat_tests)
