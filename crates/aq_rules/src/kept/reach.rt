@@ -1,17 +1,21 @@
 //! What a change of rows reaches and costs, worked out, and what is not in reach.
 #![tactic(auto)]
 
-ghost use Rattle.std.specs.Prelude.{◌≡◌, ℕ, ◌+◌, ◌-◌, ◌∷◌, [], true, false};
+ghost use Rattle.std.specs.Prelude.{◌≡◌, ℕ, ◌≤◌, ◌+◌, ◌-◌, ◌&&◌, not, List, ◌∷◌, [], sum_by, true, false};
+ghost use Rattle.std.specs.List.{list_any};
 ghost use Rattle.aq_base.specs.Calendar.{day_number, hour_number, quarter_of};
-ghost use Rattle.aq_base.specs.declared.day.TheConstants.{LAST_DAY};
+ghost use Rattle.aq_base.specs.Site.{Site};
+ghost use Rattle.aq_base.specs.declared.day.TheConstants.{LAST_DAY, LAST_HOUR};
 ghost use Rattle.aq_base.specs.declared.monitor.Duration.TheVariants.{Day};
 ghost use Rattle.aq_base.specs.declared.monitor.Pollutant.TheVariants.{Ozone, Pm25, Pm10};
 ghost use Rattle.aq_base.specs.declared.office.OfficeKey.TheVariants.{Monitor as MonitorKey, Primary as PrimaryKey, Schedule as ScheduleKey, Makeup as MakeupKey, Event as EventKey, Concurrence as ConcurrenceKey};
 ghost use Rattle.aq_base.specs.declared.office.OfficeRecord.TheVariants.{Monitor, Schedule, Season, Makeup, Approved};
-ghost use Rattle.aq_rules.specs.Kept.Cells.{HourCell, WindowCell, OzoneDayCell, PmDayCell, PmYearCell, StratumCell, QuarterCell};
-ghost use Rattle.aq_rules.specs.Kept.Reach.{ChangedObservation, ChangedRecord, cells_reading, cost, reads, steps_of};
+ghost use Rattle.aq_rules.specs.Kept.Cells.{CellName, HourCell, WindowCell, OzoneDayCell, PmDayCell, PmYearCell, StratumCell, QuarterCell, is_same_cell};
+ghost use Rattle.aq_rules.specs.Kept.Reach.{ChangedObservation, ChangedRecord, cells_reading, cost, each_once, reach, reads, steps_of};
 ghost use Rattle.aq_rules.specs.Kept.ReachExamples.{after_changes, after_load, before_load, hours_of_a_day, new_year, ozone_at, pm10_key, pm25_key, scheduled_day, sixth_days, smoky, two_days_designated};
+ghost use Rattle.aq_rules.specs.Office.Office.{IsOffice, Office};
 ghost use Rattle.aq_rules.specs.Office.OfficeExamples.{monitor_at, monitors, noon, plain_day, sampled, west};
+ghost use Rattle.aq_rules.specs.Ozone.SiteHour.{site_hour};
 
 /// A load without a line costs 16 steps for its own row. With one ozone hour it costs 108: two rows, the
 /// hour, eight averages and the day. The first hour of the profile is read by one average and by no day;
@@ -100,4 +104,23 @@ pub fn samples_and_records_cost_this()
     ensures season_and_day { cost before_load (after_changes (Season west 2024 (day_number 2024 3 1) (day_number 2024 10 31) ∷ Approved west plain_day ∷ []) []) ≡ 764 }
     ensures makeup { cost before_load (after_changes (Makeup west plain_day (plain_day + 1) ∷ []) []) ≡ 816 }
     ensures schedule_in_the_last_quarter { cost before_load (after_changes (Schedule west Pm25 LAST_DAY 1 LAST_DAY ∷ []) []) ≡ 816 }
+{}
+
+/// What is not in reach is as before: an ozone hour that reads no changed row has the value it had.
+pub fn hours_out_of_reach_are_as_before()
+    ensures { (old new : Office) (site : Site) (hour : ℕ)
+        → hour ≤ LAST_HOUR
+        → IsOffice old
+        → IsOffice new
+        → list_any (is_same_cell (HourCell site hour)) (reach old new) ≡ false
+        → site_hour old site hour ≡ site_hour new site hour }
+{}
+
+/// Steps that are enough for each of some cells: once one of them is brought up to date, its own are
+/// enough less, however often the lists name a cell.
+pub fn a_cell_less_is_its_steps_less()
+    ensures { (steps : CellName → ℕ) (cell : CellName) (cells left : List CellName)
+        → list_any (is_same_cell cell) cells ≡ true
+        → ((other : CellName) → list_any (is_same_cell other) left ≡ (list_any (is_same_cell other) cells && not (is_same_cell cell other)))
+        → sum_by steps (each_once cells) ≡ steps cell + sum_by steps (each_once left) }
 {}
