@@ -42,7 +42,10 @@ ozone_at hour = measured west Ozone 1 60 [] hour
 abbrev pub hours_of_a_day : List (ObsKey × Observation)
 hours_of_a_day = map ozone_at (range_with_len (hour_number plain_day 7) 24)
 
--- the keys of its PM2.5 and its PM10 sample of a day
+-- the key of such an observation, and those of the west's PM2.5 and PM10 sample of a day
+abbrev pub ozone_key : ℕ → ObsKey
+ozone_key hour = record { monitor = monitor_at west Ozone 1; hour = hour }
+
 abbrev pub pm25_key : ℕ → ObsKey
 pm25_key day = record { monitor = monitor_at west Pm25 4; hour = hour_number day 0 }
 
@@ -51,26 +54,35 @@ pm10_key day = record { monitor = monitor_at west Pm10 3; hour = hour_number day
 
 -- ---- records
 
--- POC 1 is the primary of the west's ozone for two days, 1 and 2 July 2024. On the second of them designations of its PM2.5 and of the east's ozone start
-abbrev pub two_days_designated : List OfficeRecord
-two_days_designated =
+-- designations from 1 July 2024 on. Of the west's ozone POC 1 is the primary for two days; its PM10 and the east's ozone have one for four days, from 2 July to 5 July. Another one starts in between each time, and stands before it in the list: of ozone, and of the west
+abbrev pub designations : List OfficeRecord
+designations =
     monitors
-    ++ Primary west Ozone plain_day 1 ∷ Primary west Ozone (plain_day + 2) 3 ∷ Primary west Pm25 (plain_day + 1) 1
-    ∷ Primary east Ozone (plain_day + 1) 2 ∷ []
+    ++ Primary west Ozone plain_day 1 ∷ Primary west Ozone (plain_day + 2) 3
+    ∷ Primary west Pm10 (plain_day + 1) 3 ∷ Primary west Pm10 (plain_day + 5) 1
+    ∷ Primary east Ozone (plain_day + 1) 2 ∷ Primary east Ozone (plain_day + 5) 0 ∷ []
 
 -- the event 7, with its concurrence, in the west's ozone from 12:00 to 14:00
 abbrev pub smoky : List OfficeRecord
 smoky = monitors ++ Event 7 west Ozone noon (noon + 2) smoke ∷ Concurrence 7 true ∷ []
 
--- every sixth day of the west's PM10 is scheduled from 4 July 2024 on, by a schedule that starts on 1 July; the next one starts two quarters later, on 1 January 2025, and one of PM2.5 on 1 October
+-- 4 July 2024, and 1 January, April and July 2025
 abbrev pub scheduled_day : ℕ
 scheduled_day = plain_day + 3
 
 abbrev pub new_year : ℕ
 new_year = plain_day + 184
 
-abbrev pub sixth_days : List OfficeRecord
-sixth_days =
+abbrev pub april : ℕ
+april = new_year + 90
+
+abbrev pub july : ℕ
+july = new_year + 181
+
+-- schedules from 1 July 2024 on. Of the west's PM10 each sixth day from 4 July on is scheduled, for two quarters; of its PM2.5 each third day for three, and of the east's for four. Another one starts before the end of the last two, and stands before them in the list: of PM10, and of the west
+abbrev pub schedules : List OfficeRecord
+schedules =
     monitors
     ++ Schedule west Pm10 plain_day 6 scheduled_day ∷ Schedule west Pm10 new_year 3 new_year
-    ∷ Schedule west Pm25 (plain_day + 92) 3 (plain_day + 92) ∷ []
+    ∷ Schedule west Pm25 plain_day 3 plain_day ∷ Schedule west Pm25 april 1 april
+    ∷ Schedule east Pm25 plain_day 3 plain_day ∷ Schedule east Pm25 july 1 july ∷ []
