@@ -186,14 +186,32 @@ module _ (a b : Office) (cell : CellName) (records : List OfficeRecord) (unread 
             reads_change changes-unread.1 key change gives
             (ap (reads records cell) (place-of (observation_at a key) (observation_at b key) change gives) ∙ is_read)
 
+-- ---- what is in reach
+
+any-either : {X : Type 0} (p q : X → Bool) (xs : List X) → list_any (λ x. p x || q x) xs ≡ (list_any p xs || list_any q xs)
+any-either p q [] = refl
+any-either p q (x ∷ xs) = ap (λ b. (p x || q x) || b) (any-either p q xs) ∙ sorted (p x) (q x) (list_any p xs) (list_any q xs)
+  where
+    sorted : (a b c d : Bool) → ((a || b) || (c || d)) ≡ ((a || c) || (b || d))
+    sorted true b c d = refl
+    sorted false true c d = sym (or-true c)
+    sorted false false c d = refl
+
+-- a cell is in reach if it reads a changed row in the old office or in the new one, and no other is
+pub reach-is : (a b : Office) (cell : CellName) → member cell (reach a b) ≡ list_any (λ row. reads a.records cell row || reads b.records cell row) (changed_rows a b)
+unfolding reach reads
+reach-is a b cell =
+    let rows = changed_rows a b in
+    let before = flat_map (cells_reading a.records) rows in
+    let after = flat_map (cells_reading b.records) rows in
+    member-once cell (before ++ after)
+    ∙ list_any-append (is_same_cell cell) before after
+    ∙ ap (λ x. x || list_any (is_same_cell cell) after) (any-flat_map (is_same_cell cell) (cells_reading a.records) rows)
+    ∙ ap (λ x. list_any (λ row. list_any (is_same_cell cell) (cells_reading a.records row)) rows || x) (any-flat_map (is_same_cell cell) (cells_reading b.records) rows)
+    ∙ sym (any-either (λ row. list_any (is_same_cell cell) (cells_reading a.records row)) (λ row. list_any (is_same_cell cell) (cells_reading b.records row)) rows)
+
 -- a cell that is not in reach reads no changed row, in neither office
 pub unread : (a b : Office) (cell : CellName) → member cell (reach a b) ≡ false
     → (list_any (λ row. reads a.records cell row) (changed_rows a b) ≡ false) × (list_any (λ row. reads b.records cell row) (changed_rows a b) ≡ false)
-unfolding reach reads
 unread a b cell out =
-    let rows = changed_rows a b in
-    let all = sym (member-once cell (flat_map (cells_reading a.records) rows ++ flat_map (cells_reading b.records) rows)) ∙ out in
-    let parts = none-of_both (is_same_cell cell) (flat_map (cells_reading a.records) rows) (flat_map (cells_reading b.records) rows) all in (
-      sym (any-flat_map (is_same_cell cell) (cells_reading a.records) rows) ∙ parts.0,
-      sym (any-flat_map (is_same_cell cell) (cells_reading b.records) rows) ∙ parts.1,
-    )
+    or_parts _ _ (sym (any-either (λ row. reads a.records cell row) (λ row. reads b.records cell row) (changed_rows a b)) ∙ sym (reach-is a b cell) ∙ out)

@@ -1,7 +1,7 @@
 //! What a change of rows reaches and costs, worked out, and what is not in reach.
 #![tactic(auto)]
 
-ghost use Rattle.std.specs.Prelude.{◌≡◌, ℕ, ◌≤◌, ◌+◌, ◌-◌, ◌&&◌, not, List, ◌∷◌, [], sum_by, true, false};
+ghost use Rattle.std.specs.Prelude.{◌≡◌, ℕ, ◌≤◌, ◌+◌, ◌-◌, ◌&&◌, ◌||◌, not, List, ◌∷◌, [], sum_by, true, false};
 ghost use Rattle.std.specs.List.{list_any};
 ghost use Rattle.aq_base.specs.Calendar.{day_number, hour_number, quarter_of};
 ghost use Rattle.aq_base.specs.Site.{Site};
@@ -11,7 +11,7 @@ ghost use Rattle.aq_base.specs.declared.monitor.Pollutant.TheVariants.{Ozone, Pm
 ghost use Rattle.aq_base.specs.declared.office.OfficeKey.TheVariants.{Monitor as MonitorKey, Primary as PrimaryKey, Schedule as ScheduleKey, Makeup as MakeupKey, Event as EventKey, Concurrence as ConcurrenceKey};
 ghost use Rattle.aq_base.specs.declared.office.OfficeRecord.TheVariants.{Monitor, Schedule, Season, Makeup, Approved};
 ghost use Rattle.aq_rules.specs.Kept.Cells.{CellName, HourCell, WindowCell, OzoneDayCell, OzoneYearCell, PmDayCell, PmYearCell, StratumCell, QuarterCell, is_same_cell};
-ghost use Rattle.aq_rules.specs.Kept.Reach.{ChangedObservation, ChangedRecord, cells_reading, cost, each_once, reach, reads, steps_of};
+ghost use Rattle.aq_rules.specs.Kept.Reach.{ChangedObservation, ChangedRecord, cells_reading, changed_rows, cost, each_once, reach, reads, steps_of};
 ghost use Rattle.aq_rules.specs.Kept.ReachExamples.{after_changes, after_load, april, before_load, designations, hours_of_a_day, july, new_year, ozone_at, ozone_key, pm10_key, pm25_key, scheduled_day, schedules, smoky};
 ghost use Rattle.aq_rules.specs.Office.Office.{IsOffice, Office};
 ghost use Rattle.aq_rules.specs.Office.OfficeExamples.{east, monitor_at, monitors, noon, plain_day, sampled, west};
@@ -121,6 +121,13 @@ pub fn samples_and_records_cost_this()
     ensures season_and_day { cost before_load (after_changes (Season west 2024 (day_number 2024 3 1) (day_number 2024 10 31) ∷ Approved west plain_day ∷ []) []) ≡ 764 }
     ensures makeup { cost before_load (after_changes (Makeup west plain_day (plain_day + 1) ∷ []) []) ≡ 816 }
     ensures schedule_in_the_last_quarter { cost before_load (after_changes (Schedule west Pm25 LAST_DAY 1 LAST_DAY ∷ []) []) ≡ 816 }
+{}
+
+/// A cell is in reach exactly if it reads a changed row in the old office or in the new one.
+pub fn what_reads_a_changed_row_is_in_reach()
+    ensures { (old new : Office) (cell : CellName)
+        → list_any (is_same_cell cell) (reach old new)
+        ≡ list_any (λ row. reads old.records cell row || reads new.records cell row) (changed_rows old new) }
 {}
 
 /// What is not in reach is as before: an ozone hour that reads no changed row has the value it had.
