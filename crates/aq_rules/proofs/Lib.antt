@@ -78,3 +78,10 @@ pub mod MembersOnce
 pub mod MoreLoads
 pub mod RowsInOrder
 pub mod OfficeInOrder
+pub mod Found
+pub mod OneKey
+pub mod CellsOnce
+pub mod Unreached
+pub mod UnreachedPrimary
+pub mod UnreachedRows
+pub mod UnreachedHour

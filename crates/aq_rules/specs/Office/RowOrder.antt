@@ -112,7 +112,7 @@ module _ {X : Type 0} (rank : X → List ℕ) where
   rises_rest first [] p = refl
   rises_rest first (next ∷ rows) p = (and_parts (comes_before (rank first) (rank next)) (rises_from rank next rows) p).1
 
-  filter-rises : (keep : X → Bool) (rows : List X) → rises rank rows ≡ true → rises rank (filter keep rows) ≡ true
+  pub filter-rises : (keep : X → Bool) (rows : List X) → rises rank rows ≡ true → rises rank (filter keep rows) ≡ true
   filter-rises keep [] p = refl
   filter-rises keep (first ∷ rows) p =
       elim (cases_Bool (keep first)) [
