@@ -77,3 +77,4 @@ pub mod MembersOnce
 pub mod MoreLoads
 pub mod RowsInOrder
 pub mod OfficeInOrder
+pub mod Assuming
