@@ -85,3 +85,4 @@ pub mod Unreached
 pub mod UnreachedPrimary
 pub mod UnreachedRows
 pub mod UnreachedHour
+pub mod Assuming
