@@ -43,6 +43,8 @@ pub mod Spans
 pub mod ValidOffice
 pub mod Quarters
 pub mod OfficeVerdicts
+pub mod Levels
+pub mod StoredHours
 pub mod RowTexts
 pub mod RowsBack
 pub mod OfficeBack

@@ -261,7 +261,7 @@ length-given {Y = Y} f (d ∷ days) = by_value (f d) (length-given f days) ∙ s
 abbrev pub HoldsDays : ℕ → Type 0
 HoldsDays quarter = (n : ℕ) → n ≤ LAST_DAY → quarter_of n ≡ quarter → (quarter_first quarter ≤ n) × (n < quarter_first quarter + days_in_quarter quarter)
 
-kept-sampled : (o : Option Cell) → is_some (option_and_then unless_excluded o) ≡ true → is_some o ≡ true
+pub kept-sampled : (o : Option Cell) → is_some (option_and_then unless_excluded o) ≡ true → is_some o ≡ true
 kept-sampled None h = h
 kept-sampled (Some cell) h = refl
 

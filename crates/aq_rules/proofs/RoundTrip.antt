@@ -11,6 +11,7 @@ use Rattle.aq_base.specs.Calendar.{year_of, month_of, day_of_month, day_of_hour,
 use Rattle.aq_base.specs.Decimal.{last_digits, are_digits}
 use Rattle.aq_base.specs.Site.{Site}
 use Rattle.aq_base.specs.declared.code.Code.{Code}
+use Rattle.aq_base.specs.declared.day.TheConstants.{LAST_HOUR}
 use Rattle.aq_base.specs.declared.monitor.Pollutant.{Pollutant}
 use Rattle.aq_base.specs.declared.monitor.Pollutant.TheVariants.{Ozone, Pm25, Pm10}
 use Rattle.aq_base.specs.declared.monitor.Duration.{Duration}
@@ -420,7 +421,7 @@ event_texts s p first last code =
     site_with s (parameter_text p ∷ date_text (day_of_hour first) ∷ time_text first ∷ date_text (day_of_hour last) ∷ time_text last ∷ code_text code ∷ [])
 
 xe_read : (tag action : List ℕ) (n : ℕ) (s : Site) (p : Pollutant) (first last : ℕ) (code : Code) → is_event_number n ≡ true → is_site s ≡ true
-    → first ≤ 438311 → last ≤ 438311 → is_span first last ≡ true → is_event_code code ≡ true
+    → first ≤ LAST_HOUR → last ≤ LAST_HOUR → is_span first last ≡ true → is_event_code code ≡ true
     → xe_record (tag ∷ action ∷ decimal n ∷ event_texts s p first last code) ≡ Some (Event n s p first last code)
 unfolding xe_record
 xe_read tag action n s p first last code g h i j k l =
@@ -428,7 +429,7 @@ xe_read tag action n s p first last code g h i j k l =
     ∙ bind-is _ (event_number_is n g) ∙ bind-is _ (event_code_is code l) ∙ ap (λ b. if b then Some (Event n s p first last code) else None) k
 
 read-xe : (n : ℕ) (s : Site) (p : Pollutant) (first last : ℕ) (code : Code) → is_event_number n ≡ true → is_site s ≡ true
-    → first ≤ 438311 → last ≤ 438311 → is_span first last ≡ true → is_event_code code ≡ true
+    → first ≤ LAST_HOUR → last ≤ LAST_HOUR → is_span first last ≡ true → is_event_code code ≡ true
     → line_value (canonical_office (Put (Event n s p first last code))) ≡ Some (OfOffice (Put (Event n s p first last code)))
 unfolding office_texts
 read-xe n s p first last code g h i j k l =
@@ -467,7 +468,7 @@ read-xc n agreed h =
 
 -- ---- all office lines
 
-pub at_most_hour : (h : ℕ) → nat_le h 438311 ≡ true → h ≤ 438311
+pub at_most_hour : (h : ℕ) → nat_le h LAST_HOUR ≡ true → h ≤ LAST_HOUR
 at_most_hour h p = grind (arith, nat_tests)
 
 span_first : (a b : ℕ) → is_span a b ≡ true → a ≤ b
@@ -502,10 +503,10 @@ round-put (Makeup s missed makeup) h =
     let z = and_parts (is_day makeup) (is_makeup missed makeup) x.1 in
     read-xu s missed makeup y.0 y.1 z.0 z.1
 round-put (Event n s p first last code) h =
-    let x = and_parts (is_event_number n) (is_site s && nat_le last 438311 && is_span first last && is_event_code code) h in
-    let y = and_parts (is_site s && nat_le last 438311 && is_span first last) (is_event_code code) x.1 in
-    let z = and_parts (is_site s && nat_le last 438311) (is_span first last) y.0 in
-    let w = and_parts (is_site s) (nat_le last 438311) z.0 in
+    let x = and_parts (is_event_number n) (is_site s && nat_le last LAST_HOUR && is_span first last && is_event_code code) h in
+    let y = and_parts (is_site s && nat_le last LAST_HOUR && is_span first last) (is_event_code code) x.1 in
+    let z = and_parts (is_site s && nat_le last LAST_HOUR) (is_span first last) y.0 in
+    let w = and_parts (is_site s) (nat_le last LAST_HOUR) z.0 in
     let top = at_most_hour last w.1 in
     let low = span_first first last z.1 in
     read-xe n s p first last code x.0 w.0 (omega arith) top z.1 y.1

@@ -8,6 +8,7 @@ use Rattle.aq_base.specs.Decimal.{is_decimal, cut}
 use Rattle.aq_base.specs.Quals.{with_code, has_code, all_distinct}
 use Rattle.aq_base.specs.Places.{all_distinct-push}
 use Rattle.aq_base.specs.declared.code.Code.{Code}
+use Rattle.aq_base.specs.declared.day.TheConstants.{LAST_HOUR}
 use Rattle.aq_base.specs.declared.monitor.Pollutant.{Pollutant}
 use Rattle.aq_base.specs.declared.monitor.MonitorId.{MonitorId}
 use Rattle.aq_base.specs.declared.office.OfficeRecord.{OfficeRecord}
@@ -144,10 +145,10 @@ put_valid update texts =
     valid (λ d. has_duration id.pollutant d ≡ true) (λ v. is_rd_value v ≡ true) (duration_in id.pollutant (field 8 texts)) _ (duration_valid id.pollutant (field 8 texts)) λ d i.
     valid (λ n. n ≡ n) (λ v. is_rd_value v ≡ true) (unit_in id.pollutant (field 9 texts)) _ (anything (unit_in id.pollutant (field 9 texts))) λ places e.
     valid (λ n. n < 1000) (λ v. is_rd_value v ≡ true) (method_in (field 10 texts)) _ (digits_valid 3 (field 10 texts)) λ m j.
-    valid (λ h. nat_le h 438311 ≡ true) (λ v. is_rd_value v ≡ true) (hour_in (field 11 texts) (field 12 texts)) _ (hour_valid (field 11 texts) (field 12 texts)) λ hour k.
+    valid (λ h. nat_le h LAST_HOUR ≡ true) (λ v. is_rd_value v ≡ true) (hour_in (field 11 texts) (field 12 texts)) _ (hour_valid (field 11 texts) (field 12 texts)) λ hour k.
     valid (λ c. is_content id.pollutant c ≡ true) (λ v. is_rd_value v ≡ true) (content_in id.pollutant places texts) _ (content_valid id.pollutant places texts) λ c l.
-    and_from (is_site id.site && is_poc id.poc && has_duration id.pollutant d && nat_le m 999 && nat_le hour 438311) (is_content id.pollutant c)
-    (and_from (is_site id.site && is_poc id.poc && has_duration id.pollutant d && nat_le m 999) (nat_le hour 438311)
+    and_from (is_site id.site && is_poc id.poc && has_duration id.pollutant d && nat_le m 999 && nat_le hour LAST_HOUR) (is_content id.pollutant c)
+    (and_from (is_site id.site && is_poc id.poc && has_duration id.pollutant d && nat_le m 999) (nat_le hour LAST_HOUR)
     (and_from (is_site id.site && is_poc id.poc && has_duration id.pollutant d) (nat_le m 999)
     (and_from (is_site id.site && is_poc id.poc) (has_duration id.pollutant d) h i) (at_most m 999 j)) k) l
 
@@ -155,8 +156,8 @@ delete_valid : (texts : List (List ℕ)) → IfSome (delete_in texts) (λ v. is_
 unfolding delete_in start_in
 delete_valid texts =
     valid (λ (id : MonitorId). (is_site id.site && is_poc id.poc) ≡ true) (λ v. is_rd_value v ≡ true) (monitor_in Rd texts) _ (monitor_valid Rd texts) λ id h.
-    valid (λ h. nat_le h 438311 ≡ true) (λ v. is_rd_value v ≡ true) (hour_in (field 11 texts) (field 12 texts)) _ (hour_valid (field 11 texts) (field 12 texts)) λ hour k.
-    and_from (is_site id.site && is_poc id.poc) (nat_le hour 438311) h k
+    valid (λ h. nat_le h LAST_HOUR ≡ true) (λ v. is_rd_value v ≡ true) (hour_in (field 11 texts) (field 12 texts)) _ (hour_valid (field 11 texts) (field 12 texts)) λ hour k.
+    and_from (is_site id.site && is_poc id.poc) (nat_le hour LAST_HOUR) h k
 
 -- ---- office lines
 
@@ -251,12 +252,12 @@ unfolding xe_record
 xe_record-valid texts =
     valid (λ s. is_site s ≡ true) (λ (r : OfficeRecord). is_office_line (Put r) ≡ true) (site_in (field 4 texts) (field 5 texts) (field 6 texts)) _ (site_valid (field 4 texts) (field 5 texts) (field 6 texts)) λ s h.
     valid (λ p. has_parameter Xe p ≡ true) (λ (r : OfficeRecord). is_office_line (Put r) ≡ true) (parameter_of Xe (field 7 texts)) _ (parameter_valid Xe (field 7 texts)) λ p e.
-    valid (λ h. nat_le h 438311 ≡ true) (λ (r : OfficeRecord). is_office_line (Put r) ≡ true) (hour_in (field 8 texts) (field 9 texts)) _ (hour_valid (field 8 texts) (field 9 texts)) λ a j.
-    valid (λ h. nat_le h 438311 ≡ true) (λ (r : OfficeRecord). is_office_line (Put r) ≡ true) (hour_in (field 10 texts) (field 11 texts)) _ (hour_valid (field 10 texts) (field 11 texts)) λ b k.
+    valid (λ h. nat_le h LAST_HOUR ≡ true) (λ (r : OfficeRecord). is_office_line (Put r) ≡ true) (hour_in (field 8 texts) (field 9 texts)) _ (hour_valid (field 8 texts) (field 9 texts)) λ a j.
+    valid (λ h. nat_le h LAST_HOUR ≡ true) (λ (r : OfficeRecord). is_office_line (Put r) ≡ true) (hour_in (field 10 texts) (field 11 texts)) _ (hour_valid (field 10 texts) (field 11 texts)) λ b k.
     valid (λ n. is_event_number n ≡ true) (λ (r : OfficeRecord). is_office_line (Put r) ≡ true) (event_number_in (field 3 texts)) _ (number_valid (field 3 texts)) λ n g.
     valid (λ c. is_event_code c ≡ true) (λ (r : OfficeRecord). is_office_line (Put r) ≡ true) (event_code_in (field 12 texts)) _ (code_valid (field 12 texts)) λ c l.
     valid_if (λ (r : OfficeRecord). is_office_line (Put r) ≡ true) (is_span a b) (Event n s p a b c)
-    (λ m. and_from (is_event_number n) (is_site s && nat_le b 438311 && is_span a b && is_event_code c) g (and_from (is_site s && nat_le b 438311 && is_span a b) (is_event_code c) (and_from (is_site s && nat_le b 438311) (is_span a b) (and_from (is_site s) (nat_le b 438311) h k) m) l))
+    (λ m. and_from (is_event_number n) (is_site s && nat_le b LAST_HOUR && is_span a b && is_event_code c) g (and_from (is_site s && nat_le b LAST_HOUR && is_span a b) (is_event_code c) (and_from (is_site s && nat_le b LAST_HOUR) (is_span a b) (and_from (is_site s) (nat_le b LAST_HOUR) h k) m) l))
 
 xe_key-valid : (texts : List (List ℕ)) → IfSome (xe_key texts) (λ (k : OfficeKey). is_office_line (Drop k) ≡ true)
 unfolding xe_key

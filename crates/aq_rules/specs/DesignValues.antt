@@ -2,7 +2,7 @@
 use Rattle.std.specs.Prelude.{ℕ, List, map, Option, ℤ}
 use Rattle.aq_base.specs.Site.{Site}
 use Rattle.aq_base.specs.declared.standard.Standard.{Standard}
-use Rattle.aq_base.specs.declared.standard.Standard.TheVariants.{Ozone2015, Annual2012, AnnualSecondary, Daily2006, Pm10Of1987}
+use Rattle.aq_base.specs.declared.standard.Standard.TheVariants.{Ozone2015, Annual2012, AnnualSecondary, Annual2024, Daily2006, Pm10Of1987}
 use Rattle.aq_base.specs.declared.standard.Verdict.{Verdict}
 use Rattle.aq_rules.specs.Standards.{level_of, years_to}
 use Rattle.aq_rules.specs.Office.Office.{Office}
@@ -31,6 +31,7 @@ unfoldable pub design_value : Standard → Office → Site → ℕ → DesignVal
 design_value Ozone2015 office site year = OfOzone (three_years office site year) (ozone_design office site year)
 design_value Annual2012 office site year = OfAnnual (pm25_years office site year) (annual_design (level_of Annual2012) office site year)
 design_value AnnualSecondary office site year = OfAnnual (pm25_years office site year) (annual_design (level_of AnnualSecondary) office site year)
+design_value Annual2024 office site year = OfAnnual (pm25_years office site year) (annual_design (level_of Annual2024) office site year)
 design_value Daily2006 office site year = OfDaily (pm25_years office site year) (daily_design office site year)
 design_value Pm10Of1987 office site year = OfPm10 (pm10_years office site year) (pm10_design office site year)
 

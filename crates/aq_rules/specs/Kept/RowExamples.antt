@@ -1,5 +1,5 @@
 -- Rows as a keeper may hand them out, on which the laws of rows work their examples out.
-use Rattle.std.specs.Prelude.{ℕ, ℤ, pos, true, Option, List, [], ◌∷◌, ◌++◌, replicate, codes}
+use Rattle.std.specs.Prelude.{ℕ, ℤ, pos, true, Option, Some, List, [], ◌∷◌, ◌++◌, replicate, codes}
 use Rattle.aq_base.specs.declared.monitor.Duration.TheVariants.{Day}
 use Rattle.aq_base.specs.declared.office.OfficeRecord.TheVariants.{Monitor}
 use Rattle.aq_base.specs.declared.reply.ListedLine.{ListedLine}
@@ -46,6 +46,14 @@ combination_row site joined =
 abbrev pub sample_with : Option ℤ → List ℕ → List ℕ → Row
 sample_with value null quals =
     OfObsRow (record { site = pos 60371103; pollutant = pos 2; poc = pos 1; hour = pos 210528; value = value; null = null; quals = quals })
+
+-- the row of an ozone monitor, and of its hour with this stored number
+abbrev pub ozone_row : Row
+ozone_row = record_with (pos 1) (codes "06|037|1103|44201|01") (codes "XM|I|06|037|1103|44201|1|1|Y")
+
+abbrev pub ozone_at : ℤ → Row
+ozone_at stored =
+    OfObsRow (record { site = pos 60371103; pollutant = pos 1; poc = pos 1; hour = stored; value = Some (pos 71); null = []; quals = [] })
 
 -- eight ozone monitors of a site, and one of PM2.5
 abbrev pub nine_monitors : Office

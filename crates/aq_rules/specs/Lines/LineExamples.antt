@@ -31,11 +31,11 @@ code_rt = record { first = 82; second = 84 }
 
 -- 2024-01-01
 abbrev pub new_year : ℕ
-new_year = 8766
+new_year = 12418
 
 -- 2024-07-01 13:00
 abbrev pub noon : ℕ
-noon = 214765
+noon = 302413
 
 abbrev pub valued : ℤ → Observation
 valued value = record { value = Some value; null = None; quals = [] }
@@ -67,7 +67,7 @@ one_hour = record one_monitor { observations = (record { monitor = ozone_monitor
 abbrev pub one_sample : Office
 one_sample = record {
   records = Monitor particle_monitor Day true ∷ [];
-  observations = (record { monitor = particle_monitor; hour = 210528 }, valued (pos 123)) ∷ [];
+  observations = (record { monitor = particle_monitor; hour = 298176 }, valued (pos 123)) ∷ [];
   loads = [];
 }
 
@@ -140,13 +140,13 @@ one_of_each = record nothing {
       Monitor (record { site = home; pollutant = Ozone; poc = 3 }) Hour true
       ∷ Monitor (record { site = home; pollutant = Pm25; poc = 4 }) Day false
       ∷ Monitor (record { site = neighbor; pollutant = Ozone; poc = 5 }) Hour true
-      ∷ Primary home Ozone 8767 3
-      ∷ Schedule home Pm25 8768 6 8772
-      ∷ Season home 2024 8826 9070
-      ∷ Makeup home 8775 8777
-      ∷ Event 21 home Ozone 214771 214804 code_rt
+      ∷ Primary home Ozone 12419 3
+      ∷ Schedule home Pm25 12420 6 12424
+      ∷ Season home 2024 12478 12722
+      ∷ Makeup home 12427 12429
+      ∷ Event 21 home Ozone 302419 302452 code_rt
       ∷ Concurrence 21 true
-      ∷ Approved home 8951
+      ∷ Approved home 12603
       ∷ Combined home Ozone 12432 neighbor
       ∷ [];
 }

@@ -7,7 +7,8 @@ ghost use Rattle.aq_rules.specs.Lines.Reading.{breaks, line_value, reading_rule,
 ghost use Rattle.aq_rules.specs.Least.{IsLeastBroken};
 ghost use Rattle.aq_base.specs.declared.rule.Rule.{Rule};
 
-/// An RD line for each rule that its form meets, of which that rule is the first one broken.
+/// An RD line for each rule that its form meets, of which that rule is the first one broken. Dates are
+/// from 1990-01-01 to 2059-12-31.
 #[tactic(auto, unfolding(crate::specs::Lines::Spellings::site_in, crate::specs::Lines::Spellings::parameter_of, crate::specs::Lines::Spellings::date_in, crate::specs::Lines::Spellings::time_in, crate::specs::Lines::Spellings::value_in, crate::specs::Lines::Spellings::qualifiers_in, aq_base::specs::Calendar::days_of_years, aq_base::specs::Calendar::days_of_months))]
 pub fn rules_of_samples()
     ensures none { reading_rule (codes "RD|I|06|037|1103|44201|1|1|007|087|20240701|13:00|0.071||||V|RT") ≡ None }
@@ -22,6 +23,10 @@ pub fn rules_of_samples()
     ensures unit { reading_rule (codes "RD|I|06|037|1103|44201|1|1|105|087|20240701|13:00|0.071") ≡ Some BadUnit }
     ensures method { reading_rule (codes "RD|I|06|037|1103|44201|1|1|007|87|20240701|13:00|0.071") ≡ Some BadMethod }
     ensures date { reading_rule (codes "RD|I|06|037|1103|44201|1|1|007|087|20230229|13:00|0.071") ≡ Some BadDate }
+    ensures first_day { reading_rule (codes "RD|I|06|037|1103|44201|1|1|007|087|19900101|00:00|0.071") ≡ None }
+    ensures before_the_first_day { reading_rule (codes "RD|I|06|037|1103|44201|1|1|007|087|19891231|23:00|0.071") ≡ Some BadDate }
+    ensures last_day { reading_rule (codes "RD|I|06|037|1103|44201|1|1|007|087|20591231|23:00|0.071") ≡ None }
+    ensures after_the_last_day { reading_rule (codes "RD|I|06|037|1103|44201|1|1|007|087|20600101|00:00|0.071") ≡ Some BadDate }
     ensures time { reading_rule (codes "RD|I|06|037|1103|44201|1|1|007|087|20240701|13:30|0.071") ≡ Some BadTime }
     ensures both { reading_rule (codes "RD|I|06|037|1103|44201|1|1|007|087|20240701|13:00|0.071|AN") ≡ Some ValueAndNull }
     ensures neither { reading_rule (codes "RD|I|06|037|1103|44201|1|1|007|087|20240701|13:00| ") ≡ Some NeitherValueNorNull }
@@ -44,7 +49,9 @@ pub fn rules_of_office_lines()
     ensures two_zeros { reading_rule (codes "XP|I|06|037|1103|44201|20240101|00") ≡ Some BadPoc }
     ensures no_primary { reading_rule (codes "XP|I|06|037|1103|44201|20240101|0") ≡ None }
     ensures ozone_day { reading_rule (codes "XM|U|06|037|1103|44201|1|7|N") ≡ Some BadDuration }
-    ensures year { reading_rule (codes "XO|I|06|037|1103|1999|19990301|19991031") ≡ Some BadDate }
+    ensures year { reading_rule (codes "XO|I|06|037|1103|1989|19890301|19891031") ≡ Some BadDate }
+    ensures first_year { reading_rule (codes "XO|I|06|037|1103|1990|19900101|19901231") ≡ None }
+    ensures last_year { reading_rule (codes "XO|I|06|037|1103|2059|20590101|20591231") ≡ None }
     ensures span { reading_rule (codes "XE|I|1|06|037|1103|44201|20240101|00:00|20250101|00:00|RT") ≡ Some BadSpan }
     ensures whole_year { reading_rule (codes "XE|I|1|06|037|1103|44201|20240101|00:00|20241231|23:00|RT") ≡ None }
     ensures interval { reading_rule (codes "XS|I|06|037|1103|88101|20240101|4|20240101") ≡ Some BadInterval }
@@ -117,7 +124,7 @@ pub fn office_lines_at_the_edge_of_a_rule()
     ensures every_second_day { reading_rule (codes "XS|I|06|037|1103|88101|20240101|2|20240107") ≡ None }
     ensures anchor { reading_rule (codes "XS|I|06|037|1103|88101|20240101|2|20240230") ≡ Some BadDate }
     ensures season_without_year { reading_rule (codes "XO|D|06|037|1103") ≡ Some FieldCount }
-    ensures year_of_a_deletion { reading_rule (codes "XO|D|06|037|1103|2050|x|x") ≡ Some BadDate }
+    ensures year_of_a_deletion { reading_rule (codes "XO|D|06|037|1103|2060|x|x") ≡ Some BadDate }
     ensures last_day_of_season { reading_rule (codes "XO|I|06|037|1103|2024|20240301|20241331") ≡ Some BadDate }
     ensures season_of_one_day { reading_rule (codes "XO|I|06|037|1103|2024|20240301|20240301") ≡ None }
     ensures season_before_its_year { reading_rule (codes "XO|I|06|037|1103|2024|20231101|20240331") ≡ Some BadSeason }
