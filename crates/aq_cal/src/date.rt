@@ -11,7 +11,7 @@ use jiff::civil::{Date, date};
 /// A civil date of the profile, in local standard time.
 #[derive(Clone, Copy, Debug, PartialEq, Eq)]
 pub struct Civil {
-    /// The year, from 2000 to 2049.
+    /// The year, from 1990 to 2059.
     pub year: u16,
     /// The month, from 1 for January to 12.
     pub month: u8,
@@ -20,7 +20,7 @@ pub struct Civil {
 }
 
 /// The day that these parts name. There is none where the calendar has no such date, or where it is
-/// not from 2000-01-01 to 2049-12-31.
+/// not from 1990-01-01 to 2059-12-31.
 pub fn day_of(year: u16, month: u8, day: u8) -> Option<Day>
     ensures { result ≡ day_of_date year month day }
 {

@@ -13,7 +13,7 @@ pub fn quarter_of(day: Day) -> Quarter
     ensures { result ≡ calendar.quarter_of day }
 {
     let date = civil_of(day);
-    Quarter::new(4 * (date.year - FIRST_YEAR) as u8 + (date.month - 1) / 3)
+    Quarter::new(4 * (date.year - FIRST_YEAR) + u16::from((date.month - 1) / 3))
 }
 
 /// The first day of a quarter, and how many days it has.
@@ -23,14 +23,14 @@ pub fn quarter_span(quarter: Quarter) -> (Day, u8)
     ensures days_range { IsInRange 90 92 result.1 }
     ensures in_profile { result.0 + result.1 ≤ LAST_DAY + 1 }
 {
-    let year = FIRST_YEAR + u16::from(quarter.number() / 4);
-    let month = 3 * (quarter.number() % 4) + 1;
+    let year = FIRST_YEAR + quarter.number() / 4;
+    let month = 3 * (quarter.number() % 4) as u8 + 1;
     let first = first_of_month(year, month);
     let last = last_of_month(year, month + 2);
     (first, (last.number() - first.number() + 1) as u8)
 }
 
-/// The first day of a year from 2000 to 2049, and how many days it has.
+/// The first day of a year from 1990 to 2059, and how many days it has.
 pub fn year_span(year: u16) -> (Day, u16)
     requires { IsInRange FIRST_YEAR LAST_YEAR year }
     ensures first { result.0 ≡ calendar.year_first year }

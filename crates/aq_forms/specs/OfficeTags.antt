@@ -1,4 +1,4 @@
--- A line with an office tag is none of RD.
+-- Lemmas, no definition: a line with an office tag is none of RD.
 use Rattle.std.proofs.Common.{◌≡◌, ℕ, Bool, true, false, cond, List, Some, None, Option, refl}
 use Rattle.std.proofs.lemmas.Bool.{false≢true}
 use Rattle.aq_rules.specs.Lines.Reading.{is_plain, tag_of}

@@ -1,4 +1,4 @@
--- Laws for callers: an office line reads the records of an office alone, and changes them alone.
+-- Lemmas, no definition: an office line reads the records of an office alone, and changes them alone.
 use Rattle.std.specs.Prelude.{◌≡◌, refl}
 use Rattle.aq_base.specs.declared.office.OfficeRecord.TheVariants.{Monitor, Primary, Schedule, Season, Makeup, Event, Concurrence, Approved, Combined}
 use Rattle.aq_base.specs.declared.office.OfficeKey.TheVariants.{Monitor as MonitorKey, Event as EventKey, Concurrence as ConcurrenceKey}

@@ -178,7 +178,7 @@ impl Registry {
     }
 
     /// The ozone season of a site and year: the season on record, else the whole year (40 CFR Part 50,
-    /// Appendix U, 4(b)). By one search of the map. The year is 2000 to 2049.
+    /// Appendix U, 4(b)). By one search of the map. The year is 1990 to 2059.
     #[tactic(auto, using(crate::proofs::QuestionLemmas::season_found))]
     pub fn season(&self, site: SiteId, year: u16) -> (Day, Day)
         requires first { FIRST_YEAR ≤ year }

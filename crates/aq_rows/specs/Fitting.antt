@@ -1,4 +1,4 @@
--- An observation that fits an office whose records fit can stand.
+-- Lemmas, no definition: an observation that fits an office whose records fit can stand.
 use Rattle.std.proofs.Common.{◌≡◌, ℕ, Bool, true, false, ◌&&◌, cond, List, [], ◌∷◌, refl, subst}
 use Rattle.std.specs.Prelude.{Option, Some, None, find, nat_le}
 use Rattle.std.specs.List.{list_all}

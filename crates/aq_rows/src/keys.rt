@@ -4,6 +4,7 @@ ghost use Rattle.aq_rules.specs.Kept.RowChanges as book;
 ghost use Rattle.aq_rules.specs.Kept.Rows.{site_key};
 ghost use Rattle.aq_rules.specs.Office.Office.{kind_of, pollutant_number};
 
+use crate::hours::stored_hour;
 use aq_base::{Bytes, Memory, ObsKey, OfficeKey, Pollutant, SiteId};
 use aq_forms::print_key;
 use aq_keeper::RowKey;
@@ -43,7 +44,7 @@ pub fn observation_key(key: &ObsKey) -> RowKey
         site_number(&monitor.site),
         pollutant_number(monitor.pollutant),
         i64::from(monitor.poc),
-        i64::from(key.hour.number()),
+        stored_hour(key.hour),
     )
 }
 

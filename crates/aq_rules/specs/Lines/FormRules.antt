@@ -1,4 +1,4 @@
--- The first rule that the fields of each form break, written out; crates above cite it.
+-- Lemmas, no definition: the first rule that the fields of each form break, written out and proved equal to that of `Reading`; crates above cite it.
 use Rattle.std.proofs.Common.{◌≡◌, ℕ, Bool, true, false, cond, not, ◌&&◌, ◌||◌, List, Some, None, Option, refl, ap, ◌∙◌}
 use Rattle.std.specs.Prelude.{find, is_none}
 use Rattle.aq_base.specs.Decimal.{is_decimal}

@@ -1,4 +1,4 @@
--- A row put into a list in rising order, or dropped from it, leaves the order.
+-- Lemmas, no definition: a row put into a list in rising order, or dropped from it, leaves the order.
 use Rattle.std.proofs.Common.{◌≡◌, ℕ, ◌<◌, ◌⊎◌, Bool, true, false, cond, not, ◌&&◌, ◌||◌, List, [], ◌∷◌, refl, sym, ap, ◌∙◌, arith, inl, inr, subst}
 use Rattle.std.specs.Prelude.{nat_lt, ◌==◌, bytes_eq, filter}
 use Rattle.std.proofs.lemmas.Bool.{false≢true, and_from, and_parts, cases_Bool}

@@ -1,4 +1,4 @@
--- Where no concurrence is on record nothing is excluded.
+-- Lemmas, no definition: if no concurrence is on record, nothing is excluded.
 use Rattle.std.proofs.Common.{◌≡◌, ℕ, Bool, false, List, [], ◌∷◌, refl}
 use Rattle.std.proofs.lemmas.Bool.{and_right}
 use Rattle.std.specs.List.{list_any}

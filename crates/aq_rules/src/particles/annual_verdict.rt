@@ -58,11 +58,11 @@ pub fn levels_of_2012_and_2024()
 /// Each quarter counts the same in a year, however many days it has: 10.0 and three times 14.0 have the
 /// mean 13.0. Eleven creditable samples in each quarter are enough for a year whose mean is above the
 /// level, and also where the design value alone is, and ten are not; counted samples and days are other
-/// numbers. A quarter is filled up to its scheduled days by copies for those without a creditable
-/// sample, where half of them have one; what is excluded gets no copy. For the minimum test it is
-/// filled up to eleven, where thirty days have a value. The copies are of the least value for the
-/// minimum test, and of the greatest for the maximum test, of the same quarter of any of the three
-/// years, and of no other quarter.
+/// numbers. For the maximum test a quarter gets as many copies as its scheduled days less its creditable
+/// samples, if half of these days have one; what is excluded gets no copy. For the minimum test it gets
+/// eleven less its creditable samples, if thirty days have a value. The copies are of the least value
+/// for the minimum test, and of the greatest for the maximum test, of the same quarter of any of the
+/// three years, and of no other quarter.
 pub fn quarters_and_their_copies()
     ensures quarters_weigh_the_same { mean_of of_values (even_quarter 30 10 100 ∷ even_quarter 30 30 140 ∷ even_quarter 30 30 140 ∷ even_quarter 30 30 140 ∷ []) ≡ Some (pos 130) }
     ensures eleven { annual_dv (level_of Annual2012) (replicate 3 (year_with_second 130 (mixed_quarter 30 11 10 12 130)))
