@@ -29,6 +29,7 @@ pub data ChangedRow : Type 0 where
   ChangedRecord : (key : OfficeKey) (is_new : Bool) → ChangedRow
   ChangedLoad : (number : ℕ) → ChangedRow
 
+-- the row that a change of the old office's lists changes
 abbrev pub changed_row : Office → OfficeChange → ChangedRow
 changed_row old (PutRecord row) = ChangedRecord (key_of row) (is_none (record_at old (key_of row)))
 changed_row old (DropRecord key) = ChangedRecord key false
@@ -188,6 +189,7 @@ each_once (cell ∷ cells) = with_cell cell (each_once cells)
 abbrev pub cells_reached : Office → Office → List ChangedRow → List CellName
 cells_reached old new rows = each_once (flat_map (cells_reading old.records) rows ++ flat_map (cells_reading new.records) rows)
 
+-- the cells in reach of the change from the old office to the new one
 unfoldable pub reach : Office → Office → List CellName
 reach old new = cells_reached old new (changed_rows old new)
 
