@@ -6,7 +6,7 @@ use Rattle.aq_base.specs.declared.monitor.Pollutant.{Pollutant}
 use Rattle.aq_base.specs.declared.monitor.Pollutant.TheVariants.{Ozone, Pm25, Pm10}
 use Rattle.aq_base.specs.declared.observation.ObsKey.{ObsKey}
 use Rattle.aq_base.specs.declared.office.OfficeKey.{OfficeKey}
-use Rattle.aq_base.specs.declared.office.OfficeKey.TheVariants.{Monitor, Primary, Schedule, Season, Makeup, Event, Concurrence, Approved}
+use Rattle.aq_base.specs.declared.office.OfficeKey.TheVariants.{Monitor, Primary, Schedule, Season, Makeup, Event, Concurrence, Approved, Combined}
 use Rattle.aq_rules.specs.Office.Office.{key_numbers, parameter_number, observation_numbers, pollutant_number}
 
 -- ---- the key of a record
@@ -22,6 +22,10 @@ with_site : (Site → ℕ → OfficeKey) → List ℕ → Option OfficeKey
 with_site make (a ∷ b ∷ c ∷ part ∷ []) = Some (make (record { state = a; county = b; number = c }) part)
 with_site make _ = None
 
+with_site_parameter : (Site → Pollutant → OfficeKey) → List ℕ → Option OfficeKey
+with_site_parameter make (a ∷ b ∷ c ∷ parameter ∷ []) = Some (make (record { state = a; county = b; number = c }) (parameter_of parameter))
+with_site_parameter make _ = None
+
 with_number : (ℕ → OfficeKey) → List ℕ → Option OfficeKey
 with_number make (n ∷ []) = Some (make n)
 with_number make _ = None
@@ -36,7 +40,8 @@ key_from (kind ∷ rest) =
     else (if kind == 5 then with_site (λ site missed. Makeup site missed) rest
     else (if kind == 6 then with_number (λ number. Event number) rest
     else (if kind == 7 then with_number (λ number. Concurrence number) rest
-    else with_site (λ site day. Approved site day) rest))))))
+    else (if kind == 8 then with_site (λ site day. Approved site day) rest
+    else with_site_parameter (λ site pollutant. Combined site pollutant) rest)))))))
 
 parameter-back : (p : Pollutant) → parameter_of (parameter_number p) ≡ p
 unfolding parameter_of
@@ -45,7 +50,7 @@ parameter-back Pm25 = refl
 parameter-back Pm10 = refl
 
 office_key-back : (key : OfficeKey) → key_from (key_numbers key) ≡ Some key
-unfolding key_from with_series with_site with_number
+unfolding key_from with_series with_site with_number with_site_parameter
 office_key-back (Monitor id) = ap (λ (p : Pollutant). Some (Monitor (record { site = id.site; pollutant = p; poc = id.poc }))) (parameter-back id.pollutant)
 office_key-back (Primary site pollutant from) = ap (λ (p : Pollutant). Some (Primary site p from)) (parameter-back pollutant)
 office_key-back (Schedule site pollutant from) = ap (λ (p : Pollutant). Some (Schedule site p from)) (parameter-back pollutant)
@@ -54,6 +59,7 @@ office_key-back (Makeup site missed) = refl
 office_key-back (Event number) = refl
 office_key-back (Concurrence number) = refl
 office_key-back (Approved site day) = refl
+office_key-back (Combined site pollutant) = ap (λ (p : Pollutant). Some (Combined site p)) (parameter-back pollutant)
 
 pub one_office_key : (a b : OfficeKey) → key_numbers a ≡ key_numbers b → a ≡ b
 one_office_key a b e =

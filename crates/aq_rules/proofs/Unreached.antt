@@ -13,7 +13,7 @@ use Rattle.aq_base.specs.declared.monitor.MonitorId.{MonitorId}
 use Rattle.aq_base.specs.declared.monitor.Pollutant.{Pollutant}
 use Rattle.aq_base.specs.declared.observation.ObsKey.{ObsKey}
 use Rattle.aq_base.specs.declared.office.OfficeRecord.{OfficeRecord}
-use Rattle.aq_base.specs.declared.office.OfficeRecord.TheVariants.{Monitor, Primary, Schedule, Season, Makeup, Event, Concurrence, Approved}
+use Rattle.aq_base.specs.declared.office.OfficeRecord.TheVariants.{Monitor, Primary, Schedule, Season, Makeup, Event, Concurrence, Approved, Combined}
 use Rattle.aq_base.specs.declared.office.OfficeKey.{OfficeKey}
 use Rattle.aq_base.specs.declared.office.OfficeKey.TheVariants as keys
 use Rattle.aq_rules.specs.Office.Office.{record_rank, rises}
@@ -122,6 +122,7 @@ module _ (cell : CellName) (before old new : List OfficeRecord) (site : Site) (p
       onto (Makeup s missed makeup) is at = absurd (false≢true is)
       onto (Event n s p f l c) is at = absurd (false≢true is)
       onto (Approved s day) is at = absurd (false≢true is)
+      onto (Combined s p from joined) is at = absurd (false≢true is)
 
   pub excluded-onto : (key : ObsKey) (codes : List Code) → is_at site pollutant hour key ≡ true → excluded old key codes ≡ true → excluded new key codes ≡ true
   unfolding excluded
@@ -152,6 +153,7 @@ module _ (cell : CellName) (before old new : List OfficeRecord) (site : Site) (p
       onto (Makeup s missed makeup) is at = absurd (false≢true is)
       onto (Concurrence n agreed) is at = absurd (false≢true is)
       onto (Approved s day) is at = absurd (false≢true is)
+      onto (Combined s p from joined) is at = absurd (false≢true is)
 
   -- ---- monitors that stood before
 
@@ -182,6 +184,7 @@ module _ (cell : CellName) (before old new : List OfficeRecord) (site : Site) (p
       onto (Event n s p f l c) is at = absurd (false≢true is)
       onto (Concurrence n agreed) is at = absurd (false≢true is)
       onto (Approved s day) is at = absurd (false≢true is)
+      onto (Combined s p from joined) is at = absurd (false≢true is)
 
 -- ---- both ways
 

@@ -13,7 +13,7 @@ use Rattle.aq_base.specs.declared.observation.ObsKey.{ObsKey}
 use Rattle.aq_base.specs.declared.office.OfficeRecord.{OfficeRecord}
 use Rattle.aq_base.specs.declared.office.OfficeRecord.TheVariants.{Monitor, Primary, Schedule, Event}
 use Rattle.aq_base.specs.declared.office.OfficeKey.{OfficeKey}
-use Rattle.aq_base.specs.declared.office.OfficeKey.TheVariants.{Monitor as MonitorKey, Primary as PrimaryKey, Schedule as ScheduleKey, Season as SeasonKey, Makeup as MakeupKey, Event as EventKey, Concurrence as ConcurrenceKey, Approved as ApprovedKey}
+use Rattle.aq_base.specs.declared.office.OfficeKey.TheVariants.{Monitor as MonitorKey, Primary as PrimaryKey, Schedule as ScheduleKey, Season as SeasonKey, Makeup as MakeupKey, Event as EventKey, Concurrence as ConcurrenceKey, Approved as ApprovedKey, Combined as CombinedKey}
 use Rattle.aq_rules.specs.Office.Office.{Office, StoredLoad, key_of, record_at, load_at}
 use Rattle.aq_rules.specs.Office.Monitors.{is_same_site, is_same_pollutant}
 use Rattle.aq_rules.specs.Office.Questions.{first_given, record_of}
@@ -29,6 +29,7 @@ pub data ChangedRow : Type 0 where
   ChangedRecord : (key : OfficeKey) (is_new : Bool) → ChangedRow
   ChangedLoad : (number : ℕ) → ChangedRow
 
+-- the row that a change of the old office's lists changes
 abbrev pub changed_row : Office → OfficeChange → ChangedRow
 changed_row old (PutRecord row) = ChangedRecord (key_of row) (is_none (record_at old (key_of row)))
 changed_row old (DropRecord key) = ChangedRecord key false
@@ -153,7 +154,7 @@ cells_in_span records _ = []
 --   a season, an approved day       its ozone year
 --   a make-up                       the PM2.5 quarter of its missed day
 --   an event, a concurrence         as for an observation at every hour of the event's span
---   a load                          none
+--   a combination of sites, a load  none
 unfoldable pub cells_reading : List OfficeRecord → ChangedRow → List CellName
 cells_reading records (ChangedObservation key) = cells_at records key.monitor.site key.monitor.pollutant key.hour
 cells_reading records (ChangedRecord (MonitorKey id) is_new) =
@@ -168,6 +169,7 @@ cells_reading records (ChangedRecord (ApprovedKey site day) is_new) = OzoneYearC
 cells_reading records (ChangedRecord (MakeupKey site missed) is_new) = QuarterCell site Pm25 (quarter_of missed) ∷ []
 cells_reading records (ChangedRecord (EventKey number) is_new) = cells_in_span records (record_of records (EventKey number))
 cells_reading records (ChangedRecord (ConcurrenceKey number) is_new) = cells_in_span records (record_of records (EventKey number))
+cells_reading records (ChangedRecord (CombinedKey site pollutant) is_new) = []
 cells_reading records (ChangedLoad number) = []
 
 -- whether a cell reads a changed row in an office with these records
@@ -188,6 +190,7 @@ each_once (cell ∷ cells) = with_cell cell (each_once cells)
 abbrev pub cells_reached : Office → Office → List ChangedRow → List CellName
 cells_reached old new rows = each_once (flat_map (cells_reading old.records) rows ++ flat_map (cells_reading new.records) rows)
 
+-- the cells in reach of the change from the old office to the new one
 unfoldable pub reach : Office → Office → List CellName
 reach old new = cells_reached old new (changed_rows old new)
 

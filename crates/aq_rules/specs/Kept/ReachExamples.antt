@@ -32,6 +32,10 @@ after_load observations = record before_load { observations = observations; load
 abbrev pub after_changes : List OfficeRecord → List (ObsKey × Observation) → Office
 after_changes records observations = record before_load { records = monitors ++ records; observations = observations }
 
+-- an office with these records alone
+abbrev pub with_records : List OfficeRecord → Office
+with_records records = record before_load { records = records }
+
 -- ---- observations
 
 -- the west's ozone at an hour
@@ -86,3 +90,7 @@ schedules =
     ++ Schedule west Pm10 plain_day 6 scheduled_day ∷ Schedule west Pm10 new_year 3 new_year
     ∷ Schedule west Pm25 plain_day 3 plain_day ∷ Schedule west Pm25 april 1 april
     ∷ Schedule east Pm25 plain_day 3 plain_day ∷ Schedule east Pm25 july 1 july ∷ []
+
+-- the same schedule of the west's PM2.5, without one that comes after it
+abbrev pub last_schedule : List OfficeRecord
+last_schedule = monitors ++ Schedule west Pm25 plain_day 3 plain_day ∷ []

@@ -12,7 +12,7 @@ ghost use Rattle.aq_base.specs.declared.office.OfficeKey.TheVariants.{Monitor as
 ghost use Rattle.aq_base.specs.declared.office.OfficeRecord.TheVariants.{Monitor, Schedule, Season, Makeup, Approved};
 ghost use Rattle.aq_rules.specs.Kept.Cells.{CellName, HourCell, WindowCell, OzoneDayCell, OzoneYearCell, PmDayCell, PmYearCell, StratumCell, QuarterCell, is_same_cell};
 ghost use Rattle.aq_rules.specs.Kept.Reach.{ChangedObservation, ChangedRecord, cells_reading, changed_rows, cost, each_once, reach, reads, steps_of};
-ghost use Rattle.aq_rules.specs.Kept.ReachExamples.{after_changes, after_load, april, before_load, designations, hours_of_a_day, july, new_year, ozone_at, ozone_key, pm10_key, pm25_key, scheduled_day, schedules, smoky};
+ghost use Rattle.aq_rules.specs.Kept.ReachExamples.{after_changes, after_load, april, before_load, designations, hours_of_a_day, july, last_schedule, new_year, ozone_at, ozone_key, pm10_key, pm25_key, scheduled_day, schedules, smoky, with_records};
 ghost use Rattle.aq_rules.specs.Office.Office.{IsOffice, Office};
 ghost use Rattle.aq_rules.specs.Office.OfficeExamples.{east, monitor_at, monitors, noon, plain_day, sampled, west};
 ghost use Rattle.aq_rules.specs.Ozone.SiteHour.{site_hour};
@@ -108,9 +108,10 @@ pub fn schedules_are_read_by_quarters()
 {}
 
 /// A PM2.5 sample of the west costs 16 for its row and 94 for its day, since the site has one monitor of
-/// hours and two of days; a new monitor costs 16 and 3 more, and so does one in the old office alone for
-/// each day. A PM10 sample costs 16, 22 for its day and 16 for its stratum. A season or an approved day
-/// costs 16, and its year 732 once; a make-up or a schedule costs 16, and each quarter that it meets 800.
+/// hours and two of days; a new monitor costs 16 and 3 more, and so much more each day costs if the old
+/// office alone has it. A PM10 sample costs 16, 22 for its day and 16 for its stratum. A season or an
+/// approved day costs 16, and its year 732 once; a make-up or a schedule costs 16, and each quarter that it
+/// meets in one of the offices 800.
 #[tactic(auto, unfolding(crate::specs::Kept::Reach::cost, crate::specs::Kept::Reach::cost_of, crate::specs::Kept::Reach::changed_rows, crate::specs::Kept::Reach::each_once, crate::specs::Kept::Reach::cells_reading, crate::specs::Kept::Reach::reads, crate::specs::Office::Schedule::is_scheduled, crate::specs::Particles::QuarterCounts::days_of_quarter, crate::specs::Particles::Strata::first_days_after, aq_base::specs::Calendar::year_of, aq_base::specs::Calendar::days_of_years, aq_base::specs::Calendar::month_of, aq_base::specs::Calendar::days_of_months))]
 pub fn samples_and_records_cost_this()
     ensures pm25_sample { cost before_load (after_changes [] (sampled west Pm25 4 120 plain_day ∷ [])) ≡ 110 }
@@ -118,8 +119,12 @@ pub fn samples_and_records_cost_this()
     ensures old_monitor { steps_of (after_changes (Monitor (monitor_at west Pm25 5) Day true ∷ []) []) before_load [] (PmDayCell west Pm25 plain_day) ≡ 97 }
     ensures pm10_sample { cost before_load (after_changes [] (sampled west Pm10 3 120 plain_day ∷ [])) ≡ 54 }
     ensures season { cost before_load (after_changes (Season west 2024 (day_number 2024 3 1) (day_number 2024 10 31) ∷ []) []) ≡ 748 }
+    ensures approved_day { cost before_load (after_changes (Approved west plain_day ∷ []) []) ≡ 748 }
     ensures season_and_day { cost before_load (after_changes (Season west 2024 (day_number 2024 3 1) (day_number 2024 10 31) ∷ Approved west plain_day ∷ []) []) ≡ 764 }
     ensures makeup { cost before_load (after_changes (Makeup west plain_day (plain_day + 1) ∷ []) []) ≡ 816 }
+    ensures read_in_the_old_office { steps_of (with_records last_schedule) (with_records schedules) (ChangedRecord (ScheduleKey west Pm25 plain_day) false ∷ []) (QuarterCell west Pm25 (quarter_of april)) ≡ 800 }
+    ensures read_in_the_new_office { steps_of (with_records schedules) (with_records last_schedule) (ChangedRecord (ScheduleKey west Pm25 plain_day) false ∷ []) (QuarterCell west Pm25 (quarter_of april)) ≡ 800 }
+    ensures read_in_neither { steps_of (with_records schedules) (with_records schedules) (ChangedRecord (ScheduleKey west Pm25 plain_day) false ∷ []) (QuarterCell west Pm25 (quarter_of april)) ≡ 0 }
     ensures schedule_in_the_last_quarter { cost before_load (after_changes (Schedule west Pm25 LAST_DAY 1 LAST_DAY ∷ []) []) ≡ 816 }
 {}
 
@@ -140,8 +145,8 @@ pub fn hours_out_of_reach_are_as_before()
         → site_hour old site hour ≡ site_hour new site hour }
 {}
 
-/// Steps that are enough for each of some cells: once one of them is brought up to date, its own are
-/// enough less, however often the lists name a cell.
+/// The steps of cells, each counted once: without one of the cells they are its own steps less, however
+/// often the lists name a cell.
 pub fn a_cell_less_is_its_steps_less()
     ensures { (steps : CellName → ℕ) (cell : CellName) (cells left : List CellName)
         → list_any (is_same_cell cell) cells ≡ true
