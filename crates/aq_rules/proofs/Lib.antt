@@ -78,3 +78,4 @@ pub mod MembersOnce
 pub mod MoreLoads
 pub mod RowsInOrder
 pub mod OfficeInOrder
+pub mod PrintedLists
