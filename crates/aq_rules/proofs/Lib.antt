@@ -79,3 +79,4 @@ pub mod MoreLoads
 pub mod RowsInOrder
 pub mod OfficeInOrder
 pub mod PrintedLists
+pub mod ExportedFields
