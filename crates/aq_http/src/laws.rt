@@ -32,9 +32,9 @@ pub fn steps_are_bounded()
 {}
 
 /// On `/loads/5` GET asks for the reply to load 5, POST brings the load in, and another verb, as HEAD, is
-/// not allowed (405). A number has no leading zero and is not percent-decoded (400), but a verb that is
-/// not allowed is told so before. A slash at the end, an empty part, and a target that does not begin
-/// with a slash take no route, whatever the verb (404).
+/// not allowed (405). A number has no leading zero and is not percent-decoded (400 for GET and POST). A
+/// slash at the end, an empty part, and a target that does not begin with a slash take no route,
+/// whatever the verb (404).
 pub fn targets_of_loads()
     ensures head { verb_of (codes "HEAD") ≡ Other }
     ensures get { found Get (codes "/loads/5") ≡ Asks (Reply 5) }

@@ -1,9 +1,9 @@
 -- The percentile and the mean that are printed of a year are those of its lists of values.
-use Rattle.std.proofs.Common.{◌≡◌, ℕ, ◌-◌, List, [], ◌∷◌, map, ap, ◌∙◌, Option, Some}
+use Rattle.std.proofs.Common.{◌≡◌, ℕ, ◌-◌, List, [], ◌∷◌, map, replicate, ap, ◌∙◌, Option, Some}
 use Rattle.std.specs.Prelude.{ℤ, codes, slice_get}
 use Rattle.aq_base.specs.Calendar.{quarter_number}
 use Rattle.aq_base.specs.Site.{Site}
-use Rattle.aq_base.specs.declared.standard.Standard.TheVariants.{Annual2024, Daily2006}
+use Rattle.aq_base.specs.declared.standard.Standard.TheVariants.{Annual2012, AnnualSecondary, Annual2024, Daily2006}
 use Rattle.aq_rules.specs.DesignValues.{design_value}
 use Rattle.aq_rules.specs.Office.Office.{Office, IsOffice}
 use Rattle.aq_rules.specs.Standards.{years_to}
@@ -55,7 +55,12 @@ module _ (office : Office) (site : Site) where
   percentiles-printed year valid =
       λ i. Some (tenths_cell (kept-percentile (year - 2) valid i)) ∷ Some (tenths_cell (kept-percentile (year - 1) valid i)) ∷ Some (tenths_cell (kept-percentile year valid i)) ∷ []
 
-  pub means-printed : (year : ℕ) → map (λ row. slice_get row 1) (value_answer Annual2024 office site year).rows ≡ cells listed_mean year
+  pub means-printed : (year : ℕ) → map (λ standard. map (λ row. slice_get row 1) (value_answer standard office site year).rows) (Annual2012 ∷ AnnualSecondary ∷ Annual2024 ∷ [])
+      ≡ replicate 3 (cells listed_mean year)
   unfolding value_answer value_sheet design_value annual_value_sheet annual_design
   means-printed year =
-      λ i. Some (tenths_cell (kept-mean (year - 2) i)) ∷ Some (tenths_cell (kept-mean (year - 1) i)) ∷ Some (tenths_cell (kept-mean year i)) ∷ []
+      λ i. printed i ∷ printed i ∷ printed i ∷ []
+    where
+      printed : map (λ y. Some (tenths_cell (mean_of_sums (pm25_summary office site y).quarters))) (years_to year) ≡ cells listed_mean year
+      printed =
+          λ i. Some (tenths_cell (kept-mean (year - 2) i)) ∷ Some (tenths_cell (kept-mean (year - 1) i)) ∷ Some (tenths_cell (kept-mean year i)) ∷ []

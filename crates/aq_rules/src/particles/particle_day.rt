@@ -19,11 +19,11 @@ ghost use Rattle.aq_rules.specs.Particles.ParticleExamples.{hourly, particle_id,
 /// Seventeen hours of PM2.5 with a sum of 852.0 make a day of 35.5, and with 851.9 they make none. Of
 /// PM10 they make none at all, and eighteen hours make the day of their mean. One excluded hour of
 /// eighteen makes the day an excluded one. A monitor that is not eligible has no day, and neither has
-/// one that is not registered. An event takes a 24-hour sample out where it holds hour 00 of the day, and
-/// leaves it in where it begins at 01:00. A monitor's own duration decides: of hours its day is their mean, of 24
-/// hours its sample at 00:00. Of PM2.5 the primary's sample counts, and where it has none the truncated
-/// mean of the others'. Of PM10 the primary alone counts, and without one the lowest POC alone, whether
-/// or not it has a sample.
+/// one that is not registered. An event takes a 24-hour sample out if it holds hour 00 of the day, and
+/// leaves it in if it begins at 01:00. A monitor's own duration decides: of hours its day is their
+/// mean, of 24 hours its sample at 00:00. Of PM2.5 the primary's sample counts, and where it has none
+/// the truncated mean of the others'. Of PM10 the primary alone counts, and without one the lowest POC
+/// alone, whether or not it has a sample.
 pub fn days_of_monitors_and_sites()
     ensures high { site_day (hourly Pm25 504 16) site Pm25 winter_day ≡ Some (record { value = pos 355; excluded = false }) }
     ensures lower { site_day (hourly Pm25 503 16) site Pm25 winter_day ≡ None }

@@ -122,6 +122,6 @@ pub fn percentiles_and_means_are_of_the_lists()
         → map (λ row. slice_get row 1) (value_answer Daily2006 office site year).rows
         ≡ map (λ y. Some (tenths_cell (percentile (values_in (pm25_year office site y)) (counted_in (pm25_year office site y))))) (years_to year) }
     ensures means { (office : Office) (site : Site) (year : ℕ)
-        → map (λ row. slice_get row 1) (value_answer Annual2024 office site year).rows
-        ≡ map (λ y. Some (tenths_cell (mean_of_means (map (λ (q : QuarterDays). quarterly_mean q.values) (pm25_year office site y))))) (years_to year) }
+        → map (λ standard. map (λ row. slice_get row 1) (value_answer standard office site year).rows) (Annual2012 ∷ AnnualSecondary ∷ Annual2024 ∷ [])
+        ≡ replicate 3 (map (λ y. Some (tenths_cell (mean_of_means (map (λ (q : QuarterDays). quarterly_mean q.values) (pm25_year office site y))))) (years_to year)) }
 {}
