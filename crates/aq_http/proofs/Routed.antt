@@ -1,19 +1,21 @@
 -- Routes that a router takes, and what it finds.
-use Rattle.std.proofs.Common.{◌≡◌, ◌≢◌, ℕ, ◌<◌, get_or, ◌⊎◌, inl, inr, Bool, true, false, cond, List, length, refl, sym, ap, ◌∙◌, arith, Option, None, Result, Ok, Err}
-use Rattle.std.specs.Str.{IsUtf8, is_utf8}
-use Rattle.std.proofs.lemmas.Str.{IsUtf8-from_is_utf8, is_utf8-from_IsUtf8}
+use Rattle.std.proofs.Common.{◌≡◌, ◌≢◌, ℕ, zero, suc, ◌<◌, get_or, ◌⊎◌, inl, inr, Bool, true, false, cond, List, [], ◌∷◌, length, refl, sym, ap, ◌∙◌, arith, Option, None, Result, Ok, Err}
+use Rattle.std.specs.Str.{IsAscii, IsUtf8, is_utf8}
+use Rattle.std.proofs.lemmas.Str.{IsUtf8-from_ascii, IsUtf8-from_is_utf8, is_utf8-from_IsUtf8}
 use Rattle.matchit.specs.declared.error.InsertError.{InsertError}
 use Rattle.matchit.specs.declared.error.InsertError.TheVariants.{OutOfMemory}
 use Rattle.matchit.specs.Route.{Scan}
 use Rattle.matchit.specs.Router.{RouteOf, InsertsRead}
 use Rattle.matchit.specs.Rows.{RowsOf}
 use Rattle.aq_http.specs.declared.route.Route.{Route}
-use Rattle.std.specs.Prelude.{◌==◌, option_map}
-use Rattle.std.specs.List.{position_or_len}
-use Rattle.std.proofs.lemmas.Bool.{eq-eqb, ne_eqb}
+use Rattle.std.specs.Prelude.{◌==◌, nat_lt, option_map}
+use Rattle.std.specs.List.{list_all, position_or_len}
+use Rattle.std.proofs.lemmas.Bool.{and_parts, eq-eqb, ne_eqb}
+use Rattle.std.proofs.lemmas.Bool.Decides.{nat_tests}
 use Rattle.std.proofs.lemmas.List.Sums.{position_or_len_is}
 use Rattle.matchit.specs.Seek.{first}
-use Rattle.aq_http.specs.Routes.{all_routes, route_of, with_read}
+use Rattle.aq_http.specs.declared.verb.Verb.{Verb}
+use Rattle.aq_http.specs.Routes.{all_routes, found, found_on, path_of, route_of, with_read}
 
 no_success : (e : InsertError) → ◌≡◌ {A = Result (Unit {0}) InsertError} (Ok tt) (Err e) → ⊥
 no_success e q = cc
@@ -57,3 +59,19 @@ pub first_nowhere : (text : List ℕ) (byte : ℕ) → ((k : ℕ) → k < length
     → position_or_len (λ b. b == byte) text ≡ length text
 first_nowhere text byte none =
     position_or_len_is (λ b. b == byte) text (length text) 0 (omega arith) (λ k below. ne_eqb _ _ (none k below)) (λ h. absurd (omega arith))
+
+-- ---- targets of ASCII
+
+ascii : (bytes : List ℕ) → list_all (λ b. nat_lt b 128) bytes ≡ true → IsAscii bytes
+ascii [] h i = omega arith
+ascii (b ∷ bytes) h zero = let small = (and_parts (nat_lt b 128) (list_all (λ c. nat_lt c 128) bytes) h).0 in grind (arith, nat_tests, small)
+ascii (b ∷ bytes) h (suc i) = ascii bytes (and_parts (nat_lt b 128) (list_all (λ c. nat_lt c 128) bytes) h).1 i
+
+-- what is found by the route that the rows give
+pub found-by : (verb : Verb) (target : List ℕ) (route : Option Route) → list_all (λ b. nat_lt b 128) (path_of target) ≡ true
+    → option_map (λ r. r.value) (first all_routes (path_of target)) ≡ route → found verb target ≡ found_on verb route (path_of target)
+unfolding found
+found-by verb target route plain is =
+    let path = path_of target in
+    let text : is_utf8 path ≡ true = is_utf8-from_IsUtf8 path (IsUtf8-from_ascii path (ascii path plain)) in
+    ap (λ t. found_on verb (routed t (first all_routes path)) path) text ∙ ap (λ r. found_on verb r path) is

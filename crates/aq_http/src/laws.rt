@@ -1,8 +1,12 @@
-//! What holds of all steps, for whoever reads a connection piece by piece.
-ghost use Rattle.std.specs.Prelude.{◌≡◌, ◌≢◌, ℕ, ◌+◌, ◌<◌, ◌≤◌, List, ◌++◌, length, IsTrue};
+//! What holds of all steps, for whoever reads a connection piece by piece, and what targets ask.
+ghost use Rattle.std.specs.Prelude.{◌≡◌, ◌≢◌, ℕ, true, ◌∷◌, [], map, replicate, codes, ◌+◌, ◌<◌, ◌≤◌, List, ◌++◌, length, IsTrue};
 ghost use Rattle.aq_rules.specs.Limits.{MOST_BYTES};
 ghost use Rattle.aq_http.specs.declared.limits.TheConstants.{MOST_HEAD};
-ghost use Rattle.aq_http.specs.Head.{HeadStep, IsHeadStep, More as MoreOfHead};
+ghost use Rattle.aq_base.specs.declared.ask.Ask.TheVariants.{Reply};
+ghost use Rattle.aq_http.specs.declared.routes.Found.TheVariants.{Ask as Asks, Load, NotAllowed, Status};
+ghost use Rattle.aq_http.specs.declared.verb.Verb.TheVariants.{Get, Other, Post};
+ghost use Rattle.aq_http.specs.Head.{HeadStep, IsHeadStep, More as MoreOfHead, verb_of};
+ghost use Rattle.aq_http.specs.Routes.{found};
 ghost use Rattle.aq_http.specs.Reply.{is_reply_status};
 ghost use Rattle.aq_http.specs.Step.{IsStep, More, Refuse, Request, Step, Whole};
 
@@ -25,4 +29,20 @@ pub fn steps_are_bounded()
     ensures used { (input : List ℕ) (request : Request) → IsStep input (Whole request) → request.used ≤ length input }
     ensures body { (input : List ℕ) (request : Request) → IsStep input (Whole request) → length request.body ≤ MOST_BYTES }
     ensures refusal { (input : List ℕ) (status : ℕ) → IsStep input (Refuse status) → IsTrue (is_reply_status status) }
+{}
+
+/// On `/loads/5` GET asks for the reply to load 5, POST brings the load in, and another verb, as HEAD, is
+/// not allowed (405). A number has no leading zero and is not percent-decoded (400 for GET and POST). A
+/// slash at the end, an empty part, and a target that does not begin with a slash take no route,
+/// whatever the verb (404).
+pub fn targets_of_loads()
+    ensures head { verb_of (codes "HEAD") ≡ Other }
+    ensures get { found Get (codes "/loads/5") ≡ Asks (Reply 5) }
+    ensures post { found Post (codes "/loads/5") ≡ Load 5 }
+    ensures other { found Other (codes "/loads/5") ≡ NotAllowed true }
+    ensures slash_at_the_end { map (λ verb. found verb (codes "/loads/5/")) (Get ∷ Post ∷ Other ∷ []) ≡ replicate 3 (Status 404) }
+    ensures no_number { map (λ verb. found verb (codes "/loads/")) (Get ∷ Post ∷ Other ∷ []) ≡ replicate 3 (Status 404) }
+    ensures no_slash { map (λ verb. found verb (codes "loads/5")) (Get ∷ Post ∷ Other ∷ []) ≡ replicate 3 (Status 404) }
+    ensures leading_zero { map (λ verb. found verb (codes "/loads/05")) (Get ∷ Post ∷ Other ∷ []) ≡ Status 400 ∷ Status 400 ∷ NotAllowed true ∷ [] }
+    ensures not_decoded { found Get (codes "/loads/%35") ≡ Status 400 }
 {}

@@ -17,7 +17,7 @@ mod step;
 mod verb;
 
 pub use head::{Head, HeadStep, read_head};
-pub use laws::{steps_are_bounded, steps_stay};
+pub use laws::{steps_are_bounded, steps_stay, targets_of_loads};
 pub use limits::{MOST_HEAD, MOST_HEADERS};
 pub use reply::reply_bytes;
 pub use routes::{Found, Routes};

@@ -92,7 +92,7 @@ percentile-same year more few =
     ∙ ap (λ (top : List ℤ). percentile top n) (eight-more V more)
     ∙ percentile-eight (V ++ more) n few
 
-plain-same : (year : List QuarterDays) → Keeps year → percentile_of of_summaries (summary_of_year year) ≡ percentile_of of_values year
+pub plain-same : (year : List QuarterDays) → Keeps year → percentile_of of_summaries (summary_of_year year) ≡ percentile_of of_values year
 plain-same year keeps =
     let most : scheduled_in (map s year) ≤ 366 = keeps.scheduled in
     percentile-same year [] (omega (arith, most, counted-few year keeps.quarters))

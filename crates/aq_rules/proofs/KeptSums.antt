@@ -101,7 +101,7 @@ quarters-all [] = refl
 quarters-all (year ∷ years) =
     ap (λ (l : List PmQuarter). map s year ++ l) (quarters-all years) ∙ sym (map-append s year (flat_map (λ quarters. quarters) years))
 
-mean_of-same : (quarters : List QuarterDays) → mean_of of_summaries (map s quarters) ≡ mean_of of_values quarters
+pub mean_of-same : (quarters : List QuarterDays) → mean_of of_summaries (map s quarters) ≡ mean_of of_values quarters
 mean_of-same quarters = ap mean_of_means (mapped (of_summaries.mean_with []) s (of_values.mean_with []) (mean-same []) quarters)
 
 value-same : (years : List (List QuarterDays)) → annual_value of_summaries (kept years) ≡ annual_value of_values years

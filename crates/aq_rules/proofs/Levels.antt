@@ -1,6 +1,6 @@
 -- What verdicts say of the design value and the level.
-use Rattle.std.proofs.Common.{◌≡◌, ℕ, ◌+◌, ◌-◌, ◌≤◌, Bool, true, false, ◌&&◌, ◌||◌, cond, List, [], ◌∷◌, ◌++◌, map, Some, None, Option, zero, suc, refl, arith}
-use Rattle.std.specs.Prelude.{ℤ, nat_le, int_lt, int_le, sum_by}
+use Rattle.std.proofs.Common.{◌≡◌, ℕ, ◌+◌, ◌-◌, ◌≤◌, Bool, true, false, ◌&&◌, ◌||◌, cond, List, [], ◌∷◌, ◌++◌, map, Some, None, Option, zero, suc, refl, ap, ◌∙◌, arith}
+use Rattle.std.specs.Prelude.{ℤ, pos, ◌≤ℤ◌, nat_le, int_lt, int_le, sum_by}
 use Rattle.std.specs.List.{list_all}
 use Rattle.std.proofs.lemmas.Int.{ints}
 use Rattle.std.proofs.lemmas.Bool.{false≢true}
@@ -152,6 +152,21 @@ module _ (office : Office) (site : Site) (year : ℕ) where
           by_tests v (is_at_or_below (level_of Daily2006) (daily_test (Some v) (valid_at (Some v)) (value_of_three (map (filled_percentile of_values years) years))))
           (int_lt (level_of Daily2006) v) (are_all (valid_at (Some v))) refl (all-valid v e) h
 
+  -- a value above the level is NotMet
+  daily-above : (v : ℤ) → (daily_design office site year).value ≡ Some v → int_lt (level_of Daily2006) v ≡ true → (daily_design office site year).verdict ≡ NotMet
+  unfolding daily_design
+  daily-above v e above =
+      ap (λ o. daily_verdict o (valid_at o) (daily_test o (valid_at o) maximum)) e
+      ∙ by_tests (is_at_or_below (level_of Daily2006) (daily_test (Some v) (valid_at (Some v)) maximum)) (int_lt (level_of Daily2006) v) (are_all (valid_at (Some v))) above (all-valid v e above)
+    where
+      maximum : Option ℤ
+      maximum = value_of_three (map (filled_percentile of_values years) years)
+
+      by_tests : (t b c : Bool) → b ≡ true → c ≡ true → cond c (cond b NotMet Met) (cond t Met Incomplete) ≡ NotMet
+      by_tests t true true e f = refl
+      by_tests t false c e f = cc
+      by_tests t true false e f = cc
+
 -- ---- NotMet
 
 ozone-not_met : (value : Option ℤ) (complete : Bool) → ozone_verdict value complete ≡ NotMet → is_above (level_of Ozone2015) value ≡ true
@@ -215,3 +230,7 @@ module _ (office : Office) (site : Site) (year : ℕ) where
   not_met-above Annual2024 other h = annual_design-not_met (level_of Annual2024) h
   not_met-above Daily2006 other h = let design = daily_design office site year in daily-not_met design.value design.valid design.test h
   not_met-above Pm10Of1987 other h = absurd (other refl)
+
+  pub not_met-from : (v : ℤ) → value_in (design_value Daily2006 office site year) ≡ Some v → pos 36 ≤ℤ v → verdict_in (design_value Daily2006 office site year) ≡ NotMet
+  unfolding design_value
+  not_met-from v e least = let above : int_lt (level_of Daily2006) v ≡ true = grind (arith, ints, least) in daily-above office site year v e above

@@ -86,3 +86,5 @@ pub mod UnreachedPrimary
 pub mod UnreachedRows
 pub mod UnreachedHour
 pub mod Assuming
+pub mod PrintedLists
+pub mod ExportedFields

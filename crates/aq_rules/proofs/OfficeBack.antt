@@ -38,11 +38,11 @@ is_record-of office r fits =
     (and_parts (is_record r) (has_its_monitor office r) b.0).0
 
 -- the record that is found is one that fits, with the rank
-abbrev IfFound : List ℕ → Option OfficeRecord → Type 0
+abbrev pub IfFound : List ℕ → Option OfficeRecord → Type 0
 IfFound key None = ⊤
 IfFound key (Some r) = (is_record r ≡ true) × (is_same (record_rank r) key ≡ true)
 
-found-fits : (office : Office) (key : List ℕ) (records : List OfficeRecord) → list_all (fits_records office) records ≡ true → IfFound key (find (λ r. is_same (record_rank r) key) records)
+pub found-fits : (office : Office) (key : List ℕ) (records : List OfficeRecord) → list_all (fits_records office) records ≡ true → IfFound key (find (λ r. is_same (record_rank r) key) records)
 found-fits office key [] fits = tt
 found-fits office key (r ∷ records) fits =
     let parts = and_parts (fits_records office r) (list_all (fits_records office) records) fits in

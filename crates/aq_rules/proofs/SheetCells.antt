@@ -34,7 +34,7 @@ bytes-join [] b h k = k
 bytes-join (x ∷ a) b h k =
     let parts = and_parts (is_word_byte x) (list_all is_word_byte a) h in and_from (is_word_byte x) (list_all is_word_byte (a ++ b)) parts.0 (bytes-join a b parts.1 k)
 
-digits-bytes : (count n : ℕ) → list_all is_word_byte (last_digits count n) ≡ true
+pub digits-bytes : (count n : ℕ) → list_all is_word_byte (last_digits count n) ≡ true
 unfolding last_digits
 digits-bytes zero n = refl
 digits-bytes (suc count) n =

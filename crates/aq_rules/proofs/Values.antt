@@ -185,12 +185,12 @@ one_pos k = ap (λ b. (if b then 45 ∷ [] else []) ++ decimal (k / 10) ++ (46 �
 one_neg : (k : ℕ) → fixed (negsuc k) 1 ≡ 45 ∷ digits_text 1 (suc k)
 one_neg k = refl
 
-range_pos : (p : Pollutant) (k : ℕ) → is_in_range p (pos k) ≡ true → k ≤ 99999
+pub range_pos : (p : Pollutant) (k : ℕ) → is_in_range p (pos k) ≡ true → k ≤ 99999
 range_pos Ozone k h = grind (arith, nat_tests)
 range_pos Pm25 k h = grind (arith, nat_tests)
 range_pos Pm10 k h = grind (arith, nat_tests)
 
-range_neg : (p : Pollutant) (k : ℕ) → is_in_range p (negsuc k) ≡ true → suc k ≤ 999
+pub range_neg : (p : Pollutant) (k : ℕ) → is_in_range p (negsuc k) ≡ true → suc k ≤ 999
 range_neg Ozone k h = grind (arith, nat_tests)
 range_neg Pm25 k h = grind (arith, nat_tests)
 range_neg Pm10 k h = grind (arith, nat_tests)

@@ -1,7 +1,7 @@
 //! The standards, one by one.
 #![tactic(auto)]
 
-ghost use Rattle.std.specs.Prelude.{◌≡◌, ℕ, true, false, ◌∷◌, [], map, Some, None, pos};
+ghost use Rattle.std.specs.Prelude.{◌≡◌, ℕ, true, false, ◌∷◌, [], map, Some, None, ℤ, pos, ◌≤ℤ◌};
 ghost use Rattle.aq_base.specs.declared.monitor.Pollutant.TheVariants.{Ozone, Pm25, Pm10};
 ghost use Rattle.aq_base.specs.declared.standard.Standard.{Standard};
 ghost use Rattle.aq_base.specs.declared.standard.Standard.TheVariants.{Ozone2015, Annual2012, AnnualSecondary, Annual2024, Daily2006, Pm10Of1987};
@@ -36,10 +36,13 @@ pub fn annual_standards_have_their_own_levels()
 {}
 
 /// A standard is met only by a design value at or below its level. That of ozone or PM2.5 is not met only
-/// where the design value is above the level; of PM10 the exceedances may show it without one.
+/// where the design value is above the level; of PM10 the exceedances may show it without one. A 24-hour
+/// PM2.5 design value of 36 µg/m3 or more is not met.
 pub fn verdicts_follow_the_level()
     ensures met { (standard : Standard) (office : Office) (site : Site) (year : ℕ) → verdict_in (design_value standard office site year) ≡ Met
         → is_at_or_below (level_of standard) (value_in (design_value standard office site year)) ≡ true }
     ensures not_met { (standard : Standard) (office : Office) (site : Site) (year : ℕ) → (standard ≡ Pm10Of1987 → ⊥) → verdict_in (design_value standard office site year) ≡ NotMet
         → is_above (level_of standard) (value_in (design_value standard office site year)) ≡ true }
+    ensures daily_above { (office : Office) (site : Site) (year : ℕ) (value : ℤ) → value_in (design_value Daily2006 office site year) ≡ Some value → pos 36 ≤ℤ value
+        → verdict_in (design_value Daily2006 office site year) ≡ NotMet }
 {}

@@ -96,6 +96,12 @@ many_primaries count = record nothing {
   records = Monitor ozone_monitor Hour true ∷ map (λ day. Primary home Ozone day 1) (range_with_len 0 count);
 }
 
+-- a PM2.5 monitor with so many schedules, from one day to the next
+abbrev pub many_schedules : ℕ → Office
+many_schedules count = record nothing {
+  records = Monitor particle_monitor Day true ∷ map (λ day. Schedule home Pm25 day 3 day) (range_with_len 0 count);
+}
+
 -- a PM2.5 monitor with so many make-up records from new year's day on, each made up for five days later
 abbrev pub many_makeups : ℕ → Office
 many_makeups count = record nothing {

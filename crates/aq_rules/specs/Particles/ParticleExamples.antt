@@ -61,6 +61,13 @@ smoky_evening pollutant =
     office_of (sampler pollutant Hour 1 ∷ smoke_record pollutant winter_day winter_day)
     (map (particle_hour pollutant 1 100) (range_with_len (hour_number winter_day 0) 17) ++ smoky_hour pollutant 190 (hour_number winter_day 17) ∷ [])
 
+-- a sample of 24 hours with the code of an event that was concurred in, which lasts from an hour of the day to its end
+abbrev pub smoky_sample : Pollutant → ℕ → Office
+smoky_sample pollutant first =
+    office_of
+    (sampler pollutant Day 1 ∷ Event 1 site pollutant (hour_number winter_day first) (hour_number winter_day 23) smoke ∷ Concurrence 1 true ∷ [])
+    (smoky_hour pollutant 190 (hour_number winter_day 0) ∷ [])
+
 -- a monitor of 24 hours that is not eligible, POC 2, with a sample beside one of POC 3
 abbrev pub with_ineligible : Pollutant → Office
 with_ineligible pollutant =

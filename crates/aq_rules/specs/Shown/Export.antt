@@ -1,6 +1,6 @@
 -- The observations of a site, pollutant and year as CSV (RFC 4180 with LF; the columns are (own)).
-use Rattle.std.specs.Prelude.{ℕ, Bool, ◌&&◌, ◌==◌, List, [], ◌∷◌, ◌++◌, map, filter, flat_map, codes, decimal, Option, Some, None}
-use Rattle.std.specs.List.{join_with_byte}
+use Rattle.std.specs.Prelude.{ℕ, Bool, not, ◌&&◌, ◌||◌, ◌==◌, List, [], ◌∷◌, ◌++◌, map, filter, flat_map, codes, decimal, Option, Some, None}
+use Rattle.std.specs.List.{join_with_byte, list_all}
 use Rattle.aq_base.specs.Calendar.{year_of, day_of_hour, hour_of_day}
 use Rattle.aq_base.specs.Decimal.{last_digits}
 use Rattle.aq_base.specs.Site.{Site}
@@ -15,7 +15,13 @@ use Rattle.aq_rules.specs.Office.Exclusion.{excluded}
 use Rattle.aq_rules.specs.Shown.Sheet.{site_text, day_text, truth_text}
 use Rattle.aq_rules.specs.Lines.Canonical.{parameter_text, value_text, code_text}
 
--- fields need no quotes: none has a comma, a quote or the end of a line
+-- a field needs no quotes without a comma (44), a quote (34) and the end of a line (10, 13). None of an export does
+abbrev pub is_unquoted_byte : ℕ → Bool
+is_unquoted_byte byte = not ((byte == 44) || (byte == 34) || (byte == 10) || (byte == 13))
+
+abbrev pub needs_no_quotes : List ℕ → Bool
+needs_no_quotes field = list_all is_unquoted_byte field
+
 abbrev pub csv_record : List (List ℕ) → List ℕ
 csv_record fields = join_with_byte 44 fields ++ codes "\n"
 

@@ -1,5 +1,5 @@
 //! Which office rule a line breaks, against what stands.
-ghost use Rattle.std.specs.Prelude.{◌≡◌, ℕ, false, Some, None, codes, All, IsFalse, length};
+ghost use Rattle.std.specs.Prelude.{◌≡◌, ◌<◌, ℕ, false, Some, None, codes, All, IsFalse, length};
 ghost use Rattle.aq_base.specs.declared.rule.Rule.TheVariants.{BadDuration, BadInterval, BadSeason, BadSpan, BadCode, UnknownMonitor, WrongDuration, AlreadyThere, NotThere, ObservationsFull, SitesFull, MonitorsFull, MakeupsFull, UnknownEvent, EventsFull, ListFull, BadPair, PairTaken, ParameterOutOfProfile};
 ghost use Rattle.aq_base.specs.declared.rule.Rule.{Rule};
 ghost use Rattle.aq_rules.specs.Office.Office.{Office, duration_at};
@@ -11,7 +11,7 @@ ghost use Rattle.aq_rules.specs.Lines.Reading.{LineValue, OfRd};
 ghost use Rattle.aq_rules.specs.Office.Refusal.{broken, breaks_office, office_rules, sample_stands};
 ghost use Rattle.aq_rules.specs.Least.{IsLeastBroken};
 ghost use Rattle.aq_rules.specs.Office.Load.{refusal};
-ghost use Rattle.aq_rules.specs.Lines.LineExamples.{one_monitor, one_hour, one_sample, one_of_each, hourly_particles, many_monitors, many_sites, many_primaries, many_makeups, many_events, three_sites, two_combined};
+ghost use Rattle.aq_rules.specs.Lines.LineExamples.{one_monitor, one_hour, one_sample, one_of_each, hourly_particles, many_monitors, many_sites, many_primaries, many_schedules, many_makeups, many_events, three_sites, two_combined};
 
 /// Samples, against an office with an ozone hour or a PM2.5 sample. Samples of the other duration than
 /// their monitor's, and a deletion, which names none.
@@ -130,7 +130,7 @@ pub fn combined_sites_and_their_rules()
 {}
 
 /// Office lines, against lists that are full and lists with room for one more.
-#[tactic(auto, unfolding(crate::specs::Lines::Spellings::site_in, crate::specs::Lines::Spellings::parameter_of, crate::specs::Lines::Spellings::date_in, crate::specs::Lines::Spellings::time_in, crate::specs::Lines::Spellings::event_number_in, crate::specs::Lines::Spellings::event_code_in, crate::specs::Lines::RdForm::monitor_in, crate::specs::Lines::OfficeForms::xm_record, crate::specs::Lines::OfficeForms::xp_record, crate::specs::Lines::OfficeForms::xu_record, crate::specs::Lines::OfficeForms::xe_record, aq_base::specs::Calendar::days_of_years, aq_base::specs::Calendar::days_of_months, aq_base::specs::Calendar::year_of, aq_base::specs::Calendar::month_of))]
+#[tactic(auto, unfolding(crate::specs::Lines::Spellings::site_in, crate::specs::Lines::Spellings::parameter_of, crate::specs::Lines::Spellings::date_in, crate::specs::Lines::Spellings::time_in, crate::specs::Lines::Spellings::interval_in, crate::specs::Lines::Spellings::event_number_in, crate::specs::Lines::Spellings::event_code_in, crate::specs::Lines::RdForm::monitor_in, crate::specs::Lines::OfficeForms::xm_record, crate::specs::Lines::OfficeForms::xp_record, crate::specs::Lines::OfficeForms::xs_record, crate::specs::Lines::OfficeForms::xu_record, crate::specs::Lines::OfficeForms::xe_record, aq_base::specs::Calendar::days_of_years, aq_base::specs::Calendar::days_of_months, aq_base::specs::Calendar::year_of, aq_base::specs::Calendar::month_of))]
 pub fn full_lists()
     ensures sites { refusal (many_sites 256) (codes "XM|I|06|037|1103|44201|1|1|Y") ≡ Some SitesFull }
     ensures known_site { refusal (many_sites 256) (codes "XM|I|99|001|0256|44201|2|1|Y") ≡ None }
@@ -138,12 +138,16 @@ pub fn full_lists()
     ensures monitors { refusal (many_monitors 8) (codes "XM|I|06|037|1103|44201|9|1|Y") ≡ Some MonitorsFull }
     ensures room_for_another_pollutant { refusal (many_monitors 8) (codes "XM|I|06|037|1103|88101|9|1|Y") ≡ None }
     ensures room_for_monitor { refusal (many_monitors 7) (codes "XM|I|06|037|1103|44201|9|1|Y") ≡ None }
+    ensures room_for_makeup { refusal (many_makeups 4) (codes "XU|I|06|037|1103|88101|20240201|20240202") ≡ None }
     ensures makeups { refusal (many_makeups 5) (codes "XU|I|06|037|1103|88101|20240201|20240202") ≡ Some MakeupsFull }
     ensures next_quarter { refusal (many_makeups 5) (codes "XU|I|06|037|1103|88101|20240401|20240402") ≡ None }
     ensures makeup_taken { refusal (many_makeups 5) (codes "XU|I|06|037|1103|88101|20240107|20240108") ≡ Some AlreadyThere }
     ensures primaries { refusal (many_primaries 64) (codes "XP|I|06|037|1103|44201|20240101|1") ≡ Some ListFull }
     ensures events { refusal (many_events 10000) (codes "XE|I|10001|06|037|1103|44201|20240101|00:00|20240101|05:00|RT") ≡ Some EventsFull }
+    ensures room_for_event { refusal (many_events 9999) (codes "XE|I|10001|06|037|1103|44201|20240101|00:00|20240101|05:00|RT") ≡ None }
     ensures room_for_primary { refusal (many_primaries 63) (codes "XP|I|06|037|1103|44201|20240101|1") ≡ None }
+    ensures schedules { refusal (many_schedules 64) (codes "XS|I|06|037|1103|88101|20240101|3|20240101") ≡ Some ListFull }
+    ensures room_for_schedule { refusal (many_schedules 63) (codes "XS|I|06|037|1103|88101|20240101|3|20240101") ≡ None }
 {}
 
 /// The rule of a value is the least one of those that it meets and that it breaks in the office.
@@ -152,7 +156,9 @@ pub fn the_least_office_rule_is_named()
     ensures none { (office : Office) (value : LineValue) → broken office value ≡ None → All (λ r. breaks_office r office value ≡ false) (office_rules value) }
 {}
 
-/// A new sample of a registered monitor is refused where 4,000,000 observations stand.
+/// A new sample of a registered monitor is refused if 4,000,000 observations stand, and taken if fewer
+/// do.
 pub fn observations_are_full()
-    ensures { (office : Office) (monitor : MonitorId) (duration : Duration) (method hour : ℕ) (content : Observation) → duration_at office monitor ≡ Some duration → IsFalse (sample_stands office monitor hour) → length office.observations ≡ 4000000 → broken office (OfRd (Put false monitor duration method hour content)) ≡ Some ObservationsFull }
+    ensures full { (office : Office) (monitor : MonitorId) (duration : Duration) (method hour : ℕ) (content : Observation) → duration_at office monitor ≡ Some duration → IsFalse (sample_stands office monitor hour) → length office.observations ≡ 4000000 → broken office (OfRd (Put false monitor duration method hour content)) ≡ Some ObservationsFull }
+    ensures room { (office : Office) (monitor : MonitorId) (duration : Duration) (method hour : ℕ) (content : Observation) → duration_at office monitor ≡ Some duration → IsFalse (sample_stands office monitor hour) → length office.observations < 4000000 → broken office (OfRd (Put false monitor duration method hour content)) ≡ None }
 {}

@@ -14,15 +14,16 @@ ghost use Rattle.aq_rules.specs.Particles.ParticleDay.{mean_or_high_sum, monitor
 ghost use Rattle.aq_rules.specs.Particles.QuarterCounts.{pm25_year};
 ghost use Rattle.aq_rules.specs.Particles.Pm10Estimate.{pm10_year};
 ghost use Rattle.aq_rules.specs.Ozone.OzoneExamples.{office_of, site};
-ghost use Rattle.aq_rules.specs.Particles.ParticleExamples.{hourly, particle_id, particle_sample, primary_of, smoky_evening, three_samplers, winter_day, with_ineligible};
+ghost use Rattle.aq_rules.specs.Particles.ParticleExamples.{hourly, particle_id, particle_sample, primary_of, smoky_evening, smoky_sample, three_samplers, winter_day, with_ineligible};
 
 /// Seventeen hours of PM2.5 with a sum of 852.0 make a day of 35.5, and with 851.9 they make none. Of
 /// PM10 they make none at all, and eighteen hours make the day of their mean. One excluded hour of
 /// eighteen makes the day an excluded one. A monitor that is not eligible has no day, and neither has
-/// one that is not registered. A monitor's own duration decides: of hours its day is their mean, of 24
-/// hours its sample at 00:00. Of PM2.5 the primary's sample counts, and where it has none the truncated
-/// mean of the others'. Of PM10 the primary alone counts, and without one the lowest POC alone, whether
-/// or not it has a sample.
+/// one that is not registered. An event takes a 24-hour sample out if it holds hour 00 of the day, and
+/// leaves it in if it begins at 01:00. A monitor's own duration decides: of hours its day is their
+/// mean, of 24 hours its sample at 00:00. Of PM2.5 the primary's sample counts, and where it has none
+/// the truncated mean of the others'. Of PM10 the primary alone counts, and without one the lowest POC
+/// alone, whether or not it has a sample.
 pub fn days_of_monitors_and_sites()
     ensures high { site_day (hourly Pm25 504 16) site Pm25 winter_day ≡ Some (record { value = pos 355; excluded = false }) }
     ensures lower { site_day (hourly Pm25 503 16) site Pm25 winter_day ≡ None }
@@ -30,6 +31,10 @@ pub fn days_of_monitors_and_sites()
     ensures eighteen { site_day (hourly Pm10 504 17) site Pm10 winter_day ≡ Some (record { value = pos 501; excluded = false }) }
     ensures fine { site_day (smoky_evening Pm25) site Pm25 winter_day ≡ Some (record { value = pos 105; excluded = true }) }
     ensures one_excluded_hour_excludes_the_day_coarse { site_day (smoky_evening Pm10) site Pm10 winter_day ≡ Some (record { value = pos 105; excluded = true }) }
+    ensures event_from_midnight_fine { site_day (smoky_sample Pm25 0) site Pm25 winter_day ≡ Some (record { value = pos 190; excluded = true }) }
+    ensures event_from_one_fine { site_day (smoky_sample Pm25 1) site Pm25 winter_day ≡ Some (record { value = pos 190; excluded = false }) }
+    ensures event_from_midnight_coarse { site_day (smoky_sample Pm10 0) site Pm10 winter_day ≡ Some (record { value = pos 190; excluded = true }) }
+    ensures event_from_one_coarse { site_day (smoky_sample Pm10 1) site Pm10 winter_day ≡ Some (record { value = pos 190; excluded = false }) }
     ensures eligible { monitor_day (with_ineligible Pm25) (particle_id Pm25 3) winter_day ≡ Some (record { value = pos 123; excluded = false }) }
     ensures not_eligible { monitor_day (with_ineligible Pm25) (particle_id Pm25 2) winter_day ≡ None }
     ensures not_registered { monitor_day (office_of [] (particle_sample Pm25 2 120 winter_day ∷ [])) (particle_id Pm25 2) winter_day ≡ None }

@@ -1,9 +1,14 @@
 //! The export of a year's observations.
 #![tactic(auto)]
 
-ghost use Rattle.std.specs.Prelude.{◌≡◌, codes, ◌++◌};
+ghost use Rattle.std.specs.Prelude.{◌≡◌, ℕ, true, false, ◌∷◌, [], map, IsTrue, codes, ◌++◌};
+ghost use Rattle.std.specs.List.{list_all};
+ghost use Rattle.aq_base.specs.Site.{Site};
+ghost use Rattle.aq_base.specs.declared.ask.Shown.{Shown};
+ghost use Rattle.aq_base.specs.declared.monitor.Pollutant.{Pollutant};
 ghost use Rattle.aq_base.specs.declared.monitor.Pollutant.TheVariants.{Ozone, Pm25};
-ghost use Rattle.aq_rules.specs.Shown.Export.{export_answer};
+ghost use Rattle.aq_rules.specs.Shown.Export.{export_answer, needs_no_quotes, shown_fields, shown_of};
+ghost use Rattle.aq_rules.specs.Office.Office.{IsOffice, Office};
 ghost use Rattle.aq_rules.specs.Ozone.OzoneExamples.{afternoon, site};
 ghost use Rattle.aq_rules.specs.Particles.ParticleExamples.{exported};
 ghost use Rattle.aq_rules.specs.Shown.ShownExamples.{other_site, two_sites};
@@ -33,4 +38,13 @@ pub fn exports_print()
         ≡ codes "site,parameter,poc,date,hour,value,null,qualifiers,excluded\n06-037-1104,44201,1,2024-07-01,10,0.055,,,N\n" }
     ensures no_values { export_answer two_sites other_site Pm25 2024
         ≡ codes "site,parameter,poc,date,hour,value,null,qualifiers,excluded\n" }
+{}
+
+/// No field of an export of a valid office has a comma, a quote or the end of a line, so each record has
+/// the header's columns, without quotes.
+pub fn exported_fields_need_no_quotes()
+    ensures fields { (office : Office) (site : Site) (pollutant : Pollutant) (year : ℕ)
+        → IsOffice office
+        → IsTrue (list_all (λ (row : Shown). list_all needs_no_quotes (shown_fields row)) (shown_of office site pollutant year)) }
+    ensures other_bytes { map needs_no_quotes ((44 ∷ []) ∷ (34 ∷ []) ∷ (10 ∷ []) ∷ (13 ∷ []) ∷ codes "-0.5 V:RT" ∷ [] ∷ []) ≡ false ∷ false ∷ false ∷ false ∷ true ∷ true ∷ [] }
 {}

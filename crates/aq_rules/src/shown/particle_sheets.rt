@@ -1,18 +1,23 @@
 //! The sheets of particles, a report, a conflict and a summary, as they print.
 #![tactic(auto)]
 
-ghost use Rattle.std.specs.Prelude.{◌≡◌, ◌∷◌, [], ◌++◌, codes, map, take, replicate, Some, None, pos};
+ghost use Rattle.std.specs.Prelude.{◌≡◌, ℕ, slice_get, ◌∷◌, [], ◌++◌, codes, map, take, replicate, Some, None, pos};
 ghost use Rattle.aq_base.specs.declared.standard.Standard.TheVariants.{Ozone2015, Annual2012, AnnualSecondary, Annual2024, Daily2006, Pm10Of1987};
 ghost use Rattle.aq_base.specs.declared.standard.Verdict.TheVariants.{Incomplete, NotMet, NoValue};
-ghost use Rattle.aq_rules.specs.Standards.{level_of};
+ghost use Rattle.aq_base.specs.Site.{Site};
+ghost use Rattle.aq_rules.specs.Office.Office.{IsOffice, Office};
+ghost use Rattle.aq_rules.specs.Standards.{level_of, years_to};
 ghost use Rattle.aq_rules.specs.DesignValues.{OfAnnual};
 ghost use Rattle.aq_rules.specs.Particles.AnnualVerdict.{annual_dv};
 ghost use Rattle.aq_rules.specs.Particles.DailyVerdict.{daily_dv};
 ghost use Rattle.aq_rules.specs.Particles.Pm10Verdict.{pm10_dv};
+ghost use Rattle.aq_rules.specs.Particles.QuarterCounts.{QuarterDays, counted_in, pm25_year, values_in};
+ghost use Rattle.aq_rules.specs.Particles.Means.{mean_of_means, quarterly_mean};
+ghost use Rattle.aq_rules.specs.Particles.Percentile.{percentile};
 ghost use Rattle.aq_rules.specs.Kept.Summaries.{summary_of_year};
-ghost use Rattle.aq_rules.specs.Shown.Sheet.{text_of};
-ghost use Rattle.aq_rules.specs.Shown.ParticleSheets.{pm25_sheet, pm10_sheet, annual_value_sheet, daily_value_sheet, pm10_value_sheet};
-ghost use Rattle.aq_rules.specs.Shown.OtherSheets.{report_sheet, conflict_sheet, summary_sheet, value_sheet};
+ghost use Rattle.aq_rules.specs.Shown.Sheet.{cell_at, tenths_cell, text_of};
+ghost use Rattle.aq_rules.specs.Shown.ParticleSheets.{pm25_answer, pm25_sheet, pm10_sheet, annual_value_sheet, daily_value_sheet, pm10_value_sheet};
+ghost use Rattle.aq_rules.specs.Shown.OtherSheets.{report_sheet, conflict_sheet, summary_sheet, value_answer, value_sheet};
 ghost use Rattle.aq_rules.specs.Shown.ShownExamples.{exceeding_pm10, tested_annual, tested_daily, three_pm10_years, three_pm25_years};
 ghost use Rattle.aq_rules.specs.Ozone.OzoneExamples.{site};
 ghost use Rattle.aq_rules.specs.Particles.ParticleExamples.{calm_quarter, calm_year, empty_quarter, exceeding_quarter, daily_year, even_quarter, year_of_percentile};
@@ -99,4 +104,24 @@ pub fn each_column_prints_its_field()
         ∷ codes "standard PM25-ANNUAL-2024\nyear 2023\nsite value verdict\n06-037-1103 7.1 Incomplete\n"
         ∷ codes "standard PM25-24H-2006\nyear 2023\nsite value verdict\n06-037-1103 71 Incomplete\n"
         ∷ codes "standard PM10-24H-1987\nyear 2023\nsite value verdict\n06-037-1103 7.1 Incomplete\n" ∷ [] }
+{}
+
+/// The percentile and the mean that are printed, of a year and of the years of a design value, are those
+/// of the year's lists: of all its values, at the rank of its counted samples; and of its quarterly
+/// means, rounded half up to a tenth. The sheets read what is kept of the year alone.
+pub fn percentiles_and_means_are_of_the_lists()
+    ensures percentile { (office : Office) (site : Site) (year : ℕ)
+        → IsOffice office
+        → cell_at (codes "percentile") (pm25_answer office site year)
+        ≡ tenths_cell (percentile (values_in (pm25_year office site year)) (counted_in (pm25_year office site year))) }
+    ensures mean { (office : Office) (site : Site) (year : ℕ)
+        → cell_at (codes "mean") (pm25_answer office site year)
+        ≡ tenths_cell (mean_of_means (map (λ (q : QuarterDays). quarterly_mean q.values) (pm25_year office site year))) }
+    ensures percentiles { (office : Office) (site : Site) (year : ℕ)
+        → IsOffice office
+        → map (λ row. slice_get row 1) (value_answer Daily2006 office site year).rows
+        ≡ map (λ y. Some (tenths_cell (percentile (values_in (pm25_year office site y)) (counted_in (pm25_year office site y))))) (years_to year) }
+    ensures means { (office : Office) (site : Site) (year : ℕ)
+        → map (λ standard. map (λ row. slice_get row 1) (value_answer standard office site year).rows) (Annual2012 ∷ AnnualSecondary ∷ Annual2024 ∷ [])
+        ≡ replicate 3 (map (λ y. Some (tenths_cell (mean_of_means (map (λ (q : QuarterDays). quarterly_mean q.values) (pm25_year office site y))))) (years_to year)) }
 {}

@@ -77,3 +77,19 @@ returns-clause-primary_without c = refl
 pub returns-clause-lowest : goal.returns-clause-lowest
 unfolding days_of_years days_of_months excluded primary_on is_eligible eligible_pocs monitor_day site_day
 returns-clause-lowest c = refl
+
+pub returns-clause-event_from_midnight_fine : goal.returns-clause-event_from_midnight_fine
+unfolding days_of_years days_of_months excluded primary_on is_eligible eligible_pocs monitor_day site_day
+returns-clause-event_from_midnight_fine c = refl
+
+pub returns-clause-event_from_one_fine : goal.returns-clause-event_from_one_fine
+unfolding days_of_years days_of_months excluded primary_on is_eligible eligible_pocs monitor_day site_day
+returns-clause-event_from_one_fine c = refl
+
+pub returns-clause-event_from_midnight_coarse : goal.returns-clause-event_from_midnight_coarse
+unfolding days_of_years days_of_months excluded primary_on is_eligible eligible_pocs monitor_day site_day
+returns-clause-event_from_midnight_coarse c = refl
+
+pub returns-clause-event_from_one_coarse : goal.returns-clause-event_from_one_coarse
+unfolding days_of_years days_of_months excluded primary_on is_eligible eligible_pocs monitor_day site_day
+returns-clause-event_from_one_coarse c = refl
