@@ -79,3 +79,6 @@ pub mod MoreLoads
 pub mod RowsInOrder
 pub mod OfficeInOrder
 pub mod Assuming
+pub mod Critical
+pub mod AreaHistories
+pub mod GoverningSites
