@@ -82,3 +82,4 @@ pub mod Assuming
 pub mod Critical
 pub mod AreaHistories
 pub mod GoverningSites
+pub mod WellFormedAreas
