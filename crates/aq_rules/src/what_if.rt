@@ -58,14 +58,14 @@ pub fn an_event_moves_the_fourth_highest_value()
 /// Event 3 holds one of them and event 5 two, so event 5 alone is decisive, whatever stands of event 3.
 /// Event 4 is of another site, and event 6 of ozone: they are known, and change nothing.
 pub fn events_that_decide_a_pm10_verdict()
-    ensures events { events_at (dusty []) west Pm10 ≡ 3 ∷ 5 ∷ [] }
-    ensures decisive { decisive Pm10Of1987 (dusty []) west 2024 ≡ record { number = 5; verdict = NoValue } ∷ [] }
-    ensures beside_agreed { decisive Pm10Of1987 (dusty (Concurrence 3 true ∷ [])) west 2024 ≡ record { number = 5; verdict = NoValue } ∷ [] }
-    ensures agreed { decisive Pm10Of1987 (dusty (Concurrence 5 true ∷ [])) west 2024 ≡ record { number = 5; verdict = NotMet } ∷ [] }
-    ensures none { decisive Pm10Of1987 (dusty []) east 2024 ≡ [] }
-    ensures last_agreed { verdict_in (what_if Pm10Of1987 (dusty []) (as_if 5 false ∷ as_if 3 false ∷ as_if 5 true ∷ []) west 2024) ≡ NoValue }
-    ensures last_disagreed { verdict_in (what_if Pm10Of1987 (dusty (Concurrence 5 true ∷ [])) (as_if 5 true ∷ as_if 5 false ∷ []) west 2024) ≡ NotMet }
-    ensures elsewhere { verdict_in (what_if Pm10Of1987 (dusty []) (as_if 4 true ∷ as_if 6 true ∷ []) west 2024) ≡ NotMet }
-    ensures unknown { unknown_event (dusty []) (as_if 6 true ∷ as_if 9 true ∷ as_if 8 false ∷ []) ≡ Some 9 }
-    ensures known { unknown_event (dusty []) (as_if 4 true ∷ as_if 6 true ∷ as_if 3 false ∷ []) ≡ None }
+    ensures events { events_at (dusty 2024 []) west Pm10 ≡ 3 ∷ 5 ∷ [] }
+    ensures decisive { decisive Pm10Of1987 (dusty 2024 []) west 2024 ≡ record { number = 5; verdict = NoValue } ∷ [] }
+    ensures beside_agreed { decisive Pm10Of1987 (dusty 2024 (Concurrence 3 true ∷ [])) west 2024 ≡ record { number = 5; verdict = NoValue } ∷ [] }
+    ensures agreed { decisive Pm10Of1987 (dusty 2024 (Concurrence 5 true ∷ [])) west 2024 ≡ record { number = 5; verdict = NotMet } ∷ [] }
+    ensures none { decisive Pm10Of1987 (dusty 2024 []) east 2024 ≡ [] }
+    ensures last_agreed { verdict_in (what_if Pm10Of1987 (dusty 2024 []) (as_if 5 false ∷ as_if 3 false ∷ as_if 5 true ∷ []) west 2024) ≡ NoValue }
+    ensures last_disagreed { verdict_in (what_if Pm10Of1987 (dusty 2024 (Concurrence 5 true ∷ [])) (as_if 5 true ∷ as_if 5 false ∷ []) west 2024) ≡ NotMet }
+    ensures elsewhere { verdict_in (what_if Pm10Of1987 (dusty 2024 []) (as_if 4 true ∷ as_if 6 true ∷ []) west 2024) ≡ NotMet }
+    ensures unknown { unknown_event (dusty 2024 []) (as_if 6 true ∷ as_if 9 true ∷ as_if 8 false ∷ []) ≡ Some 9 }
+    ensures known { unknown_event (dusty 2024 []) (as_if 4 true ∷ as_if 6 true ∷ as_if 3 false ∷ []) ≡ None }
 {}
