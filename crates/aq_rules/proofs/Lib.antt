@@ -83,3 +83,4 @@ pub mod Critical
 pub mod AreaHistories
 pub mod GoverningSites
 pub mod WellFormedAreas
+pub mod EventsRise

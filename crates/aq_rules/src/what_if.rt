@@ -2,7 +2,9 @@
 #![tactic(auto)]
 
 ghost use Rattle.std.specs.Prelude.{◌≡◌, ℕ, Bool, true, false, List, [], ◌∷◌, ◌++◌, Some, None, pos, IsTrue};
+ghost use Rattle.aq_base.specs.Site.{Site};
 ghost use Rattle.aq_base.specs.declared.assumed.Assumed.{Assumed};
+ghost use Rattle.aq_base.specs.declared.monitor.Pollutant.{Pollutant};
 ghost use Rattle.aq_base.specs.declared.monitor.Pollutant.TheVariants.{Pm10};
 ghost use Rattle.aq_base.specs.declared.office.OfficeKey.{OfficeKey};
 ghost use Rattle.aq_base.specs.declared.office.OfficeKey.TheVariants.{Concurrence as ConcurrenceKey};
@@ -13,7 +15,7 @@ ghost use Rattle.aq_base.specs.declared.standard.Verdict.TheVariants.{NotMet, In
 ghost use Rattle.aq_rules.specs.Lines.Canonical.{canonical_office};
 ghost use Rattle.aq_rules.specs.Lines.Spellings.{is_event_number};
 ghost use Rattle.aq_rules.specs.Office.Load.{after};
-ghost use Rattle.aq_rules.specs.Office.Office.{Office, event_stands, is_same, key_numbers, record_at};
+ghost use Rattle.aq_rules.specs.Office.Office.{KeysRise, Office, event_stands, is_same, key_numbers, record_at, rises};
 ghost use Rattle.aq_rules.specs.Office.OfficeExamples.{east, west};
 ghost use Rattle.aq_rules.specs.Ozone.OzoneExamples.{year_with};
 ghost use Rattle.aq_rules.specs.Ozone.OzoneVerdict.{ozone_dv};
@@ -68,4 +70,11 @@ pub fn events_that_decide_a_pm10_verdict()
     ensures elsewhere { verdict_in (what_if Pm10Of1987 (dusty 2024 []) (as_if 4 true ∷ as_if 6 true ∷ []) west 2024) ≡ NotMet }
     ensures unknown { unknown_event (dusty 2024 []) (as_if 6 true ∷ as_if 9 true ∷ as_if 8 false ∷ []) ≡ Some 9 }
     ensures known { unknown_event (dusty 2024 []) (as_if 4 true ∷ as_if 6 true ∷ as_if 3 false ∷ []) ≡ None }
+{}
+
+/// The events of a site and pollutant come by rising number, each once, where the keys of the records
+/// rise.
+pub fn events_come_by_rising_number()
+    ensures { (office : Office) (site : Site) (pollutant : Pollutant)
+        → KeysRise office → IsTrue (rises (λ number. number ∷ []) (events_at office site pollutant)) }
 {}
