@@ -22,6 +22,8 @@ pub fn areas_of_some_sites()
         ≡ record { sites = 2; governing = Some (site_at 37 1103); value = Some (pos 71); verdict = NotMet } }
     ensures greater { area_year (judged_at 37 1103 (Some (pos 68)) Met ∷ judged_at 37 4004 (Some (pos 70)) Incomplete ∷ judged_at 37 5005 (Some (pos 69)) Met ∷ []) (County 6 37)
         ≡ record { sites = 3; governing = Some (site_at 37 4004); value = Some (pos 70); verdict = Incomplete } }
+    ensures not_met_beside_incomplete { area_year (judged_at 37 1103 (Some (pos 72)) Incomplete ∷ judged_at 37 4004 (Some (pos 71)) NotMet ∷ []) (County 6 37)
+        ≡ record { sites = 2; governing = Some (site_at 37 1103); value = Some (pos 72); verdict = NotMet } }
     ensures no_value_beside_met { area_year (judged_at 37 1103 None NoValue ∷ judged_at 37 4004 (Some (pos 65)) Met ∷ []) (County 6 37)
         ≡ record { sites = 2; governing = Some (site_at 37 4004); value = Some (pos 65); verdict = Met } }
     ensures not_met_without_value { area_year (judged_at 37 1103 None NotMet ∷ judged_at 37 4004 None NoValue ∷ []) (County 6 37)
