@@ -1,6 +1,6 @@
 -- What assumed concurrences make of an office.
 use Rattle.std.proofs.Common.{◌≡◌, ℕ, Bool, true, false, not, cond, List, [], ◌∷◌, ◌++◌, Some, None, Option, refl, sym, ap, ◌∙◌}
-use Rattle.std.specs.Prelude.{is_some, is_none, if◌then◌else◌, fold}
+use Rattle.std.specs.Prelude.{is_some, is_none, if◌then◌else◌}
 use Rattle.std.specs.Option.{option_or}
 use Rattle.std.proofs.lemmas.Bool.{false≢true}
 use Rattle.std.proofs.Math.Bool.{and-true}
@@ -15,7 +15,7 @@ use Rattle.aq_rules.specs.Lines.Canonical.{canonical_office}
 use Rattle.aq_rules.specs.Lines.Reading.{LineValue, OfOffice, line_value, reading_rule}
 use Rattle.aq_rules.specs.Lines.Spellings.{is_event_number}
 use Rattle.aq_rules.specs.Office.Office.{Office, event_stands, is_same, key_numbers, record_at, record_rank}
-use Rattle.aq_rules.specs.Office.Load.{after, refusal, broken_by, changed_by, with_record}
+use Rattle.aq_rules.specs.Office.Load.{after, broken_by, changed_by, with_record}
 use Rattle.aq_rules.specs.WhatIf.Assumed.{assume, assume_one}
 use Rattle.aq_rules.proofs.Agree.{agree-line}
 use Rattle.aq_rules.proofs.RoundTrip.{round-office}

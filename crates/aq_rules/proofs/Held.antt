@@ -54,7 +54,7 @@ total-held low high (v ∷ vs) every =
 
 -- ---- sums of fractions
 
-times_more : (a : ℤ) (n : ℕ) → a *ℤ pos (suc n) ≡ (a *ℤ pos n) +ℤ a
+pub times_more : (a : ℤ) (n : ℕ) → a *ℤ pos (suc n) ≡ (a *ℤ pos n) +ℤ a
 times_more a n = *ℤ_comm a (pos (suc n)) ∙ suc_ℤ-*ℤ (pos n) a ∙ ap (λ (z : ℤ). z +ℤ a) (*ℤ_comm (pos n) a)
 
 low-times : (a : ℤ) (x n : ℕ) → neg_ℤ (pos x) ≤ℤ a → neg_ℤ (pos (x * n)) ≤ℤ (a *ℤ pos n)

@@ -88,3 +88,8 @@ pub mod UnreachedHour
 pub mod Assuming
 pub mod PrintedLists
 pub mod ExportedFields
+pub mod Critical
+pub mod AreaHistories
+pub mod GoverningSites
+pub mod WellFormedAreas
+pub mod EventsRise

@@ -2,7 +2,9 @@
 #![tactic(auto)]
 
 ghost use Rattle.std.specs.Prelude.{◌≡◌, ℕ, Bool, true, false, List, [], ◌∷◌, ◌++◌, Some, None, pos, IsTrue};
+ghost use Rattle.aq_base.specs.Site.{Site};
 ghost use Rattle.aq_base.specs.declared.assumed.Assumed.{Assumed};
+ghost use Rattle.aq_base.specs.declared.monitor.Pollutant.{Pollutant};
 ghost use Rattle.aq_base.specs.declared.monitor.Pollutant.TheVariants.{Pm10};
 ghost use Rattle.aq_base.specs.declared.office.OfficeKey.{OfficeKey};
 ghost use Rattle.aq_base.specs.declared.office.OfficeKey.TheVariants.{Concurrence as ConcurrenceKey};
@@ -13,7 +15,7 @@ ghost use Rattle.aq_base.specs.declared.standard.Verdict.TheVariants.{NotMet, In
 ghost use Rattle.aq_rules.specs.Lines.Canonical.{canonical_office};
 ghost use Rattle.aq_rules.specs.Lines.Spellings.{is_event_number};
 ghost use Rattle.aq_rules.specs.Office.Load.{after};
-ghost use Rattle.aq_rules.specs.Office.Office.{Office, event_stands, is_same, key_numbers, record_at};
+ghost use Rattle.aq_rules.specs.Office.Office.{KeysRise, Office, event_stands, is_same, key_numbers, record_at, rises};
 ghost use Rattle.aq_rules.specs.Office.OfficeExamples.{east, west};
 ghost use Rattle.aq_rules.specs.Ozone.OzoneExamples.{year_with};
 ghost use Rattle.aq_rules.specs.Ozone.OzoneVerdict.{ozone_dv};
@@ -58,14 +60,21 @@ pub fn an_event_moves_the_fourth_highest_value()
 /// Event 3 holds one of them and event 5 two, so event 5 alone is decisive, whatever stands of event 3.
 /// Event 4 is of another site, and event 6 of ozone: they are known, and change nothing.
 pub fn events_that_decide_a_pm10_verdict()
-    ensures events { events_at (dusty []) west Pm10 ≡ 3 ∷ 5 ∷ [] }
-    ensures decisive { decisive Pm10Of1987 (dusty []) west 2024 ≡ record { number = 5; verdict = NoValue } ∷ [] }
-    ensures beside_agreed { decisive Pm10Of1987 (dusty (Concurrence 3 true ∷ [])) west 2024 ≡ record { number = 5; verdict = NoValue } ∷ [] }
-    ensures agreed { decisive Pm10Of1987 (dusty (Concurrence 5 true ∷ [])) west 2024 ≡ record { number = 5; verdict = NotMet } ∷ [] }
-    ensures none { decisive Pm10Of1987 (dusty []) east 2024 ≡ [] }
-    ensures last_agreed { verdict_in (what_if Pm10Of1987 (dusty []) (as_if 5 false ∷ as_if 3 false ∷ as_if 5 true ∷ []) west 2024) ≡ NoValue }
-    ensures last_disagreed { verdict_in (what_if Pm10Of1987 (dusty (Concurrence 5 true ∷ [])) (as_if 5 true ∷ as_if 5 false ∷ []) west 2024) ≡ NotMet }
-    ensures elsewhere { verdict_in (what_if Pm10Of1987 (dusty []) (as_if 4 true ∷ as_if 6 true ∷ []) west 2024) ≡ NotMet }
-    ensures unknown { unknown_event (dusty []) (as_if 6 true ∷ as_if 9 true ∷ as_if 8 false ∷ []) ≡ Some 9 }
-    ensures known { unknown_event (dusty []) (as_if 4 true ∷ as_if 6 true ∷ as_if 3 false ∷ []) ≡ None }
+    ensures events { events_at (dusty 2024 []) west Pm10 ≡ 3 ∷ 5 ∷ [] }
+    ensures decisive { decisive Pm10Of1987 (dusty 2024 []) west 2024 ≡ record { number = 5; verdict = NoValue } ∷ [] }
+    ensures beside_agreed { decisive Pm10Of1987 (dusty 2024 (Concurrence 3 true ∷ [])) west 2024 ≡ record { number = 5; verdict = NoValue } ∷ [] }
+    ensures agreed { decisive Pm10Of1987 (dusty 2024 (Concurrence 5 true ∷ [])) west 2024 ≡ record { number = 5; verdict = NotMet } ∷ [] }
+    ensures none { decisive Pm10Of1987 (dusty 2024 []) east 2024 ≡ [] }
+    ensures last_agreed { verdict_in (what_if Pm10Of1987 (dusty 2024 []) (as_if 5 false ∷ as_if 3 false ∷ as_if 5 true ∷ []) west 2024) ≡ NoValue }
+    ensures last_disagreed { verdict_in (what_if Pm10Of1987 (dusty 2024 (Concurrence 5 true ∷ [])) (as_if 5 true ∷ as_if 5 false ∷ []) west 2024) ≡ NotMet }
+    ensures elsewhere { verdict_in (what_if Pm10Of1987 (dusty 2024 []) (as_if 4 true ∷ as_if 6 true ∷ []) west 2024) ≡ NotMet }
+    ensures unknown { unknown_event (dusty 2024 []) (as_if 6 true ∷ as_if 9 true ∷ as_if 8 false ∷ []) ≡ Some 9 }
+    ensures known { unknown_event (dusty 2024 []) (as_if 4 true ∷ as_if 6 true ∷ as_if 3 false ∷ []) ≡ None }
+{}
+
+/// The events of a site and pollutant come by rising number, each once, where the keys of the records
+/// rise.
+pub fn events_come_by_rising_number()
+    ensures { (office : Office) (site : Site) (pollutant : Pollutant)
+        → KeysRise office → IsTrue (rises (λ number. number ∷ []) (events_at office site pollutant)) }
 {}

@@ -1,5 +1,5 @@
 -- The critical value: how much the year after a report's may measure for the standard still to be met, with the report's year and the one before (own).
-use Rattle.std.specs.Prelude.{◌≡◌, ℕ, ◌*◌, Bool, true, false, if◌then◌else◌, Option, Some, None, option_map, List, [], ◌∷◌, length, map, ℤ, pos, ◌+ℤ◌, ◌*ℤ◌, ◌<ℤ◌}
+use Rattle.std.specs.Prelude.{◌≡◌, ◌*◌, Bool, true, false, if◌then◌else◌, Option, Some, None, option_map, List, [], ◌∷◌, length, map, ℤ, pos, ◌+ℤ◌, ◌*ℤ◌, ◌<ℤ◌, ◌≤◌, All, ⊤}
 use Rattle.std.proofs.Math.IntN.{◌-ℤ◌}
 use Rattle.std.specs.Int.{int_div_euclid}
 use Rattle.std.specs.List.{list_all}
@@ -62,22 +62,37 @@ pub record IsCritical (level : ℤ) (parts : LastTwo) (next : ℤ) : Type 0 wher
   pub kept : keeps_level level parts next ≡ true
   pub greatest : (more : ℤ) → next <ℤ more → keeps_level level parts more ≡ false
 
+-- means are of some days, so that their denominators are above 0
+abbrev pub HasDays : LastTwo → Type 0
+HasDays (Fourths before last) = ⊤
+HasDays (Means before last) = (1 ≤ before.1) × (1 ≤ last.1)
+HasDays (Percentiles before last) = ⊤
+HasDays (Estimates before last) = ⊤
+
+-- a year of PM2.5 has four quarters
+abbrev pub HasQuarters : DesignValue → Type 0
+HasQuarters (OfOzone years design) = ⊤
+HasQuarters (OfAnnual years design) = All (λ (year : PmYear). length year.quarters ≡ 4) years
+HasQuarters (OfDaily years design) = ⊤
+HasQuarters (OfPm10 years design) = ⊤
+
 -- ---- the critical value, worked out
 
 -- the greatest whole number below a quotient, for a divisor above 0
 abbrev pub below : ℤ → ℤ → ℤ
 below a b = int_div_euclid (a -ℤ pos 1) b
 
--- Ozone: a third of the sum of the three, cut, is at or below 70 as long as the sum is at most 212, which is 3 * 70 + 2; so 70 and 71 leave 71.
--- Daily PM2.5: a thirtieth of the sum of tenths, rounded half up, is at or below 35 as long as it is below 35.5, so the sum is at most 1064, which is 30 * 35 + 14; 354 and 355 leave 355.
--- PM10: a third of the sum of tenths, rounded half up, is at or below 10 as long as it is below 10.5, so the sum is at most 31, which is 3 * 10 + 1; 10 and 11 leave 10.
--- Annual PM2.5: a third of the sum of the three means, rounded half up, is at or below the level as long as it is below the level and a half. With the sum a / b of the two means the next one is below 3 * level + 3 / 2 - a / b; at the level 90, 90 and 90 leave what is below 91.5, which is 91.
+-- the greatest whole number below 3 * level + 3 / 2 less a sum of means
+abbrev pub mean_below : ℤ → Fraction → ℤ
+mean_below level sum = below ((((pos 2 *ℤ level) +ℤ pos 1) *ℤ pos (3 * sum.1)) -ℤ (pos 2 *ℤ sum.0)) (pos (2 * sum.1))
+
+-- Ozone: a third of the sum of the three, cut, is at or below 70 as long as the sum is at most 3 * 70 + 2 = 212. So 70 and 71 leave 71.
+-- Daily PM2.5: a thirtieth of the sum of the tenths, rounded half up, is at or below 35 as long as it is below 35.5, so as long as the sum is at most 30 * 35 + 14 = 1064. So 354 and 355 leave 355.
+-- PM10: a third of the sum of the tenths, rounded half up, is at or below 10 as long as it is below 10.5, so as long as the sum is at most 3 * 10 + 1 = 31. So 10 and 11 leave 10.
+-- Annual PM2.5: a third of the sum of the three means, rounded half up, is at or below the level as long as it is below the level and a half; the next mean is a whole number and the others need not be. At the level 90, 90 and 90 leave what is below 3 * 90.5 - 180 = 91.5. So they leave 91.
 abbrev pub critical_with : ℤ → LastTwo → ℤ
 critical_with level (Fourths before last) = (((pos 3 *ℤ level) +ℤ pos 2) -ℤ before) -ℤ last
-critical_with level (Means before last) =
-    below
-    ((((pos 6 *ℤ level) +ℤ pos 3) *ℤ pos (sum_of_fractions (before ∷ last ∷ [])).1) -ℤ (pos 2 *ℤ (sum_of_fractions (before ∷ last ∷ [])).0))
-    (pos (2 * (sum_of_fractions (before ∷ last ∷ [])).1))
+critical_with level (Means before last) = mean_below level (sum_of_fractions (before ∷ last ∷ []))
 critical_with level (Percentiles before last) = (((pos 30 *ℤ level) +ℤ pos 14) -ℤ before) -ℤ last
 critical_with level (Estimates before last) = (((pos 3 *ℤ level) +ℤ pos 1) -ℤ before) -ℤ last
 

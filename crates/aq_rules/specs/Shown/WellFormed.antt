@@ -1,6 +1,7 @@
 -- What makes a sheet well formed (own). The sheets of every answer are, and so are those of conflicts, errors and summaries.
-use Rattle.std.specs.Prelude.{ℕ, ◌^◌, Bool, true, not, ◌&&◌, ◌||◌, ◌==◌, nat_lt, nat_le, IsTrue, List, [], ◌∷◌, ◌++◌, length, map, codes, bytes_eq, ℤ, pos, neg_ℤ, int_le, int_lt}
+use Rattle.std.specs.Prelude.{ℕ, ◌^◌, Bool, true, not, ◌&&◌, ◌||◌, ◌==◌, nat_lt, nat_le, IsTrue, List, [], ◌∷◌, ◌++◌, length, map, codes, bytes_eq, Option, ℤ, pos, neg_ℤ, int_le, int_lt}
 use Rattle.std.specs.List.{list_all, list_any}
+use Rattle.std.specs.Option.{option_map_or}
 use Rattle.std.specs.Char.{is_ascii_alphanumeric}
 use Rattle.aq_rules.specs.Shown.Sheet.{SheetCell, Head, Sheet}
 use Rattle.aq_rules.specs.Shown.Sheet.SheetCell.{Int, Fixed, Text, Missing}
@@ -15,6 +16,10 @@ is_word text = nat_lt 0 (length text) && list_all is_word_byte text
 -- a whole number of 64 bits with its sign
 abbrev pub is_whole : ℤ → Bool
 is_whole value = int_le (neg_ℤ (pos (2 ^ 63))) value && int_lt value (pos (2 ^ 63))
+
+-- a value, where there is one, is such a number
+abbrev pub is_whole_if : Option ℤ → Bool
+is_whole_if value = option_map_or is_whole value true
 
 abbrev pub is_cell : SheetCell → Bool
 is_cell (Int value) = is_whole value

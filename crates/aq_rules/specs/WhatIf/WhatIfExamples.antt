@@ -36,20 +36,22 @@ smoky_june concurrences =
     ∷ Event 1 west Ozone (hour_number (day_number 2024 6 1) 7) (hour_number (day_number 2024 6 2) 6) smoke ∷ concurrences)
     (peak (smoke ∷ []) 75 1 ∷ peak [] 75 8 ∷ peak [] 75 15 ∷ peak [] 74 22 ∷ even_day 60 29)
 
--- ---- PM10: five exceedances of 2024, of which one falls in event 3 and two in event 5
+-- ---- PM10: five exceedances of a March, of which one falls in event 3 and two in event 5
 
-abbrev pub dust : Site → List Code → ℕ → (ObsKey × Observation)
-dust site codes day = measured site Pm10 1 1600 codes (hour_number (day_number 2024 3 day) 0)
+abbrev pub dust : ℕ → Site → List Code → ℕ → (ObsKey × Observation)
+dust year site codes day = measured site Pm10 1 1600 codes (hour_number (day_number year 3 day) 0)
 
-abbrev pub dust_event : ℕ → Site → ℕ → OfficeRecord
-dust_event number site day = Event number site Pm10 (hour_number (day_number 2024 3 day) 0) (hour_number (day_number 2024 3 (day + 1)) 23) smoke
+-- two days of smoke
+abbrev pub dust_event : ℕ → ℕ → Site → ℕ → OfficeRecord
+dust_event year number site day =
+    Event number site Pm10 (hour_number (day_number year 3 day) 0) (hour_number (day_number year 3 (day + 1)) 23) smoke
 
 -- event 4 is of the site in the east, and event 6 of ozone
-abbrev pub dusty : List OfficeRecord → Office
-dusty concurrences =
+abbrev pub dusty : ℕ → List OfficeRecord → Office
+dusty year concurrences =
     office_of
     (Monitor (monitor_at west Ozone 1) Hour true ∷ Monitor (monitor_at west Pm10 1) Day true ∷ Monitor (monitor_at east Pm10 1) Day true
-    ∷ dust_event 3 west 1 ∷ dust_event 4 east 1 ∷ dust_event 5 west 6
-    ∷ Event 6 west Ozone (hour_number (day_number 2024 3 1) 0) (hour_number (day_number 2024 3 31) 23) smoke ∷ concurrences)
-    (dust west (smoke ∷ []) 1 ∷ dust west (smoke ∷ []) 6 ∷ dust west (smoke ∷ []) 7 ∷ dust west [] 13 ∷ dust west [] 20
-    ∷ dust east (smoke ∷ []) 1 ∷ [])
+    ∷ dust_event year 3 west 1 ∷ dust_event year 4 east 1 ∷ dust_event year 5 west 6
+    ∷ Event 6 west Ozone (hour_number (day_number year 3 1) 0) (hour_number (day_number year 3 31) 23) smoke ∷ concurrences)
+    (dust year west (smoke ∷ []) 1 ∷ dust year west (smoke ∷ []) 6 ∷ dust year west (smoke ∷ []) 7 ∷ dust year west [] 13 ∷ dust year west [] 20
+    ∷ dust year east (smoke ∷ []) 1 ∷ [])

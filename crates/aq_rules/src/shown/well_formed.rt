@@ -1,11 +1,12 @@
 //! What is shown is well formed.
 #![tactic(auto)]
 
-ghost use Rattle.std.specs.Prelude.{◌≡◌, ℕ, ◌^◌, ◌<◌, ◌≤◌, List, length, nat_lt, IsTrue, All, Some};
+ghost use Rattle.std.specs.Prelude.{◌≡◌, ℕ, ◌^◌, ◌<◌, ◌≤◌, List, length, nat_lt, IsTrue, All, Option, Some, ℤ};
 ghost use Rattle.std.specs.List.{list_all};
 ghost use Rattle.aq_base.specs.Site.{Site};
 ghost use Rattle.aq_base.specs.declared.reply.LoadReply.{LoadReply};
 ghost use Rattle.aq_base.specs.declared.standard.Standard.{Standard};
+ghost use Rattle.aq_base.specs.declared.standard.Verdict.{Verdict};
 ghost use Rattle.aq_rules.specs.Limits.{LAST_LOAD_NUMBER};
 ghost use Rattle.aq_rules.specs.Office.Office.{IsOffice, Office, StoredLoad, is_reply, load_at};
 ghost use Rattle.aq_rules.specs.Shown.Sheet.{Sheet};
@@ -13,7 +14,8 @@ ghost use Rattle.aq_rules.specs.Shown.Sheets.{days_answer, load_sheet, windows_a
 ghost use Rattle.aq_rules.specs.Shown.ParticleSheets.{pm10_answer, pm25_answer};
 ghost use Rattle.aq_rules.specs.Shown.OtherSheets.{conflict_sheet, error_names, error_sheet, report_answer, summary_sheet, value_answer};
 ghost use Rattle.aq_rules.specs.Shown.Answer.{Ask, Days, OfSheet, Pm10, Pm25, Report, Value, Windows, answer, is_asked};
-ghost use Rattle.aq_rules.specs.Shown.WellFormed.{IsWellFormed};
+ghost use Rattle.aq_rules.specs.Shown.AreaSheets.{area_sheet, area_sites_sheet, decisive_sheet};
+ghost use Rattle.aq_rules.specs.Shown.WellFormed.{IsWellFormed, is_whole_if};
 
 /// Each sheet that answers a question about a valid office is well formed.
 pub fn answers_are_well_formed()
@@ -47,4 +49,20 @@ pub fn other_sheets_are_well_formed()
     ensures error { All (λ name. IsWellFormed (error_sheet name)) error_names }
     ensures summary { (loads lines observations : ℕ)
         → loads < 2 ^ 63 → lines < 2 ^ 63 → observations < 2 ^ 63 → IsWellFormed (summary_sheet loads lines observations) }
+{}
+
+/// And so are the sheets of decisive events, and of an area and its sites, whose numbers are of 64 bits
+/// with their sign.
+pub fn sheets_of_areas_are_well_formed()
+    ensures decisive { (standard : Standard) (site : Site) (year : ℕ) (verdict : Verdict) (rows : List (ℕ × Verdict))
+        → year < 2 ^ 63 → All (λ (row : ℕ × Verdict). row.0 < 2 ^ 63) rows
+        → IsWellFormed (decisive_sheet standard site year verdict rows) }
+    ensures area { (standard : Standard) (year : ℕ) (verdict : Verdict) (governing : Option Site) (value : Option ℤ) (met : ℕ) (rows : List (ℕ × Verdict × Option ℤ))
+        → year < 2 ^ 63 → IsTrue (is_whole_if value) → met < 2 ^ 63
+        → All (λ (row : ℕ × Verdict × Option ℤ). (row.0 < 2 ^ 63) × IsTrue (is_whole_if row.2)) rows
+        → IsWellFormed (area_sheet standard year verdict governing value met rows) }
+    ensures sites { (standard : Standard) (year : ℕ) (rows : List (Site × Option ℤ × Verdict × Option ℤ))
+        → year < 2 ^ 63
+        → All (λ (row : Site × Option ℤ × Verdict × Option ℤ). IsTrue (is_whole_if row.1) × IsTrue (is_whole_if row.3)) rows
+        → IsWellFormed (area_sites_sheet standard year rows) }
 {}

@@ -3,6 +3,7 @@ use Rattle.std.specs.Fmt.{digits}
 use Rattle.aq_base.specs.Decimal.{last_digits}
 use Rattle.aq_rules.specs.Shown.Sheet.{text_of, site_text}
 use Rattle.aq_rules.specs.Shown.AreaSheets.{decisive_sheet, area_sheet, area_sites_sheet}
+use Rattle.aq_rules.specs.Areas.CriticalValue.{critical}
 use Rattle.aq_rules.proofs.shown.area_sheets.area_sheets_print.Goals as goal
 
 pub returns-clause-ozone : goal.returns-clause-ozone
@@ -32,3 +33,11 @@ returns-clause-daily_sites c = refl
 pub returns-clause-pm10_sites : goal.returns-clause-pm10_sites
 unfolding digits last_digits text_of site_text decisive_sheet area_sheet area_sites_sheet
 returns-clause-pm10_sites c = refl
+
+pub returns-clause-history : goal.returns-clause-history
+unfolding digits last_digits text_of site_text area_sheet
+returns-clause-history c = refl
+
+pub returns-clause-site_row : goal.returns-clause-site_row
+unfolding critical
+returns-clause-site_row c = refl
