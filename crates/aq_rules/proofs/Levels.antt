@@ -10,8 +10,7 @@ use Rattle.aq_base.specs.Site.{Site}
 use Rattle.aq_base.specs.declared.monitor.Pollutant.TheVariants.{Pm25}
 use Rattle.aq_base.specs.declared.standard.Standard.{Standard}
 use Rattle.aq_base.specs.declared.standard.Standard.TheVariants.{Ozone2015, Annual2012, AnnualSecondary, Annual2024, Daily2006, Pm10Of1987}
-use Rattle.aq_base.specs.declared.standard.Verdict.{Verdict}
-use Rattle.aq_base.specs.declared.standard.Verdict.TheVariants.{Met, NotMet, Incomplete, NoValue}
+use Rattle.aq_base.specs.declared.standard.Verdict.TheVariants.{Met, NotMet, Incomplete}
 use Rattle.aq_rules.specs.Standards.{level_of, years_to, is_above, is_at_or_below}
 use Rattle.aq_rules.specs.DesignValues.{design_value, value_in, verdict_in, pm10_years}
 use Rattle.aq_rules.specs.Office.Office.{Office}

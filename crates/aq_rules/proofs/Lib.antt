@@ -53,6 +53,7 @@ pub mod Undamaged
 pub mod Rewritten
 pub mod SameRows
 pub mod Lookups
+pub mod RisingRows
 pub mod RowsPlaced
 pub mod SitesCounted
 pub mod ValidRecords

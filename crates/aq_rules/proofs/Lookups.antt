@@ -27,6 +27,24 @@ before-other_way a b before =
       | inr other ↦ other
     ]
 
+-- what comes before another does not come after it
+pub before-back : (a b : List ℕ) → comes_before a b ≡ true → comes_before b a ≡ false
+before-back a b before =
+    elim (cases_Bool (comes_before b a)) [
+      | inl back ↦ absurd (before-itself a (before-trans a b a before back))
+      | inr forth ↦ forth
+    ]
+
+pub same-flip : (a b : List ℕ) → is_same a b ≡ is_same b a
+same-flip a b =
+    elim (cases_Bool (is_same b a)) [
+      | inl same ↦ (bytes_eq-Decides a b).1 (sym (same-is b a same)) ∙ sym same
+      | inr other ↦ elim (cases_Bool (is_same a b)) [
+        | inl same ↦ absurd (false≢true (sym other ∙ (bytes_eq-Decides b a).1 (sym (same-is a b same))))
+        | inr too ↦ too ∙ sym other
+      ]
+    ]
+
 -- two tests of which one at most holds may be made in either order
 either_order : {X : Type 0} (f r : Bool) (a b : X) (rest : X) → (f ≡ true → r ≡ true → ⊥) → cond f a (cond r b rest) ≡ cond r b (cond f a rest)
 either_order true true a b rest never = absurd (never refl refl)
@@ -90,7 +108,7 @@ module _ {X : Type 0} (rank : X → List ℕ) where
           ∙ either_order (is_same (rank first) key) (is_same dropped key) (Some first) None (At key rows) (never e)
 
   -- nothing is found under a key before the first row's
-  none-before : (key : List ℕ) (first : X) (rows : List X) → comes_before key (rank first) ≡ true → rises_from rank first rows ≡ true → At key (first ∷ rows) ≡ None
+  pub none-before : (key : List ℕ) (first : X) (rows : List X) → comes_before key (rank first) ≡ true → rises_from rank first rows ≡ true → At key (first ∷ rows) ≡ None
   none-before key first [] before rising = ap (λ b. cond b (Some first) None) (before-other_way key (rank first) before)
   none-before key first (next ∷ rows) before rising =
       let parts = and_parts (comes_before (rank first) (rank next)) (rises_from rank next rows) rising in
@@ -108,7 +126,7 @@ module _ {X : Type 0} (rank : X → List ℕ) where
   rises-rest first [] rising = refl
   rises-rest first (next ∷ rows) rising = (and_parts (comes_before (rank first) (rank next)) (rises_from rank next rows) rising).1
 
-  first-found : (first : X) (rows : List X) → At (rank first) (first ∷ rows) ≡ Some first
+  pub first-found : (first : X) (rows : List X) → At (rank first) (first ∷ rows) ≡ Some first
   first-found first rows = ap (λ b. cond b (Some first) (At (rank first) rows)) (same-itself (rank first))
 
   abbrev AllFound : List X → List X → Type 0

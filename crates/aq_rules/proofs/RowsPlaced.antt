@@ -1,40 +1,16 @@
 -- A row put into a list of rows at its place, and rows dropped from a list: what counts, tests and look-ups say of the list after.
-use Rattle.std.proofs.Common.{◌≡◌, ℕ, ◌+◌, ◌≤◌, Bool, true, false, cond, ◌&&◌, ◌||◌, List, [], ◌∷◌, ◌++◌, length, Some, None, Option, refl, sym, ap, ◌∙◌, arith, inl, inr, subst}
-use Rattle.std.specs.Prelude.{find, filter, count_by, is_some, nat_lt, ◌==◌}
+use Rattle.std.proofs.Common.{◌≡◌, ℕ, ◌+◌, ◌≤◌, Bool, true, false, cond, ◌&&◌, ◌||◌, List, [], ◌∷◌, ◌++◌, length, Some, None, Option, refl, sym, ap, ◌∙◌, arith, inl, inr}
+use Rattle.std.specs.Prelude.{find, filter, count_by, is_some}
 use Rattle.std.specs.List.{list_all, list_any}
 use Rattle.std.proofs.lemmas.Bool.{false≢true, and_from, and_parts, cases_Bool}
-use Rattle.std.proofs.lemmas.Bool.Decides.{nat_tests}
 use Rattle.std.proofs.lemmas.List.Sums.{sum_by-cons}
 use Rattle.std.proofs.lemmas.Slice.Eq.{bytes_eq-Decides}
 use Rattle.aq_rules.specs.Lines.Spellings.{◌>>=◌}
-use Rattle.aq_rules.specs.Office.Office.{is_same, comes_before, rises_from, rises, row_at, with_row}
-use Rattle.aq_rules.specs.Office.RowOrder.{before-trans}
-
--- ---- ranks
-
-pub same_is : (a b : List ℕ) → is_same a b ≡ true → a ≡ b
-same_is a b h = (bytes_eq-Decides a b).0 h
+use Rattle.aq_rules.specs.Office.Office.{is_same, comes_before, rises, row_at, with_row}
+use Rattle.aq_rules.proofs.Lookups.{same-is, same-flip, rises-rest, none-before}
 
 pub is_same-refl : (a b : List ℕ) → a ≡ b → is_same a b ≡ true
 is_same-refl a b h = (bytes_eq-Decides a b).1 h
-
-pub same_turned : (a b : List ℕ) → is_same a b ≡ true → is_same b a ≡ true
-same_turned a b h = is_same-refl b a (sym (same_is a b h))
-
-before_itself : (a : List ℕ) → comes_before a a ≡ true → ⊥
-before_itself [] h = false≢true h
-before_itself (x ∷ a) h = before_itself a (tie x (comes_before a a) h)
-  where
-    tie : (x : ℕ) (b : Bool) → (nat_lt x x || ((x == x) && b)) ≡ true → b ≡ true
-    tie x true h = refl
-    tie x false h = absurd (false≢true (grind (arith, nat_tests)))
-
-before_other : (a b : List ℕ) → comes_before a b ≡ true → is_same b a ≡ false
-before_other a b h =
-    elim (cases_Bool (is_same b a)) [
-      | inl same ↦ absurd (before_itself a (subst (λ c. comes_before a c ≡ true) (same_is b a same) h))
-      | inr other ↦ other
-    ]
 
 -- ---- a list in two parts, and an item between them
 
@@ -252,43 +228,30 @@ module _ {X : Type 0} (rank : X → List ℕ) where
       choose : (a b : Bool) → is_same (rank row) (rank first) ≡ b → is_same (rank first) (rank row) ≡ false → Inserted row rows (with_row rank row rows)
           → Inserted row (first ∷ rows) (cond a (row ∷ first ∷ rows) (cond b (row ∷ rows) (first ∷ with_row rank row rows)))
       choose true b t none h = record { front = []; back = first ∷ rows; before = refl; after = refl }
-      choose false true t none h = absurd (false≢true (sym none ∙ same_turned (rank row) (rank first) t))
+      choose false true t none h = absurd (false≢true (sym none ∙ same-flip (rank first) (rank row) ∙ t))
       choose false false t none h =
           record { front = first ∷ h.front; back = h.back; before = ap (λ l. first ∷ l) h.before; after = ap (λ l. first ∷ l) h.after }
-
-  -- no row behind a greater one has the rank
-  none_behind : (key : List ℕ) (first : X) (rows : List X) → comes_before key (rank first) ≡ true → rises_from rank first rows ≡ true
-      → row_at rank key (first ∷ rows) ≡ None
-  none_behind key first [] less rise = ap (λ b. cond b (Some first) None) (before_other key (rank first) less)
-  none_behind key first (next ∷ rows) less rise =
-      let parts = and_parts (comes_before (rank first) (rank next)) (rises_from rank next rows) rise in
-      ap (λ b. cond b (Some first) (row_at rank key (next ∷ rows))) (before_other key (rank first) less)
-      ∙ none_behind key next rows (before-trans key (rank first) (rank next) less parts.0) parts.1
-
-  later_rises : (first : X) (rows : List X) → rises rank (first ∷ rows) ≡ true → rises rank rows ≡ true
-  later_rises first [] rise = refl
-  later_rises first (next ∷ rows) rise = (and_parts (comes_before (rank first) (rank next)) (rises_from rank next rows) rise).1
 
   -- a row whose rank is there takes the place of the one with its rank
   pub with_row-old : (old row : X) (rows : List X) → rises rank rows ≡ true → row_at rank (rank row) rows ≡ Some old → Replaced old row rows (with_row rank row rows)
   with_row-old old row [] rise is = cc
   with_row-old old row (first ∷ rows) rise is =
-      choose (comes_before (rank row) (rank first)) (is_same (rank row) (rank first)) refl refl (with_row-old old row rows (later_rises first rows rise))
+      choose (comes_before (rank row) (rank first)) (is_same (rank row) (rank first)) refl refl (with_row-old old row rows (rises-rest rank first rows rise))
     where
       choose : (a b : Bool) → comes_before (rank row) (rank first) ≡ a → is_same (rank row) (rank first) ≡ b
           → (row_at rank (rank row) rows ≡ Some old → Replaced old row rows (with_row rank row rows))
           → Replaced old row (first ∷ rows) (cond a (row ∷ first ∷ rows) (cond b (row ∷ rows) (first ∷ with_row rank row rows)))
       choose true b s t h =
-          let none : None ≡ Some old = sym (none_behind (rank row) first rows s rise) ∙ is in
+          let none : None ≡ Some old = sym (none-before rank (rank row) first rows s rise) ∙ is in
           cc
       choose false true s t h =
-          let here = same_turned (rank row) (rank first) t in
+          let here = same-flip (rank first) (rank row) ∙ t in
           let found : Some first ≡ Some old = sym (ap (λ c. cond c (Some first) (row_at rank (rank row) rows)) here) ∙ is in
           let same : first ≡ old = cc in
           record { front = []; back = rows; before = ap (λ x. x ∷ rows) same; after = refl }
       choose false false s t h =
           elim (cases_Bool (is_same (rank first) (rank row))) [
-            | inl here ↦ absurd (false≢true (sym t ∙ same_turned (rank first) (rank row) here))
+            | inl here ↦ absurd (false≢true (sym t ∙ same-flip (rank row) (rank first) ∙ here))
             | inr there ↦
                 let rest = h (sym (ap (λ c. cond c (Some first) (row_at rank (rank row) rows)) there) ∙ is) in
                 record { front = first ∷ rest.front; back = rest.back; before = ap (λ l. first ∷ l) rest.before; after = ap (λ l. first ∷ l) rest.after }
@@ -301,20 +264,10 @@ module _ {X : Type 0} (rank : X → List ℕ) where
       let placed = with_row-new row rows none in
       elim (cases_Bool (is_same (rank row) key)) [
         | inl same ↦
-            let none_there : None ≡ Some found = sym none ∙ ap (λ k. row_at rank k rows) (same_is (rank row) key same) ∙ is in
+            let none_there : None ≡ Some found = sym none ∙ ap (λ k. row_at rank k rows) (same-is (rank row) key same) ∙ is in
             cc
         | inr other ↦
             ap (λ l. row_at rank key l) placed.after
             ∙ find_passed (λ x. is_same (rank x) key) placed.front placed.back row other
             ∙ sym (ap (λ l. row_at rank key l) placed.before) ∙ is
       ]
-
-  pub length-replaced : (old row : X) (rows : List X) → rises rank rows ≡ true → row_at rank (rank row) rows ≡ Some old
-      → length (with_row rank row rows) ≡ length rows
-  length-replaced old row rows rise is =
-      let placed = with_row-old old row rows rise is in
-      ap length placed.after ∙ alike placed.front placed.back ∙ sym (ap length placed.before)
-    where
-      alike : (front back : List X) → length (front ++ row ∷ back) ≡ length (front ++ old ∷ back)
-      alike [] back = refl
-      alike (x ∷ front) back = omega (arith, alike front back)

@@ -10,7 +10,7 @@ use Rattle.aq_base.specs.declared.office.OfficeRecord.{OfficeRecord}
 use Rattle.aq_base.specs.declared.office.OfficeRecord.TheVariants.{Monitor}
 use Rattle.aq_rules.specs.Office.Office.{is_same, site_numbers, with_site, sites_of}
 use Rattle.aq_rules.proofs.Tests.{or_turns}
-use Rattle.aq_rules.proofs.RowsPlaced.{same_is, same_turned}
+use Rattle.aq_rules.proofs.Lookups.{same-is, same-itself, same-flip}
 
 -- whether a site is listed
 abbrev pub lists : Site → List Site → Bool
@@ -33,7 +33,7 @@ listed_with site new sites = choose (lists new sites) (is_same (site_numbers new
         → lists site (cond a sites (new ∷ sites)) ≡ (is_same (site_numbers new) (site_numbers site) || lists site sites)
     choose true true h k =
         let same : lists new sites ≡ lists site sites =
-        ap (λ numbers. list_any (λ other. is_same (site_numbers other) numbers) sites) (same_is (site_numbers new) (site_numbers site) k) in
+        ap (λ numbers. list_any (λ other. is_same (site_numbers other) numbers) sites) (same-is (site_numbers new) (site_numbers site) k) in
         sym same ∙ h ∙ ap (λ c. c || lists site sites) (sym k)
     choose true false h k = ap (λ c. c || lists site sites) (sym k)
     choose false b h k = refl
@@ -45,10 +45,10 @@ length-with_site new sites = choose (lists new sites)
     choose true = omega arith
     choose false = omega arith
 
-SameSites-is : (xs ys : List Site) → xs ≡ ys → SameSites xs ys
+pub SameSites-is : (xs ys : List Site) → xs ≡ ys → SameSites xs ys
 SameSites-is xs ys e = record { len = ap length e; listed = λ site. ap (lists site) e }
 
-SameSites-trans : (xs ys zs : List Site) → SameSites xs ys → SameSites ys zs → SameSites xs zs
+pub SameSites-trans : (xs ys zs : List Site) → SameSites xs ys → SameSites ys zs → SameSites xs zs
 SameSites-trans xs ys zs h k = record { len = h.len ∙ k.len; listed = λ site. h.listed site ∙ k.listed site }
 
 SameSites-with_site : (new : Site) (xs ys : List Site) → SameSites xs ys → SameSites (with_site new xs) (with_site new ys)
@@ -69,8 +69,8 @@ SameSites-turned s t xs = record {
       let two : cond {A = ℕ} (lists t (with_site s xs)) 0 1 ≡ cond {A = ℕ} (is_same (site_numbers s) (site_numbers t) || lists t xs) 0 1 =
       ap (λ b. cond {A = ℕ} b 0 1) (listed_with t s xs) in
       let sums = both_ways (is_same (site_numbers t) (site_numbers s)) (is_same (site_numbers s) (site_numbers t)) (lists s xs) (lists t xs)
-      (same_turned (site_numbers t) (site_numbers s)) (same_turned (site_numbers s) (site_numbers t))
-      (λ same. ap (λ numbers. list_any (λ other. is_same (site_numbers other) numbers) xs) (sym (same_is (site_numbers t) (site_numbers s) same))) in
+      (λ same. same-flip (site_numbers s) (site_numbers t) ∙ same) (λ same. same-flip (site_numbers t) (site_numbers s) ∙ same)
+      (λ same. ap (λ numbers. list_any (λ other. is_same (site_numbers other) numbers) xs) (sym (same-is (site_numbers t) (site_numbers s) same))) in
       omega (arith, length-with_site s (with_site t xs), length-with_site t xs, length-with_site t (with_site s xs), length-with_site s xs);
   listed = λ site.
       listed_with site s (with_site t xs)
@@ -94,14 +94,20 @@ pub sites_of-cons : (r : OfficeRecord) (rows : List OfficeRecord) → sites_of (
 sites_of-cons (Monitor id duration eligible) rows = refl
 sites_of-cons r rows = refl
 
-SameSites-sites_with : (r : OfficeRecord) (xs ys : List Site) → SameSites xs ys → SameSites (sites_with r xs) (sites_with r ys)
+pub SameSites-sites_with : (r : OfficeRecord) (xs ys : List Site) → SameSites xs ys → SameSites (sites_with r xs) (sites_with r ys)
 SameSites-sites_with (Monitor id duration eligible) xs ys same = SameSites-with_site id.site xs ys same
 SameSites-sites_with r xs ys same = same
 
-SameSites-sites_turned : (q r : OfficeRecord) (xs : List Site) → SameSites (sites_with q (sites_with r xs)) (sites_with r (sites_with q xs))
+pub SameSites-sites_turned : (q r : OfficeRecord) (xs : List Site) → SameSites (sites_with q (sites_with r xs)) (sites_with r (sites_with q xs))
 SameSites-sites_turned (Monitor id duration eligible) (Monitor other period counts) xs = SameSites-turned id.site other.site xs
 SameSites-sites_turned (Monitor id duration eligible) r xs = SameSites-is _ _ refl
 SameSites-sites_turned q r xs = SameSites-is _ _ refl
+
+pub sites_twice : (r : OfficeRecord) (xs : List Site) → sites_with r (sites_with r xs) ≡ sites_with r xs
+sites_twice (Monitor id duration eligible) xs =
+    ap (λ b. cond b (with_site id.site xs) (id.site ∷ with_site id.site xs))
+    (listed_with id.site id.site xs ∙ ap (λ b. b || lists id.site xs) (same-itself (site_numbers id.site)))
+sites_twice r xs = refl
 
 -- a record between others counts as if it stood before them
 pub sites_joined : (front back : List OfficeRecord) (r : OfficeRecord) → SameSites (sites_of (front ++ r ∷ back)) (sites_with r (sites_of (front ++ back)))

@@ -1,5 +1,5 @@
 -- The hours that rows count are in the order of the hours, and say them.
-use Rattle.std.proofs.Common.{◌≡◌, ℕ, ◌<◌, Bool, true, false, refl, sym, ap, ◌∙◌, arith, Some}
+use Rattle.std.proofs.Common.{◌≡◌, ℕ, refl, ap, arith, Some}
 use Rattle.std.specs.Prelude.{pos, nat_lt, ◌==◌, int_lt, ◌+ℤ◌}
 use Rattle.std.specs.Ordering.{int_eq}
 use Rattle.std.proofs.lemmas.Int.{ints}

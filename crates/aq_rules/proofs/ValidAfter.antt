@@ -34,7 +34,9 @@ use Rattle.aq_rules.specs.Office.Refusal.{broken, breaks_office, kept_key, kept_
 use Rattle.aq_rules.specs.Office.Load.{with_record, without_record, without_key, changed, changed_by, broken_by, after, after_all}
 use Rattle.aq_rules.proofs.Loads.{KeysRise-changed}
 use Rattle.aq_rules.specs.Office.RowOrder.{without_row-rises}
-use Rattle.aq_rules.proofs.RowsPlaced.{same_is, find_none-first, count_none, filter_all, filter_twice, with_row-all, length-with_row, length-replaced}
+use Rattle.aq_rules.proofs.Lookups.{same-is}
+use Rattle.aq_rules.proofs.RisingRows.{length-with_row-there}
+use Rattle.aq_rules.proofs.RowsPlaced.{find_none-first, count_none, filter_all, filter_twice, with_row-all, length-with_row}
 use Rattle.aq_rules.proofs.SitesCounted.{lists, sites_with, length-with_site}
 use Rattle.aq_rules.proofs.ValidLines.{line_valid}
 use Rattle.aq_rules.proofs.ValidRecords.{site_is, joined, Alike, replaced, KeepsItsOwn, kept}
@@ -169,7 +171,7 @@ sample-valid office (PutSample true monitor duration method hour content) is spe
     let rules = none_of_three (λ rule. breaks_office rule office (OfRd (PutSample true monitor duration method hour content))) UnknownMonitor WrongDuration NotThere unbroken in
     let old = found (row_at observation_rank (observation_numbers (kept_key office monitor hour)) office.observations)
     (standing content_of (row_at observation_rank (observation_numbers (kept_key office monitor hour)) office.observations) (untrue _ rules.2)) in
-    let as_long = length-replaced observation_rank old.value (kept_key office monitor hour, content) office.observations is.keys_rise.observations old.is in
+    let as_long = length-with_row-there observation_rank (kept_key office monitor hour, content) old.value office.observations is.keys_rise.observations old.is in
     let few = is.few_observations in
     put_sample office true monitor duration method hour content is spelled rules.0 (omega arith)
 sample-valid office (DeleteSample monitor hour) is spelled unbroken =
@@ -315,7 +317,7 @@ change_monitor : (office : Office) (id : MonitorId) (duration : Duration) (eligi
     → IsOffice (with_record (Monitor id duration eligible) office)
 change_monitor office id duration eligible None is spelled there known same = absurd (false≢true (sym known))
 change_monitor office id duration eligible (Some (Monitor other period counts)) is spelled there known same =
-    let rank = same_is _ _ (find_passes (λ x. is_same (record_rank x) (key_numbers (MonitorKey id))) office.records (Monitor other period counts) there) in
+    let rank = same-is _ _ (find_passes (λ x. is_same (record_rank x) (key_numbers (MonitorKey id))) office.records (Monitor other period counts) there) in
     replaced office (Monitor other period counts) (Monitor id duration eligible)
     (alike_monitors other id period duration counts eligible (monitor_is other id rank) (same_duration period duration same)) is there spelled refl refl
 change_monitor office id duration eligible (Some old) is spelled there known same = absurd (false≢true (sym known))
@@ -336,7 +338,7 @@ change_concurrence office number agreed None is spelled there event =
     }) is
 change_concurrence office number agreed (Some (Concurrence other before)) is spelled there event =
     let rank : 7 ∷ other ∷ [] ≡ 7 ∷ number ∷ [] =
-    same_is (7 ∷ other ∷ []) (7 ∷ number ∷ [])
+    same-is (7 ∷ other ∷ []) (7 ∷ number ∷ [])
     (find_passes (λ x. is_same (record_rank x) (key_numbers (ConcurrenceKey number))) office.records (Concurrence other before) there) in
     replaced office (Concurrence other before) (Concurrence number agreed) (alike_concurrences other number before agreed (cc)) is there spelled refl event
 change_concurrence office number agreed (Some old) is spelled there event =
@@ -359,7 +361,7 @@ drops_itself : (key : OfficeKey) → (1 == kind_of key) ≡ false → (6 == kind
 drops_itself key monitor event = record {
   monitors = λ id duration eligible. ap (λ b. not (b && bytes_eq (series_numbers id.site id.pollutant ++ id.poc ∷ []) (part_numbers key))) monitor;
   events = λ number agreed other kept is.
-      ap (λ rank. not (is_same rank (key_numbers key))) (same_is (record_rank other) (6 ∷ number ∷ []) is)
+      ap (λ rank. not (is_same rank (key_numbers key))) (same-is (record_rank other) (6 ∷ number ∷ []) is)
       ∙ ap (λ b. not (b && bytes_eq (number ∷ []) (part_numbers key))) event;
 }
 
@@ -368,7 +370,7 @@ drops_event : (number : ℕ)
 drops_event number = record {
   monitors = λ id duration eligible. refl;
   events = λ other agreed x kept is.
-      ap (λ rank. not (is_same rank (6 ∷ number ∷ [])) && not (is_same rank (7 ∷ number ∷ []))) (same_is (record_rank x) (6 ∷ other ∷ []) is)
+      ap (λ rank. not (is_same rank (6 ∷ number ∷ [])) && not (is_same rank (7 ∷ number ∷ []))) (same-is (record_rank x) (6 ∷ other ∷ []) is)
       ∙ and_from _ _ kept refl;
 }
 

@@ -20,7 +20,8 @@ use Rattle.aq_rules.specs.Lines.Spellings.{◌>>=◌}
 use Rattle.aq_rules.specs.Office.Office.{Office, IsOffice, KeysRise, is_same, key_of, key_numbers, record_rank, with_row, record_at, duration_at, monitor_duration, registers, has_monitor, site_numbers, sites_of, group_of, most_in_group, group_size, makes_up_on, makeups_on, series_numbers, combines_either, combinations_of, has_its_monitor, has_its_event, is_record, fits_records, is_alone, is_kept_hour, is_content, fits_monitors}
 use Rattle.aq_rules.specs.Office.Refusal.{is_taken, is_combined}
 use Rattle.aq_rules.specs.Office.Load.{with_record}
-use Rattle.aq_rules.proofs.RowsPlaced.{Inserted, Replaced, same_is, is_same-refl, all_joined, all_at, all_rest, all_weaker, all_standing, any_joined, any_alike, is_some-find, find_alike, count_joined, count_alike, counted_once, filter_all, filter_keeps, find-filter, any-filter, count-filter, with_row-new, with_row-old, row_at-inserted}
+use Rattle.aq_rules.proofs.Lookups.{same-is}
+use Rattle.aq_rules.proofs.RowsPlaced.{Inserted, Replaced, is_same-refl, all_joined, all_at, all_rest, all_weaker, all_standing, any_joined, any_alike, is_some-find, find_alike, count_joined, count_alike, counted_once, filter_all, filter_keeps, find-filter, any-filter, count-filter, with_row-new, with_row-old, row_at-inserted}
 use Rattle.aq_rules.proofs.SitesCounted.{sites_with, sites_joined, sites_alike, sites-filter}
 use Rattle.aq_rules.specs.Office.RowOrder.{with_row-rises}
 
@@ -213,7 +214,7 @@ module _ (office : Office) (r : OfficeRecord) (may : MayJoin office r) where
           → group_size (with_record r office) other ≤ most_in_group other
       choose true same count =
           let one : cond {A = ℕ} (is_same (group_of r) (group_of other)) 1 0 ≡ 1 = ap (λ b. cond {A = ℕ} b 1 0) same in
-          let group = same_is (group_of r) (group_of other) same in
+          let group = same-is (group_of r) (group_of other) same in
           let size : group_size office r ≡ group_size office other = ap (λ g. count_by (λ x. is_same (group_of x) g) office.records) group in
           let most = most-same r other group in
           let room = may.room in
@@ -262,7 +263,7 @@ module _ (office : Office) (r : OfficeRecord) (may : MayJoin office r) where
     where
       choose : (a b : Bool) → is_same (site_numbers place) (site_numbers site) ≡ a → (day == makeup) ≡ b → (a && b) ≡ false
       choose true true h k =
-          let here : site_numbers place ≡ site_numbers site = same_is (site_numbers place) (site_numbers site) h in
+          let here : site_numbers place ≡ site_numbers site = same-is (site_numbers place) (site_numbers site) h in
           let at : day ≡ makeup = eqb-true day makeup k in
           let none : makeups_on office place day ≡ 0 = none_above (makeups_on office place day) free in
           let same : makeups_on office place day ≡ makeups_on office site makeup = cc (site_is place site here) in

@@ -3,7 +3,6 @@ use Rattle.std.proofs.Common.{◌≡◌, ℕ, ◌≤◌, Bool, true, false, cond
 use Rattle.std.specs.Prelude.{slice_get, option_map}
 use Rattle.std.specs.List.{AllByRecursion, filter_map, cons_option, list_any}
 use Rattle.std.specs.Option.{option_map_or}
-use Rattle.std.proofs.lemmas.Bool.{false≢true}
 use Rattle.aq_base.specs.Site.{Site}
 use Rattle.aq_base.specs.declared.monitor.Duration.{Duration}
 use Rattle.aq_base.specs.declared.monitor.Pollutant.TheVariants.{Ozone}
@@ -15,10 +14,13 @@ use Rattle.aq_rules.specs.Office.Monitors.{is_same_monitor, makes_eligible, is_e
 use Rattle.aq_rules.specs.Office.Office.{IsOffice, comes_before, key_numbers, record_rank, rises}
 use Rattle.aq_rules.specs.Office.Questions.{registration_by, registration_of, next_poc}
 use Rattle.aq_rules.specs.Office.Sameness.{same_monitor}
+use Rattle.aq_rules.proofs.Lookups.{rises-rest}
+use Rattle.aq_rules.proofs.RisingRows.{all_later}
+use Rattle.aq_rules.proofs.Spans.{before-itself}
 use Rattle.aq_registry.specs.Registry.{office_with, pair_of}
 use Rattle.aq_series.specs.Samples.{pocs_above}
 use Rattle.aq_series.proofs.SitePocs as pollutants
-use Rattle.aq_series.proofs.Rising.{Rising, all_later, not_before_itself, rises_rest}
+use Rattle.aq_series.proofs.Rising.{Rising}
 
 abbrev ozone_monitor : Site → ℕ → MonitorId
 ozone_monitor site poc = record { site = site; pollutant = Ozone; poc = poc }
@@ -36,7 +38,7 @@ none_eligible m (Monitor id duration eligible ∷ records) all = by_test (none_e
   where
     by_test : list_any (makes_eligible m) records ≡ false → (b : Bool) → is_same_monitor id m ≡ b → ((b && eligible) || list_any (makes_eligible m) records) ≡ false
     by_test rest true same =
-        absurd (false≢true (sym (not_before_itself (key_numbers (MonitorKey m))) ∙ ap (λ k. comes_before (key_numbers (MonitorKey m)) (key_numbers (MonitorKey k))) (sym (same_monitor id m same)) ∙ all.0))
+        absurd (before-itself (key_numbers (MonitorKey m)) (ap (λ k. comes_before (key_numbers (MonitorKey m)) (key_numbers (MonitorKey k))) (sym (same_monitor id m same)) ∙ all.0))
     by_test rest false other = rest
 none_eligible m (r ∷ records) all = none_eligible m records all.1
 
@@ -44,7 +46,7 @@ eligible-rises : (m : MonitorId) (records : List OfficeRecord) → rises record_
     → list_any (makes_eligible m) records ≡ option_map_or (λ (p : Duration × Bool). p.1) (option_map pair_of (slice_get (filter_map (registration_by m) records) 0)) false
 eligible-rises m [] rising = refl
 eligible-rises m (Monitor id duration eligible ∷ records) rising =
-    by_test (eligible-rises m records (rises_rest record_rank (Monitor id duration eligible) records rising)) (is_same_monitor id m) refl
+    by_test (eligible-rises m records (rises-rest record_rank (Monitor id duration eligible) records rising)) (is_same_monitor id m) refl
   where
     by_test : list_any (makes_eligible m) records ≡ option_map_or (λ (p : Duration × Bool). p.1) (option_map pair_of (slice_get (filter_map (registration_by m) records) 0)) false
         → (b : Bool) → is_same_monitor id m ≡ b
@@ -56,7 +58,7 @@ eligible-rises m (Monitor id duration eligible ∷ records) rising =
         (subst (λ k. AllByRecursion (λ r. comes_before (key_numbers (MonitorKey k)) (record_rank r) ≡ true) records) (same_monitor id m same)
         (all_later record_rank (Monitor id duration eligible) records rising)))
     by_test rest false other = rest
-eligible-rises m (r ∷ records) rising = eligible-rises m records (rises_rest record_rank r records rising)
+eligible-rises m (r ∷ records) rising = eligible-rises m records (rises-rest record_rank r records rising)
 
 pub eligible_is : (records : List OfficeRecord) (m : MonitorId) → IsOffice (office_with records)
     → is_eligible records m ≡ option_map_or (λ (p : Duration × Bool). p.1) (option_map pair_of (registration_of records m)) false

@@ -1,13 +1,13 @@
 -- Lists that rise by a number: two in which the same is found are one, and what a list in the order of ranks gives rises.
-use Rattle.std.proofs.Common.{◌≡◌, ℕ, ◌<◌, ◌≤◌, ◌⊎◌, Bool, true, false, cond, ◌&&◌, ◌||◌, ◌==◌, Some, None, Option, List, [], ◌∷◌, refl, ap, sym, subst, ◌∙◌, arith, inl, inr}
-use Rattle.std.specs.Prelude.{nat_lt, find}
+use Rattle.std.proofs.Common.{◌≡◌, ℕ, ◌<◌, ◌≤◌, ◌⊎◌, Bool, true, false, cond, ◌||◌, ◌==◌, Some, None, Option, List, [], ◌∷◌, refl, ap, sym, subst, ◌∙◌, arith, inl, inr}
+use Rattle.std.specs.Prelude.{find}
 use Rattle.std.specs.List.{AllByRecursion, filter_map, cons_option, list_any}
 use Rattle.std.specs.Option.{option_and_then}
-use Rattle.std.proofs.lemmas.Bool.{false≢true, and_parts}
 use Rattle.std.proofs.lemmas.Bool.Decides.{nat_tests}
 use Rattle.std.proofs.lemmas.Slice.Eq.{bytes_eq-Decides}
-use Rattle.aq_rules.specs.Office.RowOrder.{before-trans}
-use Rattle.aq_rules.specs.Office.Office.{is_same, comes_before, rises, rises_from, row_at}
+use Rattle.aq_rules.specs.Office.Office.{is_same, comes_before, rises, row_at}
+use Rattle.aq_rules.proofs.Lookups.{rises-rest}
+use Rattle.aq_rules.proofs.RisingRows.{all_later, others-after, row_at-none}
 
 some_is : {X : Type 0} (x y : X) → Some x ≡ Some y → x ≡ y
 some_is x y h = cc
@@ -86,45 +86,7 @@ module _ {X : Type 0} (number : X → ℕ) where
 
 -- ---- rows in the order of ranks
 
-not_less : (n : ℕ) (b : Bool) → b ≡ false → (nat_lt n n || ((n == n) && b)) ≡ false
-not_less n true h = absurd (false≢true (sym h))
-not_less n false h = grind (arith, nat_tests)
-
-pub not_before_itself : (a : List ℕ) → comes_before a a ≡ false
-not_before_itself [] = refl
-not_before_itself (n ∷ a) = not_less n (comes_before a a) (not_before_itself a)
-
--- what comes after a key has another one
-pub another : (a b : List ℕ) → comes_before a b ≡ true → is_same b a ≡ false
-another a b before = by_test (is_same b a) refl
-  where
-    by_test : (t : Bool) → is_same b a ≡ t → t ≡ false
-    by_test true is = absurd (false≢true (sym (not_before_itself a) ∙ ap (comes_before a) (sym ((bytes_eq-Decides b a).0 is)) ∙ before))
-    by_test false is = refl
-
 module _ {X : Type 0} (rank : X → List ℕ) where
-  pub rises_rest : (first : X) (rows : List X) → rises_from rank first rows ≡ true → rises rank rows ≡ true
-  rises_rest first [] rising = refl
-  rises_rest first (next ∷ rows) rising = (and_parts (comes_before (rank first) (rank next)) (rises_from rank next rows) rising).1
-
-  all_behind : (key : List ℕ) (first : X) (rows : List X) → comes_before key (rank first) ≡ true → rises_from rank first rows ≡ true → AllByRecursion (λ e. comes_before key (rank e) ≡ true) rows
-  all_behind key first [] before rising = tt
-  all_behind key first (next ∷ rows) before rising =
-      let parts = and_parts (comes_before (rank first) (rank next)) (rises_from rank next rows) rising in
-      let behind = before-trans key (rank first) (rank next) before parts.0 in
-      (behind, all_behind key next rows behind parts.1)
-
-  -- those behind the first come after it
-  pub all_later : (first : X) (rows : List X) → rises_from rank first rows ≡ true → AllByRecursion (λ e. comes_before (rank first) (rank e) ≡ true) rows
-  all_later first [] rising = tt
-  all_later first (next ∷ rows) rising =
-      let parts = and_parts (comes_before (rank first) (rank next)) (rises_from rank next rows) rising in
-      (parts.0, all_behind (rank first) next rows parts.0 parts.1)
-
-  none_behind : (key : List ℕ) (rows : List X) → AllByRecursion (λ e. comes_before key (rank e) ≡ true) rows → row_at rank key rows ≡ None
-  none_behind key [] all = refl
-  none_behind key (e ∷ rows) all = ap (λ b. cond b (Some e) (row_at rank key rows)) (another key (rank e) all.0) ∙ none_behind key rows all.1
-
   -- ---- what rows give
 
   module _ {Y : Type 0} (number : Y → ℕ) (give : X → Option Y) where
@@ -139,23 +101,23 @@ module _ {X : Type 0} (rank : X → List ℕ) where
 
       pub rising-given : (rows : List X) → rises rank rows ≡ true → Rising number (filter_map give rows)
       rising-given [] rising = tt
-      rising-given (r ∷ rows) rising = by_given (rising-given rows (rises_rest r rows rising)) (give r) refl
+      rising-given (r ∷ rows) rising = by_given (rising-given rows (rises-rest rank r rows rising)) (give r) refl
         where
           by_given : Rising number (filter_map give rows) → (o : Option Y) → give r ≡ o → Rising number (cons_option o (filter_map give rows))
           by_given rest None none = rest
-          by_given rest (Some s) given = (later r s rows given (all_later r rows rising), rest)
+          by_given rest (Some s) given = (later r s rows given (all_later rank r rows rising), rest)
 
     -- what is found under a number is what the row of a key gives
     module _ (key : List ℕ) (n : ℕ) (tells : (x : X) (y : Y) → give x ≡ Some y → (number y == n) ≡ is_same (rank x) key) where
       pub found-given : (rows : List X) → rises rank rows ≡ true → found number n (filter_map give rows) ≡ option_and_then give (row_at rank key rows)
       found-given [] rising = refl
-      found-given (r ∷ rows) rising = by_given (found-given rows (rises_rest r rows rising)) (give r) refl (is_same (rank r) key) refl
+      found-given (r ∷ rows) rising = by_given (found-given rows (rises-rest rank r rows rising)) (give r) refl (is_same (rank r) key) refl
         where
           by_given : found number n (filter_map give rows) ≡ option_and_then give (row_at rank key rows) → (o : Option Y) → give r ≡ o → (b : Bool) → is_same (rank r) key ≡ b
               → found number n (cons_option o (filter_map give rows)) ≡ option_and_then give (cond b (Some r) (row_at rank key rows))
           by_given rest None none true same =
               rest
-              ∙ ap (option_and_then give) (none_behind key rows (subst (λ k. AllByRecursion (λ e. comes_before k (rank e) ≡ true) rows) ((bytes_eq-Decides (rank r) key).0 same) (all_later r rows rising)))
+              ∙ ap (option_and_then give) (row_at-none rank key rows (others-after rank key rows (subst (λ k. AllByRecursion (λ e. comes_before k (rank e) ≡ true) rows) ((bytes_eq-Decides (rank r) key).0 same) (all_later rank r rows rising))))
               ∙ sym none
           by_given rest None none false other = rest
           by_given rest (Some y) given true same = ap (λ b. cond b (Some y) (found number n (filter_map give rows))) (tells r y given ∙ same) ∙ sym given

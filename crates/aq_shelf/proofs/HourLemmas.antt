@@ -17,7 +17,7 @@ use Rattle.aq_shelf.specs.Places.{place_of, StandsAt, IsGapAt}
 use Rattle.aq_shelf.specs.Standing.{content_at}
 use Rattle.aq_shelf.specs.Stretches.{between, rows_of}
 use Rattle.aq_shelf.proofs.Order.{before_hour, same_hour}
-use Rattle.aq_shelf.proofs.RowLemmas.{row_at-none, without_row-none, all_later}
+use Rattle.aq_rules.proofs.RisingRows.{row_at-none, without_row-none, all_later}
 
 -- ---- numbers and their tests
 

@@ -1,6 +1,5 @@
--- Lemmas on the order of keys, on rows, on stretches, on hours and on the whole shelf.
+-- Lemmas on the order of keys, on stretches, on hours and on the whole shelf.
 pub mod Order
-pub mod RowLemmas
 pub mod HourLemmas
 pub mod StretchLemmas
 pub mod ShelfLemmas

@@ -133,6 +133,11 @@ same_rank a b =
     regroup (a.monitor.site.state == b.monitor.site.state) (a.monitor.site.county == b.monitor.site.county) (a.monitor.site.number == b.monitor.site.number) (pollutant_number a.monitor.pollutant == pollutant_number b.monitor.pollutant) (a.monitor.poc == b.monitor.poc) (a.hour == b.hour)
     ∙ ap (λ p. is_same_site a.monitor.site b.monitor.site && p && (a.monitor.poc == b.monitor.poc) && (a.hour == b.hour)) (same_pollutant_number a.monitor.pollutant b.monitor.pollutant)
 
+-- by their ranks, as in the order that the code derives
+pub same_rank-cmp : (a b : ObsKey) → is_same (observation_numbers a) (observation_numbers b) ≡ is_eq (key_cmp a b)
+same_rank-cmp a b =
+    same_rank a b ∙ sym (is_eq-then (monitor_cmp a.monitor b.monitor) (nat_cmp a.hour b.hour) _ _ (is_eq-monitor_cmp a.monitor b.monitor) (is_eq-nat_cmp a.hour b.hour))
+
 -- ---- which key comes first
 
 is_lt-then : (o p : Ordering) → (is_lt o || (is_eq o && is_lt p)) ≡ is_lt (ordering_then o p)
@@ -174,7 +179,7 @@ group_six Equal Equal Greater p q h = refl
 group_six Equal Greater n p q h = refl
 group_six Greater c n p q h = refl
 
-before_rank : (a b : ObsKey) → comes_before (observation_numbers a) (observation_numbers b) ≡ is_lt (key_cmp a b)
+pub before_rank : (a b : ObsKey) → comes_before (observation_numbers a) (observation_numbers b) ≡ is_lt (key_cmp a b)
 before_rank a b =
     let site = ordering_then (nat_cmp a.monitor.site.state b.monitor.site.state) (ordering_then (nat_cmp a.monitor.site.county b.monitor.site.county) (nat_cmp a.monitor.site.number b.monitor.site.number)) in
     first_decides a.monitor.site.state b.monitor.site.state _ _

@@ -16,7 +16,8 @@ use Rattle.aq_shelf.specs.declared.fault.ShelfFault.{ShelfFault}
 use Rattle.aq_shelf.specs.declared.fault.ShelfFault.TheVariants.{AlreadyThere, Full, Memory}
 use Rattle.aq_shelf.specs.Standing.{ChangesOnly, content_at, hour_content, in_span, observations_in, IsInsertFault, IsPutFault, IsShelf, IsStanding}
 use Rattle.aq_shelf.proofs.Order.{same_rank}
-use Rattle.aq_shelf.proofs.RowLemmas.{row_at-with_row, row_at-without_row, length-with_row-new, length-with_row-there, length-without_row, all-with_row, all-without_row}
+use Rattle.aq_rules.proofs.Lookups.{found-with, found-without}
+use Rattle.aq_rules.proofs.RisingRows.{length-with_row-new, length-with_row-there, length-without_row, all-with_row, all-without_row}
 
 abbrev Rows : Type 0
 Rows = List (ObsKey × Observation)
@@ -125,13 +126,13 @@ nothing_under false found = refl
 
 pub ChangesOnly-put : (key : ObsKey) (content : Observation) (rows : Rows) → ChangesOnly key (Some content) rows (with_row observation_rank (key, content) rows)
 ChangesOnly-put key content rows other =
-    ap (option_map content_of) (row_at-with_row observation_rank (observation_numbers other) (key, content) rows)
+    ap (option_map content_of) (found-with observation_rank (observation_numbers other) (key, content) rows)
     ∙ content_under (is_same (observation_numbers key) (observation_numbers other)) (key, content) (row_at observation_rank (observation_numbers other) rows)
     ∙ ap (λ b. cond b (Some content) (content_at other rows)) (same_rank key other)
 
 pub ChangesOnly-drop : (key : ObsKey) (rows : Rows) → ChangesOnly key None rows (without_row observation_rank (observation_numbers key) rows)
 ChangesOnly-drop key rows other =
-    ap (option_map content_of) (row_at-without_row observation_rank (observation_numbers other) (observation_numbers key) rows)
+    ap (option_map content_of) (found-without observation_rank (observation_numbers other) (observation_numbers key) rows)
     ∙ nothing_under (is_same (observation_numbers key) (observation_numbers other)) (row_at observation_rank (observation_numbers other) rows)
     ∙ ap (λ b. cond b None (content_at other rows)) (same_rank key other)
 

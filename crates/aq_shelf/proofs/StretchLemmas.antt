@@ -25,7 +25,7 @@ use Rattle.aq_shelf.specs.declared.stretch.Stretch.{Stretch}
 use Rattle.aq_shelf.specs.Standing.{content_at, in_span, hour_content, observations_in}
 use Rattle.aq_shelf.specs.Stretches.{stretch_of, rows_of, rows_in, rows_under, joined, LieIn, AreStretches, between, hours_between}
 use Rattle.aq_shelf.proofs.Order.{stretch_cmp, stretch_total, monitor_cmp, one_stretch, earlier_stretch, is_eq-monitor_cmp}
-use Rattle.aq_shelf.proofs.RowLemmas.{with_row-past, with_row-before, without_row-past, without_row-before, row_at-none, row_at-past, row_at-before, others-before, others-behind, all-with_row, all-without_row}
+use Rattle.aq_rules.proofs.RisingRows.{with_row-past, with_row-before, without_row-past, without_row-before, row_at-none, row_at-past, row_at-before, others-before, others-after, all-with_row, all-without_row}
 
 abbrev Rows : Type 0
 Rows = List (ObsKey × Observation)
@@ -130,7 +130,7 @@ row_at-joined key (s ∷ ss) apart falls =
           row_at-past observation_rank numbers (joined ss) (rows_in s) (others-before observation_rank numbers (joined ss) (joined_before key ss apart.1 (rest_earlier key s ss falls same)))
           ∙ ap (λ (k : Stretch). find (rows_of k.monitor s.1)) (one_stretch s.0.0 (stretch_of key) same)
       | Greater ↦ λ later.
-          row_at-before observation_rank numbers (joined ss) (rows_in s) (others-behind observation_rank numbers (rows_in s) (lie_behind key s.0.0 (rows_in s) apart.0 (later_from s.0.0 (stretch_of key) later)))
+          row_at-before observation_rank numbers (joined ss) (rows_in s) (others-after observation_rank numbers (rows_in s) (lie_behind key s.0.0 (rows_in s) apart.0 (later_from s.0.0 (stretch_of key) later)))
           ∙ row_at-joined key ss apart.1 (rest_falls key s ss falls)
     ]
     in
@@ -161,7 +161,7 @@ changes-put key content = record {
 pub changes-drop : (key : ObsKey) → ChangesAt key (without_row observation_rank (observation_numbers key))
 changes-drop key = record {
   past = λ es fs all. without_row-past observation_rank (observation_numbers key) es fs (others-before observation_rank (observation_numbers key) es all);
-  before = λ es fs all. without_row-before observation_rank (observation_numbers key) es fs (others-behind observation_rank (observation_numbers key) fs all);
+  before = λ es fs all. without_row-before observation_rank (observation_numbers key) es fs (others-after observation_rank (observation_numbers key) fs all);
   lie = λ rows lie. all-without_row observation_rank (λ (row : ObsKey × Observation). stretch_of row.0 ≡ stretch_of key) (observation_numbers key) rows lie;
   rise = λ rows rising. without_row-rises observation_rank (observation_numbers key) rows rising;
 }
