@@ -6,7 +6,7 @@ use Rattle.std.proofs.lemmas.Bool.{and_from, and_parts}
 use Rattle.aq_base.specs.Site.{Site}
 use Rattle.aq_base.specs.declared.monitor.Pollutant.{Pollutant}
 use Rattle.aq_base.specs.declared.office.OfficeRecord.{OfficeRecord}
-use Rattle.aq_base.specs.declared.office.OfficeRecord.TheVariants.{Monitor, Primary, Schedule, Season, Makeup, Event, Concurrence, Approved}
+use Rattle.aq_base.specs.declared.office.OfficeRecord.TheVariants.{Monitor, Primary, Schedule, Season, Makeup, Event, Concurrence, Approved, Combined}
 use Rattle.aq_rules.specs.Office.Monitors.{is_same_site, is_same_pollutant}
 use Rattle.aq_rules.specs.Office.Office.{Office, comes_before, record_rank, rises_from, rises}
 use Rattle.aq_rules.specs.Office.RowOrder.{before-trans}
@@ -45,6 +45,7 @@ module _ (site : Site) (pollutant : Pollutant) where
       by_test false is = cc
   ranked-event (Concurrence n agreed) number is = cc
   ranked-event (Approved other day) number is = cc
+  ranked-event (Combined other other_pollutant from joined) number is = cc
 
   events-up : (key : List ℕ) (rows : List OfficeRecord) → up record_rank key rows ≡ true → up event_rank key (filter_map (event_at site pollutant) rows) ≡ true
   events-up key [] rising = refl

@@ -20,7 +20,7 @@ use Rattle.aq_base.specs.declared.monitor.Pollutant.TheVariants.{Ozone, Pm25, Pm
 use Rattle.aq_base.specs.declared.observation.ObsKey.{ObsKey}
 use Rattle.aq_base.specs.declared.observation.Observation.{Observation}
 use Rattle.aq_base.specs.declared.office.OfficeRecord.{OfficeRecord}
-use Rattle.aq_base.specs.declared.office.OfficeRecord.TheVariants.{Monitor, Primary, Schedule, Season, Makeup, Event, Concurrence, Approved}
+use Rattle.aq_base.specs.declared.office.OfficeRecord.TheVariants.{Monitor, Primary, Schedule, Season, Makeup, Event, Concurrence, Approved, Combined}
 use Rattle.aq_base.specs.declared.office.OfficeKey.TheVariants.{Monitor as MonitorKey}
 use Rattle.aq_rules.specs.Lines.Spellings.{◌>>=◌, is_code_byte}
 use Rattle.aq_rules.specs.Lines.Canonical.{parameter_text, value_text, code_text}
@@ -149,6 +149,7 @@ monitor-poc id (Some (Makeup site missed makeup)) hour found kept = cc
 monitor-poc id (Some (Event number site pollutant first last code)) hour found kept = cc
 monitor-poc id (Some (Concurrence number agreed)) hour found kept = cc
 monitor-poc id (Some (Approved site day)) hour found kept = cc
+monitor-poc id (Some (Combined site pollutant from joined)) hour found kept = cc
 
 -- ---- rows
 
