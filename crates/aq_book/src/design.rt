@@ -22,6 +22,8 @@ use std::sync::ledger::Ledger;
 /// The annual levels of PM2.5, in tenths of a µg/m3.
 const ANNUAL_LEVEL: i32 = 120;
 
+const LEVEL_OF_2024: i32 = 90;
+
 const SECONDARY_LEVEL: i32 = 150;
 
 impl Book {
@@ -63,6 +65,7 @@ impl Book {
         match standard {
             Standard::Ozone2015 => self.ozone_value(site, year, steps),
             Standard::Annual2012 => self.annual_value(ANNUAL_LEVEL, site, year, steps),
+            Standard::Annual2024 => self.annual_value(LEVEL_OF_2024, site, year, steps),
             Standard::AnnualSecondary => self.annual_value(SECONDARY_LEVEL, site, year, steps),
             Standard::Daily2006 => self.daily_value(site, year, steps),
             Standard::Pm10Of1987 => self.pm10_value(site, year, steps),

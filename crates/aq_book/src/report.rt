@@ -58,7 +58,10 @@ fn pollutant_of(standard: Standard) -> Pollutant
 {
     match standard {
         Standard::Ozone2015 => Pollutant::Ozone,
-        Standard::Annual2012 | Standard::AnnualSecondary | Standard::Daily2006 => Pollutant::Pm25,
+        Standard::Annual2012
+        | Standard::AnnualSecondary
+        | Standard::Annual2024
+        | Standard::Daily2006 => Pollutant::Pm25,
         Standard::Pm10Of1987 => Pollutant::Pm10,
     }
 }

@@ -77,7 +77,7 @@ fn quarter_in(year: u16, part: u8) -> Quarter
     requires part { part < 4 }
     ensures { result ≡ quarter_number year part }
 {
-    Quarter::new(4 * (year - FIRST_YEAR) as u8 + part)
+    Quarter::new(4 * (year - FIRST_YEAR) + u16::from(part))
 }
 
 /// What a day of a quarter gives it.

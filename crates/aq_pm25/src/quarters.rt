@@ -66,7 +66,7 @@ fn quarter_in(year: u16, part: u8) -> Quarter
     requires part { part < 4 }
     ensures { result ≡ quarter_number year part }
 {
-    Quarter::new(4 * (year - FIRST_YEAR) as u8 + part)
+    Quarter::new(4 * (year - FIRST_YEAR) + u16::from(part))
 }
 
 /// A quarter, and the eight greatest values of it and of those before it in its year.

@@ -139,7 +139,10 @@ pub(crate) fn design_cell(standard: Standard, value: Option<i32>) -> SheetCell
 {
     match standard {
         Standard::Ozone2015 => SheetCell::ppm(value),
-        Standard::Annual2012 | Standard::AnnualSecondary | Standard::Pm10Of1987 => {
+        Standard::Annual2012
+        | Standard::AnnualSecondary
+        | Standard::Annual2024
+        | Standard::Pm10Of1987 => {
             SheetCell::tenths(value)
         }
         Standard::Daily2006 => SheetCell::whole(value),
