@@ -9,8 +9,8 @@ pub struct Case {
     /// The rows that the keeper has before the first run.
     pub rows: Vec<u8>,
     pub failing_keeper: Vec<u64>,
-    /// Calls of single functions, each with its answer.
-    pub calls: Vec<u8>,
+    /// Calls of single functions, each with its answer, a line for each.
+    pub calls: String,
     pub runs: Vec<Run>,
 }
 

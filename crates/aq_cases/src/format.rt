@@ -18,7 +18,8 @@
 //! - `rows`, a block: the rows that the keeper has before the first run, as `rows` says in its module.
 //! - `keeper fails at NUMBERS`: these calls of the keeper fail, counted from 1. Comparing its rows behind a
 //!   run is a call too.
-//! - `calls`, a block: calls of single functions, each with its answer, as `calls` says in its module.
+//! - `calls`, a block: calls of single functions, `NAME ARGUMENTS => ANSWER`, by the names of `answers`. Its
+//!   lines stand for themselves alone.
 //! - `run WORDS`: the program's words, with one space between them.
 //! - `input`, a block: what stands on the input. `input again` is that of the run before, and these lines.
 //! - `connection`, a block: what comes on the next connection of the door.
@@ -27,8 +28,8 @@
 //!   on the connection above. `tables`, a block: the rows that the keeper has to have behind the run. A word
 //!   behind them says less: that it `starts` or `ends` so, that it `has` each of these lines, `lacks` all of
 //!   them, or `contains` each of them somewhere. What a run does not speak of is not compared.
-//! - `input`, `output`, `errors`, `door` or `transfers`, with `fails at NUMBERS`: these calls fail. Of the
-//!   door `listen` and `accept` are counted, and of the transfers `read` and `write`.
+//! - `input`, `output`, `errors`, `door` or `transfer`, with `fails at NUMBERS`: these calls fail. Of the
+//!   door `listen` and `accept` are counted, and of a transfer `read` and `write`.
 //! - `output`, `errors` or `connection`, with `has room for NUMBER`: so many bytes can be written there.
 //!
 //! A line of a block ends with LF unless a backslash ends it. `\r`, `\n`, `\t` and `\\` are CR, LF, a tab and a
@@ -139,7 +140,11 @@ impl Reader {
         match self.block {
             Block::None => Err(Trouble::Wrong("it belongs to no block")),
             Block::Rows => write_block_line(alloc, line, &mut case.rows),
-            Block::Calls => write_block_line(alloc, line, &mut case.calls),
+            Block::Calls => {
+                case.calls.push_str(line)?;
+                case.calls.push_str("\n")?;
+                Ok(())
+            }
             Block::Input | Block::Connection | Block::Wanted => match case.runs.last_mut() {
                 Some(run) => take_in_run(alloc, run, self.block, line),
                 None => Err(Trouble::Wrong("it stands before the first run")),
@@ -169,7 +174,7 @@ fn new_case(alloc: Global, name: &str) -> Result<Case, Memory> {
         wrong: None,
         rows: Vec::new(alloc),
         failing_keeper: Vec::new(alloc),
-        calls: Vec::new(alloc),
+        calls: String::new(alloc),
         runs: Vec::new(alloc),
     })
 }
@@ -288,7 +293,7 @@ fn set_failing(failing: &mut Failing, word: &str, numbers: Vec<u64>) -> Result<(
         "output" => failing.output = numbers,
         "errors" => failing.errors = numbers,
         "door" => failing.accepts = numbers,
-        "transfers" => failing.transfers = numbers,
+        "transfer" => failing.transfers = numbers,
         _ => return Err(UNKNOWN),
     }
     Ok(())

@@ -6,6 +6,7 @@
 //! a case differs.
 #![tactic(auto)]
 
+mod answers;
 mod blocks;
 mod calls;
 mod case;

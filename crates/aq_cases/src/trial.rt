@@ -37,7 +37,7 @@ pub fn try_case(alloc: Global, case: Case) -> Result<Option<String>, Memory> {
     if calls.is_empty() && runs.is_empty() {
         return said(alloc, "it says nothing");
     }
-    if let Some(found) = try_calls(alloc, &calls)? {
+    if let Some(found) = try_calls(alloc, calls.as_str())? {
         return Ok(Some(found));
     }
     match read_rows(alloc, &rows) {
