@@ -3,7 +3,7 @@
 ghost use Rattle.std.specs.Prelude.{◌≤◌};
 
 use crate::dates::{day_in, day_name};
-use crate::spelling::write_line;
+use crate::spelling::{spelling_of, write_line};
 use crate::trouble::Trouble;
 use aq_base::{FIRST_YEAR, LAST_YEAR, MOST_BYTES, OfficeLine, Rule};
 use aq_cal::{quarter_of, quarter_span, write_day, year_span};
@@ -53,9 +53,9 @@ fn text(alloc: Global, text: &str) -> Result<String, Trouble> {
     Ok(String::from_str(alloc, text)?)
 }
 
-/// A text of ASCII characters.
-fn ascii(alloc: Global, bytes: &[u8]) -> Result<String, Trouble> {
-    Ok(String::from_utf8_lossy(alloc, bytes)?)
+/// Bytes as a case spells them.
+fn shown(alloc: Global, bytes: &[u8]) -> Result<String, Trouble> {
+    Ok(spelling_of(alloc, bytes)?)
 }
 
 /// The bytes that a text spells.
@@ -124,7 +124,7 @@ fn line(alloc: Global, arguments: &str) -> Result<String, Trouble> {
         return text(alloc, rule.name());
     }
     match read_any(alloc, &bytes)? {
-        Ok(canonical) => ascii(alloc, &canonical),
+        Ok(canonical) => shown(alloc, &canonical),
         Err(rule) => text(alloc, rule.name()),
     }
 }
@@ -152,7 +152,7 @@ fn key(alloc: Global, arguments: &str) -> Result<String, Trouble> {
         return Err(NOT_SO);
     }
     match read_office(line) {
-        Ok(OfficeLine::Drop(key)) => ascii(alloc, &print_key(alloc, &key)?),
+        Ok(OfficeLine::Drop(key)) => shown(alloc, &print_key(alloc, &key)?),
         _ => Err(NOT_SO),
     }
 }
@@ -163,12 +163,12 @@ fn body(alloc: Global, arguments: &str) -> Result<String, Trouble> {
     if bytes.len() > MOST_BYTES {
         return Err(NOT_SO);
     }
-    let mut shown = format!(in alloc; "{} ", count_lines(&bytes))?;
+    let mut all = format!(in alloc; "{}", count_lines(&bytes))?;
     for line in lines_of(&bytes) {
-        let text = String::from_utf8_lossy(alloc, line.text)?;
-        shown.push_str(format!(in alloc; "{}:{text}|", line.number)?.as_str())?;
+        let text = shown(alloc, line.text)?;
+        all.push_str(format!(in alloc; " {}:{text}|", line.number)?.as_str())?;
     }
-    Ok(shown)
+    Ok(all)
 }
 
 /// The first number of a text and what stands behind it.
@@ -213,7 +213,7 @@ fn line_at(alloc: Global, body: &[u8], place: i128) -> Result<String, Trouble> {
     let mut number = 0i128;
     for line in body.split(|byte| *byte == b'\n') {
         if number == place {
-            return ascii(alloc, line);
+            return shown(alloc, line);
         }
         number = number.saturating_add(1);
     }
@@ -246,7 +246,7 @@ fn fixed(alloc: Global, arguments: &str) -> Result<String, Trouble> {
     }
     let mut out = Vec::new(alloc);
     write_fixed(&mut out, value, places as u8)?;
-    ascii(alloc, &out)
+    shown(alloc, &out)
 }
 
 /// `A B`: the quotient, cut toward zero.
@@ -290,7 +290,7 @@ fn day(alloc: Global, arguments: &str) -> Result<String, Trouble> {
     };
     let mut written = Vec::new(alloc);
     write_day(&mut written, day)?;
-    let written = ascii(alloc, &written)?;
+    let written = shown(alloc, &written)?;
     Ok(format!(in alloc; "{} {written}", day.number())?)
 }
 

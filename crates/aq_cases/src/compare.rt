@@ -1,5 +1,6 @@
 //! Texts that are compared, and the first difference told.
 use crate::case::Extent;
+use crate::spelling::spelling_of;
 use aq_base::Memory;
 use memchr::memmem;
 use std::alloc::Global;
@@ -106,7 +107,7 @@ fn told(alloc: Global, what: &str, wanted: &[u8], found: &[u8]) -> Result<Option
 /// The first bytes of a text, for a message.
 fn shown(alloc: Global, text: &[u8]) -> Result<String, Memory> {
     let front = &text[..text.len().min(MOST_SHOWN)];
-    Ok(String::from_utf8_lossy(alloc, front)?)
+    spelling_of(alloc, front)
 }
 
 /// So many bytes of a text are shown.

@@ -1,5 +1,7 @@
 //! How bytes that a line cannot hold are spelled.
 use crate::trouble::Trouble;
+use aq_base::Memory;
+use std::alloc::Global;
 
 /// What stands before the next byte.
 #[derive(Clone, Copy)]
@@ -67,4 +69,20 @@ fn hex_digit(byte: u8) -> Result<u8, Trouble> {
         b'a'..=b'f' => Ok(byte - b'a' + 10),
         _ => Err(Trouble::Wrong("no hex digit")),
     }
+}
+
+/// Bytes as they are spelled in a line, without its end.
+pub fn spelling_of(alloc: Global, bytes: &[u8]) -> Result<String, Memory> {
+    let mut text = String::new(alloc);
+    for byte in bytes {
+        match *byte {
+            b'\r' => text.push_str("\\r")?,
+            b'\n' => text.push_str("\\n")?,
+            b'\t' => text.push_str("\\t")?,
+            b'\\' => text.push_str("\\\\")?,
+            b' '..=b'~' => text.push(char::from(*byte))?,
+            other => text.push_str(format!(in alloc; "\\x{other:02x}")?.as_str())?,
+        }
+    }
+    Ok(text)
 }
