@@ -44,6 +44,3 @@ pub use rule::Rule;
 pub use site::SiteId;
 pub use standard::{Standard, Verdict};
 pub use steps::Steps;
-
-#[cfg(test)]
-mod tests;

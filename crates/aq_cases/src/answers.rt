@@ -7,6 +7,7 @@ use crate::spelling::{spelling_of, write_line};
 use crate::trouble::Trouble;
 use aq_base::{FIRST_YEAR, LAST_YEAR, MOST_BYTES, OfficeLine, Rule};
 use aq_cal::{quarter_of, quarter_span, write_day, year_span};
+use aq_desk::{MemorySink, end_without_memory};
 use aq_forms::{count_lines, lines_of, print_key, print_office, read_office};
 use aq_generator::generate;
 use aq_http::{Routes, Step, Verb, next_request};
@@ -43,6 +44,7 @@ fn number_answer(alloc: Global, name: &str, arguments: &str) -> Result<String, T
         "quarter" => quarter(alloc, arguments),
         "year" => year(alloc, arguments),
         "keys_rise" => keys_rise(alloc, arguments),
+        "without_memory" => without_memory(alloc),
         _ => Err(Trouble::Wrong("there is no such call")),
     }
 }
@@ -329,4 +331,12 @@ fn keys_rise(alloc: Global, arguments: &str) -> Result<String, Trouble> {
     ];
     let rise = do_keys_rise(&batch);
     Ok(format!(in alloc; "{rise}")?)
+}
+
+/// How the program ends where its words had no memory: the status, and what is told.
+fn without_memory(alloc: Global) -> Result<String, Trouble> {
+    let mut errors = MemorySink::new(alloc, 1_000, Vec::new(alloc))?;
+    let status = end_without_memory(&mut errors);
+    let told = shown(alloc, errors.written())?;
+    Ok(format!(in alloc; "{status} {told}")?)
 }
