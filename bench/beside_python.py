@@ -35,8 +35,8 @@ def days_in(year):
 
 def made_up(monitors):
     """For each monitor the list of its hourly values, in the unit of the pollutant. Hours are counted from
-    2000 on."""
-    first = 24 * sum(days_in(year) for year in range(2000, YEARS[0]))
+    1990 on."""
+    first = 24 * sum(days_in(year) for year in range(1990, YEARS[0]))
     hours = range(first, first + 24 * sum(days_in(year) for year in YEARS))
     return [
         [20 + hour // 24 * 7 % 30 + (hour * 37 + poc * 11) % 31 for hour in hours]

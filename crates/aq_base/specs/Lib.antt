@@ -8,4 +8,10 @@ pub mod Standard
 pub mod Text
 pub mod Values
 pub mod Places
+pub mod Padded
+pub mod Assuming
+pub mod AssumedPlaces
+pub mod Sites
+pub mod SitePlaces
+pub mod Areas
 pub mod Faults

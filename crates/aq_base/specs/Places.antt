@@ -1,48 +1,30 @@
--- The places in which qualifier codes are kept, and the list that they hold.
-use Rattle.std.proofs.Common.{◌≡◌, ℕ, suc, ◌+◌, ◌-◌, ◌<◌, ◌≤◌, Bool, true, false, not, ◌&&◌, ◌||◌, List, [], ◌∷◌, ◌++◌, length, take, set, replicate, refl, sym, ap, ◌∙◌, arith, rules}
-use Rattle.std.proofs.lemmas.List.{length-append, length-replicate, length-take, take_more_set}
-use Rattle.std.proofs.lemmas.Grind.{common_steps}
-use Rattle.std.proofs.Math.Seq.{set-append_seam}
+-- Lemmas, no definition: the places in which qualifier codes are kept, and the list that they hold.
+use Rattle.std.proofs.Common.{◌≡◌, ℕ, ◌+◌, ◌<◌, ◌≤◌, Bool, true, false, not, ◌&&◌, ◌||◌, List, [], ◌∷◌, ◌++◌, length, take, set, refl, sym, ◌∙◌, arith}
+use Rattle.std.proofs.lemmas.List.{length-append}
 use Rattle.std.proofs.lemmas.List.Folds.{list_any-append}
 use Rattle.std.proofs.lemmas.Bool.{false≢true}
 use Rattle.std.proofs.lemmas.Bool.Decides.{nat_tests}
 use Rattle.std.proofs.Math.Bool.{or-false, and-true}
 use Rattle.aq_base.specs.declared.code.Code.{Code}
 use Rattle.aq_base.specs.declared.quals.Quals.TheInside.{Inside}
+use Rattle.aq_base.specs.Padded.{length-held, take-push as take_more, Holds-push}
 use Rattle.aq_base.specs.Quals.{HoldsCodes, padded, blank, all_distinct, has_code, is_same_code, with_code}
-
--- as many codes are held as the count says
-pub length-held : (places : List Code) (count : ℕ) → HoldsCodes places count → length (take count places) ≡ count
-length-held places count holds =
-    let all : length places ≡ length (take count places) + (10 - length (take count places)) =
-    ap length holds.rest ∙ length-append (take count places) (replicate (10 - length (take count places)) blank)
-    ∙ ap (λ n. length (take count places) + n) (length-replicate (10 - length (take count places)) blank)
-    in
-    let few : count ≤ 10 = holds.few in
-    omega (arith, length-take count places, all, few)
 
 -- the list that is held gives the places and the count back
 pub padded-take : (places : List Code) (count : ℕ) → HoldsCodes places count
     → (let inside : Inside = record { places = padded (take count places); count = length (take count places) } in inside) ≡ record { places = places; count = count }
 padded-take places count holds =
-    let same : padded (take count places) ≡ places = sym holds.rest in
-    let many = length-held places count holds in
+    let same : padded (take count places) ≡ places = sym holds.held.rest in
+    let many : length (take count places) ≡ count = length-held 10 blank places count holds.held in
     cc
 
--- a code written behind the last one
-pub set-padded : (codes : List Code) (code : Code) → length codes < 10 → set (padded codes) (length codes) code ≡ padded (codes ++ code ∷ [])
-set-padded codes code room =
-    let spare : 10 - length codes ≡ suc (9 - length codes) = omega arith in
-    let left : 10 - length (codes ++ code ∷ []) ≡ 9 - length codes = omega (arith, length-append codes (code ∷ [])) in
-    rw (spare, left, set-append_seam) (search (rules, common_steps))
-
 -- the parts of two tests that must hold
-both : (a b : Bool) → (a && b) ≡ true → (a ≡ true) × (b ≡ true)
+pub both : (a b : Bool) → (a && b) ≡ true → (a ≡ true) × (b ≡ true)
 both true b h = (refl, h)
 both false b h = absurd (false≢true h)
 
 -- and of two of which neither does
-neither : (a b : Bool) → (a || b) ≡ false → (a ≡ false) × (b ≡ false)
+pub neither : (a b : Bool) → (a || b) ≡ false → (a ≡ false) × (b ≡ false)
 neither true b h = absurd (false≢true (sym h))
 neither false b h = (refl, h)
 
@@ -61,29 +43,18 @@ all_distinct-push (first ∷ codes) code distinct absent =
 
 -- one more code is held after it is written behind the others
 pub take-push : (places : List Code) (count : ℕ) (code : Code) → HoldsCodes places count → count < 10 → take (count + 1) (set places count code) ≡ take count places ++ code ∷ []
-take-push places count code holds room =
-    let all : length places ≡ length (padded (take count places)) = ap length holds.rest in
-    let held = length-held places count holds in
-    take_more_set places count code (omega (arith, all, held, length-append (take count places) (replicate (10 - length (take count places)) blank), length-replicate (10 - length (take count places)) blank))
+take-push places count code holds room = take_more 10 blank places count code holds.held room
 
 pub HoldsCodes-push : (places : List Code) (count : ℕ) (code : Code) → HoldsCodes places count → has_code code (take count places) ≡ false → count < 10 → HoldsCodes (set places count code) (count + 1)
 HoldsCodes-push places count code holds absent room =
-    let held = length-held places count holds in
-    let now = take-push places count code holds room in
-    let written : set (padded (take count places)) (length (take count places)) code ≡ padded (take count places ++ code ∷ []) =
-    set-padded (take count places) code (rw held room)
-    in
     let distinct : all_distinct (take count places) ≡ true = holds.distinct in
     record {
-      few = omega arith;
-      rest =
-          ap (λ n. set places n code) (sym held)
-          ∙ ap (λ p. set p (length (take count places)) code) holds.rest ∙ written ∙ ap padded (sym now);
-      distinct = rw now (all_distinct-push (take count places) code distinct absent);
+      held = Holds-push 10 blank places count code holds.held room;
+      distinct = rw (take-push places count code holds room) (all_distinct-push (take count places) code distinct absent);
     }
 
 -- the room for a code that is not there
 pub room-from_with_code : (places : List Code) (count : ℕ) (code : Code) → HoldsCodes places count → has_code code (take count places) ≡ false → length (with_code (take count places) code) ≤ 10 → count < 10
 room-from_with_code places count code holds absent few =
     let more : length (take count places ++ code ∷ []) ≤ 10 = rw absent at few in
-    omega (arith, more, length-append (take count places) (code ∷ []), length-held places count holds)
+    omega (arith, more, length-append (take count places) (code ∷ []), length-held 10 blank places count holds.held)

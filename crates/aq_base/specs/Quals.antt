@@ -1,6 +1,7 @@
 -- The qualifier codes of an observation: a list of at most ten codes, none twice, in the order of the line.
-use Rattle.std.specs.Prelude.{◌≡◌, ℕ, ◌-◌, ◌≤◌, Bool, true, not, ◌&&◌, ◌==◌, if◌then◌else◌, IsTrue, List, [], ◌∷◌, ◌++◌, length, take, replicate}
+use Rattle.std.specs.Prelude.{ℕ, Bool, true, not, ◌&&◌, ◌==◌, if◌then◌else◌, IsTrue, List, [], ◌∷◌, ◌++◌, take}
 use Rattle.std.specs.List.{list_any}
+use Rattle.aq_base.specs.Padded.{Holds, padded_to}
 use Rattle.aq_base.specs.declared.code.Code.{Code}
 use Rattle.aq_base.specs.declared.quals.TheConstants.{MOST_QUALIFIERS}
 
@@ -23,10 +24,9 @@ abbrev pub blank : Code
 blank = record { first = 0; second = 0 }
 
 abbrev pub padded : List Code → List Code
-padded codes = codes ++ replicate (MOST_QUALIFIERS - length codes) blank
+padded codes = padded_to MOST_QUALIFIERS blank codes
 
 -- the first `count` places hold distinct codes, and the others the blank
 pub record HoldsCodes (places : List Code) (count : ℕ) : Type 0 where
-  pub few : count ≤ MOST_QUALIFIERS
-  pub rest : places ≡ padded (take count places)
+  pub held : Holds MOST_QUALIFIERS blank places count
   pub distinct : IsTrue (all_distinct (take count places))

@@ -4,7 +4,7 @@ use Rattle.aq_base.specs.declared.monitor.Pollutant.{Pollutant}
 use Rattle.aq_base.specs.declared.monitor.Pollutant.TheVariants.{Ozone, Pm25, Pm10}
 use Rattle.aq_base.specs.declared.observation.Observation.{Observation}
 
--- -0.999 ppm of ozone, and -99.9 µg/m3 of PM
+-- -0.999 ppm of ozone, and -99.9 µg/m3 of PM: `negsuc n` is -(n + 1), so `negsuc 998` is -999
 abbrev pub least_value : ℤ
 least_value = negsuc 998
 

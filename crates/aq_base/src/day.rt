@@ -1,7 +1,7 @@
 //! Days, hours and quarters of the profile, by their numbers. All hours are local standard time.
-ghost use Rattle.std.specs.Prelude.{◌≡◌, ℕ, ◌+◌, ◌*◌, ◌<◌, ◌≤◌};
+ghost use Rattle.std.specs.Prelude.{◌≡◌, ℕ, ◌+◌, ◌-◌, ◌*◌, ◌<◌, ◌≤◌};
 ghost use Rattle.aq_base.specs.Calendar.{days_of_years, years};
-ghost use Rattle.aq_base.specs.declared.day.TheConstants.{LAST_DAY, LAST_HOUR, QUARTERS};
+ghost use Rattle.aq_base.specs.declared.day.TheConstants.{FIRST_YEAR, HOURS_BEFORE_2000, LAST_DAY, LAST_HOUR, QUARTERS};
 
 use std::marker::Model;
 
@@ -19,6 +19,10 @@ pub const LAST_DAY: u16 = 365 * (LAST_YEAR + 1 - FIRST_YEAR) + LAST_YEAR / 4
 /// The number of the profile's last hour.
 pub const LAST_HOUR: u32 = 24 * LAST_DAY as u32 + 23;
 
+/// The hours of the profile before 2000-01-01 00:00. Rows of observations count their hours from there,
+/// as they did when the profile began in 2000, so an hour before it is negative in them (own).
+pub const HOURS_BEFORE_2000: u32 = 87_648;
+
 /// How many calendar quarters the profile has.
 pub const QUARTERS: u16 = 4 * (LAST_YEAR + 1 - FIRST_YEAR);
 
@@ -27,11 +31,12 @@ pub const QUARTERS: u16 = 4 * (LAST_YEAR + 1 - FIRST_YEAR);
 pub fn last_numbers_are_those_of_the_years()
     ensures day { LAST_DAY + 1 ≡ days_of_years years }
     ensures hour { LAST_HOUR + 1 ≡ 24 * (LAST_DAY + 1) }
+    ensures stored { HOURS_BEFORE_2000 ≡ 24 * days_of_years (2000 - FIRST_YEAR) }
     ensures quarters { QUARTERS ≡ 4 * years }
 {}
 
 /// A day of the profile, by the number of days since its first. Contracts see the number.
-#[derive(Clone, Copy, Debug, PartialEq, Eq, PartialOrd, Ord, Hash)]
+#[derive(Clone, Copy, Debug, PartialEq, Eq, PartialOrd, Ord)]
 pub struct Day {
     number: u16,
 }
@@ -66,7 +71,7 @@ impl Day {
 
 /// An hour of the profile, which starts at a full hour, by the number of hours since the profile's
 /// first. Contracts see the number.
-#[derive(Clone, Copy, Debug, PartialEq, Eq, PartialOrd, Ord, Hash)]
+#[derive(Clone, Copy, Debug, PartialEq, Eq, PartialOrd, Ord)]
 pub struct Hour {
     number: u32,
 }
@@ -101,7 +106,7 @@ impl Hour {
 
 /// A calendar quarter of the profile, by the number of quarters since its first. Contracts see the
 /// number.
-#[derive(Clone, Copy, Debug, PartialEq, Eq, PartialOrd, Ord, Hash)]
+#[derive(Clone, Copy, Debug, PartialEq, Eq, PartialOrd, Ord)]
 pub struct Quarter {
     number: u16,
 }

@@ -1,15 +1,18 @@
 //! The types of the field: sites, monitors, days and hours, observations, office records, rules and
 //! replies, and the limits of what is taken and kept.
 //!
-//! A `SiteId`, `Day`, `Hour`, `Quarter` or `Quals` is in its range, always. The open types (`MonitorId`,
-//! `Observation`, the office records, keys and lines, `Ask`) keep the ranges of their parts alone. They
-//! do not keep that a POC is 1 to 99 (0 in a designation of no monitor), an interval 1, 2, 3 or 6, a year
-//! one of the profile, an event's number 1 to 999,999, a season in its year, or that an observation has
-//! exactly one of a value and a null code: readers of lines and rows give such values alone, and calls
-//! that need it say so.
+//! A `SiteId`, `Day`, `Hour`, `Quarter`, `Quals`, `SiteList` or `AssumedList` is in its range, always. The
+//! open types (`MonitorId`, `Observation`, the office records, keys and lines, `Ask`, `Area`, `Assumed`,
+//! `DecisiveEvent`) keep the ranges of their parts alone. They do not keep that a POC is 1 to 99 (0 in a
+//! designation of no monitor), an interval 1, 2, 3 or 6, a year one of the profile, an event's number 1
+//! to 999,999, a season in its year, an area's state and county of two and three digits, or that an
+//! observation has exactly one of a value and a null code: readers of lines, rows and words give such
+//! values alone, and calls that need it say so.
 #![tactic(auto)]
 
+mod area;
 mod ask;
+mod assumed;
 mod code;
 mod day;
 mod items;
@@ -25,9 +28,13 @@ mod site;
 mod standard;
 mod steps;
 
+pub use area::{Area, MOST_AREA_SITES, SiteList};
 pub use ask::{Ask, Shown};
+pub use assumed::{Assumed, AssumedList, DecisiveEvent, MOST_ASSUMED};
 pub use code::Code;
-pub use day::{Day, FIRST_YEAR, Hour, LAST_DAY, LAST_HOUR, LAST_YEAR, QUARTERS, Quarter};
+pub use day::{
+    Day, FIRST_YEAR, HOURS_BEFORE_2000, Hour, LAST_DAY, LAST_HOUR, LAST_YEAR, QUARTERS, Quarter,
+};
 pub use items::{Bytes, Items};
 pub use limits::{
     LAST_EVENT_NUMBER, LAST_LOAD_NUMBER, MOST_BYTES, MOST_EVENT_HOURS, MOST_EVENTS, MOST_IN_LIST,

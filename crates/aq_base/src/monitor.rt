@@ -1,7 +1,7 @@
 use crate::site::SiteId;
 
 /// A pollutant, by the parameter under which it is reported.
-#[derive(Clone, Copy, Debug, PartialEq, Eq, PartialOrd, Ord, Hash)]
+#[derive(Clone, Copy, Debug, PartialEq, Eq, PartialOrd, Ord)]
 pub enum Pollutant {
     /// 44201, in thousandths of a ppm.
     Ozone,
@@ -12,7 +12,7 @@ pub enum Pollutant {
 }
 
 /// How long a monitor's sample lasts.
-#[derive(Clone, Copy, Debug, PartialEq, Eq, Hash)]
+#[derive(Clone, Copy, Debug, PartialEq, Eq)]
 pub enum Duration {
     Hour,
     /// 24 hours.
@@ -21,7 +21,7 @@ pub enum Duration {
 
 /// A monitor: a site, a pollutant and the parameter occurrence code (POC), which tells apart the
 /// instruments for one pollutant at one site.
-#[derive(Clone, Copy, Debug, PartialEq, Eq, PartialOrd, Ord, Hash)]
+#[derive(Clone, Copy, Debug, PartialEq, Eq, PartialOrd, Ord)]
 pub struct MonitorId {
     pub site: SiteId,
     pub pollutant: Pollutant,

@@ -14,7 +14,7 @@ pub struct Observation {
 
 /// Where an observation stands: its monitor, and the hour at which the sample starts. A sample of 24
 /// hours stands at hour 00 of its date.
-#[derive(Clone, Copy, Debug, PartialEq, Eq, PartialOrd, Ord, Hash)]
+#[derive(Clone, Copy, Debug, PartialEq, Eq, PartialOrd, Ord)]
 pub struct ObsKey {
     pub monitor: MonitorId,
     pub hour: Hour,

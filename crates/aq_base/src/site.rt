@@ -2,7 +2,7 @@ use std::marker::Model;
 
 /// A monitoring site: a state, a county and the site's number in the county. Contracts see the three
 /// parts.
-#[derive(Clone, Copy, Debug, PartialEq, Eq, PartialOrd, Ord, Hash)]
+#[derive(Clone, Copy, Debug, PartialEq, Eq, PartialOrd, Ord)]
 pub struct SiteId {
     state: u8,
     county: u16,

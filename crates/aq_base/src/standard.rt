@@ -1,5 +1,7 @@
 ghost use Rattle.std.specs.Prelude.{◌≡◌};
-ghost use Rattle.aq_base.specs.Standard.{standard_name, standards};
+ghost use Rattle.aq_base.specs.Standard.{standard_name, standards, pollutant_of, level_of};
+
+use crate::monitor::Pollutant;
 
 /// A national ambient air quality standard, in the order in which reports give them.
 #[derive(Clone, Copy, Debug, PartialEq, Eq)]
@@ -44,6 +46,36 @@ impl Standard {
             Standard::Annual2024 => "PM25-ANNUAL-2024",
             Standard::Daily2006 => "PM25-24H-2006",
             Standard::Pm10Of1987 => "PM10-24H-1987",
+        }
+    }
+
+    /// The pollutant that it limits.
+    pub fn pollutant(self) -> Pollutant
+        ensures { result ≡ pollutant_of self }
+    {
+        match self {
+            Standard::Ozone2015 => Pollutant::Ozone,
+            Standard::Annual2012
+            | Standard::AnnualSecondary
+            | Standard::Annual2024
+            | Standard::Daily2006 => Pollutant::Pm25,
+            Standard::Pm10Of1987 => Pollutant::Pm10,
+        }
+    }
+
+    /// Its level, in the unit of its design value: thousandths of a ppm of ozone, tenths of a µg/m3 of a
+    /// PM2.5 year, whole µg/m3 of a PM2.5 day, tenths of a PM10 exceedance a year (40 CFR 50.6, 50.13,
+    /// 50.18, 50.19 and 50.20).
+    pub fn level(self) -> i32
+        ensures { result ≡ level_of self }
+    {
+        match self {
+            Standard::Ozone2015 => 70,
+            Standard::Annual2012 => 120,
+            Standard::AnnualSecondary => 150,
+            Standard::Annual2024 => 90,
+            Standard::Daily2006 => 35,
+            Standard::Pm10Of1987 => 10,
         }
     }
 }

@@ -10,7 +10,7 @@ use Rattle.aq_rules.specs.Office.Load.{OfficeChange, after_all, load_change, sto
 use Rattle.aq_rules.specs.Office.Office.{Office, StoredLoad}
 use Rattle.aq_staging.specs.Batch.{AreChangesOf, changes_between}
 use Rattle.aq_staging.specs.Staged.{StagedLoad, after_lines}
-use Rattle.aq_loads.specs.KeptLoads.{stored_as}
+use Rattle.aq_rows.specs.KeptLoads.{stored_as}
 use Rattle.aq_book.specs.Staged.{IsStageOf}
 use Rattle.aq_book.specs.View.{standing}
 

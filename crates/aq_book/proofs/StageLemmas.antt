@@ -12,7 +12,7 @@ use Rattle.aq_series.specs.OfficeView.{office_of}
 use Rattle.aq_staging.specs.Staged.{StagedLoad, after_lines, IsStagedOn}
 use Rattle.aq_staging.specs.Changes.{with_changes}
 use Rattle.aq_book.specs.Staged.{office_with, Fits}
-use Rattle.aq_loads.specs.KeptLoads.{stored_as, with_kept}
+use Rattle.aq_rows.specs.KeptLoads.{stored_as, with_kept}
 use Rattle.aq_book.specs.View.{standing}
 use Rattle.aq_book.proofs.Loadless.{after_all_loads, reply_loads, with_loads}
 

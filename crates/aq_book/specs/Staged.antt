@@ -4,7 +4,7 @@ use Rattle.aq_rules.specs.Lines.Lines.{body_lines}
 use Rattle.aq_rules.specs.Office.Load.{after_all, reply, with_load}
 use Rattle.aq_rules.specs.Office.Office.{IsOffice, Office}
 use Rattle.aq_staging.specs.Staged.{StagedLoad, after_lines, IsStagedOn}
-use Rattle.aq_loads.specs.KeptLoads.{stored_as}
+use Rattle.aq_rows.specs.KeptLoads.{stored_as}
 
 -- the office after the load: its lines are taken, and it is kept
 unfoldable pub office_with : StagedLoad → Office → Office

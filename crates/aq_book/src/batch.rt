@@ -1,7 +1,7 @@
 //! The batch of a staged load: the changes of rows that a keeper takes.
 ghost use Rattle.std.specs.Prelude.{◌≡◌, ◌++◌, map, IfOk, OnOk};
 ghost use Rattle.aq_staging.specs.Batch.{change_in, changes_in};
-ghost use Rattle.aq_loads.specs.KeptLoads.{stored_as};
+ghost use Rattle.aq_rows.specs.KeptLoads.{stored_as};
 ghost use Rattle.aq_rules.specs.Kept.RowChanges.{row_change};
 ghost use Rattle.aq_rules.specs.Office.Load.{load_change};
 

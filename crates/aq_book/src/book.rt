@@ -2,7 +2,7 @@
 ghost use Rattle.std.specs.Prelude.{◌≡◌, ◌≤◌, ◌⊎◌, ℕ, List, length, option_map, IfOk};
 ghost use Rattle.aq_book.specs.Checks.{decision_of};
 ghost use Rattle.aq_staging.specs.Staged.{IsStagedOn};
-ghost use Rattle.aq_loads.specs.KeptLoads.{digest_in, reply_in};
+ghost use Rattle.aq_rows.specs.KeptLoads.{digest_in, reply_in};
 ghost use Rattle.aq_book.specs.Staged.{office_with, Fits, IsStageOf};
 ghost use Rattle.aq_rules.specs.Kept.RowChanges.{row_batch};
 ghost use Rattle.aq_rules.specs.Limits.{MOST_BYTES, MOST_LINES};
@@ -14,7 +14,7 @@ use crate::batch::{RowChanges, batch_of};
 use crate::check::LoadCheck;
 use aq_base::{LoadReply, Memory};
 use aq_staging::{Staged, stage_load};
-use aq_loads::{Loads, digest_is_32_bytes};
+use aq_rows::{Loads, digest_is_32_bytes};
 use aq_rules::office::valid_load::{an_office_of_nothing_is_valid, loads_leave_the_office_valid};
 use aq_registry::Registry;
 use aq_shelf::Shelf;

@@ -19,18 +19,11 @@ use aq_rules::kept::summaries::office_verdicts_read_what_is_kept;
 use aq_verdict::{DesignValue, annual, daily, ozone, pm10};
 use std::sync::ledger::Ledger;
 
-/// The annual levels of PM2.5, in tenths of a µg/m3.
-const ANNUAL_LEVEL: i32 = 120;
-
-const LEVEL_OF_2024: i32 = 90;
-
-const SECONDARY_LEVEL: i32 = 150;
-
 impl Book {
     /// The design value of a standard for a site and the three years that end with a year, with what is
     /// kept of these and the verdict (40 CFR Part 50, Appendix U, 3(e) and 4, Appendix N, 4 and 5, and
-    /// Appendix K, 2.1). It takes no memory. For ozone it makes at most 200 steps a day. The year is 2002
-    /// to 2049.
+    /// Appendix K, 2.1). It takes no memory. For ozone it makes at most 200 steps a day. The year is 1992
+    /// to 2059.
     pub fn design_value<L: Ledger>(
         &self,
         standard: Standard,
@@ -64,9 +57,9 @@ impl Book {
     {
         match standard {
             Standard::Ozone2015 => self.ozone_value(site, year, steps),
-            Standard::Annual2012 => self.annual_value(ANNUAL_LEVEL, site, year, steps),
-            Standard::Annual2024 => self.annual_value(LEVEL_OF_2024, site, year, steps),
-            Standard::AnnualSecondary => self.annual_value(SECONDARY_LEVEL, site, year, steps),
+            Standard::Annual2012 | Standard::AnnualSecondary | Standard::Annual2024 => {
+                self.annual_value(standard.level(), site, year, steps)
+            }
             Standard::Daily2006 => self.daily_value(site, year, steps),
             Standard::Pm10Of1987 => self.pm10_value(site, year, steps),
         }

@@ -56,7 +56,7 @@ impl Book {
     }
 
     /// The first and the last day of the ozone season of a site and year (40 CFR Part 50, Appendix U,
-    /// 4(b)), by two searches of the records. It takes no memory. The year is 2000 to 2049.
+    /// 4(b)), by two searches of the records. It takes no memory. The year is 1990 to 2059.
     pub fn season(&self, site: SiteId, year: u16) -> Result<(Day, Day), UnknownSite>
         requires first { FIRST_YEAR ≤ year }
         requires last { year ≤ LAST_YEAR }
@@ -78,7 +78,7 @@ impl Book {
     }
 
     /// The ozone days of a site and year, one for each day of the year (40 CFR Part 50, Appendix U, 3(c)
-    /// and (d)), in at most 192 steps a day. The year is 2000 to 2049.
+    /// and (d)), in at most 192 steps a day. The year is 1990 to 2059.
     pub fn ozone_days<L: Ledger>(
         &self,
         alloc: Global,
@@ -100,8 +100,8 @@ impl Book {
 
     /// The ozone year of a site: the days of its season, those of them that are valid or approved, how
     /// many maxima are ranked, and the fourth highest of these in thousandths of a ppm (40 CFR Part 50,
-    /// Appendix U, 3(e) and 4(b)), in at most 200 steps a day. It takes no memory. The year is 2000 to
-    /// 2049.
+    /// Appendix U, 3(e) and 4(b)), in at most 200 steps a day. It takes no memory. The year is 1990 to
+    /// 2059.
     pub fn ozone_year<L: Ledger>(
         &self,
         site: SiteId,
@@ -120,7 +120,7 @@ impl Book {
     }
 
     /// The PM2.5 year of a site: what is kept of its four quarters, and its eight greatest values (40 CFR
-    /// Part 50, Appendix N, 1.0(c), 3.0 and 4). It takes no memory. The year is 2000 to 2049.
+    /// Part 50, Appendix N, 1.0(c), 3.0 and 4). It takes no memory. The year is 1990 to 2059.
     pub fn pm25_year<L: Ledger>(
         &self,
         site: SiteId,
@@ -138,7 +138,7 @@ impl Book {
     }
 
     /// The PM10 year of a site: its four quarters (40 CFR Part 50, Appendix K, 2.3 and 3). It takes no
-    /// memory. The year is 2000 to 2049.
+    /// memory. The year is 1990 to 2059.
     pub fn pm10_year<L: Ledger>(
         &self,
         site: SiteId,
@@ -157,7 +157,7 @@ impl Book {
 
     /// The observations of a site and pollutant in a year, each with whether it is excluded (40 CFR
     /// 50.14): of every registered monitor, eligible or not, also those without a value, in the order of
-    /// POC and hour. It costs two searches of the observations for each monitor. The year is 2000 to 2049.
+    /// POC and hour. It costs two searches of the observations for each monitor. The year is 1990 to 2059.
     pub fn observations(
         &self,
         alloc: Global,

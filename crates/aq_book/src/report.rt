@@ -19,7 +19,7 @@ pub type SiteValues = Items<(SiteId, DesignValue)>;
 impl Book {
     /// The design value of a standard for each site that has a registered monitor of its pollutant, eligible
     /// or not, and the three years that end with a year, in rising order of sites. Each site is asked once.
-    /// For ozone it makes at most 200 steps a day of each. The year is 2002 to 2049.
+    /// For ozone it makes at most 200 steps a day of each. The year is 1992 to 2059.
     pub fn report<L: Ledger>(
         &self,
         alloc: Global,
@@ -35,7 +35,7 @@ impl Book {
         let mut values = SiteValues::new(alloc);
         let mut after = None;
         while let Some(site) = self.registry.next_site(after) {
-            if self.measures(site, pollutant_of(standard)) {
+            if self.measures(site, standard.pollutant()) {
                 let value = self.value_of(standard, site, year, steps);
                 values.push((site, value))?;
             }
@@ -49,19 +49,5 @@ impl Book {
         ensures { result ≡ offices.has_monitor self.now site pollutant }
     {
         self.registry.next_poc(site, pollutant, 0).is_some()
-    }
-}
-
-/// The pollutant of a standard.
-fn pollutant_of(standard: Standard) -> Pollutant
-    ensures { result ≡ standards.pollutant_of standard }
-{
-    match standard {
-        Standard::Ozone2015 => Pollutant::Ozone,
-        Standard::Annual2012
-        | Standard::AnnualSecondary
-        | Standard::Annual2024
-        | Standard::Daily2006 => Pollutant::Pm25,
-        Standard::Pm10Of1987 => Pollutant::Pm10,
     }
 }

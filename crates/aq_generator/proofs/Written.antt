@@ -117,8 +117,8 @@ years-grow n (suc k) =
 
 pub year-later : (year first later : ℕ) → 2021 ≤ year → first ≡ year_first 2021 → later ≡ year_first year → first ≤ later
 year-later year first later low f l =
-    let years : (year - 2021) + 21 ≡ year - 2000 = omega (arith, low) in
-    rw (f, l, ← years) (years-grow 21 (year - 2021))
+    let years : (year - 2021) + 31 ≡ year - 1990 = omega (arith, low) in
+    rw (f, l, ← years) (years-grow 31 (year - 2021))
 
 -- what is written, of the three parts of a year
 pub year-written : (state : ℕ) (hours fine coarse whole : List Wanted) (hourly daily last : List Wanted → List ℕ) (before text : List ℕ) → before ≡ []

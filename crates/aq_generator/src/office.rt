@@ -2,6 +2,7 @@
 ghost use Rattle.std.specs.Prelude.{◌≡◌, ◌+◌, ◌≤◌, ◌++◌, true, OnOk, IfOk, map, flat_map};
 ghost use Rattle.std.specs.Int.{IsInRange};
 ghost use Rattle.std.specs.List.{range_with_len};
+ghost use Rattle.aq_base.specs.declared.day.TheConstants.{FIRST_YEAR, LAST_YEAR};
 ghost use Rattle.aq_base.specs.declared.office.OfficeRecord.TheVariants.{Monitor, Primary, Schedule};
 ghost use Rattle.aq_rules.specs.Shown.Generator.{generated_site, generated_records, generated_season, generated_years, office_load, record_text};
 ghost use Rattle.aq_generator.specs.Samples as samples;
@@ -128,7 +129,7 @@ fn add_seasons(alloc: Global, text: &mut Vec<u8>, number: u16, years: u8) -> Res
 
 fn add_season(alloc: Global, text: &mut Vec<u8>, number: u16, year: u16) -> Result<(), Memory>
     requires number { number ≤ 9999 }
-    requires year { IsInRange 2000 2049 year }
+    requires year { IsInRange FIRST_YEAR LAST_YEAR year }
     ensures { OnOk result (text.new.items ≡ text.old.items ++ record_text (generated_season number year)) }
 {
     let entry = OfficeRecord::Season {

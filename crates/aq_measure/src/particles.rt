@@ -3,7 +3,7 @@ ghost use Rattle.std.specs.Prelude.{◌≡◌, ◌<◌, ◌≤◌};
 
 use crate::designs::number_of;
 use crate::made_up::{LAST, MOST_MONITORS, fill, schedule};
-use aq_base::{Memory, Pollutant, SiteId, Steps, Verdict};
+use aq_base::{Memory, Pollutant, SiteId, Standard, Steps, Verdict};
 use aq_pm25::year;
 use aq_registry::Registry;
 use aq_shelf::Shelf;
@@ -11,9 +11,6 @@ use aq_verdict::{PmYear, annual, daily};
 use std::alloc::Global;
 use std::marker::Brand;
 use std::sync::ledger::{Blank, Ledger};
-
-/// The annual level of 2024, in tenths of a µg/m3.
-const LEVEL: i32 = 90;
 
 /// The sums over all runs: of the quarters' creditable samples, days and values, of the years' eighth
 /// greatest values, of the annual and the 24-hour design values, and of the standards that are met.
@@ -55,7 +52,7 @@ impl ParticleSums {
 
     /// Adds the design values of three years.
     fn add_designs(&mut self, years: &[PmYear; 3]) {
-        let annual = annual(years, LEVEL);
+        let annual = annual(years, Standard::Annual2024.level());
         let daily = daily(years);
         self.annual = self.annual.wrapping_add(number_of(annual.value));
         self.daily = self.daily.wrapping_add(number_of(daily.value));

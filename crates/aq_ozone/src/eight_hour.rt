@@ -2,20 +2,14 @@
 ghost use Rattle.std.specs.Prelude.{◌≡◌, ◌≤◌, ◌*◌, unsigned_abs};
 ghost use Rattle.aq_rules.specs.Ozone.EightHour as book;
 
+use aq_base::Standard;
 use std::marker::Model;
-
-/// The level of the standard, 0.070 ppm (40 CFR 50.19), in thousandths of a ppm.
-pub const LEVEL: i32 = 70;
 
 /// A day has this many averages: those that start at 07:00 to 23:00.
 pub const WINDOWS: usize = 17;
 
 /// With so many of its eight hours an average is over the hours that are there.
 const ENOUGH_HOURS: u8 = 6;
-
-/// With fewer there is one only where this is their least sum: eight hours of the least value above
-/// the level.
-const LEAST_SUM_ABOVE: i32 = 8 * (LEVEL + 1);
 
 /// An average of eight hours, net of those that are excluded, and the full one, which reads all hours,
 /// both in thousandths of a ppm; and the number of hours of each. Contracts see the book's row.
@@ -78,7 +72,7 @@ pub fn average(count: u8, sum: i32) -> Option<i32>
 {
     if count >= ENOUGH_HOURS {
         Some(sum / i32::from(count))
-    } else if sum >= LEAST_SUM_ABOVE {
+    } else if sum >= 8 * (Standard::Ozone2015.level() + 1) {
         Some(sum / 8)
     } else {
         None

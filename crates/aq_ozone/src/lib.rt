@@ -11,7 +11,7 @@ mod top_four;
 mod windows;
 
 pub use days::{Days, uncounted_windows};
-pub use eight_hour::{DayWindows, LEVEL, WINDOWS, WindowRow, average};
+pub use eight_hour::{DayWindows, WINDOWS, WindowRow, average};
 pub use ozone_day::{OzoneDay, day_of_windows};
 pub use ozone_year::year;
 pub use windows::day_windows;

@@ -6,7 +6,8 @@ ghost use Rattle.aq_rules.specs.Lists as lists;
 ghost use Rattle.aq_rules.specs.Ozone.OzoneDay as book;
 ghost use Rattle.aq_rules.specs.Standards.{is_above, level_of};
 
-use crate::eight_hour::{DayWindows, LEVEL};
+use crate::eight_hour::DayWindows;
+use aq_base::Standard;
 use std::marker::Model;
 
 /// A day with so many full averages is valid.
@@ -66,5 +67,5 @@ fn greater(one: Option<i32>, other: Option<i32>) -> Option<i32>
 fn is_above_level(value: Option<i32>) -> bool
     ensures { result ≡ is_above (level_of Ozone2015) value }
 {
-    value.is_some_and(|value| value > LEVEL)
+    value.is_some_and(|value| value > Standard::Ozone2015.level())
 }

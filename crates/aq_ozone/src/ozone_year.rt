@@ -27,7 +27,7 @@ use std::sync::ledger::Ledger;
 /// of ranked maxima, and the fourth highest of these in thousandths of a ppm (40 CFR Part 50, Appendix U,
 /// 3(e) and 4(b)). The maxima of all valid days of the year are ranked, in season or not. The call reads
 /// each calendar day of the year and the day behind it once, eight days together: at most 200 steps a day.
-/// The year is 2000 to 2049.
+/// The year is 1990 to 2059.
 pub fn year<L: Ledger>(
     shelf: &Shelf,
     registry: &Registry,

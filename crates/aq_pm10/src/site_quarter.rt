@@ -51,7 +51,7 @@ pub fn quarter<L: Ledger>(
     )
 }
 
-/// The four quarters of a site's PM10 year. The year is 2000 to 2049.
+/// The four quarters of a site's PM10 year. The year is 1990 to 2059.
 pub fn year<L: Ledger>(
     shelf: &Shelf,
     registry: &Registry,
@@ -71,13 +71,13 @@ pub fn year<L: Ledger>(
 }
 
 /// A quarter of a year, from 0 for the first one to 3.
-fn quarter_in(year: u16, part: u8) -> Quarter
+fn quarter_in(year: u16, part: u16) -> Quarter
     requires first { FIRST_YEAR ≤ year }
     requires last { year ≤ LAST_YEAR }
     requires part { part < 4 }
     ensures { result ≡ quarter_number year part }
 {
-    Quarter::new(4 * (year - FIRST_YEAR) + u16::from(part))
+    Quarter::new(4 * (year - FIRST_YEAR) + part)
 }
 
 /// What a day of a quarter gives it.

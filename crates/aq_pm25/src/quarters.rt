@@ -38,7 +38,7 @@ pub fn quarter<L: Ledger>(
 }
 
 /// A site's PM2.5 year: its four quarters and its eight greatest values that are not excluded, downwards,
-/// in tenths of a µg/m3 (40 CFR Part 50, Appendix N, 4.1 to 4.5). The year is 2000 to 2049.
+/// in tenths of a µg/m3 (40 CFR Part 50, Appendix N, 4.1 to 4.5). The year is 1990 to 2059.
 pub fn year<L: Ledger>(
     shelf: &Shelf,
     registry: &Registry,
@@ -60,13 +60,13 @@ pub fn year<L: Ledger>(
 }
 
 /// A quarter of a year, from 0 for the first one to 3.
-fn quarter_in(year: u16, part: u8) -> Quarter
+fn quarter_in(year: u16, part: u16) -> Quarter
     requires first { FIRST_YEAR ≤ year }
     requires last { year ≤ LAST_YEAR }
     requires part { part < 4 }
     ensures { result ≡ quarter_number year part }
 {
-    Quarter::new(4 * (year - FIRST_YEAR) + u16::from(part))
+    Quarter::new(4 * (year - FIRST_YEAR) + part)
 }
 
 /// A quarter, and the eight greatest values of it and of those before it in its year.

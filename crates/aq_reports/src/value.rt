@@ -142,9 +142,7 @@ pub(crate) fn design_cell(standard: Standard, value: Option<i32>) -> SheetCell
         Standard::Annual2012
         | Standard::AnnualSecondary
         | Standard::Annual2024
-        | Standard::Pm10Of1987 => {
-            SheetCell::tenths(value)
-        }
+        | Standard::Pm10Of1987 => SheetCell::tenths(value),
         Standard::Daily2006 => SheetCell::whole(value),
     }
 }

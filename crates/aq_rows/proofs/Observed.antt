@@ -1,11 +1,12 @@
 -- An observation that is read column by column is the one that the row says, where it can stand.
 use Rattle.std.proofs.Common.{◌≡◌, ℕ, Bool, true, false, ◌&&◌, cond, List, [], length, refl, sym, ap, subst, ◌∙◌, arith}
-use Rattle.std.specs.Prelude.{Option, Some, None, ◌==◌, nat_le, ℤ, pos, negsuc, bytes_eq}
+use Rattle.std.specs.Prelude.{Option, Some, None, ◌==◌, nat_le, ℤ, pos, negsuc, bytes_eq, ◌+ℤ◌}
 use Rattle.std.specs.List.{list_all}
 use Rattle.std.specs.Option.{option_eq}
 use Rattle.std.specs.Ordering.{int_eq}
 use Rattle.std.proofs.lemmas.Bool.{and_parts}
 use Rattle.std.proofs.lemmas.Bool.Decides.{nat_tests}
+use Rattle.std.proofs.lemmas.Int.{ints}
 use Rattle.std.proofs.lemmas.Slice.Eq.{bytes_eq-Decides}
 use Rattle.aq_base.specs.Quals.{all_distinct}
 use Rattle.aq_base.specs.declared.code.Code.{Code}
@@ -17,7 +18,7 @@ use Rattle.aq_base.specs.declared.observation.ObsKey.{ObsKey}
 use Rattle.aq_base.specs.declared.observation.Observation.{Observation}
 use Rattle.aq_rules.specs.Lines.Spellings.{◌>>=◌, qualifier_in}
 use Rattle.aq_rules.specs.Office.Office.{is_site, is_poc, is_measured, is_qualifier, is_content, pollutant_number}
-use Rattle.aq_rules.specs.Kept.Rows.{ObsRow, observation_of_row, obs_row, is_obs_row, only_if, whole, site_with, site_key, pollutant_with, null_of, each, words}
+use Rattle.aq_rules.specs.Kept.Rows.{ObsRow, observation_of_row, obs_row, is_obs_row, only_if, whole, hours_before_2000, stored_hour, hour_of_stored, site_with, site_key, pollutant_with, null_of, each, words}
 use Rattle.aq_rules.proofs.Tests.{int_itself}
 use Rattle.aq_rows.specs.Standing.{can_stand}
 use Rattle.aq_rows.specs.Ranges.{is_between}
@@ -65,8 +66,14 @@ value-same (Some v) = int_itself v
 all-seven : (a b c d e f g : Bool) → a ≡ true → b ≡ true → c ≡ true → d ≡ true → e ≡ true → f ≡ true → g ≡ true → ((((((a && b) && c) && d) && e) && f) && g) ≡ true
 all-seven a b c d e f g p q r s t u v = rw (p, q, r, s, t, u, v) refl
 
+-- the hour that a row says is stored as the row has it
+stored-is : (stored : ℤ) (hour : ℕ) → hour_of_stored stored ≡ Some hour → stored_hour hour ≡ stored
+stored-is stored hour h =
+    let there : stored +ℤ pos hours_before_2000 ≡ pos hour = whole-is (stored +ℤ pos hours_before_2000) hour h in
+    omega (arith, ints, there)
+
 pub own-row : (row : ObsRow) (site number poc hour : ℕ) (pollutant : Pollutant) (null : Option Code) (quals : List Code)
-    → whole row.site ≡ Some site → whole row.pollutant ≡ Some number → pollutant_with number ≡ Some pollutant → whole row.poc ≡ Some poc → whole row.hour ≡ Some hour
+    → whole row.site ≡ Some site → whole row.pollutant ≡ Some number → pollutant_with number ≡ Some pollutant → whole row.poc ≡ Some poc → hour_of_stored row.hour ≡ Some hour
     → null_of row.null ≡ Some null → each qualifier_in (words row.quals) ≡ Some quals
     → is_obs_row (obs_row (made row site pollutant poc hour null quals)) row ≡ true
 own-row row site number poc hour pollutant null quals s n p c h u q =
@@ -74,7 +81,7 @@ own-row row site number poc hour pollutant null quals s n p c h u q =
     (int-same _ row.site (ap pos (site-back site) ∙ sym (whole-is row.site site s)))
     (int-same _ row.pollutant (ap pos (pollutant-back number pollutant p) ∙ sym (whole-is row.pollutant number n)))
     (int-same _ row.poc (sym (whole-is row.poc poc c)))
-    (int-same _ row.hour (sym (whole-is row.hour hour h)))
+    (int-same _ row.hour (stored-is row.hour hour h))
     (value-same row.value)
     (bytes-same _ row.null (null-written row.null null u))
     (bytes-same _ row.quals (quals-written row.quals quals q))
@@ -127,7 +134,7 @@ read_in_turn row = sym (
     ends (whole row.pollutant) _ (only_if can_stand) λ number.
     ends (pollutant_with number) _ (only_if can_stand) λ pollutant.
     ends (whole row.poc) _ (only_if can_stand) λ poc.
-    ends (whole row.hour) _ (only_if can_stand) λ hour.
+    ends (hour_of_stored row.hour) _ (only_if can_stand) λ hour.
     ends (null_of row.null) _ (only_if can_stand) λ null.
     ends (each qualifier_in (words row.quals)) _ (only_if can_stand) λ quals.
     refused can_stand (λ o. is_obs_row (obs_row o) row) (made row site pollutant poc hour null quals) (at_site (is_site (site_with site)) _ _ _ (site-fits site false no)))
@@ -136,12 +143,12 @@ read_in_turn row = sym (
     passed (pollutant_with number) _ (only_if can_stand) _ λ pollutant pollutant_is.
     tested (whole row.poc) (is_between 1 99) _ (only_if can_stand) _
     (λ poc poc_is no.
-    ends (whole row.hour) _ (only_if can_stand) λ hour.
+    ends (hour_of_stored row.hour) _ (only_if can_stand) λ hour.
     ends (null_of row.null) _ (only_if can_stand) λ null.
     ends (each qualifier_in (words row.quals)) _ (only_if can_stand) λ quals.
     refused can_stand (λ o. is_obs_row (obs_row o) row) (made row site pollutant poc hour null quals) (at_poc (is_site (site_with site)) (is_poc poc) _ _ no))
     (λ poc poc_is poc_fits.
-    tested (whole row.hour) (is_between 0 LAST_HOUR) _ (only_if can_stand) _
+    tested (hour_of_stored row.hour) (is_between 0 LAST_HOUR) _ (only_if can_stand) _
     (λ hour hour_is no.
     ends (null_of row.null) _ (only_if can_stand) λ null.
     ends (each qualifier_in (words row.quals)) _ (only_if can_stand) λ quals.

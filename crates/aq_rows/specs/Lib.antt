@@ -1,5 +1,6 @@
 -- Rows: texts as they are walked, numbers in their ranges, and which observations can stand.
 pub mod Standing
+pub mod KeptLoads
 pub mod Texts
 pub mod Ranges
 pub mod Observed

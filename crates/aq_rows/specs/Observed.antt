@@ -10,8 +10,8 @@ use Rattle.aq_base.specs.declared.observation.ObsKey.{ObsKey}
 use Rattle.aq_base.specs.declared.observation.Observation.{Observation}
 use Rattle.aq_rules.specs.Lines.Spellings.{◌>>=◌, qualifier_in}
 use Rattle.aq_rules.specs.Office.Office.{is_measured}
-use Rattle.aq_rules.specs.Kept.Rows.{ObsRow, whole, only_if, site_with, pollutant_with, null_of, words}
-use Rattle.aq_rows.specs.Ranges.{between, gathered}
+use Rattle.aq_rules.specs.Kept.Rows.{ObsRow, whole, hour_of_stored, only_if, site_with, pollutant_with, null_of, words}
+use Rattle.aq_rows.specs.Ranges.{between, is_between, gathered}
 
 abbrev pub site_in : ℤ → Option Site
 site_in number = between 0 999999999 number >>= λ n. Some (site_with n)
@@ -36,7 +36,7 @@ observation_in row = do
   site ← site_in row.site
   pollutant ← pollutant_in row.pollutant
   poc ← between 1 99 row.poc
-  hour ← between 0 LAST_HOUR row.hour
+  hour ← hour_of_stored row.hour >>= only_if (is_between 0 LAST_HOUR)
   null ← null_of row.null
   quals ← quals_in row.quals
   content ← content_in pollutant row.value null quals

@@ -4,6 +4,7 @@ ghost use Rattle.aq_rules.specs.Kept.RowChanges as book;
 ghost use Rattle.aq_rules.specs.Kept.Rows.{site_key};
 ghost use Rattle.aq_rules.specs.Office.Office.{kind_of, pollutant_number};
 
+use crate::hours::stored_hour;
 use aq_base::{Bytes, Memory, ObsKey, OfficeKey, Pollutant, SiteId};
 use aq_forms::print_key;
 use aq_keeper::RowKey;
@@ -17,7 +18,7 @@ pub fn office_key(alloc: Global, key: &OfficeKey) -> Result<RowKey, Memory>
     Ok(RowKey::office(kind_of(key), Bytes::from_vec(text)))
 }
 
-/// A key's kind, from 1 (a monitor) to 8 (an approved day).
+/// A key's kind, from 1 (a monitor) to 9 (a combination).
 pub(crate) fn kind_of(key: &OfficeKey) -> i64
     ensures { result ≡ pos (kind_of key.now) }
 {
@@ -30,6 +31,7 @@ pub(crate) fn kind_of(key: &OfficeKey) -> i64
         OfficeKey::Event { .. } => 6,
         OfficeKey::Concurrence { .. } => 7,
         OfficeKey::Approved { .. } => 8,
+        OfficeKey::Combined { .. } => 9,
     }
 }
 
@@ -42,7 +44,7 @@ pub fn observation_key(key: &ObsKey) -> RowKey
         site_number(&monitor.site),
         pollutant_number(monitor.pollutant),
         i64::from(monitor.poc),
-        i64::from(key.hour.number()),
+        stored_hour(key.hour),
     )
 }
 

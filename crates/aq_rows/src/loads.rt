@@ -6,7 +6,7 @@ ghost use Rattle.aq_rules.specs.Limits.{MOST_LINES, MOST_LISTED};
 ghost use Rattle.aq_rules.specs.Lines.Spellings.{◌>>=◌ as ◌>>-◌};
 ghost use Rattle.aq_rules.specs.Office.Office.{is_load, is_listed, is_rest, listed_rank, rest_rank, rises};
 ghost use Rattle.aq_rules.specs.Kept.Rows as book;
-ghost use Rattle.aq_loads.specs.KeptLoads.{stored_as, stored_entry};
+ghost use Rattle.aq_rows.specs.KeptLoads.{stored_as, stored_entry};
 ghost use Rattle.aq_rows.specs.Loaded.{count_of, digest_in, fits_reply, listed_words, load_in, rest_words};
 
 use crate::pairs::{listed_word, rest_word};
@@ -17,7 +17,7 @@ use aq_base::{
     RestRule,
 };
 use aq_keeper::LoadRow;
-use aq_loads::{KeptLoad, digest_is_32_bytes};
+use crate::kept_loads::{KeptLoad, digest_is_32_bytes};
 use std::alloc::Global;
 
 /// The row of a load.

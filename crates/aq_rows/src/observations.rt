@@ -9,11 +9,12 @@ ghost use Rattle.aq_rules.specs.Kept.Rows as book;
 ghost use Rattle.aq_rows.specs.Standing.{can_stand};
 ghost use Rattle.aq_rows.specs.Observed.{observation_in, site_in, pollutant_in, quals_in, content_in};
 
+use crate::hours::{hour_in, stored_hour};
 use crate::keys::{pollutant_number, site_number};
 use crate::ranges::between;
 use crate::texts::{words_of, write_codes, write_null};
 use aq_base::{
-    Bytes, Code, Hour, LAST_HOUR, MOST_QUALIFIERS, Memory, MonitorId, ObsKey, Observation,
+    Bytes, Code, MOST_QUALIFIERS, Memory, MonitorId, ObsKey, Observation,
     Pollutant, Quals, SiteId,
 };
 use aq_keeper::ObsRow;
@@ -33,7 +34,7 @@ pub fn observation_row(alloc: Global, key: &ObsKey, content: &Observation) -> Re
         site: site_number(&monitor.site),
         pollutant: pollutant_number(monitor.pollutant),
         poc: i64::from(monitor.poc),
-        hour: i64::from(key.hour.number()),
+        hour: stored_hour(key.hour),
         value: wide_value(content.value),
         null: Bytes::from_vec(null),
         quals: Bytes::from_vec(quals),
@@ -73,7 +74,7 @@ fn observation_in(row: &ObsRow) -> Option<(ObsKey, Observation)>
     let site = site_in(row.site)?;
     let pollutant = pollutant_in(row.pollutant)?;
     let poc = between(1, 99, row.poc)?;
-    let hour = between(0, LAST_HOUR, row.hour)?;
+    let hour = hour_in(row.hour)?;
     let null = null_of(row.null.as_slice())?;
     let quals = quals_in(row.quals.as_slice())?;
     let content = content_in(pollutant, row.value, null, quals)?;
@@ -85,7 +86,7 @@ fn observation_in(row: &ObsRow) -> Option<(ObsKey, Observation)>
     Some((
         ObsKey {
             monitor,
-            hour: Hour::new(hour),
+            hour,
         },
         content,
     ))

@@ -9,7 +9,7 @@ use crate::observations::observation_row;
 use crate::records::office_row;
 use aq_base::Memory;
 use aq_keeper::{Row, Rows};
-use aq_loads::Loads;
+use crate::kept_loads::Loads;
 use aq_registry::Registry;
 use aq_shelf::Shelf;
 use std::alloc::Global;

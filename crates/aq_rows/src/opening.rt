@@ -5,7 +5,7 @@ ghost use Rattle.aq_rows.specs.Opening.{IsOpenFault};
 
 use crate::walk::{RowFault, Walk};
 use aq_keeper::{Row, RowContent};
-use aq_loads::Loads;
+use crate::kept_loads::Loads;
 use aq_registry::Registry;
 use aq_shelf::Shelf;
 use std::alloc::Global;

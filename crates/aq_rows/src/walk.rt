@@ -1,8 +1,8 @@
 //! The rows of an office, taken one after the other.
 ghost use Rattle.std.specs.Prelude.{◌≡◌, ◌<◌, ◌++◌, ◌∷◌, ◌&&◌, [], Some, length, IfErr, IfOk, IsTrue, OnErr, OnOk};
 ghost use Rattle.aq_base.specs.declared.observation.Observation.{Observation};
-ghost use Rattle.aq_loads.specs.KeptLoads.{stored_entry};
-ghost use Rattle.aq_loads.specs.declared.loads.KeptLoad.{KeptLoad};
+ghost use Rattle.aq_rows.specs.KeptLoads.{stored_entry};
+ghost use Rattle.aq_rows.specs.declared.kept_loads.KeptLoad.{KeptLoad};
 ghost use Rattle.aq_rules.specs.Kept.Rows as book;
 ghost use Rattle.aq_rules.specs.Lines.Canonical.{is_office_line, record_line};
 ghost use Rattle.aq_rules.specs.Limits.{MOST_LOADS, MOST_OBSERVATIONS};
@@ -18,7 +18,7 @@ use crate::observations::observation_of;
 use crate::records::{key_of, record_line, record_of};
 use aq_base::{Duration, Hour, Memory, MonitorId, ObsKey, Observation, OfficeKey, OfficeRecord};
 use aq_keeper::{LoadRow, ObsRow, OfficeRow, Row, RowContent};
-use aq_loads::{KeptLoad, Loads};
+use crate::kept_loads::{KeptLoad, Loads};
 use aq_registry::{Registry, RegistryFault};
 use aq_shelf::{Shelf, ShelfFault};
 use std::alloc::Global;

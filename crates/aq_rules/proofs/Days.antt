@@ -5,7 +5,8 @@ use Rattle.std.specs.List.{range_with_len}
 use Rattle.std.proofs.lemmas.List.Sums.{sum_by-cons}
 use Rattle.std.proofs.lemmas.Bool.Decides.{nat_tests}
 use Rattle.std.proofs.lemmas.Bool.{cases_Bool}
-use Rattle.aq_base.specs.Calendar.{days_of_years, days_of_months, days_in_year, days_in_month, year_of, month_of, day_of_month, day_of_year, year_first, day_number, day_of_date, is_date}
+use Rattle.aq_base.specs.Calendar.{years, days_of_years, days_of_months, days_in_year, days_in_month, year_of, month_of, day_of_month, day_of_year, year_first, day_number, day_of_date, is_date}
+use Rattle.aq_base.specs.declared.day.TheConstants.{FIRST_YEAR, LAST_YEAR, LAST_DAY}
 
 -- how many of a rising row of numbers are at most d
 record Counted (h : ℕ → ℕ) (start len d k : ℕ) : Type 0 where
@@ -66,7 +67,7 @@ counted h rising start (suc len) d =
 
 -- ---- years
 
-pub years_next : (n : ℕ) → days_of_years (n + 1) ≡ days_of_years n + days_in_year (2000 + n)
+pub years_next : (n : ℕ) → days_of_years (n + 1) ≡ days_of_years n + days_in_year (FIRST_YEAR + n)
 unfolding days_of_years
 years_next n = rw add-one refl
 
@@ -75,34 +76,34 @@ years_rise n = omega (arith, years_next n)
 
 -- the number of a day's year from the first, and the days round it
 pub record InYear (d k : ℕ) : Type 0 where
-  pub few : k < 50
+  pub few : k < years
   pub from : days_of_years k ≤ d
   pub before : d < days_of_years (k + 1)
-  pub year : year_of d ≡ 2000 + k
+  pub year : year_of d ≡ FIRST_YEAR + k
 
 pub years_count : ℕ → ℕ
-years_count d = at_most (λ n. days_of_years (n + 1)) d 0 50
+years_count d = at_most (λ n. days_of_years (n + 1)) d 0 years
 
-year_few : (d k : ℕ) → d ≤ 18262 → Counted (λ n. days_of_years (n + 1)) 0 50 d k → k < 50
+year_few : (d k : ℕ) → d ≤ LAST_DAY → Counted (λ n. days_of_years (n + 1)) 0 years d k → k < years
 unfolding days_of_years
 year_few d k small c =
-    elim (cases_Bool (nat_lt k 50)) [
+    elim (cases_Bool (nat_lt k years)) [
       | inl less ↦ grind (arith, nat_tests)
       | inr not_less ↦
           let most = c.most in
-          let full : 50 ≤ k = grind (arith, nat_tests) in
-          let past : 18263 ≤ d = c.low 49 (omega arith) in
+          let full : years ≤ k = grind (arith, nat_tests) in
+          let past : LAST_DAY + 1 ≤ d = c.low (years - 1) (omega arith) in
           absurd (omega arith)
     ]
 
-year_from : (d k : ℕ) → Counted (λ n. days_of_years (n + 1)) 0 50 d k → days_of_years k ≤ d
+year_from : (d k : ℕ) → Counted (λ n. days_of_years (n + 1)) 0 years d k → days_of_years k ≤ d
 year_from d zero c = unfold days_of_years in omega arith
 year_from d (suc j) c = subst (λ n. days_of_years n ≤ d) (omega arith) (c.low j (omega arith))
 
-pub in_year : (d : ℕ) → d ≤ 18262 → InYear d (years_count d)
+pub in_year : (d : ℕ) → d ≤ LAST_DAY → InYear d (years_count d)
 unfolding years_count year_of at_most
 in_year d small =
-    let c = counted (λ n. days_of_years (n + 1)) (λ n. years_rise (n + 1)) 0 50 d in
+    let c = counted (λ n. days_of_years (n + 1)) (λ n. years_rise (n + 1)) 0 years d in
     let few = year_few d (years_count d) small c in
     record {
       few = few;
@@ -164,22 +165,22 @@ in_month y day small =
 
 pub record IsDate (d y j : ℕ) : Type 0 where
   pub year : year_of d ≡ y
-  pub in_profile : (2000 ≤ y) × (y ≤ 2049)
+  pub in_profile : (FIRST_YEAR ≤ y) × (y ≤ LAST_YEAR)
   pub month : month_of d ≡ j + 1
   pub few : j < 12
-  pub from : days_of_years (y - 2000) + days_of_months y j ≤ d
-  pub day : day_of_month d ≡ d - (days_of_years (y - 2000) + days_of_months y j) + 1
+  pub from : days_of_years (y - FIRST_YEAR) + days_of_months y j ≤ d
+  pub day : day_of_month d ≡ d - (days_of_years (y - FIRST_YEAR) + days_of_months y j) + 1
   pub within : day_of_month d ≤ days_in_month y (j + 1)
-  pub before : d < days_of_years (y - 2000 + 1)
+  pub before : d < days_of_years (y - FIRST_YEAR + 1)
 
-date_parts : (d k j : ℕ) → InYear d k → InMonth (2000 + k) (d - days_of_years k) j → month_of d ≡ j + 1
-    → day_of_month d ≡ d - days_of_years k - days_of_months (2000 + k) j + 1 → IsDate d (2000 + k) j
+date_parts : (d k j : ℕ) → InYear d k → InMonth (FIRST_YEAR + k) (d - days_of_years k) j → month_of d ≡ j + 1
+    → day_of_month d ≡ d - days_of_years k - days_of_months (FIRST_YEAR + k) j + 1 → IsDate d (FIRST_YEAR + k) j
 date_parts d k j in_y in_m is_month is_day =
-    let at : 2000 + k - 2000 ≡ k = omega arith in
+    let at : FIRST_YEAR + k - FIRST_YEAR ≡ k = omega arith in
     let from = in_y.from in
     let later = in_m.from in
     let before = in_m.before in
-    let next = months_next (2000 + k) j in
+    let next = months_next (FIRST_YEAR + k) j in
     record {
       year = in_y.year;
       in_profile = (omega arith, omega (arith, in_y.few));
@@ -202,24 +203,24 @@ month_is d y day same_year same_day =
     in
     omega arith
 
-pub date_of : (d : ℕ) → d ≤ 18262
-    → IsDate d (2000 + years_count d) (months_count (2000 + years_count d) (d - days_of_years (years_count d)))
+pub date_of : (d : ℕ) → d ≤ LAST_DAY
+    → IsDate d (FIRST_YEAR + years_count d) (months_count (FIRST_YEAR + years_count d) (d - days_of_years (years_count d)))
 date_of d small =
     let in_y = in_year d small in
     let k = years_count d in
     let first : year_first (year_of d) ≡ days_of_years k =
-    ap (λ y. days_of_years (y - 2000)) in_y.year ∙ ap days_of_years (omega arith)
+    ap (λ y. days_of_years (y - FIRST_YEAR)) in_y.year ∙ ap days_of_years (omega arith)
     in
     let day : day_of_year d ≡ d - days_of_years k = ap (λ f. d - f) first in
     let next = years_next k in
     let low = in_y.from in
     let high = in_y.before in
-    let short : d - days_of_years k < days_in_year (2000 + k) = omega arith in
-    let in_m = in_month (2000 + k) (d - days_of_years k) short in
-    let month = month_is d (2000 + k) (d - days_of_years k) in_y.year day in
-    let j = months_count (2000 + k) (d - days_of_years k) in
-    let before_month : days_of_months (year_of d) (month_of d - 1) ≡ days_of_months (2000 + k) j =
-    ap (λ y. days_of_months y (month_of d - 1)) in_y.year ∙ ap (days_of_months (2000 + k)) (omega arith)
+    let short : d - days_of_years k < days_in_year (FIRST_YEAR + k) = omega arith in
+    let in_m = in_month (FIRST_YEAR + k) (d - days_of_years k) short in
+    let month = month_is d (FIRST_YEAR + k) (d - days_of_years k) in_y.year day in
+    let j = months_count (FIRST_YEAR + k) (d - days_of_years k) in
+    let before_month : days_of_months (year_of d) (month_of d - 1) ≡ days_of_months (FIRST_YEAR + k) j =
+    ap (λ y. days_of_months y (month_of d - 1)) in_y.year ∙ ap (days_of_months (FIRST_YEAR + k)) (omega arith)
     in
     date_parts d k j in_y in_m month (ap (λ f. d - f - days_of_months (year_of d) (month_of d - 1) + 1) first ∙ ap (λ f. d - days_of_years k - f + 1) before_month)
 
@@ -238,5 +239,5 @@ day_of_date-parts d y j is =
     ∙ ap Some number
 
 -- a day is the day of its date
-pub day_of_date-date : (d : ℕ) → d ≤ 18262 → day_of_date (year_of d) (month_of d) (day_of_month d) ≡ Some d
+pub day_of_date-date : (d : ℕ) → d ≤ LAST_DAY → day_of_date (year_of d) (month_of d) (day_of_month d) ≡ Some d
 day_of_date-date d small = day_of_date-parts d _ _ (date_of d small)

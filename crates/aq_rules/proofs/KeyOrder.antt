@@ -7,11 +7,12 @@ use Rattle.std.proofs.lemmas.Bool.Decides.{nat_tests}
 use Rattle.aq_base.specs.Calendar.{days_of_years, days_of_months, year_of, month_of, day_of_month, days_in_month, is_year}
 use Rattle.aq_base.specs.Decimal.{last_digits}
 use Rattle.aq_base.specs.declared.office.OfficeKey.{OfficeKey}
-use Rattle.aq_base.specs.declared.office.OfficeKey.TheVariants.{Monitor as MonitorKey, Primary as PrimaryKey, Schedule as ScheduleKey, Season as SeasonKey, Makeup as MakeupKey, Event as EventKey, Concurrence as ConcurrenceKey, Approved as ApprovedKey}
+use Rattle.aq_base.specs.declared.office.OfficeKey.TheVariants.{Monitor as MonitorKey, Primary as PrimaryKey, Schedule as ScheduleKey, Season as SeasonKey, Makeup as MakeupKey, Event as EventKey, Concurrence as ConcurrenceKey, Approved as ApprovedKey, Combined as CombinedKey}
 use Rattle.aq_base.specs.Site.{Site}
+use Rattle.aq_base.specs.declared.day.TheConstants.{FIRST_YEAR, LAST_YEAR, LAST_DAY}
 use Rattle.aq_base.specs.declared.monitor.Pollutant.{Pollutant}
 use Rattle.aq_base.specs.declared.monitor.Pollutant.TheVariants.{Ozone, Pm25, Pm10}
-use Rattle.aq_rules.specs.Lines.Spellings.{has_parameter, Xs}
+use Rattle.aq_rules.specs.Lines.Spellings.{has_parameter, Xs, Xb}
 use Rattle.aq_rules.specs.Office.Office.{is_same, comes_before, parameter_number, site_numbers, series_numbers, part_numbers, key_numbers, kind_of, is_site, is_day, is_poc, is_key}
 use Rattle.aq_rules.specs.Lines.Canonical.{parameter_text, date_text, site_texts, joined, key_texts, printed_key}
 use Rattle.aq_rules.specs.Office.RowOrder.{before-total}
@@ -118,7 +119,7 @@ earlier_year d e y z j i a b h =
     let low = b.from in
     let high = a.before in
     let p = a.in_profile.0 in
-    let apart = years_in_order (y - 2000 + 1) (z - 2000) (omega arith) in
+    let apart = years_in_order (y - FIRST_YEAR + 1) (z - FIRST_YEAR) (omega arith) in
     omega arith
 
 earlier_month : (d e y j i : ℕ) → IsDate d y j → IsDate e y i → j < i → d < e
@@ -143,8 +144,8 @@ lex_same d e y z j i a b h1 h2 h3 h4 h5 = grind (arith, nat_tests)
 
 same_month : (d e y z j i : ℕ) → IsDate d y j → IsDate e z i → y ≡ z → j ≡ i → d + day_of_month e ≡ e + day_of_month d
 same_month d e y z j i a b s t =
-    let first : days_of_years (y - 2000) + days_of_months y j ≡ days_of_years (z - 2000) + days_of_months z i =
-    ap (λ k. days_of_years (k - 2000) + days_of_months k j) s ∙ ap (λ k. days_of_years (z - 2000) + days_of_months z k) t
+    let first : days_of_years (y - FIRST_YEAR) + days_of_months y j ≡ days_of_years (z - FIRST_YEAR) + days_of_months z i =
+    ap (λ k. days_of_years (k - FIRST_YEAR) + days_of_months k j) s ∙ ap (λ k. days_of_years (z - FIRST_YEAR) + days_of_months z k) t
     in
     let da = a.day in
     let db = b.day in
@@ -228,7 +229,7 @@ ordered-date_parts d e y z j i a b =
           ∙ lex_same d e (year_of d) (year_of e) (month_of d) (month_of e) (day_of_month d) (day_of_month e) h1 h2 h3 h4 h5;
     }
 
-ordered-date : (d e : ℕ) → d ≤ 18262 → e ≤ 18262 → Ordered (date_text d) (date_text e) d e
+ordered-date : (d e : ℕ) → d ≤ LAST_DAY → e ≤ LAST_DAY → Ordered (date_text d) (date_text e) d e
 ordered-date d e p q = ordered-date_parts d e _ _ _ _ (date_of d p) (date_of e q)
 
 -- ---- keys
@@ -285,7 +286,7 @@ series_parts s t p q us vs m n is_s is_t o =
 pub less_or : (n m k : ℕ) → nat_le n m ≡ true → m < k → n < k
 less_or n m k h l = grind (arith, nat_tests)
 
-pub at_most_day : (d : ℕ) → is_day d ≡ true → d ≤ 18262
+pub at_most_day : (d : ℕ) → is_day d ≡ true → d ≤ LAST_DAY
 at_most_day d h = grind (arith, nat_tests)
 
 same_kind : (a b : OfficeKey) → is_key a ≡ true → is_key b ≡ true → kind_of a ≡ kind_of b
@@ -311,10 +312,10 @@ same_kind (ScheduleKey s p d) (ScheduleKey t q f) h i e =
 same_kind (SeasonKey s m) (SeasonKey t n) h i e =
     let x = and_parts (is_site s) (is_year m) h in
     let y = and_parts (is_site t) (is_year n) i in
-    let k = and_parts (nat_le 2000 m) (nat_le m 2049) x.1 in
-    let l = and_parts (nat_le 2000 n) (nat_le n 2049) y.1 in
+    let k = and_parts (nat_le FIRST_YEAR m) (nat_le m LAST_YEAR) x.1 in
+    let l = and_parts (nat_le FIRST_YEAR n) (nat_le n LAST_YEAR) y.1 in
     site_parts s t _ _ (m ∷ []) (n ∷ []) x.0 y.0
-    (last_part _ _ m n (ordered-digits 4 m n (less_or m 2049 10000 k.1 (omega arith)) (less_or n 2049 10000 l.1 (omega arith))))
+    (last_part _ _ m n (ordered-digits 4 m n (less_or m LAST_YEAR 10000 k.1 (omega arith)) (less_or n LAST_YEAR 10000 l.1 (omega arith))))
 same_kind (MakeupKey s d) (MakeupKey t f) h i e =
     let x = and_parts (is_site s) (is_day d) h in
     let y = and_parts (is_site t) (is_day f) i in
@@ -323,6 +324,10 @@ same_kind (ApprovedKey s d) (ApprovedKey t f) h i e =
     let x = and_parts (is_site s) (is_day d) h in
     let y = and_parts (is_site t) (is_day f) i in
     site_parts s t _ _ (d ∷ []) (f ∷ []) x.0 y.0 (last_part _ _ d f (ordered-date d f (at_most_day d x.1) (at_most_day f y.1)))
+same_kind (CombinedKey s p) (CombinedKey t q) h i e =
+    let x = and_parts (is_site s) (has_parameter Xb p) h in
+    let y = and_parts (is_site t) (has_parameter Xb q) i in
+    site_parts s t _ _ (parameter_number p ∷ []) (parameter_number q ∷ []) x.0 y.0 (last_part _ _ (parameter_number p) (parameter_number q) (ordered-parameter p q))
 same_kind (EventKey m) (EventKey n) h i e =
     let x = and_parts (nat_le 1 m) (nat_le m 999999) h in
     let y = and_parts (nat_le 1 n) (nat_le n 999999) i in

@@ -43,6 +43,8 @@ pub mod Spans
 pub mod ValidOffice
 pub mod Quarters
 pub mod OfficeVerdicts
+pub mod Levels
+pub mod StoredHours
 pub mod RowTexts
 pub mod RowsBack
 pub mod OfficeBack
@@ -76,3 +78,11 @@ pub mod MembersOnce
 pub mod MoreLoads
 pub mod RowsInOrder
 pub mod OfficeInOrder
+pub mod Found
+pub mod OneKey
+pub mod CellsOnce
+pub mod Unreached
+pub mod UnreachedPrimary
+pub mod UnreachedRows
+pub mod UnreachedHour
+pub mod Assuming

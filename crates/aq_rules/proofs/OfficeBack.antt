@@ -10,13 +10,14 @@ use Rattle.std.proofs.lemmas.Slice.Eq.{bytes_eq-Decides}
 use Rattle.std.proofs.lemmas.Bool.{and_from, and_parts, leb-true}
 use Rattle.aq_base.specs.Site.{Site}
 use Rattle.aq_base.specs.declared.code.Code.{Code}
+use Rattle.aq_base.specs.declared.day.TheConstants.{LAST_HOUR}
 use Rattle.aq_base.specs.declared.monitor.MonitorId.{MonitorId}
 use Rattle.aq_base.specs.declared.monitor.Pollutant.{Pollutant}
 use Rattle.aq_base.specs.declared.monitor.Pollutant.TheVariants.{Ozone, Pm25, Pm10}
 use Rattle.aq_base.specs.declared.observation.ObsKey.{ObsKey}
 use Rattle.aq_base.specs.declared.observation.Observation.{Observation}
 use Rattle.aq_base.specs.declared.office.OfficeRecord.{OfficeRecord}
-use Rattle.aq_base.specs.declared.office.OfficeRecord.TheVariants.{Monitor, Primary, Schedule, Season, Makeup, Event, Concurrence, Approved}
+use Rattle.aq_base.specs.declared.office.OfficeRecord.TheVariants.{Monitor, Primary, Schedule, Season, Makeup, Event, Concurrence, Approved, Combined}
 use Rattle.aq_base.specs.declared.office.OfficeKey.TheVariants.{Monitor as MonitorKey}
 use Rattle.aq_rules.specs.Lines.Spellings.{◌>>=◌}
 use Rattle.aq_rules.specs.Office.Office.{Office, StoredLoad, IsOffice, is_same, key_numbers, record_rank, record_at, monitor_duration, duration_at, is_site, is_poc, is_record, fits_records, has_its_monitor, has_its_event, group_size, most_in_group, is_qualifier, is_measured, is_content, is_kept_hour, fits_monitors, is_load, pollutant_number}
@@ -25,6 +26,7 @@ use Rattle.aq_rules.specs.Kept.Rows.{Row, ObsRow, OfOfficeRow, OfObsRow, OfLoadR
 use Rattle.aq_rules.proofs.Elements.{Every, all-append, every-to}
 use Rattle.aq_rules.proofs.RowTexts.{null-read, qualifiers-read}
 use Rattle.aq_rules.proofs.RowsBack.{record-back, load-back}
+use Rattle.aq_rules.proofs.StoredHours.{stored-back}
 use Rattle.aq_rules.proofs.ValidOffice.{office-is_valid}
 
 -- ---- the site of an observation, which has a monitor
@@ -74,6 +76,7 @@ monitor-site id (Some (Makeup site missed makeup)) hour found kept = cc
 monitor-site id (Some (Event number site pollutant first last code)) hour found kept = cc
 monitor-site id (Some (Concurrence number agreed)) hour found kept = cc
 monitor-site id (Some (Approved site day)) hour found kept = cc
+monitor-site id (Some (Combined site pollutant from joined)) hour found kept = cc
 
 site-back : (site : Site) → is_site site ≡ true → site_with (site_key site) ≡ site
 site-back site is =
@@ -125,7 +128,7 @@ pub fitting-is_spelled : (office : Office) (o : ObsKey × Observation) → IsOff
 fitting-is_spelled office o valid fits =
     let id = o.0.monitor in
     let b = and_parts _ (is_content id.pollutant o.1) fits in
-    let a = and_parts (nat_le o.0.hour 438311) (is_kept_hour (duration_at office id) o.0.hour) b.0 in
+    let a = and_parts (nat_le o.0.hour LAST_HOUR) (is_kept_hour (duration_at office id) o.0.hour) b.0 in
     record {
       site = monitor-site id (record_at office (MonitorKey id)) o.0.hour (found-fits office (key_numbers (MonitorKey id)) office.records valid.records_fit) a.1;
       content = b.1;
@@ -144,7 +147,7 @@ spelled-back o spelled =
     let site = site-back id.site spelled.site in
     let with_site : Site → ObsKey × Observation = λ s. (record { monitor = record { site = s; pollutant = id.pollutant; poc = id.poc }; hour = o.0.hour }, record { value = o.1.value; null = o.1.null; quals = o.1.quals }) in
     let whole : with_site (site_with (site_key id.site)) ≡ o = λ i. with_site (site i) in
-    rw pollutant (rw null (rw quals (ap (only_if (λ p. is_obs_row (obs_row p) (obs_row o))) whole ∙ ap (λ t. cond t (Some o) None) (obs_row-itself (obs_row o)))))
+    rw pollutant (rw (stored-back o.0.hour) (rw null (rw quals (ap (only_if (λ p. is_obs_row (obs_row p) (obs_row o))) whole ∙ ap (λ t. cond t (Some o) None) (obs_row-itself (obs_row o))))))
 
 pub observation-back : (office : Office) (o : ObsKey × Observation) → IsOffice office → fits_monitors office o ≡ true → observation_of_row (obs_row o) ≡ Some o
 observation-back office o valid fits = spelled-back o (fitting-is_spelled office o valid fits)

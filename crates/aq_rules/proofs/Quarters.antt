@@ -1,12 +1,13 @@
 -- The days of a quarter and of a year are those from its first on, as many as it has.
 use Rattle.std.proofs.Common.{◌≡◌, ℕ, ◌+◌, ◌-◌, ◌*◌, ◌/◌, ◌%◌, ◌<◌, ◌≤◌, refl, sym, ◌∙◌, arith}
 use Rattle.aq_base.specs.Calendar.{days_in_month, days_in_quarter, days_of_years, days_of_months, quarter_first, quarter_number, quarter_of, quarter_year}
+use Rattle.aq_base.specs.declared.day.TheConstants.{FIRST_YEAR}
 use Rattle.aq_rules.proofs.Days.{IsDate, date_of, in_year, months_next, years_next, years_count}
 use Rattle.aq_rules.proofs.KeyOrder.{months_in_order}
 use Rattle.aq_rules.proofs.Pm25Counts.{HoldsDays}
 use Rattle.aq_rules.proofs.OzoneFacts.{HoldsYear}
 
-first-is : (q y p : ℕ) → quarter_year q ≡ y → q % 4 ≡ p → quarter_first q ≡ days_of_years (y - 2000) + days_of_months y (3 * p)
+first-is : (q y p : ℕ) → quarter_year q ≡ y → q % 4 ≡ p → quarter_first q ≡ days_of_years (y - FIRST_YEAR) + days_of_months y (3 * p)
 first-is q y p year part =
     let back : 3 * p + 1 - 1 ≡ 3 * p = omega arith in
     rw (year, part, back) (omega arith)
@@ -59,6 +60,6 @@ pub year-holds : (year : ℕ) → HoldsYear year
 year-holds year n small is =
     let y = in_year n small in
     let k = years_count n in
-    let same : year ≡ 2000 + k = sym is ∙ y.year in
-    let at : 2000 + k - 2000 ≡ k = omega arith in
+    let same : year ≡ FIRST_YEAR + k = sym is ∙ y.year in
+    let at : FIRST_YEAR + k - FIRST_YEAR ≡ k = omega arith in
     rw (same, at) (omega (arith, y.from), omega (arith, y.before, years_next k))

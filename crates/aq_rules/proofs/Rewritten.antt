@@ -13,7 +13,7 @@ use Rattle.aq_base.specs.declared.reply.RestRule.{RestRule}
 use Rattle.aq_rules.specs.Lines.Reading.{line_value}
 use Rattle.aq_rules.specs.Lines.Spellings.{◌>>=◌, qualifier_in}
 use Rattle.aq_rules.specs.Office.Office.{StoredLoad, IsOffice}
-use Rattle.aq_rules.specs.Kept.Rows.{whole, record_in, site_with, pollutant_with, words, each, null_of, listed_in, rest_in, Row, OfficeRow, ObsRow, LoadRow, OfOfficeRow, OfObsRow, OfLoadRow, office_row, obs_row, load_row, rows_of, only_if, is_office_row, is_obs_row, is_load_row, record_of_row, observation_of_row, load_of_row, record_in_row, observation_in_row, load_in_row, says_something, office_in, table_of, tables_follow, is_valid, are_office_rows, damage}
+use Rattle.aq_rules.specs.Kept.Rows.{whole, hour_of_stored, record_in, site_with, pollutant_with, words, each, null_of, listed_in, rest_in, Row, OfficeRow, ObsRow, LoadRow, OfOfficeRow, OfObsRow, OfLoadRow, office_row, obs_row, load_row, rows_of, only_if, is_office_row, is_obs_row, is_load_row, record_of_row, observation_of_row, load_of_row, record_in_row, observation_in_row, load_in_row, says_something, office_in, table_of, tables_follow, is_valid, are_office_rows, damage}
 use Rattle.aq_rules.proofs.Tests.{int_is}
 use Rattle.aq_rules.proofs.Elements.{Every}
 use Rattle.aq_rules.proofs.ValidOffice.{valid-is_office}
@@ -101,7 +101,7 @@ observation-row row o h =
     through (whole row.pollutant) _ o (obs_row o ≡ row) ha (λ b hb.
     through (pollutant_with b) _ o (obs_row o ≡ row) hb (λ c hc.
     through (whole row.poc) _ o (obs_row o ≡ row) hc (λ d hd.
-    through (whole row.hour) _ o (obs_row o ≡ row) hd (λ e he.
+    through (hour_of_stored row.hour) _ o (obs_row o ≡ row) hd (λ e he.
     through (null_of row.null) _ o (obs_row o ≡ row) he (λ f hf.
     through (each qualifier_in (words row.quals)) _ o (obs_row o ≡ row) hf (λ g hg.
     let x : ObsKey × Observation = (record { monitor = record { site = site_with a; pollutant = c; poc = d }; hour = e }, record { value = row.value; null = f; quals = g }) in

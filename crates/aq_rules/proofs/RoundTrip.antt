@@ -11,21 +11,22 @@ use Rattle.aq_base.specs.Calendar.{year_of, month_of, day_of_month, day_of_hour,
 use Rattle.aq_base.specs.Decimal.{last_digits, are_digits}
 use Rattle.aq_base.specs.Site.{Site}
 use Rattle.aq_base.specs.declared.code.Code.{Code}
+use Rattle.aq_base.specs.declared.day.TheConstants.{LAST_HOUR}
 use Rattle.aq_base.specs.declared.monitor.Pollutant.{Pollutant}
 use Rattle.aq_base.specs.declared.monitor.Pollutant.TheVariants.{Ozone, Pm25, Pm10}
 use Rattle.aq_base.specs.declared.monitor.Duration.{Duration}
 use Rattle.aq_base.specs.declared.monitor.Duration.TheVariants.{Hour, Day}
 use Rattle.aq_base.specs.declared.monitor.MonitorId.{MonitorId}
 use Rattle.aq_base.specs.declared.office.OfficeRecord.{OfficeRecord}
-use Rattle.aq_base.specs.declared.office.OfficeRecord.TheVariants.{Monitor, Primary, Schedule, Season, Makeup, Event, Concurrence, Approved}
+use Rattle.aq_base.specs.declared.office.OfficeRecord.TheVariants.{Monitor, Primary, Schedule, Season, Makeup, Event, Concurrence, Approved, Combined}
 use Rattle.aq_base.specs.declared.office.OfficeKey.{OfficeKey}
-use Rattle.aq_base.specs.declared.office.OfficeKey.TheVariants.{Monitor as MonitorKey, Primary as PrimaryKey, Schedule as ScheduleKey, Season as SeasonKey, Makeup as MakeupKey, Event as EventKey, Concurrence as ConcurrenceKey, Approved as ApprovedKey}
+use Rattle.aq_base.specs.declared.office.OfficeKey.TheVariants.{Monitor as MonitorKey, Primary as PrimaryKey, Schedule as ScheduleKey, Season as SeasonKey, Makeup as MakeupKey, Event as EventKey, Concurrence as ConcurrenceKey, Approved as ApprovedKey, Combined as CombinedKey}
 use Rattle.aq_base.specs.declared.office.OfficeLine.{OfficeLine}
 use Rattle.aq_base.specs.declared.office.OfficeLine.TheVariants.{Put, Change, Drop}
 use Rattle.aq_rules.specs.Lines.Fields.{field, fields}
-use Rattle.aq_rules.specs.Lines.Spellings.{◌>>=◌, tag_in, Rd, Xm, Xs, Xp, Xu, Xe, is_interval, is_event_number, is_event_code, event_number_in, event_code_in, is_code_byte, has_parameter, has_duration}
+use Rattle.aq_rules.specs.Lines.Spellings.{◌>>=◌, tag_in, Rd, Xm, Xs, Xp, Xu, Xe, Xb, is_interval, is_event_number, is_event_code, event_number_in, event_code_in, is_code_byte, has_parameter, has_duration}
 use Rattle.aq_rules.specs.Lines.RdForm.{monitor_in}
-use Rattle.aq_rules.specs.Lines.OfficeForms.{is_season, is_makeup, is_span, xm_record, xp_record, xp_key, xs_record, xs_key, xo_record, xo_key, xu_record, xu_key, xe_record, xe_key, xc_record, xa_record, xa_key}
+use Rattle.aq_rules.specs.Lines.OfficeForms.{is_season, is_makeup, is_span, is_pair, xm_record, xp_record, xp_key, xs_record, xs_key, xo_record, xo_key, xu_record, xu_key, xe_record, xe_key, xc_record, xa_record, xa_key, xb_record, xb_key}
 use Rattle.aq_rules.specs.Lines.Reading.{OfOffice, line_value, form_value}
 use Rattle.aq_rules.specs.Lines.Canonical.{is_office_line, parameter_text, duration_text, date_text, time_text, truth_text, code_text, joined, office_texts, canonical_office}
 use Rattle.aq_rules.specs.Office.Office.{is_site, is_poc, is_day}
@@ -287,6 +288,37 @@ read-xa_key s d h i =
     (clean-site s (date_text d ∷ []) (one (date_text d) (clean-date d)))
     (drop_is _ _ (xa_key_read (codes "XA") (codes "D") s d h i))
 
+-- combined sites
+xb_read : (tag action : List ℕ) (s : Site) (p : Pollutant) (d : ℕ) (j : Site) → is_site s ≡ true → has_parameter Xb p ≡ true → is_day d ≡ true → is_site j ≡ true → is_pair s j ≡ true
+    → xb_record (tag ∷ action ∷ series_with s p d (site_with j [])) ≡ Some (Combined s p d j)
+unfolding xb_record
+xb_read tag action s p d j h e i k l =
+    bind-is _ (site_is s h) ∙ bind-is _ (site_is j k) ∙ bind-is _ (parameter_of-is Xb p e) ∙ bind-is _ (date_is d (at_most_day d i))
+    ∙ ap (λ b. if b then Some (Combined s p d j) else None) l
+
+read-xb : (s : Site) (p : Pollutant) (d : ℕ) (j : Site) → is_site s ≡ true → has_parameter Xb p ≡ true → is_day d ≡ true → is_site j ≡ true → is_pair s j ≡ true
+    → line_value (canonical_office (Put (Combined s p d j))) ≡ Some (OfOffice (Put (Combined s p d j)))
+unfolding office_texts
+read-xb s p d j h e i k l =
+    round (Put (Combined s p d j)) (codes "XB") (codes "I" ∷ series_with s p d (site_with j [])) refl
+    (clean-series s p d (site_with j [])
+    (also (last_digits 2 j.state) (last_digits 3 j.county ∷ last_digits 4 j.number ∷ []) (clean-digits 2 j.state)
+    (also (last_digits 3 j.county) (last_digits 4 j.number ∷ []) (clean-digits 3 j.county) (one (last_digits 4 j.number) (clean-digits 4 j.number)))))
+    (put_is _ _ (xb_read (codes "XB") (codes "I") s p d j h e i k l))
+
+xb_key_read : (tag action : List ℕ) (s : Site) (p : Pollutant) → is_site s ≡ true → has_parameter Xb p ≡ true
+    → xb_key (tag ∷ action ∷ site_with s (parameter_text p ∷ [])) ≡ Some (CombinedKey s p)
+unfolding xb_key
+xb_key_read tag action s p h e = bind-is _ (site_is s h) ∙ bind-is _ (parameter_of-is Xb p e)
+
+read-xb_key : (s : Site) (p : Pollutant) → is_site s ≡ true → has_parameter Xb p ≡ true
+    → line_value (canonical_office (Drop (CombinedKey s p))) ≡ Some (OfOffice (Drop (CombinedKey s p)))
+unfolding office_texts
+read-xb_key s p h e =
+    round (Drop (CombinedKey s p)) (codes "XB") (codes "D" ∷ site_with s (parameter_text p ∷ [])) refl
+    (clean-site s (parameter_text p ∷ []) (one (parameter_text p) (clean-parameter p)))
+    (drop_is _ _ (xb_key_read (codes "XB") (codes "D") s p h e))
+
 -- monitors
 pub poc_short : (p : ℕ) → is_poc p ≡ true → p < 2 ^ 64
 poc_short p h = small_poc p (and_parts (nat_le 1 p) (nat_le p 99) h).1
@@ -389,7 +421,7 @@ event_texts s p first last code =
     site_with s (parameter_text p ∷ date_text (day_of_hour first) ∷ time_text first ∷ date_text (day_of_hour last) ∷ time_text last ∷ code_text code ∷ [])
 
 xe_read : (tag action : List ℕ) (n : ℕ) (s : Site) (p : Pollutant) (first last : ℕ) (code : Code) → is_event_number n ≡ true → is_site s ≡ true
-    → first ≤ 438311 → last ≤ 438311 → is_span first last ≡ true → is_event_code code ≡ true
+    → first ≤ LAST_HOUR → last ≤ LAST_HOUR → is_span first last ≡ true → is_event_code code ≡ true
     → xe_record (tag ∷ action ∷ decimal n ∷ event_texts s p first last code) ≡ Some (Event n s p first last code)
 unfolding xe_record
 xe_read tag action n s p first last code g h i j k l =
@@ -397,7 +429,7 @@ xe_read tag action n s p first last code g h i j k l =
     ∙ bind-is _ (event_number_is n g) ∙ bind-is _ (event_code_is code l) ∙ ap (λ b. if b then Some (Event n s p first last code) else None) k
 
 read-xe : (n : ℕ) (s : Site) (p : Pollutant) (first last : ℕ) (code : Code) → is_event_number n ≡ true → is_site s ≡ true
-    → first ≤ 438311 → last ≤ 438311 → is_span first last ≡ true → is_event_code code ≡ true
+    → first ≤ LAST_HOUR → last ≤ LAST_HOUR → is_span first last ≡ true → is_event_code code ≡ true
     → line_value (canonical_office (Put (Event n s p first last code))) ≡ Some (OfOffice (Put (Event n s p first last code)))
 unfolding office_texts
 read-xe n s p first last code g h i j k l =
@@ -436,7 +468,7 @@ read-xc n agreed h =
 
 -- ---- all office lines
 
-pub at_most_hour : (h : ℕ) → nat_le h 438311 ≡ true → h ≤ 438311
+pub at_most_hour : (h : ℕ) → nat_le h LAST_HOUR ≡ true → h ≤ LAST_HOUR
 at_most_hour h p = grind (arith, nat_tests)
 
 span_first : (a b : ℕ) → is_span a b ≡ true → a ≤ b
@@ -471,10 +503,10 @@ round-put (Makeup s missed makeup) h =
     let z = and_parts (is_day makeup) (is_makeup missed makeup) x.1 in
     read-xu s missed makeup y.0 y.1 z.0 z.1
 round-put (Event n s p first last code) h =
-    let x = and_parts (is_event_number n) (is_site s && nat_le last 438311 && is_span first last && is_event_code code) h in
-    let y = and_parts (is_site s && nat_le last 438311 && is_span first last) (is_event_code code) x.1 in
-    let z = and_parts (is_site s && nat_le last 438311) (is_span first last) y.0 in
-    let w = and_parts (is_site s) (nat_le last 438311) z.0 in
+    let x = and_parts (is_event_number n) (is_site s && nat_le last LAST_HOUR && is_span first last && is_event_code code) h in
+    let y = and_parts (is_site s && nat_le last LAST_HOUR && is_span first last) (is_event_code code) x.1 in
+    let z = and_parts (is_site s && nat_le last LAST_HOUR) (is_span first last) y.0 in
+    let w = and_parts (is_site s) (nat_le last LAST_HOUR) z.0 in
     let top = at_most_hour last w.1 in
     let low = span_first first last z.1 in
     read-xe n s p first last code x.0 w.0 (omega arith) top z.1 y.1
@@ -483,6 +515,12 @@ round-put (Approved s d) h =
     let x = and_parts (is_site s && is_day d) true h in
     let y = and_parts (is_site s) (is_day d) x.0 in
     read-xa s d y.0 y.1
+round-put (Combined s p d j) h =
+    let x = and_parts (is_site s && has_parameter Xb p) (is_day d && is_site j && is_pair s j) h in
+    let y = and_parts (is_site s) (has_parameter Xb p) x.0 in
+    let z = and_parts (is_day d && is_site j) (is_pair s j) x.1 in
+    let w = and_parts (is_day d) (is_site j) z.0 in
+    read-xb s p d j y.0 y.1 w.0 w.1 z.1
 
 pub round-office : (line : OfficeLine) → is_office_line line ≡ true → line_value (canonical_office line) ≡ Some (OfOffice line)
 round-office (Put r) h = round-put r h
@@ -511,3 +549,6 @@ round-office (Drop (ConcurrenceKey n)) h = absurd (false≢true h)
 round-office (Drop (ApprovedKey s d)) h =
     let x = and_parts (is_site s) (is_day d) h in
     read-xa_key s d x.0 x.1
+round-office (Drop (CombinedKey s p)) h =
+    let x = and_parts (is_site s) (has_parameter Xb p) h in
+    read-xb_key s p x.0 x.1

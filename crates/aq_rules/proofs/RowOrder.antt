@@ -13,13 +13,10 @@ use Rattle.aq_rules.specs.Office.Office.{is_same, comes_before, kind_of, key_num
 use Rattle.aq_rules.specs.Kept.Rows.{site_key}
 use Rattle.aq_rules.specs.Kept.RowChanges.{RowKey, LoadRowKey, columns_before, key_before, is_same_row_key, office_row_key, obs_row_key}
 use Rattle.aq_rules.specs.Office.RowOrder.{before-total}
+use Rattle.aq_rules.proofs.Tests.{one_answer}
 use Rattle.aq_rules.proofs.KeyOrder.{printed_order}
+use Rattle.aq_rules.proofs.StoredHours.{stored-before, stored-same}
 use Rattle.aq_rules.proofs.Lookups.{same-is, before-other, before-other_way}
-
-one_answer : (p q : Bool) → (p ≡ true → q ≡ true) → (q ≡ true → p ≡ true) → p ≡ q
-one_answer true q f g = sym (f refl)
-one_answer false true f g = g refl
-one_answer false false f g = refl
 
 differs : (x y : ℕ) → (x ≡ y → ⊥) → (x == y) ≡ false
 differs x y h = elim (cases_Bool (x == y)) [ inl e ↦ absurd (h (eqb-true x y e)) | inr e ↦ e ]
@@ -136,11 +133,23 @@ obs-before a b p q =
 
 pub obs-agree : (a b : ObsKey) → is_site a.monitor.site ≡ true → is_site b.monitor.site ≡ true → Agree (observation_numbers a) (observation_numbers b) (obs_row_key a) (obs_row_key b)
 obs-agree a b p q =
-    let xs = site_key a.monitor.site ∷ pollutant_number a.monitor.pollutant ∷ a.monitor.poc ∷ a.hour ∷ [] in
-    let ys = site_key b.monitor.site ∷ pollutant_number b.monitor.pollutant ∷ b.monitor.poc ∷ b.hour ∷ [] in
+    let s = site_key a.monitor.site in
+    let t = site_key b.monitor.site in
+    let m = pollutant_number a.monitor.pollutant in
+    let n = pollutant_number b.monitor.pollutant in
+    let c = a.monitor.poc in
+    let d = b.monitor.poc in
+    let xs = s ∷ m ∷ c ∷ a.hour ∷ [] in
+    let ys = t ∷ n ∷ d ∷ b.hour ∷ [] in
+    let before : key_before (obs_row_key a) (obs_row_key b) ≡ comes_before xs ys =
+    λ i. nat_lt s t || (lift-equal s t i && (nat_lt m n || (lift-equal m n i && (nat_lt c d || (lift-equal c d i && (stored-before a.hour b.hour i || (stored-same a.hour b.hour i && false)))))))
+    in
+    let same : is_same_row_key (obs_row_key a) (obs_row_key b) ≡ is_same xs ys =
+    λ i. lift-equal s t i && (lift-equal m n i && (lift-equal c d i && (stored-same a.hour b.hour i && true)))
+    in
     record {
-      before = lift-before (1 ∷ xs) (1 ∷ ys) ∙ sym (obs-before a b p q);
-      same = lift-same (1 ∷ xs) (1 ∷ ys) ∙ same-agrees xs ys (observation_numbers a) (observation_numbers b) (sym (obs-before a b p q)) (sym (obs-before b a q p));
+      before = before ∙ sym (obs-before a b p q);
+      same = same ∙ same-agrees xs ys (observation_numbers a) (observation_numbers b) (sym (obs-before a b p q)) (sym (obs-before b a q p));
     }
 
 -- ---- loads

@@ -8,6 +8,7 @@ use Rattle.aq_base.specs.Calendar.{day_of_hour}
 use Rattle.aq_base.specs.Decimal.{last_digits}
 use Rattle.aq_base.specs.Quals.{with_code, has_code, all_distinct, is_same_code}
 use Rattle.aq_base.specs.declared.code.Code.{Code}
+use Rattle.aq_base.specs.declared.day.TheConstants.{LAST_HOUR}
 use Rattle.aq_base.specs.declared.monitor.Pollutant.{Pollutant}
 use Rattle.aq_base.specs.declared.monitor.Pollutant.TheVariants.{Ozone, Pm25, Pm10}
 use Rattle.aq_base.specs.declared.monitor.Duration.{Duration}
@@ -195,7 +196,7 @@ record PutParts (id : MonitorId) (d : Duration) (method hour : ℕ) : Type 0 whe
   poc_ok : is_poc id.poc ≡ true
   duration_ok : has_duration id.pollutant d ≡ true
   method_ok : method < 1000
-  hour_ok : hour ≤ 438311
+  hour_ok : hour ≤ LAST_HOUR
 
 put_read : (update : Bool) (action : List ℕ) (id : MonitorId) (d : Duration) (method hour : ℕ) (rest : List (List ℕ)) (content : Observation) → PutParts id d method hour
     → content_in id.pollutant (value_places id.pollutant) (put_texts action id d method hour rest) ≡ Some content
@@ -289,7 +290,7 @@ round_content update id d method hour None (Some n) (q ∷ qs) p m h dist few =
     (λ action. long_count action id d method hour [] (code_text n) [] [] (map code_text (q ∷ qs)) (few_texts (q ∷ qs) few))
     (λ action. null_and_codes action id d method hour n (q ∷ qs) m (qualifiers_are (q ∷ qs) h dist few))
 
-delete_read : (action : List ℕ) (id : MonitorId) (hour : ℕ) → is_site id.site ≡ true → is_poc id.poc ≡ true → hour ≤ 438311
+delete_read : (action : List ℕ) (id : MonitorId) (hour : ℕ) → is_site id.site ≡ true → is_poc id.poc ≡ true → hour ≤ LAST_HOUR
     → delete_in (codes "RD" ∷ action ∷ site_with id.site (parameter_text id.pollutant ∷ decimal id.poc ∷ [] ∷ [] ∷ [] ∷ date_text (day_of_hour hour) ∷ time_text hour ∷ []))
     ≡ Some (Delete id hour)
 unfolding delete_in start_in
@@ -297,7 +298,7 @@ delete_read action id hour s p h =
     bind-is _ (monitor_read (codes "RD") action id.site id.pollutant id.poc ([] ∷ [] ∷ [] ∷ date_text (day_of_hour hour) ∷ time_text hour ∷ []) s p)
     ∙ bind-is _ (hour_is hour h)
 
-round_delete : (id : MonitorId) (hour : ℕ) → is_site id.site ≡ true → is_poc id.poc ≡ true → hour ≤ 438311
+round_delete : (id : MonitorId) (hour : ℕ) → is_site id.site ≡ true → is_poc id.poc ≡ true → hour ≤ LAST_HOUR
     → line_value (canonical_rd (Delete id hour)) ≡ Some (OfRd (Delete id hour))
 unfolding rd_texts
 round_delete id hour s p h =
@@ -315,8 +316,8 @@ at_most_ten n h = grind (arith, nat_tests)
 
 pub round-rd : (value : RdValue) → is_rd_value value ≡ true → line_value (canonical_rd value) ≡ Some (OfRd value)
 round-rd (Put update id d method hour content) h =
-    let a = and_parts (is_site id.site && is_poc id.poc && has_duration id.pollutant d && nat_le method 999 && nat_le hour 438311) (is_content id.pollutant content) h in
-    let b = and_parts (is_site id.site && is_poc id.poc && has_duration id.pollutant d && nat_le method 999) (nat_le hour 438311) a.0 in
+    let a = and_parts (is_site id.site && is_poc id.poc && has_duration id.pollutant d && nat_le method 999 && nat_le hour LAST_HOUR) (is_content id.pollutant content) h in
+    let b = and_parts (is_site id.site && is_poc id.poc && has_duration id.pollutant d && nat_le method 999) (nat_le hour LAST_HOUR) a.0 in
     let c = and_parts (is_site id.site && is_poc id.poc && has_duration id.pollutant d) (nat_le method 999) b.0 in
     let e = and_parts (is_site id.site && is_poc id.poc) (has_duration id.pollutant d) c.0 in
     let f = and_parts (is_site id.site) (is_poc id.poc) e.0 in
@@ -333,6 +334,6 @@ round-rd (Put update id d method hour content) h =
     })
     z.0 z.1 y.1 (at_most_ten (length content.quals) x.1)
 round-rd (Delete id hour) h =
-    let a = and_parts (is_site id.site && is_poc id.poc) (nat_le hour 438311) h in
+    let a = and_parts (is_site id.site && is_poc id.poc) (nat_le hour LAST_HOUR) h in
     let b = and_parts (is_site id.site) (is_poc id.poc) a.0 in
     round_delete id hour b.0 b.1 (at_most_hour hour a.1)

@@ -8,6 +8,7 @@ use Rattle.std.proofs.lemmas.Bool.Decides.{nat_tests}
 use Rattle.aq_base.specs.Calendar.{day_of_date, year_of, month_of, day_of_month, day_of_hour, hour_of_day, is_year}
 use Rattle.aq_base.specs.Decimal.{last_digits}
 use Rattle.aq_base.specs.Site.{Site}
+use Rattle.aq_base.specs.declared.day.TheConstants.{FIRST_YEAR, LAST_YEAR, LAST_DAY, LAST_HOUR}
 use Rattle.aq_base.specs.declared.monitor.Pollutant.{Pollutant}
 use Rattle.aq_base.specs.declared.monitor.Pollutant.TheVariants.{Ozone, Pm25, Pm10}
 use Rattle.aq_base.specs.declared.monitor.Duration.{Duration}
@@ -53,8 +54,8 @@ truth_is false = refl
 pub year_is : (y : ℕ) → is_year y ≡ true → year_in (last_digits 4 y) ≡ Some y
 unfolding year_in
 year_is y h =
-    let k = and_parts (nat_le 2000 y) (nat_le y 2049) h in
-    bind-is _ (digits_four y (less_or y 2049 10000 k.1 (omega arith))) ∙ ap (λ b. if b then Some y else None) h
+    let k = and_parts (nat_le FIRST_YEAR y) (nat_le y LAST_YEAR) h in
+    bind-is _ (digits_four y (less_or y LAST_YEAR 10000 k.1 (omega arith))) ∙ ap (λ b. if b then Some y else None) h
 
 date_in-texts : (y m d : ℕ) → y < 10000 → m < 100 → d < 100
     → date_in (last_digits 4 y ++ last_digits 2 m ++ last_digits 2 d) ≡ day_of_date y m d
@@ -71,7 +72,7 @@ date_parts d y j a =
     let short = month_short y (j + 1) in
     (omega arith, omega arith, omega arith)
 
-pub date_is : (d : ℕ) → d ≤ 18262 → date_in (date_text d) ≡ Some d
+pub date_is : (d : ℕ) → d ≤ LAST_DAY → date_in (date_text d) ≡ Some d
 date_is d small =
     let parts = date_parts d _ _ (date_of d small) in
     date_in-texts (year_of d) (month_of d) (day_of_month d) parts.0 parts.1 parts.2 ∙ day_of_date-date d small
@@ -83,7 +84,7 @@ all_hours = refl
 time_is : (h : ℕ) → h < 24 → time_in (last_digits 2 h ++ codes ":00") ≡ Some h
 time_is h small = number_is h _ (from_none (λ h. is_number h (time_in (last_digits 2 h ++ codes ":00"))) 24 h all_hours small)
 
-pub hour_is : (hour : ℕ) → hour ≤ 438311 → hour_in (date_text (day_of_hour hour)) (time_text hour) ≡ Some hour
+pub hour_is : (hour : ℕ) → hour ≤ LAST_HOUR → hour_in (date_text (day_of_hour hour)) (time_text hour) ≡ Some hour
 hour_is hour small =
     bind-is _ (date_is (day_of_hour hour) (omega arith)) ∙ bind-is _ (time_is (hour_of_day hour) (omega arith)) ∙ ap Some (omega arith)
 

@@ -1,5 +1,5 @@
 -- What tests on Booleans and numbers say, where std has no word for it.
-use Rattle.std.proofs.Common.{◌≡◌, Bool, true, false, ◌||◌, refl}
+use Rattle.std.proofs.Common.{◌≡◌, Bool, true, false, ◌||◌, refl, sym}
 use Rattle.std.specs.Prelude.{ℤ}
 use Rattle.std.specs.Ordering.{int_eq}
 use Rattle.std.proofs.lemmas.Bool.Decides.{Decides-int_eq}
@@ -15,3 +15,8 @@ int_is a b h = (Decides-int_eq a b).0 h
 
 pub int_itself : (a : ℤ) → int_eq a a ≡ true
 int_itself a = (Decides-int_eq a a).1 refl
+
+pub one_answer : (p q : Bool) → (p ≡ true → q ≡ true) → (q ≡ true → p ≡ true) → p ≡ q
+one_answer true q f g = sym (f refl)
+one_answer false true f g = g refl
+one_answer false false f g = refl

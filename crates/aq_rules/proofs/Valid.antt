@@ -6,9 +6,10 @@ use Rattle.std.specs.Str.Parse.{AllDigits, digits_value}
 use Rattle.std.proofs.lemmas.Int.Digits.{digits_value-lt}
 use Rattle.std.proofs.lemmas.Bool.Decides.{nat_tests}
 use Rattle.std.proofs.lemmas.Bool.{and_from, and_parts, eqb-true, leb-true}
-use Rattle.aq_base.specs.Calendar.{days_of_years, days_of_months, days_in_year, days_in_month, day_number, is_date, is_year, hour_number}
+use Rattle.aq_base.specs.Calendar.{years, days_of_years, days_of_months, days_in_year, days_in_month, day_number, is_date, is_year, hour_number}
 use Rattle.aq_base.specs.Decimal.{are_digits}
 use Rattle.aq_base.specs.Site.{Site}
+use Rattle.aq_base.specs.declared.day.TheConstants.{FIRST_YEAR, LAST_YEAR, LAST_DAY, LAST_HOUR}
 use Rattle.aq_base.specs.declared.monitor.Pollutant.{Pollutant}
 use Rattle.aq_base.specs.declared.monitor.Pollutant.TheVariants.{Ozone, Pm25, Pm10}
 use Rattle.aq_base.specs.declared.monitor.Duration.TheVariants.{Hour, Day}
@@ -87,40 +88,40 @@ year_valid text =
     valid (λ n. n < 10000) (λ y. is_year y ≡ true) (digits_in 4 text) _ (digits_valid 4 text) λ y p.
     valid_if (λ y. is_year y ≡ true) (is_year y) y (λ h. h)
 
-whole_years : days_of_years 50 ≡ 18263
+whole_years : days_of_years years ≡ LAST_DAY + 1
 unfolding days_of_years
 whole_years = refl
 
-in_profile : (y m d k j : ℕ) → y ≡ 2000 + k → m ≡ j + 1 → k < 50 → j < 12 → 1 ≤ d → d ≤ days_in_month y m
-    → days_of_years (y - 2000) + days_of_months y (m - 1) + (d - 1) < 18263
+in_profile : (y m d k j : ℕ) → y ≡ FIRST_YEAR + k → m ≡ j + 1 → k < years → j < 12 → 1 ≤ d → d ≤ days_in_month y m
+    → days_of_years (y - FIRST_YEAR) + days_of_months y (m - 1) + (d - 1) < LAST_DAY + 1
 in_profile y m d k j a b p q one r =
-    let year : y - 2000 ≡ k = omega arith in
+    let year : y - FIRST_YEAR ≡ k = omega arith in
     let month : m - 1 ≡ j = omega arith in
     let within : d ≤ days_in_month y (j + 1) = subst (λ t. d ≤ days_in_month y t) b r in
     let next = months_next y j in
     let last = months_in_order y (j + 1) 12 (omega arith) in
     let twelve = twelve_months y in
     let over = years_next k in
-    let same : days_in_year y ≡ days_in_year (2000 + k) = ap days_in_year a in
-    let end = years_in_order (k + 1) 50 (omega arith) in
+    let same : days_in_year y ≡ days_in_year (FIRST_YEAR + k) = ap days_in_year a in
+    let end = years_in_order (k + 1) years (omega arith) in
     let whole = whole_years in
-    rw (year, month) (sums (days_of_years k) (days_of_months y j) d (days_in_month y (j + 1)) (days_of_months y (j + 1)) (days_of_months y 12) (days_in_year y) (days_in_year (2000 + k)) (days_of_years (k + 1)) (days_of_years 50) one within next last twelve same over end whole)
+    rw (year, month) (sums (days_of_years k) (days_of_months y j) d (days_in_month y (j + 1)) (days_of_months y (j + 1)) (days_of_months y 12) (days_in_year y) (days_in_year (FIRST_YEAR + k)) (days_of_years (k + 1)) (days_of_years years) one within next last twelve same over end whole)
   where
-    sums : (f m d w n t y z g e : ℕ) → 1 ≤ d → d ≤ w → n ≡ m + w → n ≤ t → t ≡ y → y ≡ z → g ≡ f + z → g ≤ e → e ≡ 18263 → f + m + (d - 1) < 18263
+    sums : (f m d w n t y z g e : ℕ) → 1 ≤ d → d ≤ w → n ≡ m + w → n ≤ t → t ≡ y → y ≡ z → g ≡ f + z → g ≤ e → e ≡ LAST_DAY + 1 → f + m + (d - 1) < LAST_DAY + 1
     sums f m d w n t y z g e h1 h2 h3 h4 h5 h6 h7 h8 h9 = omega arith
 
-date_number : (y m d : ℕ) → is_date y m d ≡ true → day_number y m d < 18263
+date_number : (y m d : ℕ) → is_date y m d ≡ true → day_number y m d < LAST_DAY + 1
 date_number y m d h =
     let a = and_parts (is_year y && nat_le 1 m && nat_le m 12 && nat_le 1 d) (nat_le d (days_in_month y m)) h in
     let b = and_parts (is_year y && nat_le 1 m && nat_le m 12) (nat_le 1 d) a.0 in
     let c = and_parts (is_year y && nat_le 1 m) (nat_le m 12) b.0 in
     let e = and_parts (is_year y) (nat_le 1 m) c.0 in
-    let f = and_parts (nat_le 2000 y) (nat_le y 2049) e.0 in
-    let low = leb-true 2000 y f.0 in
-    let high = leb-true y 2049 f.1 in
+    let f = and_parts (nat_le FIRST_YEAR y) (nat_le y LAST_YEAR) e.0 in
+    let low = leb-true FIRST_YEAR y f.0 in
+    let high = leb-true y LAST_YEAR f.1 in
     let one = leb-true 1 m e.1 in
     let twelve = leb-true m 12 c.1 in
-    in_profile y m d (y - 2000) (m - 1) (omega arith) (omega arith) (omega arith) (omega arith) (leb-true 1 d b.1) (leb-true d (days_in_month y m) a.1)
+    in_profile y m d (y - FIRST_YEAR) (m - 1) (omega arith) (omega arith) (omega arith) (omega arith) (leb-true 1 d b.1) (leb-true d (days_in_month y m) a.1)
 
 pub date_valid : (text : List ℕ) → IfSome (date_in text) (λ d. is_day d ≡ true)
 unfolding date_in
@@ -128,7 +129,7 @@ date_valid text =
     valid (λ n. n ≡ n) (λ d. is_day d ≡ true) (digits_in 4 (take 4 text)) _ (anything (digits_in 4 (take 4 text))) λ y p.
     valid (λ n. n ≡ n) (λ d. is_day d ≡ true) (digits_in 2 (take 2 (drop 4 text))) _ (anything (digits_in 2 (take 2 (drop 4 text)))) λ m q.
     valid (λ n. n ≡ n) (λ d. is_day d ≡ true) (digits_in 2 (drop 6 text)) _ (anything (digits_in 2 (drop 6 text))) λ d r.
-    valid_if (λ d. is_day d ≡ true) (is_date y m d) (day_number y m d) (λ h. at_most (day_number y m d) 18262 (date_number y m d h))
+    valid_if (λ d. is_day d ≡ true) (is_date y m d) (day_number y m d) (λ h. at_most (day_number y m d) LAST_DAY (date_number y m d h))
 
 pub time_valid : (text : List ℕ) → IfSome (time_in text) (λ h. h ≤ 23)
 unfolding time_in
@@ -137,12 +138,12 @@ time_valid text =
     valid_if (λ h. h ≤ 23) (bytes_eq (drop 2 text) (codes ":00") && nat_le h 23) h
     (λ t. leb-true h 23 (and_parts (bytes_eq (drop 2 text) (codes ":00")) (nat_le h 23) t).1)
 
-pub hour_valid : (date time : List ℕ) → IfSome (hour_in date time) (λ h. nat_le h 438311 ≡ true)
+pub hour_valid : (date time : List ℕ) → IfSome (hour_in date time) (λ h. nat_le h LAST_HOUR ≡ true)
 hour_valid date time =
-    valid (λ d. is_day d ≡ true) (λ h. nat_le h 438311 ≡ true) (date_in date) _ (date_valid date) λ d p.
-    valid (λ h. h ≤ 23) (λ h. nat_le h 438311 ≡ true) (time_in time) _ (time_valid time) λ h q.
-    let day = leb-true d 18262 p in
-    at_most (hour_number d h) 438311 (omega arith)
+    valid (λ d. is_day d ≡ true) (λ h. nat_le h LAST_HOUR ≡ true) (date_in date) _ (date_valid date) λ d p.
+    valid (λ h. h ≤ 23) (λ h. nat_le h LAST_HOUR ≡ true) (time_in time) _ (time_valid time) λ h q.
+    let day = leb-true d LAST_DAY p in
+    at_most (hour_number d h) LAST_HOUR (omega arith)
 
 pub duration_valid : (p : Pollutant) (text : List ℕ) → IfSome (duration_in p text) (λ d. has_duration p d ≡ true)
 duration_valid Ozone text = choice (bytes_eq text (codes "1")) (bytes_eq text (codes "7")) refl

@@ -7,7 +7,7 @@ use Rattle.std.proofs.lemmas.List.{length-map}
 use Rattle.std.proofs.lemmas.List.FromFn.{length-range_with_len}
 use Rattle.aq_base.specs.Calendar.{is_year, year_first, days_in_year}
 use Rattle.aq_base.specs.Site.{Site}
-use Rattle.aq_base.specs.declared.day.TheConstants.{LAST_HOUR}
+use Rattle.aq_base.specs.declared.day.TheConstants.{LAST_YEAR, LAST_HOUR}
 use Rattle.aq_base.specs.declared.monitor.Pollutant.TheVariants.{Ozone}
 use Rattle.aq_rules.specs.Lists.{total}
 use Rattle.aq_rules.specs.Office.Office.{Office, IsOffice}
@@ -116,7 +116,7 @@ if_in (Some v) h = from_test 9999 v h
 pub year_keeps : (office : Office) (site : Site) (year : ℕ) → IsOffice office → KeepsOzoneYear (ozone_year office site year)
 year_keeps office site year valid = ozone_year-keeps office site year valid (year-holds year)
 
-pub of_profile : (year : ℕ) → is_year year ≡ true → year ≤ 2049
+pub of_profile : (year : ℕ) → is_year year ≡ true → year ≤ LAST_YEAR
 of_profile year h = grind (arith, nat_tests)
 
 pub days-well_formed : (office : Office) (site : Site) (year : ℕ) → IsOffice office → is_year year ≡ true → IsWellFormed (days_answer office site year)

@@ -1,5 +1,5 @@
 -- The sheets of design values and reports are well formed.
-use Rattle.std.proofs.Common.{◌≡◌, ℕ, ◌-◌, ◌<◌, ◌≤◌, Bool, true, List, [], ◌∷◌, ◌++◌, length, map, refl, arith, length-append}
+use Rattle.std.proofs.Common.{◌≡◌, ℕ, ◌+◌, ◌-◌, ◌<◌, ◌≤◌, Bool, true, List, [], ◌∷◌, ◌++◌, length, map, refl, arith, length-append}
 use Rattle.std.specs.Prelude.{ℤ, ◌+ℤ◌, Option, Some, None, codes}
 use Rattle.std.specs.List.{list_all, zip}
 use Rattle.std.proofs.lemmas.Int.{ints}
@@ -7,8 +7,9 @@ use Rattle.std.proofs.lemmas.Bool.Decides.{nat_tests}
 use Rattle.std.proofs.lemmas.List.{length-map}
 use Rattle.std.proofs.lemmas.Bool.{eq-eqb}
 use Rattle.aq_base.specs.Site.{Site}
+use Rattle.aq_base.specs.declared.day.TheConstants.{LAST_YEAR}
 use Rattle.aq_base.specs.declared.standard.Standard.{Standard}
-use Rattle.aq_base.specs.declared.standard.Standard.TheVariants.{Ozone2015, Annual2012, AnnualSecondary, Daily2006, Pm10Of1987}
+use Rattle.aq_base.specs.declared.standard.Standard.TheVariants.{Ozone2015, Annual2012, AnnualSecondary, Annual2024, Daily2006, Pm10Of1987}
 use Rattle.aq_base.specs.declared.standard.Verdict.{Verdict}
 use Rattle.aq_rules.specs.Standards.{level_of, years_to, pollutant_of}
 use Rattle.aq_rules.specs.DesignValues.{design_value, value_in, pm25_years, pm10_years}
@@ -50,10 +51,11 @@ in_unit : (standard : Standard) (o : Option ℤ) → DesignIn o → is_cell (des
 in_unit Ozone2015 o held = if_fixed 9999 110400 3 o (omega arith) (omega arith) refl held
 in_unit Annual2012 o held = if_fixed 9999 110400 1 o (omega arith) (omega arith) refl held
 in_unit AnnualSecondary o held = if_fixed 9999 110400 1 o (omega arith) (omega arith) refl held
+in_unit Annual2024 o held = if_fixed 9999 110400 1 o (omega arith) (omega arith) refl held
 in_unit Daily2006 o held = if_whole 9999 110400 o (omega arith) (omega arith) held
 in_unit Pm10Of1987 o held = if_fixed 9999 110400 1 o (omega arith) (omega arith) refl held
 
-module _ (standard : Standard) (site : Site) (year : ℕ) (value test : Option ℤ) (verdict : Verdict) (few : year ≤ 2049) (of_value : DesignIn value) (of_test : DesignIn test) where
+module _ (standard : Standard) (site : Site) (year : ℕ) (value test : Option ℤ) (verdict : Verdict) (few : year ≤ LAST_YEAR) (of_value : DesignIn value) (of_test : DesignIn test) where
   value-heads : list_all is_head (value_heads standard site year value test verdict) ≡ true
   value-heads =
       heads-of (value_heads standard site year value test verdict)
@@ -64,7 +66,7 @@ module _ (standard : Standard) (site : Site) (year : ℕ) (value test : Option �
 ozone_columns : List (List ℕ)
 ozone_columns = codes "year" ∷ codes "ranked" ∷ codes "fourth" ∷ codes "season_days" ∷ codes "season_valid" ∷ []
 
-ozone-row : (year : ℕ) (row : OzoneYear) → year < 2053 → KeepsOzoneYear row → is_row ozone_columns (year_cells (year, row)) ≡ true
+ozone-row : (year : ℕ) (row : OzoneYear) → year < LAST_YEAR + 4 → KeepsOzoneYear row → is_row ozone_columns (year_cells (year, row)) ≡ true
 unfolding ozone_columns
 ozone-row year row few keeps =
     let ranked = keeps.ranked in
@@ -73,14 +75,14 @@ ozone-row year row few keeps =
     row-of ozone_columns (year_cells (year, row)) refl
     (count year (omega arith), (count row.ranked (omega arith), (if_ppm row.fourth (if_in row.fourth keeps.fourth_in_range), (count row.season_days (omega arith), (count row.season_valid (omega arith), tt)))))
 
-ozone_sheet : (site : Site) (year : ℕ) (years : List OzoneYear) (design : OzoneDv) → year ≤ 2049 → length years ≤ 3 → Every KeepsOzoneYear years → DesignIn design.value
+ozone_sheet : (site : Site) (year : ℕ) (years : List OzoneYear) (design : OzoneDv) → year ≤ LAST_YEAR → length years ≤ 3 → Every KeepsOzoneYear years → DesignIn design.value
     → IsWellFormed (ozone_value_sheet site year years design)
 unfolding ozone_value_sheet ozone_columns
 ozone_sheet site year years design few three keeps value = record {
   heads = value-heads Ozone2015 site year design.value None design.verdict few value tt;
   names_differ = refl;
   columns = refl;
-  rows = numbered-rows ozone_columns KeepsOzoneYear 2053 year_cells ozone-row (year - 2) years (omega arith) keeps;
+  rows = numbered-rows ozone_columns KeepsOzoneYear (LAST_YEAR + 4) year_cells ozone-row (year - 2) years (omega arith) keeps;
 }
 
 third : (a b c : Option ℤ) → IfHeld 999 9999 a → IfHeld 999 9999 b → IfHeld 999 9999 c → IfHeld 999 9999 (design_value_of a b c)
@@ -106,14 +108,14 @@ captures-long quarters valid four =
 annual_columns : List (List ℕ)
 annual_columns = codes "year" ∷ codes "mean" ∷ codes "capture1" ∷ codes "capture2" ∷ codes "capture3" ∷ codes "capture4" ∷ codes "valid" ∷ []
 
-annual-row : (year : ℕ) (row : PmYear × Bool) → year < 2053 → YearHeld row.0 → is_row annual_columns (annual_cells (year, row)) ≡ true
+annual-row : (year : ℕ) (row : PmYear × Bool) → year < LAST_YEAR + 4 → YearHeld row.0 → is_row annual_columns (annual_cells (year, row)) ≡ true
 unfolding annual_columns
 annual-row year row few held =
     let long = captures-long row.0.quarters row.1 held.four in
     row-of annual_columns (annual_cells (year, row)) (eq-eqb (length (annual_cells (year, row))) 7 (omega (arith, long)))
     (count year (omega arith), (if_fixed 999 99999 1 (mean_of_sums row.0.quarters) (omega arith) (omega arith) refl held.mean, capture-cells row.0.quarters row.1 held.quarters))
 
-annual_sheet : (standard : Standard) (site : Site) (year : ℕ) (years : List PmYear) (design : ParticleDv) → year ≤ 2049 → length years ≤ 3 → Every YearHeld years
+annual_sheet : (standard : Standard) (site : Site) (year : ℕ) (years : List PmYear) (design : ParticleDv) → year ≤ LAST_YEAR → length years ≤ 3 → Every YearHeld years
     → DesignIn design.value → DesignIn design.test → IsWellFormed (annual_value_sheet standard site year years design)
 unfolding annual_value_sheet annual_columns
 annual_sheet standard site year years design few three held value test = record {
@@ -121,7 +123,7 @@ annual_sheet standard site year years design few three held value test = record 
   names_differ = refl;
   columns = refl;
   rows =
-      numbered-rows annual_columns (λ (row : PmYear × Bool). YearHeld row.0) 2053 annual_cells annual-row (year - 2) (zip years design.valid) (omega (arith, zip-few years design.valid))
+      numbered-rows annual_columns (λ (row : PmYear × Bool). YearHeld row.0) (LAST_YEAR + 4) annual_cells annual-row (year - 2) (zip years design.valid) (omega (arith, zip-few years design.valid))
       (zip-every YearHeld years design.valid held);
 }
 
@@ -129,7 +131,7 @@ daily_columns : List (List ℕ)
 daily_columns =
     codes "year" ∷ codes "percentile" ∷ codes "counted" ∷ codes "capture1" ∷ codes "capture2" ∷ codes "capture3" ∷ codes "capture4" ∷ codes "valid" ∷ []
 
-daily-row : (year : ℕ) (row : PmYear × Bool) → year < 2053 → YearHeld row.0 → is_row daily_columns (daily_cells (year, row)) ≡ true
+daily-row : (year : ℕ) (row : PmYear × Bool) → year < LAST_YEAR + 4 → YearHeld row.0 → is_row daily_columns (daily_cells (year, row)) ≡ true
 unfolding daily_columns
 daily-row year row few held =
     let long = captures-long row.0.quarters row.1 held.four in
@@ -137,7 +139,7 @@ daily-row year row few held =
     row-of daily_columns (daily_cells (year, row)) (eq-eqb (length (daily_cells (year, row))) 8 (omega (arith, long)))
     (count year (omega arith), (if_fixed 999 99999 1 (kept_percentile row.0) (omega arith) (omega arith) refl held.percentile, (count (kept_counted row.0.quarters) (omega arith), capture-cells row.0.quarters row.1 held.quarters)))
 
-daily_sheet : (site : Site) (year : ℕ) (years : List PmYear) (design : ParticleDv) → year ≤ 2049 → length years ≤ 3 → Every YearHeld years
+daily_sheet : (site : Site) (year : ℕ) (years : List PmYear) (design : ParticleDv) → year ≤ LAST_YEAR → length years ≤ 3 → Every YearHeld years
     → DesignIn design.value → DesignIn design.test → IsWellFormed (daily_value_sheet site year years design)
 unfolding daily_value_sheet daily_columns
 daily_sheet site year years design few three held value test = record {
@@ -145,7 +147,7 @@ daily_sheet site year years design few three held value test = record {
   names_differ = refl;
   columns = refl;
   rows =
-      numbered-rows daily_columns (λ (row : PmYear × Bool). YearHeld row.0) 2053 daily_cells daily-row (year - 2) (zip years design.valid) (omega (arith, zip-few years design.valid))
+      numbered-rows daily_columns (λ (row : PmYear × Bool). YearHeld row.0) (LAST_YEAR + 4) daily_cells daily-row (year - 2) (zip years design.valid) (omega (arith, zip-few years design.valid))
       (zip-every YearHeld years design.valid held);
 }
 
@@ -154,7 +156,7 @@ daily_sheet site year years design few three held value test = record {
 pm10_columns : List (List ℕ)
 pm10_columns = codes "year" ∷ codes "estimate" ∷ codes "lower" ∷ codes "exceedances" ∷ codes "complete" ∷ []
 
-pm10-row : (year : ℕ) (row : List Pm10Quarter) → year < 2053 → KeepsPm10Year row → is_row pm10_columns (pm10_year_cells (year, row)) ≡ true
+pm10-row : (year : ℕ) (row : List Pm10Quarter) → year < LAST_YEAR + 4 → KeepsPm10Year row → is_row pm10_columns (pm10_year_cells (year, row)) ≡ true
 unfolding pm10_columns
 pm10-row year row few keeps =
     let exceedances = exceedances-few row keeps in
@@ -166,14 +168,14 @@ pm10-row year row few keeps =
       ),
     )
 
-pm10_sheet : (site : Site) (year : ℕ) (years : List (List Pm10Quarter)) (design : Pm10Dv) → year ≤ 2049 → length years ≤ 3 → Every KeepsPm10Year years → DesignIn design.value
+pm10_sheet : (site : Site) (year : ℕ) (years : List (List Pm10Quarter)) (design : Pm10Dv) → year ≤ LAST_YEAR → length years ≤ 3 → Every KeepsPm10Year years → DesignIn design.value
     → IsWellFormed (pm10_value_sheet site year years design)
 unfolding pm10_value_sheet pm10_columns
 pm10_sheet site year years design few three keeps value = record {
   heads = value-heads Pm10Of1987 site year design.value None design.verdict few value tt;
   names_differ = refl;
   columns = refl;
-  rows = numbered-rows pm10_columns KeepsPm10Year 2053 pm10_year_cells pm10-row (year - 2) years (omega arith) keeps;
+  rows = numbered-rows pm10_columns KeepsPm10Year (LAST_YEAR + 4) pm10_year_cells pm10-row (year - 2) years (omega arith) keeps;
 }
 
 -- ---- an office's design values
@@ -237,18 +239,20 @@ module _ (office : Office) (site : Site) (year : ℕ) (valid : IsOffice office) 
   value-of Ozone2015 = ozone-value
   value-of Annual2012 = annual-value (level_of Annual2012)
   value-of AnnualSecondary = annual-value (level_of AnnualSecondary)
+  value-of Annual2024 = annual-value (level_of Annual2024)
   value-of Daily2006 = daily-value
   value-of Pm10Of1987 = pm10-value
 
-  value-sheet : (standard : Standard) → year ≤ 2049 → IsWellFormed (value_answer standard office site year)
+  value-sheet : (standard : Standard) → year ≤ LAST_YEAR → IsWellFormed (value_answer standard office site year)
   unfolding value_answer value_sheet design_value three_years
   value-sheet Ozone2015 few = ozone_sheet site year (three_years office site year) (ozone_design office site year) few (omega arith) ozone-years ozone-value
   value-sheet Annual2012 few = annual_sheet Annual2012 site year (pm25_years office site year) (annual_design (level_of Annual2012) office site year) few (omega arith) pm-years (annual-value (level_of Annual2012)) (annual-test (level_of Annual2012))
   value-sheet AnnualSecondary few = annual_sheet AnnualSecondary site year (pm25_years office site year) (annual_design (level_of AnnualSecondary) office site year) few (omega arith) pm-years (annual-value (level_of AnnualSecondary)) (annual-test (level_of AnnualSecondary))
+  value-sheet Annual2024 few = annual_sheet Annual2024 site year (pm25_years office site year) (annual_design (level_of Annual2024) office site year) few (omega arith) pm-years (annual-value (level_of Annual2024)) (annual-test (level_of Annual2024))
   value-sheet Daily2006 few = daily_sheet site year (pm25_years office site year) (daily_design office site year) few (omega arith) pm-years daily-value daily-test
   value-sheet Pm10Of1987 few = pm10_sheet site year (pm10_years office site year) (pm10_design office site year) few (omega arith) pm10-years pm10-value
 
-of_three_years : (year : ℕ) → is_design_year year ≡ true → year ≤ 2049
+of_three_years : (year : ℕ) → is_design_year year ≡ true → year ≤ LAST_YEAR
 of_three_years year h = grind (arith, nat_tests)
 
 pub value-well_formed : (office : Office) (standard : Standard) (site : Site) (year : ℕ) → IsOffice office → is_design_year year ≡ true → IsWellFormed (value_answer standard office site year)

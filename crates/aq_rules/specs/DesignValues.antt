@@ -1,9 +1,10 @@
 -- The design value of any standard for a site and the three years that end with a year.
-use Rattle.std.specs.Prelude.{ℕ, List, map, Option, ℤ}
+use Rattle.std.specs.Prelude.{ℕ, Bool, true, false, List, map, Option, ℤ}
 use Rattle.aq_base.specs.Site.{Site}
 use Rattle.aq_base.specs.declared.standard.Standard.{Standard}
-use Rattle.aq_base.specs.declared.standard.Standard.TheVariants.{Ozone2015, Annual2012, AnnualSecondary, Daily2006, Pm10Of1987}
+use Rattle.aq_base.specs.declared.standard.Standard.TheVariants.{Ozone2015, Annual2012, AnnualSecondary, Annual2024, Daily2006, Pm10Of1987}
 use Rattle.aq_base.specs.declared.standard.Verdict.{Verdict}
+use Rattle.aq_base.specs.declared.standard.Verdict.TheVariants.{Met, NotMet, Incomplete, NoValue}
 use Rattle.aq_rules.specs.Standards.{level_of, years_to}
 use Rattle.aq_rules.specs.Office.Office.{Office}
 use Rattle.aq_rules.specs.Ozone.OzoneYear.{OzoneYear}
@@ -31,6 +32,7 @@ unfoldable pub design_value : Standard → Office → Site → ℕ → DesignVal
 design_value Ozone2015 office site year = OfOzone (three_years office site year) (ozone_design office site year)
 design_value Annual2012 office site year = OfAnnual (pm25_years office site year) (annual_design (level_of Annual2012) office site year)
 design_value AnnualSecondary office site year = OfAnnual (pm25_years office site year) (annual_design (level_of AnnualSecondary) office site year)
+design_value Annual2024 office site year = OfAnnual (pm25_years office site year) (annual_design (level_of Annual2024) office site year)
 design_value Daily2006 office site year = OfDaily (pm25_years office site year) (daily_design office site year)
 design_value Pm10Of1987 office site year = OfPm10 (pm10_years office site year) (pm10_design office site year)
 
@@ -46,3 +48,10 @@ verdict_in (OfOzone years design) = design.verdict
 verdict_in (OfAnnual years design) = design.verdict
 verdict_in (OfDaily years design) = design.verdict
 verdict_in (OfPm10 years design) = design.verdict
+
+abbrev pub is_same_verdict : Verdict → Verdict → Bool
+is_same_verdict Met Met = true
+is_same_verdict NotMet NotMet = true
+is_same_verdict Incomplete Incomplete = true
+is_same_verdict NoValue NoValue = true
+is_same_verdict _ _ = false

@@ -9,4 +9,6 @@ pub mod Ozone
 pub mod Particles
 pub mod Kept
 pub mod DesignValues
+pub mod WhatIf
+pub mod Areas
 pub mod Shown

@@ -3,6 +3,7 @@ pub mod Sheet
 pub mod Sheets
 pub mod ParticleSheets
 pub mod OtherSheets
+pub mod AreaSheets
 pub mod WellFormed
 pub mod Json
 pub mod Export

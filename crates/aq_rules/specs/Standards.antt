@@ -1,25 +1,7 @@
--- The national ambient air quality standards: the pollutant of each, and its level (40 CFR 50.6, 50.13, 50.18 and 50.19).
+-- What it is to be above a standard's level, and the years of a design value. The pollutant and the level of each standard stand in aq_base.
 use Rattle.std.specs.Prelude.{ℕ, ◌-◌, Bool, false, List, [], ◌∷◌, Option, ℤ, pos, int_lt, int_le}
 use Rattle.std.specs.Option.{option_map_or}
-use Rattle.aq_base.specs.declared.monitor.Pollutant.{Pollutant}
-use Rattle.aq_base.specs.declared.monitor.Pollutant.TheVariants.{Ozone, Pm25, Pm10}
-use Rattle.aq_base.specs.declared.standard.Standard.{Standard}
-use Rattle.aq_base.specs.declared.standard.Standard.TheVariants.{Ozone2015, Annual2012, AnnualSecondary, Daily2006, Pm10Of1987}
-
-abbrev pub pollutant_of : Standard → Pollutant
-pollutant_of Ozone2015 = Ozone
-pollutant_of Annual2012 = Pm25
-pollutant_of AnnualSecondary = Pm25
-pollutant_of Daily2006 = Pm25
-pollutant_of Pm10Of1987 = Pm10
-
--- the level, in the unit of the standard's design value: 0.070 ppm in thousandths; 12.0 and 15.0 µg/m3 in tenths; 35 µg/m3 whole; 1.0 exceedances a year in tenths
-abbrev pub level_of : Standard → ℤ
-level_of Ozone2015 = pos 70
-level_of Annual2012 = pos 120
-level_of AnnualSecondary = pos 150
-level_of Daily2006 = pos 35
-level_of Pm10Of1987 = pos 10
+pub use Rattle.aq_base.specs.Standard.{pollutant_of, level_of}
 
 -- above which a day of PM10 exceeds: 150 µg/m3, in tens (40 CFR 50.6)
 abbrev pub PM10_DAY_LEVEL : ℤ

@@ -2,6 +2,7 @@
 //! functions here are laws, which show that a definition means what a reader expects.
 #![tactic(auto)]
 
+pub mod areas;
 pub mod kept;
 pub mod lines;
 pub mod lists;
@@ -10,3 +11,4 @@ pub mod ozone;
 pub mod particles;
 pub mod shown;
 pub mod standards;
+pub mod what_if;

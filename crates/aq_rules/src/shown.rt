@@ -1,6 +1,7 @@
 //! Laws of what is shown.
 
 pub mod answer;
+pub mod area_sheets;
 pub mod export;
 pub mod generator;
 pub mod json;

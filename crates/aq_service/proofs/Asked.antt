@@ -10,7 +10,7 @@ use Rattle.aq_base.specs.Site.{Site}
 use Rattle.aq_base.specs.declared.monitor.Pollutant.{Pollutant}
 use Rattle.aq_base.specs.declared.reply.LoadReply.{LoadReply}
 use Rattle.aq_base.specs.declared.standard.Standard.{Standard}
-use Rattle.aq_loads.specs.KeptLoads.{reply_in}
+use Rattle.aq_rows.specs.KeptLoads.{reply_in}
 use Rattle.aq_rules.specs.DesignValues.{DesignValue, design_value}
 use Rattle.aq_rules.specs.Kept.Summaries.{PmYear, pm25_summary}
 use Rattle.aq_rules.specs.Office.Approval.{is_approved}

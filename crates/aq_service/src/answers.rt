@@ -47,7 +47,7 @@ pub fn sheet_of(alloc: Global, book: &Book, ask: &Ask) -> Result<Sheet, Unanswer
     counted::<Brand>(alloc, book, ask, Blank::new(1))
 }
 
-/// The text that answers for the observations of a site, pollutant and year. The year is 2000 to 2049.
+/// The text that answers for the observations of a site, pollutant and year. The year is 1990 to 2059.
 pub fn export_of(
     alloc: Global,
     book: &Book,

@@ -1,4 +1,4 @@
--- Places that descend hold the values that they give.
+-- Lemmas, no definition: places that descend hold the values that they give.
 use Rattle.std.proofs.Common.{◌≡◌, List, [], ◌∷◌, length, Bool, true, false, ◌&&◌, refl, sym, ap, ◌∙◌}
 use Rattle.std.specs.Prelude.{Option, Some, None, ℤ}
 use Rattle.std.proofs.lemmas.Bool.{false≢true}

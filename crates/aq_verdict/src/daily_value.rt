@@ -17,11 +17,8 @@ use crate::percentile::{percentile_of, percentile_with};
 use crate::pm_year::PmYear;
 use crate::rounded::{rounded, rounded_three};
 use crate::substitution::{Copies, maximum_for};
-use aq_base::Verdict;
+use aq_base::{Standard, Verdict};
 use std::marker::Model;
-
-/// The 24-hour level, in µg/m3 (40 CFR 50.13).
-const LEVEL: i32 = 35;
 
 /// The 24-hour PM2.5 design value in µg/m3, the value of the maximum test where it was asked for and
 /// its needs are met, whether each year is valid, and the verdict.
@@ -93,9 +90,10 @@ fn valid_years(years: &[PmYear; 3], value: Option<i32>) -> [bool; 3]
 fn is_daily_year(year: &PmYear, value: Option<i32>) -> bool
     ensures { result ≡ is_daily_year value (percentile_of of_summaries year.now) (counts_in of_summaries year.now) }
 {
+    let level = Standard::Daily2006.level();
     is_captured(year)
         || (creditable_in(year) >= 1
-            && (is_above(LEVEL, whole(percentile_of(year))) || is_above(LEVEL, value)))
+            && (is_above(level, whole(percentile_of(year))) || is_above(level, value)))
 }
 
 // A percentile in whole µg/m3.
@@ -129,7 +127,7 @@ fn filled_value(years: &[PmYear; 3]) -> Option<i32>
     )
 }
 
-// Where a year is not valid, the maximum test decides, whether the value is above the level or not.
+// If a year is not valid, the maximum test decides. A value above the level makes all three years valid.
 fn daily_verdict(value: Option<i32>, valid: &[bool; 3], test: Option<i32>) -> Verdict
     ensures { result ≡ daily_verdict value valid.now test }
 {
@@ -137,14 +135,14 @@ fn daily_verdict(value: Option<i32>, valid: &[bool; 3], test: Option<i32>) -> Ve
     match value {
         None => Verdict::NoValue,
         Some(value) if all => {
-            if value > LEVEL {
+            if value > Standard::Daily2006.level() {
                 Verdict::NotMet
             } else {
                 Verdict::Met
             }
         }
         Some(_) => {
-            if is_at_or_below(LEVEL, test) {
+            if is_at_or_below(Standard::Daily2006.level(), test) {
                 Verdict::Met
             } else {
                 Verdict::Incomplete

@@ -4,12 +4,9 @@ ghost use Rattle.aq_base.specs.Decimal.{truncated};
 ghost use Rattle.aq_rules.specs.Ozone.OzoneVerdict.{design_value_of, is_average_kept, is_complete, is_season_kept, ozone_dv, ozone_verdict};
 
 use crate::ozone_year::OzoneYear;
-use aq_base::Verdict;
+use aq_base::{Standard, Verdict};
 use aq_num::trunc_div;
 use std::marker::Model;
-
-/// The ozone level, in thousandths of a ppm (40 CFR 50.19).
-const LEVEL: i32 = 70;
 
 /// The ozone design value in thousandths of a ppm, and the verdict.
 #[derive(Clone, Copy, Debug, PartialEq, Eq)]
@@ -80,7 +77,7 @@ fn verdict_of(value: Option<i32>, complete: bool) -> Verdict
 {
     match value {
         None => Verdict::NoValue,
-        Some(value) if value > LEVEL => Verdict::NotMet,
+        Some(value) if value > Standard::Ozone2015.level() => Verdict::NotMet,
         Some(_) if complete => Verdict::Met,
         Some(_) => Verdict::Incomplete,
     }

@@ -10,11 +10,8 @@ ghost use Rattle.aq_rules.specs.Particles.Pm10Verdict.{exceedances_in, is_comple
 
 use crate::pm10_year::{Pm10Quarter, Pm10Year};
 use crate::rounded::{rounded, rounded_four, rounded_three};
-use aq_base::Verdict;
+use aq_base::{Standard, Verdict};
 use std::marker::Model;
-
-/// The level, 1.0 expected exceedances a year, in tenths (40 CFR 50.6).
-const LEVEL: i32 = 10;
 
 /// The PM10 design value, the estimated exceedances a year in tenths, and the verdict.
 #[derive(Clone, Copy, Debug, PartialEq, Eq)]
@@ -137,7 +134,7 @@ fn is_unambiguous(years: &[Pm10Year; 3]) -> bool
 fn is_above(value: Option<i32>) -> bool
     ensures { result ≡ is_above (level_of Pm10Of1987) value }
 {
-    value.is_some_and(|value| value > LEVEL)
+    value.is_some_and(|value| value > Standard::Pm10Of1987.level())
 }
 
 /// The samples of a year that exceed.
@@ -156,7 +153,7 @@ fn verdict_of(value: Option<i32>, complete: bool, unambiguous: bool) -> Verdict
     ensures { result ≡ pm10_verdict value complete unambiguous }
 {
     match value {
-        Some(value) if complete && value <= LEVEL => Verdict::Met,
+        Some(value) if complete && value <= Standard::Pm10Of1987.level() => Verdict::Met,
         Some(_) if complete || unambiguous => Verdict::NotMet,
         Some(_) => Verdict::Incomplete,
         None if unambiguous => Verdict::NotMet,

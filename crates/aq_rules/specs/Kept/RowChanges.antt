@@ -7,7 +7,7 @@ use Rattle.aq_base.specs.declared.office.OfficeKey.{OfficeKey}
 use Rattle.aq_rules.specs.Lines.Canonical.{printed_key}
 use Rattle.aq_rules.specs.Office.Office.{Office, kind_of, pollutant_number}
 use Rattle.aq_rules.specs.Office.Load.{OfficeChange, PutRecord, DropRecord, PutObservation, DropObservation, PutLoad, batch, load}
-use Rattle.aq_rules.specs.Kept.Rows.{Row, OfOfficeRow, OfObsRow, OfLoadRow, office_row, obs_row, load_row, rows_of, site_key}
+use Rattle.aq_rules.specs.Kept.Rows.{Row, OfOfficeRow, OfObsRow, OfLoadRow, office_row, obs_row, load_row, rows_of, site_key, stored_hour}
 
 -- the tables' names, by number from 0
 abbrev pub table_names : List (List ℕ)
@@ -100,7 +100,7 @@ office_row_key key = OfficeRowKey (pos (kind_of key)) (printed_key key)
 
 abbrev pub obs_row_key : ObsKey → RowKey
 obs_row_key key =
-    ObsRowKey (pos (site_key key.monitor.site)) (pos (pollutant_number key.monitor.pollutant)) (pos key.monitor.poc) (pos key.hour)
+    ObsRowKey (pos (site_key key.monitor.site)) (pos (pollutant_number key.monitor.pollutant)) (pos key.monitor.poc) (stored_hour key.hour)
 
 -- the change of rows that a change of the office's lists stands for
 abbrev pub row_change : OfficeChange → RowChange

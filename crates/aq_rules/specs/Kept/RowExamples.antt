@@ -1,5 +1,5 @@
 -- Rows as a keeper may hand them out, on which the laws of rows work their examples out.
-use Rattle.std.specs.Prelude.{ℕ, ℤ, pos, true, Option, List, [], ◌∷◌, ◌++◌, replicate, codes}
+use Rattle.std.specs.Prelude.{ℕ, ℤ, pos, true, Option, Some, List, [], ◌∷◌, ◌++◌, replicate, codes}
 use Rattle.aq_base.specs.declared.monitor.Duration.TheVariants.{Day}
 use Rattle.aq_base.specs.declared.office.OfficeRecord.TheVariants.{Monitor}
 use Rattle.aq_base.specs.declared.reply.ListedLine.{ListedLine}
@@ -33,10 +33,27 @@ record_with kind key line = OfOfficeRow (record { kind = kind; key = key; line =
 abbrev pub monitor_row : Row
 monitor_row = record_with (pos 1) (codes "06|037|1103|88101|01") (codes "XM|I|06|037|1103|88101|1|7|Y")
 
+-- the row of one at the site beside it
+abbrev pub neighbor_row : Row
+neighbor_row = record_with (pos 1) (codes "06|037|1104|88101|01") (codes "XM|I|06|037|1104|88101|1|7|Y")
+
+-- the row that combines two sites, of these numbers, for PM2.5 from 2 July 2024
+abbrev pub combination_row : List ℕ → List ℕ → Row
+combination_row site joined =
+    record_with (pos 9) (codes "06|037|" ++ site ++ codes "|88101") (codes "XB|I|06|037|" ++ site ++ codes "|88101|20240702|06|037|" ++ joined)
+
 -- the row of its sample of 7 January 2024 with this value, null code and qualifiers
 abbrev pub sample_with : Option ℤ → List ℕ → List ℕ → Row
 sample_with value null quals =
     OfObsRow (record { site = pos 60371103; pollutant = pos 2; poc = pos 1; hour = pos 210528; value = value; null = null; quals = quals })
+
+-- the row of an ozone monitor, and of its hour with this stored number
+abbrev pub ozone_row : Row
+ozone_row = record_with (pos 1) (codes "06|037|1103|44201|01") (codes "XM|I|06|037|1103|44201|1|1|Y")
+
+abbrev pub ozone_at : ℤ → Row
+ozone_at stored =
+    OfObsRow (record { site = pos 60371103; pollutant = pos 1; poc = pos 1; hour = stored; value = Some (pos 71); null = []; quals = [] })
 
 -- eight ozone monitors of a site, and one of PM2.5
 abbrev pub nine_monitors : Office

@@ -1,9 +1,10 @@
 -- An office as the rows of three tables, records, observations and loads, and which lists of rows are an office's (own).
-use Rattle.std.specs.Prelude.{◌≡◌, ℕ, ◌+◌, ◌*◌, ◌/◌, ◌%◌, Bool, true, false, not, ◌&&◌, ◌==◌, nat_le, if◌then◌else◌, List, [], ◌∷◌, ◌++◌, length, map, filter_map, find, count_by, sum_by, codes, decimal, bytes_eq, Option, Some, None, is_some, option_map, ℤ, pos, negsuc}
+use Rattle.std.specs.Prelude.{◌≡◌, ℕ, ◌+◌, ◌*◌, ◌/◌, ◌%◌, Bool, true, false, not, ◌&&◌, ◌==◌, nat_le, if◌then◌else◌, List, [], ◌∷◌, ◌++◌, length, map, filter_map, find, count_by, sum_by, codes, decimal, bytes_eq, Option, Some, None, is_some, option_map, ℤ, pos, negsuc, ◌+ℤ◌, ◌-ℤ◌}
 use Rattle.std.specs.List.{list_all, before_first, after_first, slice_split, join_with_byte}
 use Rattle.std.specs.Option.{option_eq}
 use Rattle.std.specs.Ordering.{int_eq}
 use Rattle.std.specs.Str.Parse.{digits_value}
+use Rattle.aq_base.specs.Calendar.{day_number, hour_number}
 use Rattle.aq_base.specs.Decimal.{are_digits}
 use Rattle.aq_base.specs.Rule.{rule_number, all_rules}
 use Rattle.aq_base.specs.Site.{Site}
@@ -23,12 +24,12 @@ use Rattle.aq_rules.specs.Lines.Spellings.{◌>>=◌, qualifier_in}
 use Rattle.aq_rules.specs.Lines.Fields.{is_empty, is_space}
 use Rattle.aq_rules.specs.Lines.Reading.{LineValue, OfOffice, line_value}
 use Rattle.aq_rules.specs.Lines.Canonical.{canonical_office, record_line, printed_key}
-use Rattle.aq_rules.specs.Office.Office.{Office, StoredLoad, kind_of, key_of, pollutant_number, record_rank, observation_rank, load_rank, rises, fits_records, has_own_makeup_day, sites_of, fits_monitors, is_load}
+use Rattle.aq_rules.specs.Office.Office.{Office, StoredLoad, kind_of, key_of, pollutant_number, record_rank, observation_rank, load_rank, rises, fits_records, is_alone, sites_of, fits_monitors, is_load}
 use Rattle.aq_rules.specs.Shown.Export.{null_text, codes_text}
 
 -- ---- rows; a keeper may hand out any
 
--- by kind from 1 (a monitor) to 8 (an approved day) and printed key: the record's canonical line
+-- by kind from 1 (a monitor) to 9 (a combination) and printed key: the record's canonical line
 pub record OfficeRow : Type 0 where
   pub kind : ℤ
   pub key : List ℕ
@@ -70,12 +71,19 @@ office_row r = record {
 abbrev pub site_key : Site → ℕ
 site_key site = site.state * 10000000 + site.county * 10000 + site.number
 
+-- Tables that were written when the profile began in 2000 stay as they are: a row counts its hour from 2000-01-01 00:00, and an earlier hour is below zero.
+unfoldable pub hours_before_2000 : ℕ
+hours_before_2000 = hour_number (day_number 2000 1 1) 0
+
+abbrev pub stored_hour : ℕ → ℤ
+stored_hour hour = pos hour -ℤ pos hours_before_2000
+
 abbrev pub obs_row : (ObsKey × Observation) → ObsRow
 obs_row entry = record {
   site = pos (site_key entry.0.monitor.site);
   pollutant = pos (pollutant_number entry.0.monitor.pollutant);
   poc = pos entry.0.monitor.poc;
-  hour = pos entry.0.hour;
+  hour = stored_hour entry.0.hour;
   value = entry.1.value;
   null = null_text entry.1.null;
   quals = codes_text entry.1.quals;
@@ -112,6 +120,10 @@ rows_of office =
 abbrev pub whole : ℤ → Option ℕ
 whole (pos n) = Some n
 whole (negsuc n) = None
+
+-- the hour that a row counts, or nothing where it comes before the profile
+abbrev pub hour_of_stored : ℤ → Option ℕ
+hour_of_stored stored = whole (stored +ℤ pos hours_before_2000)
 
 abbrev pub record_in : LineValue → Option OfficeRecord
 record_in (OfOffice (Put r)) = Some r
@@ -157,7 +169,7 @@ observation_of_row row = do
   number ← whole row.pollutant
   pollutant ← pollutant_with number
   poc ← whole row.poc
-  hour ← whole row.hour
+  hour ← hour_of_stored row.hour
   null ← null_of row.null
   quals ← each qualifier_in (words row.quals)
   only_if (λ o. is_obs_row (obs_row o) row) (record { monitor = record { site = site_with site; pollutant = pollutant; poc = poc }; hour = hour }, record { value = row.value; null = null; quals = quals })
@@ -241,7 +253,7 @@ tables_follow (row ∷ next ∷ rows) = nat_le (table_of row) (table_of next) &&
 abbrev pub is_valid : Office → Bool
 is_valid office =
     rises record_rank office.records && rises observation_rank office.observations && rises load_rank office.loads
-    && list_all (fits_records office) office.records && list_all (has_own_makeup_day office) office.records
+    && list_all (fits_records office) office.records && list_all (is_alone office) office.records
     && nat_le (length (sites_of office.records)) MOST_SITES
     && list_all (fits_monitors office) office.observations && nat_le (length office.observations) MOST_OBSERVATIONS
     && list_all is_load office.loads && nat_le (length office.loads) MOST_LOADS

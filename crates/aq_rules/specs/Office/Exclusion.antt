@@ -1,4 +1,4 @@
--- Data left out for an exceptional event in which the Administrator concurred (40 CFR 50.14). The records by which an office says so are (own).
+-- Data left out for an exceptional event in which the Administrator concurred, as 40 CFR 50.14 has it. The whole rule, by codes, spans and records, is (own).
 use Rattle.std.specs.Prelude.{ℕ, Bool, false, ◌&&◌, ◌==◌, nat_le, List}
 use Rattle.std.specs.List.{list_any}
 use Rattle.aq_base.specs.Quals.{has_code}

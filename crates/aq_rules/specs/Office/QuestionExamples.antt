@@ -31,8 +31,8 @@ two_sites =
     Monitor (monitor_at coast Ozone 1) Hour true ∷ Monitor (monitor_at coast Ozone 4) Hour false
     ∷ Monitor (monitor_at coast Pm10 2) Day true ∷ Monitor (monitor_at coast Pm25 3) Day false
     ∷ Monitor (monitor_at valley Pm25 5) Hour true
-    ∷ Primary coast Ozone 8766 4
-    ∷ Makeup coast 8772 8774 ∷ Makeup coast 8790 8793 ∷ Makeup valley 8772 8775
-    ∷ Event 12 coast Ozone 210000 210023 code_rf ∷ Event 15 valley Pm25 210010 210030 code_rf
+    ∷ Primary coast Ozone 12418 4
+    ∷ Makeup coast 12424 12426 ∷ Makeup coast 12442 12445 ∷ Makeup valley 12424 12427
+    ∷ Event 12 coast Ozone 297648 297671 code_rf ∷ Event 15 valley Pm25 297658 297678 code_rf
     ∷ Concurrence 12 true
     ∷ []

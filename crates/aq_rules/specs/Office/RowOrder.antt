@@ -1,4 +1,4 @@
--- A row put into a list in rising order, or dropped from it, leaves the order.
+-- Lemmas, no definition: a row put into a list in rising order, or dropped from it, leaves the order.
 use Rattle.std.proofs.Common.{◌≡◌, ℕ, ◌<◌, ◌⊎◌, Bool, true, false, cond, not, ◌&&◌, ◌||◌, List, [], ◌∷◌, refl, sym, ap, ◌∙◌, arith, inl, inr, subst}
 use Rattle.std.specs.Prelude.{nat_lt, ◌==◌, bytes_eq, filter}
 use Rattle.std.proofs.lemmas.Bool.{false≢true, and_from, and_parts, cases_Bool}
@@ -112,7 +112,7 @@ module _ {X : Type 0} (rank : X → List ℕ) where
   rises_rest first [] p = refl
   rises_rest first (next ∷ rows) p = (and_parts (comes_before (rank first) (rank next)) (rises_from rank next rows) p).1
 
-  filter-rises : (keep : X → Bool) (rows : List X) → rises rank rows ≡ true → rises rank (filter keep rows) ≡ true
+  pub filter-rises : (keep : X → Bool) (rows : List X) → rises rank rows ≡ true → rises rank (filter keep rows) ≡ true
   filter-rises keep [] p = refl
   filter-rises keep (first ∷ rows) p =
       elim (cases_Bool (keep first)) [

@@ -1,4 +1,4 @@
--- The tests of sameness hold of equal things alone.
+-- Lemmas, no definition: the tests of sameness hold of equal things alone.
 use Rattle.std.proofs.Common.{◌≡◌, ℕ, true, ◌&&◌, refl}
 use Rattle.std.specs.Prelude.{◌==◌}
 use Rattle.std.proofs.lemmas.Bool.{and_parts, eqb-true, eq-eqb}

@@ -14,11 +14,11 @@ abbrev pub design_value_of : Option ℤ → Option ℤ → Option ℤ → Option
 design_value_of (Some a) (Some b) (Some c) = Some (truncated (a +ℤ b +ℤ c) (pos 3))
 design_value_of _ _ _ = None
 
--- three quarters of the season's days are valid
+-- at least three quarters of the season's days are valid or approved
 abbrev pub is_season_kept : OzoneYear → Bool
 is_season_kept year = nat_le (3 * year.season_days) (4 * year.season_valid)
 
--- v1 / d1 + v2 / d2 + v3 / d3 is at least 27 / 10: nine tenths on average
+-- v1 / d1 + v2 / d2 + v3 / d3 is at least 27 / 10: at least nine tenths on average
 abbrev pub is_average_kept : OzoneYear → OzoneYear → OzoneYear → Bool
 is_average_kept a b c =
     nat_le (27 * (a.season_days * b.season_days * c.season_days))

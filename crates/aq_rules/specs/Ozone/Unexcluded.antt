@@ -1,4 +1,4 @@
--- Where no cell is excluded the net values of eight hours are the full ones.
+-- Lemmas, no definition: if no cell is excluded, the net values of eight hours are the full ones.
 use Rattle.std.proofs.Common.{◌≡◌, Bool, true, false, cond, not, ◌||◌, List, [], ◌∷◌, refl, ap}
 use Rattle.std.specs.List.{list_any, filter}
 use Rattle.std.specs.Prelude.{ℤ}

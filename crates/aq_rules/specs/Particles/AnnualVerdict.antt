@@ -18,7 +18,7 @@ is_captured quarters = list_all (λ counts. nat_le 75 (capture counts)) quarters
 abbrev pub has_eleven_each : List QuarterCounts → Bool
 has_eleven_each quarters = list_all (λ (counts : QuarterCounts). nat_le 11 counts.creditable) quarters
 
--- a capture of 75 in each quarter; or 11 creditable samples in each, with the annual mean or the design value above the level
+-- a capture of at least 75 in each quarter; or at least 11 creditable samples in each, with the annual mean or the design value above the level
 abbrev pub is_annual_year : ℤ → Option ℤ → Option ℤ → List QuarterCounts → Bool
 is_annual_year level value mean quarters =
     is_captured quarters || (has_eleven_each quarters && (is_above level mean || is_above level value))

@@ -18,19 +18,19 @@ use Rattle.aq_rules.specs.Particles.AnnualVerdict.{ParticleDv, is_captured, are_
 abbrev pub rounded : Option ℤ → Option ℤ
 rounded value = option_map (λ v. half_up v (pos 10)) value
 
--- a capture of 75 in each quarter; or one creditable sample, with the percentile or the design value above the level
+-- a capture of at least 75 in each quarter; or at least one creditable sample in the year, with the percentile or the design value above the level
 abbrev pub is_daily_year : Option ℤ → Option ℤ → List QuarterCounts → Bool
 is_daily_year value percentile quarters =
     is_captured quarters
     || (nat_le 1 (sum_by (λ (counts : QuarterCounts). counts.creditable) quarters)
     && (is_above (level_of Daily2006) (rounded percentile) || is_above (level_of Daily2006) value))
 
--- the maximum test is asked for where a year is not valid
+-- the maximum test is asked for if a year is not valid, and then the value is at or below the level
 abbrev pub daily_test : Option ℤ → List Bool → Option ℤ → Option ℤ
 daily_test None valid maximum = None
 daily_test (Some value) valid maximum = if are_all valid then None else maximum
 
--- where a year is not valid, the maximum test decides between Met and Incomplete, whether the value is above the level or not
+-- if a year is not valid, the maximum test decides between Met and Incomplete. A value above the level makes each year with a creditable sample valid, and without one in each year there is no value: so 36 µg/m3 or more is NotMet
 abbrev pub daily_verdict : Option ℤ → List Bool → Option ℤ → Verdict
 daily_verdict None valid test = NoValue
 daily_verdict (Some value) valid test =

@@ -122,24 +122,28 @@ even_year quarter = replicate 4 quarter
 abbrev pub year_from : ℕ → List QuarterDays
 year_from scheduled = map (λ part. mixed_quarter (scheduled + part) 3 2 4 100) (0 ∷ 1 ∷ 2 ∷ 3 ∷ [])
 
--- thirty samples whose sum is so much above 360.0
-abbrev pub quarter_above_360 : ℕ → QuarterDays
-quarter_above_360 tenths = quarter_with 30 30 ((120 + tenths) ∷ replicate 29 120)
+-- thirty samples whose sum is so much above thirty times a value
+abbrev pub quarter_above : ℕ → ℕ → QuarterDays
+quarter_above value tenths = quarter_with 30 30 ((value + tenths) ∷ replicate 29 value)
 
-abbrev pub year_above_360 : ℕ → List QuarterDays
-year_above_360 tenths = replicate 4 (quarter_above_360 tenths)
+abbrev pub year_above : ℕ → ℕ → List QuarterDays
+year_above value tenths = replicate 4 (quarter_above value tenths)
 
 -- every day at 11.2, but so many of the 90 days of the first quarter
 abbrev pub daily_year : ℕ → List QuarterDays
 daily_year first = even_quarter 90 first 112 ∷ even_quarter 91 91 112 ∷ even_quarter 92 92 112 ∷ even_quarter 92 92 112 ∷ []
 
--- quarters of 30 scheduled days at 13.0, but the second one as given
-abbrev pub year_with_second : QuarterDays → List QuarterDays
-year_with_second second = even_quarter 30 30 130 ∷ second ∷ even_quarter 30 30 130 ∷ even_quarter 30 30 130 ∷ []
+-- quarters of 30 scheduled days at one value, but the second one as given
+abbrev pub year_with_second : ℕ → QuarterDays → List QuarterDays
+year_with_second value second = even_quarter 30 30 value ∷ second ∷ even_quarter 30 30 value ∷ even_quarter 30 30 value ∷ []
 
--- one day of 12.0 among days of 13.0
-abbrev pub with_low_day : QuarterDays
-with_low_day = quarter_with 30 30 (120 ∷ replicate 29 130)
+-- one day of a lower value among thirty
+abbrev pub with_low_day : ℕ → ℕ → QuarterDays
+with_low_day value low = quarter_with 30 30 (low ∷ replicate 29 value)
+
+-- three years at 10.0, but the second quarter of the second year has one day of 9.5, and that of the third year has ten samples
+abbrev pub three_years_at_ten : List (List QuarterDays)
+three_years_at_ten = even_year (even_quarter 30 30 100) ∷ year_with_second 100 (with_low_day 100 95) ∷ year_with_second 100 (even_quarter 30 10 100) ∷ []
 
 -- a year with this 98th percentile, which is the third of its 120 values
 abbrev pub year_of_percentile : ℕ → List QuarterDays

@@ -9,7 +9,7 @@ use Rattle.aq_rules.specs.Standards.{level_of, years_to, is_above}
 use Rattle.aq_rules.specs.Office.Office.{Office}
 use Rattle.aq_rules.specs.Particles.Pm10Estimate.{Pm10Quarter, pm10_year, quarter_estimate, quarter_lower, mean_of_years}
 
--- three quarters of the scheduled days have a sample
+-- a day is scheduled, and at least three quarters of the scheduled days have a site day, excluded or not
 abbrev pub is_complete_quarter : Pm10Quarter → Bool
 is_complete_quarter q = nat_le 1 q.scheduled && nat_le (3 * q.scheduled) (4 * q.captured)
 

@@ -4,6 +4,7 @@ use Rattle.std.specs.List.{range_with_len}
 use Rattle.aq_base.specs.Calendar.{quarter_of, quarter_first, days_in_quarter}
 use Rattle.aq_base.specs.Site.{Site}
 use Rattle.aq_base.specs.declared.monitor.Pollutant.TheVariants.{Pm10}
+use Rattle.aq_base.specs.declared.office.OfficeRecord.{OfficeRecord}
 use Rattle.aq_rules.specs.Lists.{latest}
 use Rattle.aq_rules.specs.Office.Office.{Office}
 use Rattle.aq_rules.specs.Office.Schedule.{is_scheduled}
@@ -32,8 +33,12 @@ abbrev pub first_days_among : (ℕ → Bool) → List ℕ → List ℕ
 first_days_among is_scheduled [] = []
 first_days_among is_scheduled (day ∷ days) = day ∷ first_days_after is_scheduled day days
 
+-- of a quarter, by the schedules among these records
+abbrev pub first_days_by : List OfficeRecord → Site → ℕ → List ℕ
+first_days_by records site quarter = first_days_among (is_scheduled records site Pm10) (days_of_quarter quarter)
+
 unfoldable pub first_days : Office → Site → ℕ → List ℕ
-first_days office site quarter = first_days_among (is_scheduled office.records site Pm10) (days_of_quarter quarter)
+first_days office site quarter = first_days_by office.records site quarter
 
 -- ---- strata
 
@@ -55,6 +60,9 @@ unfoldable pub strata_of : Office → Site → ℕ → List (List ℕ)
 strata_of office site quarter = strata_from (quarter_end quarter) (first_days office site quarter)
 
 -- the stratum that holds a day, by its first day: the latest one that is not after the day
+abbrev pub stratum_by : List OfficeRecord → Site → ℕ → Option ℕ
+stratum_by records site day =
+    latest (λ first. first) (filter (λ first. nat_le first day) (first_days_by records site (quarter_of day)))
+
 abbrev pub stratum_of : Office → Site → ℕ → Option ℕ
-stratum_of office site day =
-    latest (λ first. first) (filter (λ first. nat_le first day) (first_days office site (quarter_of day)))
+stratum_of office site day = stratum_by office.records site day

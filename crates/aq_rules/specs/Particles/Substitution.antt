@@ -6,13 +6,13 @@ use Rattle.aq_rules.specs.Particles.YearParts.{Parts}
 
 -- ---- one quarter: the copies that join its list, or nothing where the test is not to be had
 
--- minimum test: a quarter with fewer than 11 creditable samples is filled up to 11, with the least value of its calendar quarter in the three years, which needs 30 days of values in them
+-- minimum test: a quarter with fewer than 11 creditable samples gets as many copies as it has fewer, of the least value of its calendar quarter in the three years, which needs at least 30 days of values in them
 abbrev pub minimum_copies : QuarterCounts → ℕ → Option ℤ → Option (List ℤ)
 minimum_copies counts days least =
     if nat_le 11 counts.creditable then Some []
     else (if nat_le 30 days then option_map (replicate (11 - counts.creditable)) least else None)
 
--- maximum test: a quarter with a capture below 75 is filled up to its scheduled days, with the greatest value of its calendar quarter in the three years; a capture below 50 is too low for the test
+-- maximum test: a quarter with a capture below 75 gets a copy for each scheduled day beyond its creditable samples, of the greatest value of its calendar quarter in the three years; a capture below 50 is too low for the test
 abbrev pub maximum_copies : QuarterCounts → Option ℤ → Option (List ℤ)
 maximum_copies counts greatest =
     if nat_le 75 (capture counts) then Some []

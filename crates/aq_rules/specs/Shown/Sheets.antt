@@ -9,7 +9,7 @@ use Rattle.aq_base.specs.declared.reply.ListedLine.{ListedLine}
 use Rattle.aq_base.specs.declared.reply.RestRule.{RestRule}
 use Rattle.aq_base.specs.declared.reply.LoadReply.{LoadReply}
 use Rattle.aq_base.specs.declared.standard.Standard.{Standard}
-use Rattle.aq_base.specs.declared.standard.Standard.TheVariants.{Ozone2015, Annual2012, AnnualSecondary, Daily2006, Pm10Of1987}
+use Rattle.aq_base.specs.declared.standard.Standard.TheVariants.{Ozone2015, Annual2012, AnnualSecondary, Annual2024, Daily2006, Pm10Of1987}
 use Rattle.aq_base.specs.declared.standard.Verdict.{Verdict}
 use Rattle.aq_base.specs.declared.standard.Verdict.TheVariants.{Met, NotMet, Incomplete, NoValue}
 use Rattle.aq_rules.specs.Office.Office.{Office}
@@ -111,6 +111,7 @@ abbrev pub design_cell : Standard → Option ℤ → SheetCell
 design_cell Ozone2015 value = ppm_cell value
 design_cell Annual2012 value = tenths_cell value
 design_cell AnnualSecondary value = tenths_cell value
+design_cell Annual2024 value = tenths_cell value
 design_cell Daily2006 value = whole_cell value
 design_cell Pm10Of1987 value = tenths_cell value
 

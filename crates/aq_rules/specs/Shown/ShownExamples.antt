@@ -12,7 +12,7 @@ use Rattle.aq_base.specs.declared.office.OfficeRecord.TheVariants.{Monitor, Sche
 use Rattle.aq_base.specs.declared.reply.LoadReply.{LoadReply}
 use Rattle.aq_base.specs.declared.rule.Rule.TheVariants.{BadPoc, BadDate, AlreadyThere, NotThere}
 use Rattle.aq_base.specs.declared.standard.Standard.{Standard}
-use Rattle.aq_base.specs.declared.standard.Standard.TheVariants.{Ozone2015, Annual2012, AnnualSecondary, Daily2006, Pm10Of1987}
+use Rattle.aq_base.specs.declared.standard.Standard.TheVariants.{Ozone2015, Annual2012, AnnualSecondary, Annual2024, Daily2006, Pm10Of1987}
 use Rattle.aq_base.specs.declared.standard.Verdict.TheVariants.{NotMet, Incomplete}
 use Rattle.aq_rules.specs.Office.Office.{Office}
 use Rattle.aq_rules.specs.Ozone.EightHour.{WindowRow}
@@ -173,6 +173,8 @@ value_columns Ozone2015 = codes "year" ∷ codes "ranked" ∷ codes "fourth" ∷
 value_columns Annual2012 =
     codes "year" ∷ codes "mean" ∷ codes "capture1" ∷ codes "capture2" ∷ codes "capture3" ∷ codes "capture4" ∷ codes "valid" ∷ []
 value_columns AnnualSecondary =
+    codes "year" ∷ codes "mean" ∷ codes "capture1" ∷ codes "capture2" ∷ codes "capture3" ∷ codes "capture4" ∷ codes "valid" ∷ []
+value_columns Annual2024 =
     codes "year" ∷ codes "mean" ∷ codes "capture1" ∷ codes "capture2" ∷ codes "capture3" ∷ codes "capture4" ∷ codes "valid" ∷ []
 value_columns Daily2006 =
     codes "year" ∷ codes "percentile" ∷ codes "counted" ∷ codes "capture1" ∷ codes "capture2" ∷ codes "capture3" ∷ codes "capture4" ∷ codes "valid" ∷ []

@@ -1,15 +1,16 @@
 //! What a row of each table must keep, on both sides of each limit.
 #![tactic(auto)]
 
-ghost use Rattle.std.specs.Prelude.{◌≡◌, ◌<◌, ◌≤◌, IsTrue, true, false, List, length, ◌∷◌, [], ◌++◌, codes, map, replicate, Some, None, pos, negsuc};
+ghost use Rattle.std.specs.Prelude.{◌≡◌, ℕ, ◌<◌, ◌≤◌, IsTrue, true, false, List, length, ◌∷◌, [], ◌++◌, codes, map, replicate, Some, None, pos, negsuc};
 ghost use Rattle.std.specs.List.{range_with_len};
+ghost use Rattle.aq_base.specs.Calendar.{day_number, hour_number};
 ghost use Rattle.aq_base.specs.declared.office.OfficeRecord.TheVariants.{Concurrence};
 ghost use Rattle.aq_base.specs.declared.rule.Rule.TheVariants.{AlreadyThere, BadTag, ParameterOutOfProfile};
 ghost use Rattle.aq_rules.specs.Lines.LineExamples.{many_monitors, many_sites, refused_lines};
 ghost use Rattle.aq_rules.specs.Office.Office.{IsOffice, Office, StoredLoad, is_load, load_at};
 ghost use Rattle.aq_rules.specs.Office.Load.{with_load};
-ghost use Rattle.aq_rules.specs.Kept.Rows.{are_office_rows, is_valid, load_row, office_row};
-ghost use Rattle.aq_rules.specs.Kept.RowExamples.{kept_load, load_of, load_with, monitor_row, nine_monitors, record_with, sample_with};
+ghost use Rattle.aq_rules.specs.Kept.Rows.{are_office_rows, hour_of_stored, hours_before_2000, is_valid, load_row, office_row, stored_hour};
+ghost use Rattle.aq_rules.specs.Kept.RowExamples.{combination_row, neighbor_row, kept_load, load_of, load_with, monitor_row, nine_monitors, ozone_at, ozone_row, record_with, sample_with};
 
 /// A record's row has its kind, its key and its canonical line; a concurrence has its event.
 pub fn record_rows()
@@ -27,6 +28,16 @@ pub fn record_rows()
     ensures no_monitor { are_office_rows (record_with (pos 6) (codes "000012") (codes "XE|I|12|06|037|1103|88101|20240101|00:00|20240101|05:00|RT") ∷ []) ≡ false }
     ensures twice { are_office_rows (monitor_row ∷ monitor_row ∷ []) ≡ false }
     ensures concurrence { office_row (Concurrence 12 true) ≡ record { kind = pos 7; key = codes "000012"; line = codes "XC|U|12|Y" } }
+{}
+
+/// A combination's row has a monitor at each of its sites, and no site of another combination.
+pub fn combination_rows()
+    ensures combined { are_office_rows (monitor_row ∷ neighbor_row ∷ combination_row (codes "1103") (codes "1104") ∷ []) ≡ true }
+    ensures other_line { are_office_rows (monitor_row ∷ neighbor_row ∷ record_with (pos 9) (codes "06|037|1104|88101") (codes "XB|I|06|037|1103|88101|20240702|06|037|1104") ∷ []) ≡ false }
+    ensures no_monitor { are_office_rows (neighbor_row ∷ combination_row (codes "1103") (codes "1104") ∷ []) ≡ false }
+    ensures no_joined_monitor { are_office_rows (monitor_row ∷ combination_row (codes "1103") (codes "1104") ∷ []) ≡ false }
+    ensures both_ways { are_office_rows (monitor_row ∷ neighbor_row ∷ combination_row (codes "1103") (codes "1104") ∷ combination_row (codes "1104") (codes "1103") ∷ []) ≡ false }
+    ensures same_site { are_office_rows (monitor_row ∷ neighbor_row ∷ combination_row (codes "1103") (codes "1103") ∷ []) ≡ false }
 {}
 
 /// An observation's row has a value in range or a null code, and at most ten distinct qualifiers.
@@ -47,6 +58,25 @@ pub fn observation_rows()
     ensures two_spaces { are_office_rows (monitor_row ∷ sample_with (Some (pos 120)) [] (codes "V  RT") ∷ []) ≡ false }
 {}
 
+/// A row counts its hour from 2000-01-01 00:00, which is hour 87,648 of the profile: 10:00 of 1 July 2024 is
+/// 214762, and the hour before 2000 is -1. The first hour of 1990 and the last one of 2059 may stand, and
+/// none beyond.
+pub fn hours_of_rows()
+    ensures hours { hours_before_2000 ≡ 87648 }
+    ensures summer { stored_hour (hour_number (day_number 2024 7 1) 10) ≡ pos 214762 }
+    ensures start_of_2000 { stored_hour (hour_number (day_number 2000 1 1) 0) ≡ pos 0 }
+    ensures end_of_1999 { stored_hour (hour_number (day_number 1999 12 31) 23) ≡ negsuc 0 }
+    ensures start_of_1990 { stored_hour (hour_number (day_number 1990 1 1) 0) ≡ negsuc 87647 }
+    ensures end_of_2059 { stored_hour (hour_number (day_number 2059 12 31) 23) ≡ pos 525959 }
+    ensures back { (hour : ℕ) → hour_of_stored (stored_hour hour) ≡ Some hour }
+    ensures first { are_office_rows (ozone_row ∷ ozone_at (negsuc 87647) ∷ []) ≡ true }
+    ensures before_the_first { are_office_rows (ozone_row ∷ ozone_at (negsuc 87648) ∷ []) ≡ false }
+    ensures last { are_office_rows (ozone_row ∷ ozone_at (pos 525959) ∷ []) ≡ true }
+    ensures after_the_last { are_office_rows (ozone_row ∷ ozone_at (pos 525960) ∷ []) ≡ false }
+    ensures in_order { are_office_rows (ozone_row ∷ ozone_at (negsuc 0) ∷ ozone_at (pos 0) ∷ []) ≡ true }
+    ensures out_of_order { are_office_rows (ozone_row ∷ ozone_at (pos 0) ∷ ozone_at (negsuc 0) ∷ []) ≡ false }
+{}
+
 /// A load's row has a number, a digest of 32 bytes, at most 120,000 lines, rising lines with rules, and no
 /// more accepted and refused lines than lines.
 pub fn load_rows()
@@ -59,8 +89,8 @@ pub fn load_rows()
     ensures line_beyond { are_office_rows (load_with (pos 3) (pos 0) (codes "4:21") [] ∷ []) ≡ false }
     ensures falling { are_office_rows (load_with (pos 3) (pos 0) (codes "3:6 2:21") [] ∷ []) ≡ false }
     ensures one_line_twice { are_office_rows (load_with (pos 3) (pos 0) (codes "2:6 2:21") [] ∷ []) ≡ false }
-    ensures last_rule { are_office_rows (load_with (pos 3) (pos 0) (codes "2:34") [] ∷ []) ≡ true }
-    ensures no_rule { are_office_rows (load_with (pos 3) (pos 0) (codes "2:35") [] ∷ []) ≡ false }
+    ensures last_rule { are_office_rows (load_with (pos 3) (pos 0) (codes "2:36") [] ∷ []) ≡ true }
+    ensures no_rule { are_office_rows (load_with (pos 3) (pos 0) (codes "2:37") [] ∷ []) ≡ false }
     ensures rule_99 { are_office_rows (load_with (pos 3) (pos 0) (codes "2:99") [] ∷ []) ≡ false }
     ensures zeros { are_office_rows (load_with (pos 3) (pos 0) (codes "02:21") [] ∷ []) ≡ false }
     ensures spaces { are_office_rows (load_with (pos 3) (pos 0) (codes "2:21  3:6") [] ∷ []) ≡ false }

@@ -11,7 +11,7 @@ ghost use Rattle.aq_rules.specs.Particles.ParticleExamples.{empty_load, exported
 /// A monitor's row, a sample's, and a load's with a listed line and the rest.
 pub fn rows_are_written()
     ensures monitor { office_row (sampler Pm25 Day 1) ≡ record { kind = pos 1; key = codes "06|037|1103|88101|01"; line = codes "XM|I|06|037|1103|88101|1|7|Y" } }
-    ensures designation { office_row (primary_of Pm25 2) ≡ record { kind = pos 2; key = codes "06|037|1103|88101|20000101"; line = codes "XP|I|06|037|1103|88101|20000101|2" } }
+    ensures designation { office_row (primary_of Pm25 2) ≡ record { kind = pos 2; key = codes "06|037|1103|88101|19900101"; line = codes "XP|I|06|037|1103|88101|19900101|2" } }
     ensures samples { map obs_row exported.observations
         ≡ record { site = pos 60371103; pollutant = pos 2; poc = pos 1; hour = pos 210528; value = Some (pos 120); null = []; quals = codes "V RT" }
         ∷ record { site = pos 60371103; pollutant = pos 2; poc = pos 1; hour = pos 210600; value = None; null = codes "AN"; quals = codes "RT" } ∷ [] }

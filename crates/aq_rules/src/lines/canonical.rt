@@ -3,11 +3,11 @@ ghost use Rattle.std.specs.Prelude.{◌≡◌, ℕ, ◌∷◌, [], List, Some, N
 ghost use Rattle.aq_base.specs.declared.monitor.MonitorId.{MonitorId};
 ghost use Rattle.aq_base.specs.declared.monitor.Pollutant.TheVariants.{Ozone, Pm25, Pm10};
 ghost use Rattle.aq_base.specs.declared.monitor.Duration.TheVariants.{Hour, Day};
-ghost use Rattle.aq_base.specs.declared.office.OfficeRecord.TheVariants.{Monitor, Primary, Schedule, Season, Makeup, Event, Concurrence, Approved};
-ghost use Rattle.aq_base.specs.declared.office.OfficeKey.TheVariants.{Monitor as MonitorKey, Primary as PrimaryKey, Season as SeasonKey, Makeup as MakeupKey, Event as EventKey, Approved as ApprovedKey};
+ghost use Rattle.aq_base.specs.declared.office.OfficeRecord.TheVariants.{Monitor, Primary, Schedule, Season, Makeup, Event, Concurrence, Approved, Combined};
+ghost use Rattle.aq_base.specs.declared.office.OfficeKey.TheVariants.{Monitor as MonitorKey, Primary as PrimaryKey, Season as SeasonKey, Makeup as MakeupKey, Event as EventKey, Approved as ApprovedKey, Combined as CombinedKey};
 ghost use Rattle.aq_base.specs.declared.office.OfficeLine.{OfficeLine};
 ghost use Rattle.aq_base.specs.declared.office.OfficeLine.TheVariants.{Put as PutRecord, Change as ChangeRecord, Drop as DropKey};
-ghost use Rattle.aq_rules.specs.Lines.LineExamples.{home, ozone_monitor, particle_monitor, new_year, noon, code_rt};
+ghost use Rattle.aq_rules.specs.Lines.LineExamples.{home, neighbor, ozone_monitor, particle_monitor, new_year, noon, code_rt};
 ghost use Rattle.aq_rules.specs.Lines.Spellings.{unit_in, value_in, null_in, qualifiers_in};
 ghost use Rattle.aq_rules.specs.Lines.RdForm.{Put, Delete, RdValue};
 ghost use Rattle.aq_rules.specs.Lines.Reading.{LineValue, OfRd, OfOffice, line_value};
@@ -43,36 +43,40 @@ pub fn fields_and_samples_are_read()
     ensures three_characters { qualifiers_in (codes "RTX" ∷ []) ≡ None }
     ensures null { null_in (codes "A1") ≡ Some (record { first = 65; second = 49 }) }
     ensures null_of_one_character { null_in (codes "A") ≡ None }
-    ensures inserted { line_value (codes "RD|I|06|037|1103|44201|1|1|007|087|20240701|13:00|0.071||||V|RT") ≡ Some (OfRd (Put false (record { site = record { state = 6; county = 37; number = 1103 }; pollutant = Ozone; poc = 1 }) Hour 87 214765 (record { value = Some (pos 71); null = None; quals = record { first = 86; second = 0 } ∷ record { first = 82; second = 84 } ∷ [] }))) }
-    ensures updated { line_value (codes "RD|U|06|037|1103|88101|2|7|105|145|20240107|00:00||AN") ≡ Some (OfRd (Put true (record { site = record { state = 6; county = 37; number = 1103 }; pollutant = Pm25; poc = 2 }) Day 145 210528 (record { value = None; null = Some (record { first = 65; second = 78 }); quals = [] }))) }
-    ensures deleted { line_value (codes "RD|D|06|037|1103|44201|1||||20240701|13:00") ≡ Some (OfRd (Delete (record { site = record { state = 6; county = 37; number = 1103 }; pollutant = Ozone; poc = 1 }) 214765)) }
-    ensures rough { line_value (codes " RD |D| 06|037|1103|44201|01|9|?|x|20240701|13:00|1e3|||||||||||||||| |") ≡ Some (OfRd (Delete (record { site = record { state = 6; county = 37; number = 1103 }; pollutant = Ozone; poc = 1 }) 214765)) }
+    ensures inserted { line_value (codes "RD|I|06|037|1103|44201|1|1|007|087|20240701|13:00|0.071||||V|RT") ≡ Some (OfRd (Put false (record { site = record { state = 6; county = 37; number = 1103 }; pollutant = Ozone; poc = 1 }) Hour 87 302413 (record { value = Some (pos 71); null = None; quals = record { first = 86; second = 0 } ∷ record { first = 82; second = 84 } ∷ [] }))) }
+    ensures updated { line_value (codes "RD|U|06|037|1103|88101|2|7|105|145|20240107|00:00||AN") ≡ Some (OfRd (Put true (record { site = record { state = 6; county = 37; number = 1103 }; pollutant = Pm25; poc = 2 }) Day 145 298176 (record { value = None; null = Some (record { first = 65; second = 78 }); quals = [] }))) }
+    ensures deleted { line_value (codes "RD|D|06|037|1103|44201|1||||20240701|13:00") ≡ Some (OfRd (Delete (record { site = record { state = 6; county = 37; number = 1103 }; pollutant = Ozone; poc = 1 }) 302413)) }
+    ensures first_hour { line_value (codes "RD|D|06|037|1103|44201|1||||19900101|00:00") ≡ Some (OfRd (Delete (record { site = record { state = 6; county = 37; number = 1103 }; pollutant = Ozone; poc = 1 }) 0)) }
+    ensures last_hour { line_value (codes "RD|D|06|037|1103|44201|1||||20591231|23:00") ≡ Some (OfRd (Delete (record { site = record { state = 6; county = 37; number = 1103 }; pollutant = Ozone; poc = 1 }) 613607)) }
+    ensures rough { line_value (codes " RD |D| 06|037|1103|44201|01|9|?|x|20240701|13:00|1e3|||||||||||||||| |") ≡ Some (OfRd (Delete (record { site = record { state = 6; county = 37; number = 1103 }; pollutant = Ozone; poc = 1 }) 302413)) }
 {}
 
 /// The same values are written as these lines.
 pub fn samples_are_written()
-    ensures inserted { canonical_rd (Put false (record { site = record { state = 6; county = 37; number = 1103 }; pollutant = Ozone; poc = 1 }) Hour 87 214765 (record { value = Some (pos 71); null = None; quals = record { first = 86; second = 0 } ∷ record { first = 82; second = 84 } ∷ [] })) ≡ codes "RD|I|06|037|1103|44201|1|1|007|087|20240701|13:00|0.071||||V|RT" }
-    ensures updated { canonical_rd (Put true (record { site = record { state = 6; county = 37; number = 1103 }; pollutant = Pm25; poc = 2 }) Day 145 210528 (record { value = None; null = Some (record { first = 65; second = 78 }); quals = [] })) ≡ codes "RD|U|06|037|1103|88101|2|7|105|145|20240107|00:00||AN" }
-    ensures deleted { canonical_rd (Delete (record { site = record { state = 6; county = 37; number = 1103 }; pollutant = Ozone; poc = 1 }) 214765) ≡ codes "RD|D|06|037|1103|44201|1||||20240701|13:00" }
+    ensures inserted { canonical_rd (Put false (record { site = record { state = 6; county = 37; number = 1103 }; pollutant = Ozone; poc = 1 }) Hour 87 302413 (record { value = Some (pos 71); null = None; quals = record { first = 86; second = 0 } ∷ record { first = 82; second = 84 } ∷ [] })) ≡ codes "RD|I|06|037|1103|44201|1|1|007|087|20240701|13:00|0.071||||V|RT" }
+    ensures updated { canonical_rd (Put true (record { site = record { state = 6; county = 37; number = 1103 }; pollutant = Pm25; poc = 2 }) Day 145 298176 (record { value = None; null = Some (record { first = 65; second = 78 }); quals = [] })) ≡ codes "RD|U|06|037|1103|88101|2|7|105|145|20240107|00:00||AN" }
+    ensures deleted { canonical_rd (Delete (record { site = record { state = 6; county = 37; number = 1103 }; pollutant = Ozone; poc = 1 }) 302413) ≡ codes "RD|D|06|037|1103|44201|1||||20240701|13:00" }
 {}
 
 /// A canonical line of each office form, and the value that it spells.
-#[tactic(auto, unfolding(crate::specs::Lines::Spellings::site_in, crate::specs::Lines::Spellings::parameter_of, crate::specs::Lines::Spellings::date_in, crate::specs::Lines::Spellings::year_in, crate::specs::Lines::Spellings::time_in, crate::specs::Lines::Spellings::interval_in, crate::specs::Lines::Spellings::event_number_in, crate::specs::Lines::Spellings::event_code_in, crate::specs::Lines::RdForm::monitor_in, crate::specs::Lines::OfficeForms::xm_record, crate::specs::Lines::OfficeForms::xp_record, crate::specs::Lines::OfficeForms::xp_key, crate::specs::Lines::OfficeForms::xs_record, crate::specs::Lines::OfficeForms::xo_record, crate::specs::Lines::OfficeForms::xo_key, crate::specs::Lines::OfficeForms::xu_record, crate::specs::Lines::OfficeForms::xu_key, crate::specs::Lines::OfficeForms::xe_record, crate::specs::Lines::OfficeForms::xe_key, crate::specs::Lines::OfficeForms::xc_record, crate::specs::Lines::OfficeForms::xa_record, crate::specs::Lines::OfficeForms::xa_key, aq_base::specs::Calendar::days_of_years, aq_base::specs::Calendar::days_of_months, aq_base::specs::Calendar::year_of, aq_base::specs::Calendar::month_of))]
+#[tactic(auto, unfolding(crate::specs::Lines::Spellings::site_in, crate::specs::Lines::Spellings::parameter_of, crate::specs::Lines::Spellings::date_in, crate::specs::Lines::Spellings::year_in, crate::specs::Lines::Spellings::time_in, crate::specs::Lines::Spellings::interval_in, crate::specs::Lines::Spellings::event_number_in, crate::specs::Lines::Spellings::event_code_in, crate::specs::Lines::RdForm::monitor_in, crate::specs::Lines::OfficeForms::xm_record, crate::specs::Lines::OfficeForms::xp_record, crate::specs::Lines::OfficeForms::xp_key, crate::specs::Lines::OfficeForms::xs_record, crate::specs::Lines::OfficeForms::xo_record, crate::specs::Lines::OfficeForms::xo_key, crate::specs::Lines::OfficeForms::xu_record, crate::specs::Lines::OfficeForms::xu_key, crate::specs::Lines::OfficeForms::xe_record, crate::specs::Lines::OfficeForms::xe_key, crate::specs::Lines::OfficeForms::xc_record, crate::specs::Lines::OfficeForms::xa_record, crate::specs::Lines::OfficeForms::xa_key, crate::specs::Lines::OfficeForms::xb_record, crate::specs::Lines::OfficeForms::xb_key, aq_base::specs::Calendar::days_of_years, aq_base::specs::Calendar::days_of_months, aq_base::specs::Calendar::year_of, aq_base::specs::Calendar::month_of))]
 pub fn office_lines_are_read()
     ensures monitor { line_value (codes "XM|I|06|037|1103|44201|1|1|Y") ≡ Some (OfOffice (PutRecord (Monitor ozone_monitor Hour true))) }
     ensures eligibility { line_value (codes "XM|U|06|037|1103|88101|1|7|N") ≡ Some (OfOffice (ChangeRecord (Monitor particle_monitor Day false))) }
     ensures primary { line_value (codes "XP|I|06|037|1103|44201|20240101|0") ≡ Some (OfOffice (PutRecord (Primary home Ozone new_year 0))) }
     ensures primary_deleted { line_value (codes "XP|D|06|037|1103|44201|20240101") ≡ Some (OfOffice (DropKey (PrimaryKey home Ozone new_year))) }
-    ensures schedule { line_value (codes "XS|I|06|037|1103|88101|20240101|3|20240107") ≡ Some (OfOffice (PutRecord (Schedule home Pm25 new_year 3 8772))) }
-    ensures season { line_value (codes "XO|I|06|037|1103|2024|20240301|20241031") ≡ Some (OfOffice (PutRecord (Season home 2024 8826 9070))) }
+    ensures schedule { line_value (codes "XS|I|06|037|1103|88101|20240101|3|20240107") ≡ Some (OfOffice (PutRecord (Schedule home Pm25 new_year 3 12424))) }
+    ensures season { line_value (codes "XO|I|06|037|1103|2024|20240301|20241031") ≡ Some (OfOffice (PutRecord (Season home 2024 12478 12722))) }
     ensures season_deleted { line_value (codes "XO|D|06|037|1103|2024") ≡ Some (OfOffice (DropKey (SeasonKey home 2024))) }
-    ensures makeup { line_value (codes "XU|I|06|037|1103|88101|20240107|20240109") ≡ Some (OfOffice (PutRecord (Makeup home 8772 8774))) }
-    ensures makeup_deleted { line_value (codes "XU|D|06|037|1103|88101|20240107") ≡ Some (OfOffice (DropKey (MakeupKey home 8772))) }
-    ensures event { line_value (codes "XE|I|12|06|037|1103|44201|20240101|00:00|20240701|13:00|RT") ≡ Some (OfOffice (PutRecord (Event 12 home Ozone 210384 noon code_rt))) }
+    ensures makeup { line_value (codes "XU|I|06|037|1103|88101|20240107|20240109") ≡ Some (OfOffice (PutRecord (Makeup home 12424 12426))) }
+    ensures makeup_deleted { line_value (codes "XU|D|06|037|1103|88101|20240107") ≡ Some (OfOffice (DropKey (MakeupKey home 12424))) }
+    ensures event { line_value (codes "XE|I|12|06|037|1103|44201|20240101|00:00|20240701|13:00|RT") ≡ Some (OfOffice (PutRecord (Event 12 home Ozone 298032 noon code_rt))) }
     ensures event_deleted { line_value (codes "XE|D|12") ≡ Some (OfOffice (DropKey (EventKey 12))) }
     ensures concurrence { line_value (codes "XC|U|12|Y") ≡ Some (OfOffice (ChangeRecord (Concurrence 12 true))) }
-    ensures approved { line_value (codes "XA|I|06|037|1103|20240701") ≡ Some (OfOffice (PutRecord (Approved home 8948))) }
-    ensures approval_deleted { line_value (codes "XA|D|06|037|1103|20240701") ≡ Some (OfOffice (DropKey (ApprovedKey home 8948))) }
+    ensures approved { line_value (codes "XA|I|06|037|1103|20240701") ≡ Some (OfOffice (PutRecord (Approved home 12600))) }
+    ensures approval_deleted { line_value (codes "XA|D|06|037|1103|20240701") ≡ Some (OfOffice (DropKey (ApprovedKey home 12600))) }
+    ensures combined { line_value (codes "XB|I|06|037|1103|44201|20240702|06|037|1104") ≡ Some (OfOffice (PutRecord (Combined home Ozone 12601 neighbor))) }
+    ensures combination_deleted { line_value (codes "XB|D|06|037|1103|44201") ≡ Some (OfOffice (DropKey (CombinedKey home Ozone))) }
 {}
 
 /// The same values are written as these lines, and keys as these texts.
@@ -81,17 +85,20 @@ pub fn office_lines_are_written()
     ensures eligibility { canonical_office (ChangeRecord (Monitor particle_monitor Day false)) ≡ codes "XM|U|06|037|1103|88101|1|7|N" }
     ensures primary { canonical_office (PutRecord (Primary home Ozone new_year 0)) ≡ codes "XP|I|06|037|1103|44201|20240101|0" }
     ensures primary_deleted { canonical_office (DropKey (PrimaryKey home Ozone new_year)) ≡ codes "XP|D|06|037|1103|44201|20240101" }
-    ensures schedule { canonical_office (PutRecord (Schedule home Pm25 new_year 3 8772)) ≡ codes "XS|I|06|037|1103|88101|20240101|3|20240107" }
-    ensures season { canonical_office (PutRecord (Season home 2024 8826 9070)) ≡ codes "XO|I|06|037|1103|2024|20240301|20241031" }
-    ensures makeup { canonical_office (PutRecord (Makeup home 8772 8774)) ≡ codes "XU|I|06|037|1103|88101|20240107|20240109" }
-    ensures makeup_deleted { canonical_office (DropKey (MakeupKey home 8772)) ≡ codes "XU|D|06|037|1103|88101|20240107" }
-    ensures event { canonical_office (PutRecord (Event 12 home Ozone 210384 noon code_rt)) ≡ codes "XE|I|12|06|037|1103|44201|20240101|00:00|20240701|13:00|RT" }
+    ensures schedule { canonical_office (PutRecord (Schedule home Pm25 new_year 3 12424)) ≡ codes "XS|I|06|037|1103|88101|20240101|3|20240107" }
+    ensures season { canonical_office (PutRecord (Season home 2024 12478 12722)) ≡ codes "XO|I|06|037|1103|2024|20240301|20241031" }
+    ensures makeup { canonical_office (PutRecord (Makeup home 12424 12426)) ≡ codes "XU|I|06|037|1103|88101|20240107|20240109" }
+    ensures makeup_deleted { canonical_office (DropKey (MakeupKey home 12424)) ≡ codes "XU|D|06|037|1103|88101|20240107" }
+    ensures event { canonical_office (PutRecord (Event 12 home Ozone 298032 noon code_rt)) ≡ codes "XE|I|12|06|037|1103|44201|20240101|00:00|20240701|13:00|RT" }
     ensures event_deleted { canonical_office (DropKey (EventKey 12)) ≡ codes "XE|D|12" }
     ensures concurrence { canonical_office (ChangeRecord (Concurrence 12 true)) ≡ codes "XC|U|12|Y" }
-    ensures approved { canonical_office (PutRecord (Approved home 8948)) ≡ codes "XA|I|06|037|1103|20240701" }
+    ensures approved { canonical_office (PutRecord (Approved home 12600)) ≡ codes "XA|I|06|037|1103|20240701" }
+    ensures combined { canonical_office (PutRecord (Combined home Ozone 12601 neighbor)) ≡ codes "XB|I|06|037|1103|44201|20240702|06|037|1104" }
+    ensures combination_deleted { canonical_office (DropKey (CombinedKey home Ozone)) ≡ codes "XB|D|06|037|1103|44201" }
     ensures monitor_key { printed_key (MonitorKey ozone_monitor) ≡ codes "06|037|1103|44201|01" }
-    ensures makeup_key { printed_key (MakeupKey home 8772) ≡ codes "06|037|1103|20240107" }
+    ensures makeup_key { printed_key (MakeupKey home 12424) ≡ codes "06|037|1103|20240107" }
     ensures event_key { printed_key (EventKey 12) ≡ codes "000012" }
+    ensures combined_key { printed_key (CombinedKey home Pm25) ≡ codes "06|037|1103|88101" }
 {}
 
 /// The canonical line of an office line is read as that line, for each that a body's line can spell.

@@ -1,13 +1,14 @@
 //! Which reading rule a line breaks.
 ghost use Rattle.std.specs.Prelude.{◌≡◌, ℕ, ◌∷◌, [], ◌++◌, true, false, Some, None, codes, List, map, All, is_some, is_none};
-ghost use Rattle.aq_base.specs.declared.rule.Rule.TheVariants.{BadBytes, BadTag, FieldCount, BadAction, BadSite, ParameterOutOfProfile, BadPoc, BadDuration, BadUnit, BadMethod, BadDate, BadTime, ValueAndNull, NeitherValueNorNull, BadValue, ValueOutOfRange, BadNull, BadQualifier, BadSpan, BadInterval, BadSeason, BadMakeup, BadCode};
-ghost use Rattle.aq_rules.specs.Lines.Spellings.{Rd, Xm, Xp, Xs, Xo, Xu, Xe, Xc, Xa};
+ghost use Rattle.aq_base.specs.declared.rule.Rule.TheVariants.{BadBytes, BadTag, FieldCount, BadAction, BadSite, ParameterOutOfProfile, BadPoc, BadDuration, BadUnit, BadMethod, BadDate, BadTime, ValueAndNull, NeitherValueNorNull, BadValue, ValueOutOfRange, BadNull, BadQualifier, BadSpan, BadInterval, BadSeason, BadMakeup, BadCode, BadPair};
+ghost use Rattle.aq_rules.specs.Lines.Spellings.{Rd, Xm, Xp, Xs, Xo, Xu, Xe, Xc, Xa, Xb};
 ghost use Rattle.aq_rules.specs.Lines.Forms.{fewest_fields, most_fields};
 ghost use Rattle.aq_rules.specs.Lines.Reading.{breaks, line_value, reading_rule, reading_rules, rules_of};
 ghost use Rattle.aq_rules.specs.Least.{IsLeastBroken};
 ghost use Rattle.aq_base.specs.declared.rule.Rule.{Rule};
 
-/// An RD line for each rule that its form meets, of which that rule is the first one broken.
+/// An RD line for each rule that its form meets, of which that rule is the first one broken. Dates are
+/// from 1990-01-01 to 2059-12-31.
 #[tactic(auto, unfolding(crate::specs::Lines::Spellings::site_in, crate::specs::Lines::Spellings::parameter_of, crate::specs::Lines::Spellings::date_in, crate::specs::Lines::Spellings::time_in, crate::specs::Lines::Spellings::value_in, crate::specs::Lines::Spellings::qualifiers_in, aq_base::specs::Calendar::days_of_years, aq_base::specs::Calendar::days_of_months))]
 pub fn rules_of_samples()
     ensures none { reading_rule (codes "RD|I|06|037|1103|44201|1|1|007|087|20240701|13:00|0.071||||V|RT") ≡ None }
@@ -22,6 +23,10 @@ pub fn rules_of_samples()
     ensures unit { reading_rule (codes "RD|I|06|037|1103|44201|1|1|105|087|20240701|13:00|0.071") ≡ Some BadUnit }
     ensures method { reading_rule (codes "RD|I|06|037|1103|44201|1|1|007|87|20240701|13:00|0.071") ≡ Some BadMethod }
     ensures date { reading_rule (codes "RD|I|06|037|1103|44201|1|1|007|087|20230229|13:00|0.071") ≡ Some BadDate }
+    ensures first_day { reading_rule (codes "RD|I|06|037|1103|44201|1|1|007|087|19900101|00:00|0.071") ≡ None }
+    ensures before_the_first_day { reading_rule (codes "RD|I|06|037|1103|44201|1|1|007|087|19891231|23:00|0.071") ≡ Some BadDate }
+    ensures last_day { reading_rule (codes "RD|I|06|037|1103|44201|1|1|007|087|20591231|23:00|0.071") ≡ None }
+    ensures after_the_last_day { reading_rule (codes "RD|I|06|037|1103|44201|1|1|007|087|20600101|00:00|0.071") ≡ Some BadDate }
     ensures time { reading_rule (codes "RD|I|06|037|1103|44201|1|1|007|087|20240701|13:30|0.071") ≡ Some BadTime }
     ensures both { reading_rule (codes "RD|I|06|037|1103|44201|1|1|007|087|20240701|13:00|0.071|AN") ≡ Some ValueAndNull }
     ensures neither { reading_rule (codes "RD|I|06|037|1103|44201|1|1|007|087|20240701|13:00| ") ≡ Some NeitherValueNorNull }
@@ -44,7 +49,9 @@ pub fn rules_of_office_lines()
     ensures two_zeros { reading_rule (codes "XP|I|06|037|1103|44201|20240101|00") ≡ Some BadPoc }
     ensures no_primary { reading_rule (codes "XP|I|06|037|1103|44201|20240101|0") ≡ None }
     ensures ozone_day { reading_rule (codes "XM|U|06|037|1103|44201|1|7|N") ≡ Some BadDuration }
-    ensures year { reading_rule (codes "XO|I|06|037|1103|1999|19990301|19991031") ≡ Some BadDate }
+    ensures year { reading_rule (codes "XO|I|06|037|1103|1989|19890301|19891031") ≡ Some BadDate }
+    ensures first_year { reading_rule (codes "XO|I|06|037|1103|1990|19900101|19901231") ≡ None }
+    ensures last_year { reading_rule (codes "XO|I|06|037|1103|2059|20590101|20591231") ≡ None }
     ensures span { reading_rule (codes "XE|I|1|06|037|1103|44201|20240101|00:00|20250101|00:00|RT") ≡ Some BadSpan }
     ensures whole_year { reading_rule (codes "XE|I|1|06|037|1103|44201|20240101|00:00|20241231|23:00|RT") ≡ None }
     ensures interval { reading_rule (codes "XS|I|06|037|1103|88101|20240101|4|20240101") ≡ Some BadInterval }
@@ -78,13 +85,15 @@ pub fn rules_of_each_form()
     ensures concurrence_not_deleted { rules_of Xc true ≡ rules_of Xc false }
     ensures approved { rules_of Xa false ≡ BadSite ∷ BadDate ∷ [] }
     ensures approval_deleted { rules_of Xa true ≡ BadSite ∷ BadDate ∷ [] }
+    ensures combined { rules_of Xb false ≡ BadSite ∷ ParameterOutOfProfile ∷ BadDate ∷ BadPair ∷ [] }
+    ensures combination_deleted { rules_of Xb true ≡ BadSite ∷ ParameterOutOfProfile ∷ [] }
 {}
 
 /// How many fields a line of each form has: an insertion or update, a deletion, and at most.
 pub fn fields_of_each_form()
-    ensures put { map (λ tag. fewest_fields tag false) (Rd ∷ Xm ∷ Xp ∷ Xs ∷ Xo ∷ Xu ∷ Xe ∷ Xc ∷ Xa ∷ []) ≡ 13 ∷ 9 ∷ 8 ∷ 9 ∷ 8 ∷ 8 ∷ 12 ∷ 4 ∷ 6 ∷ [] }
-    ensures deleted { map (λ tag. fewest_fields tag true) (Rd ∷ Xm ∷ Xp ∷ Xs ∷ Xo ∷ Xu ∷ Xe ∷ Xc ∷ Xa ∷ []) ≡ 12 ∷ 7 ∷ 7 ∷ 7 ∷ 6 ∷ 7 ∷ 3 ∷ 3 ∷ 6 ∷ [] }
-    ensures most { map most_fields (Rd ∷ Xm ∷ Xp ∷ Xs ∷ Xo ∷ Xu ∷ Xe ∷ Xc ∷ Xa ∷ []) ≡ 28 ∷ 9 ∷ 8 ∷ 9 ∷ 8 ∷ 8 ∷ 12 ∷ 4 ∷ 6 ∷ [] }
+    ensures put { map (λ tag. fewest_fields tag false) (Rd ∷ Xm ∷ Xp ∷ Xs ∷ Xo ∷ Xu ∷ Xe ∷ Xc ∷ Xa ∷ Xb ∷ []) ≡ 13 ∷ 9 ∷ 8 ∷ 9 ∷ 8 ∷ 8 ∷ 12 ∷ 4 ∷ 6 ∷ 10 ∷ [] }
+    ensures deleted { map (λ tag. fewest_fields tag true) (Rd ∷ Xm ∷ Xp ∷ Xs ∷ Xo ∷ Xu ∷ Xe ∷ Xc ∷ Xa ∷ Xb ∷ []) ≡ 12 ∷ 7 ∷ 7 ∷ 7 ∷ 6 ∷ 7 ∷ 3 ∷ 3 ∷ 6 ∷ 6 ∷ [] }
+    ensures most { map most_fields (Rd ∷ Xm ∷ Xp ∷ Xs ∷ Xo ∷ Xu ∷ Xe ∷ Xc ∷ Xa ∷ Xb ∷ []) ≡ 28 ∷ 9 ∷ 8 ∷ 9 ∷ 8 ∷ 8 ∷ 12 ∷ 4 ∷ 6 ∷ 10 ∷ [] }
 {}
 
 /// Samples on both sides of a rule of their line.
@@ -115,7 +124,7 @@ pub fn office_lines_at_the_edge_of_a_rule()
     ensures every_second_day { reading_rule (codes "XS|I|06|037|1103|88101|20240101|2|20240107") ≡ None }
     ensures anchor { reading_rule (codes "XS|I|06|037|1103|88101|20240101|2|20240230") ≡ Some BadDate }
     ensures season_without_year { reading_rule (codes "XO|D|06|037|1103") ≡ Some FieldCount }
-    ensures year_of_a_deletion { reading_rule (codes "XO|D|06|037|1103|2050|x|x") ≡ Some BadDate }
+    ensures year_of_a_deletion { reading_rule (codes "XO|D|06|037|1103|2060|x|x") ≡ Some BadDate }
     ensures last_day_of_season { reading_rule (codes "XO|I|06|037|1103|2024|20240301|20241331") ≡ Some BadDate }
     ensures season_of_one_day { reading_rule (codes "XO|I|06|037|1103|2024|20240301|20240301") ≡ None }
     ensures season_before_its_year { reading_rule (codes "XO|I|06|037|1103|2024|20231101|20240331") ≡ Some BadSeason }
@@ -135,6 +144,28 @@ pub fn office_lines_at_the_edge_of_a_rule()
     ensures approval_updated { reading_rule (codes "XA|U|06|037|1103|20240701") ≡ Some BadAction }
     ensures designation_updated { reading_rule (codes "XP|U|06|037|1103|44201|20240101|1") ≡ Some BadAction }
     ensures monitor_deleted { reading_rule (codes "XM|D|06|037|1103|44201|1") ≡ Some BadAction }
+{}
+
+/// Lines that combine two sites, of ozone or PM2.5. Both sites are read before the parameter and the
+/// date, and then they must differ. Of a deletion six fields are read, and no field behind them.
+#[tactic(auto, unfolding(crate::specs::Lines::Spellings::site_in, crate::specs::Lines::Spellings::parameter_of, crate::specs::Lines::Spellings::date_in, aq_base::specs::Calendar::days_of_years, aq_base::specs::Calendar::days_of_months))]
+pub fn lines_that_combine_sites()
+    ensures ozone { reading_rule (codes "XB|I|06|037|1103|44201|20240702|06|037|1104") ≡ None }
+    ensures particles { reading_rule (codes "XB|I|06|037|1103|88101|20240702|06|037|1104") ≡ None }
+    ensures pm10 { reading_rule (codes "XB|I|06|037|1103|81102|20240702|06|037|1104") ≡ Some ParameterOutOfProfile }
+    ensures same_site { reading_rule (codes "XB|I|06|037|1103|44201|20240702|06|037|1103") ≡ Some BadPair }
+    ensures same_number_elsewhere { reading_rule (codes "XB|I|06|037|1103|44201|20240702|06|059|1103") ≡ None }
+    ensures joined_site_before_parameter { reading_rule (codes "XB|I|06|037|1103|81102|20240702|06|37|1104") ≡ Some BadSite }
+    ensures parameter_before_date { reading_rule (codes "XB|I|06|037|1103|81102|20240732|06|037|1104") ≡ Some ParameterOutOfProfile }
+    ensures date_before_pair { reading_rule (codes "XB|I|06|037|1103|44201|20240732|06|037|1103") ≡ Some BadDate }
+    ensures nine_fields { reading_rule (codes "XB|I|06|037|1103|44201|20240702|06|037") ≡ Some FieldCount }
+    ensures eleven_fields { reading_rule (codes "XB|I|06|037|1103|44201|20240702|06|037|1104|x") ≡ Some FieldCount }
+    ensures updated { reading_rule (codes "XB|U|06|037|1103|44201|20240702|06|037|1104") ≡ Some BadAction }
+    ensures deleted { reading_rule (codes "XB|D|06|037|1103|44201") ≡ None }
+    ensures deleted_whatever_follows { reading_rule (codes "XB|D|06|037|1103|44201|x|x|x|x") ≡ None }
+    ensures deletion_of_pm10 { reading_rule (codes "XB|D|06|037|1103|81102") ≡ Some ParameterOutOfProfile }
+    ensures deletion_of_five_fields { reading_rule (codes "XB|D|06|037|1103") ≡ Some FieldCount }
+    ensures deletion_of_eleven_fields { reading_rule (codes "XB|D|06|037|1103|44201|||||x") ≡ Some FieldCount }
 {}
 
 /// The rule of a line is the least one of those that its form meets and that the line breaks.

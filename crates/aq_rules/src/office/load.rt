@@ -20,9 +20,9 @@ ghost use Rattle.aq_rules.specs.Lines.LineExamples.{code_rt, home, one_monitor, 
 #[tactic(auto, unfolding(crate::specs::Lines::Spellings::site_in, crate::specs::Lines::Spellings::parameter_of, crate::specs::Lines::Spellings::date_in, crate::specs::Lines::Spellings::time_in, crate::specs::Lines::Spellings::value_in, crate::specs::Lines::Spellings::qualifiers_in, crate::specs::Lines::RdForm::monitor_in, crate::specs::Lines::RdForm::start_in, crate::specs::Lines::RdForm::content_in, crate::specs::Lines::RdForm::put_in, aq_base::specs::Calendar::days_of_years, aq_base::specs::Calendar::days_of_months, crate::specs::Lines::Spellings::event_number_in, crate::specs::Lines::RdForm::delete_in, crate::specs::Lines::OfficeForms::xe_key, crate::specs::Lines::Spellings::event_code_in, crate::specs::Lines::OfficeForms::xe_record, crate::specs::Lines::OfficeForms::xc_record))]
 pub fn lines_and_rows_that_change()
     ensures reply { reply one_monitor 7 three_lines ≡ record { number = 7; lines = 3; accepted = 2; refused = 1; listed = record { line = 2; rule = AlreadyThere } ∷ []; rest = [] } }
-    ensures kept { (load one_monitor 7 digest_a three_lines).observations ≡ (hour_key noon, valued (pos 71)) ∷ (hour_key 214766, valued (pos 73)) ∷ [] }
+    ensures kept { (load one_monitor 7 digest_a three_lines).observations ≡ (hour_key noon, valued (pos 71)) ∷ (hour_key 302414, valued (pos 73)) ∷ [] }
     ensures recorded { (load one_monitor 7 digest_a three_lines).loads ≡ record { number = 7; digest = digest_a; reply = reply one_monitor 7 three_lines } ∷ [] }
-    ensures batch { batch one_monitor 7 digest_a three_lines ≡ PutObservation (hour_key noon) (valued (pos 71)) ∷ PutObservation (hour_key 214766) (valued (pos 73)) ∷ PutLoad (record { number = 7; digest = digest_a; reply = reply one_monitor 7 three_lines }) ∷ [] }
+    ensures batch { batch one_monitor 7 digest_a three_lines ≡ PutObservation (hour_key noon) (valued (pos 71)) ∷ PutObservation (hour_key 302414) (valued (pos 73)) ∷ PutLoad (record { number = 7; digest = digest_a; reply = reply one_monitor 7 three_lines }) ∷ [] }
     ensures new { decide one_monitor 7 digest_a ≡ New }
     ensures repeat { decide (load one_monitor 7 digest_a three_lines) 7 digest_a ≡ Repeat }
     ensures conflict { decide (load one_monitor 7 digest_a three_lines) 7 digest_b ≡ Conflict }
@@ -32,9 +32,9 @@ pub fn lines_and_rows_that_change()
     ensures whole_day { (after one_sample (codes "RD|D|06|037|1103|88101|1||||20240107|09:00")).observations ≡ [] }
     ensures same_value { batch one_hour 0 digest_a (codes "RD|U|06|037|1103|44201|1|1|007|087|20240701|13:00|0.0719") ≡ [] }
     ensures not_kept { (load one_monitor 0 digest_a three_lines).loads ≡ [] }
-    ensures event_code { batch agreed_event 0 digest_a (codes "XE|D|12\nXE|I|12|06|037|1103|44201|20000101|00:00|20000101|00:00|RF\nXC|U|12|Y") ≡ PutRecord (Event 12 home Ozone 0 0 (record { first = 82; second = 70 })) ∷ [] }
-    ensures last_hour { batch agreed_event 0 digest_a (codes "XE|D|12\nXE|I|12|06|037|1103|44201|20000101|00:00|20000101|01:00|RT\nXC|U|12|Y") ≡ PutRecord (Event 12 home Ozone 0 1 code_rt) ∷ [] }
-    ensures event_again { batch agreed_event 0 digest_a (codes "XE|D|12\nXE|I|12|06|037|1103|44201|20000101|00:00|20000101|00:00|RT\nXC|U|12|Y") ≡ [] }
+    ensures event_code { batch agreed_event 0 digest_a (codes "XE|D|12\nXE|I|12|06|037|1103|44201|19900101|00:00|19900101|00:00|RF\nXC|U|12|Y") ≡ PutRecord (Event 12 home Ozone 0 0 (record { first = 82; second = 70 })) ∷ [] }
+    ensures last_hour { batch agreed_event 0 digest_a (codes "XE|D|12\nXE|I|12|06|037|1103|44201|19900101|00:00|19900101|01:00|RT\nXC|U|12|Y") ≡ PutRecord (Event 12 home Ozone 0 1 code_rt) ∷ [] }
+    ensures event_again { batch agreed_event 0 digest_a (codes "XE|D|12\nXE|I|12|06|037|1103|44201|19900101|00:00|19900101|00:00|RT\nXC|U|12|Y") ≡ [] }
     ensures flag { batch agreed_event 0 digest_a (codes "XC|U|12|N") ≡ PutRecord (Concurrence 12 false) ∷ [] }
     ensures same_flag { batch agreed_event 0 digest_a (codes "XC|U|12|Y") ≡ [] }
     ensures qualifier { batch one_hour 0 digest_a (codes "RD|U|06|037|1103|44201|1|1|007|087|20240701|13:00|0.071||||V") ≡ PutObservation (hour_key noon) (record { value = Some (pos 71); null = None; quals = record { first = 86; second = 0 } ∷ [] }) ∷ [] }

@@ -22,6 +22,6 @@ pub fn what_records_say_of_a_day()
     ensures earlier { is_scheduled (Schedule site Pm25 10 3 20 ∷ []) site Pm25 11 ≡ true }
     ensures between { is_scheduled (Schedule site Pm25 10 3 20 ∷ []) site Pm25 22 ≡ false }
     ensures not_begun { is_scheduled (Schedule site Pm25 10 3 20 ∷ []) site Pm25 8 ≡ false }
-    ensures recorded { season_of (SeasonRecord site 2000 60 304 ∷ []) site 2000 ≡ record { first = 60; last = 304 } }
-    ensures whole { season_of (SeasonRecord site 2000 60 304 ∷ []) site 2001 ≡ record { first = 366; last = 730 } }
+    ensures recorded { season_of (SeasonRecord site 2000 3712 3956 ∷ []) site 2000 ≡ record { first = 3712; last = 3956 } }
+    ensures whole { season_of (SeasonRecord site 2000 3712 3956 ∷ []) site 2001 ≡ record { first = 4018; last = 4382 } }
 {}

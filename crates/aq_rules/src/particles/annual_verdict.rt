@@ -7,10 +7,10 @@ ghost use Rattle.aq_rules.specs.Particles.QuarterCounts.{QuarterDays, values_in}
 ghost use Rattle.aq_rules.specs.Particles.YearParts.{of_values};
 ghost use Rattle.aq_rules.specs.Particles.Substitution.{matched, maximum_copies, maximum_for, minimum_copies, minimum_for};
 ghost use Rattle.aq_rules.specs.Particles.AnnualVerdict.{annual_dv, mean_of};
-ghost use Rattle.aq_base.specs.declared.standard.Standard.TheVariants.{Annual2012};
+ghost use Rattle.aq_base.specs.declared.standard.Standard.TheVariants.{Annual2012, Annual2024};
 ghost use Rattle.aq_rules.specs.Standards.{level_of};
 ghost use Rattle.aq_rules.specs.Lists.{greatest, least};
-ghost use Rattle.aq_rules.specs.Particles.ParticleExamples.{daily_year, even_quarter, even_year, mixed_quarter, with_low_day, year_above_360, year_from, year_with_second};
+ghost use Rattle.aq_rules.specs.Particles.ParticleExamples.{daily_year, even_quarter, even_year, mixed_quarter, three_years_at_ten, with_low_day, year_above, year_from, year_with_second};
 
 /// Thirty values with a sum of 361.5 in each quarter give 12.05, which rounds to 12.1 and does not meet
 /// 12.0; a sum of 361.2 gives 12.04, which rounds to 12.0 and meets it. A quarter with 54 of 90 days
@@ -19,35 +19,55 @@ ghost use Rattle.aq_rules.specs.Particles.ParticleExamples.{daily_year, even_qua
 /// test value stays above the level; three such quarters with 28 days in all have no test. A quarter
 /// without a value leaves no design value.
 pub fn means_of_three_years()
-    ensures above { annual_dv (level_of Annual2012) (replicate 3 (year_above_360 15))
+    ensures above { annual_dv (level_of Annual2012) (replicate 3 (year_above 120 15))
         ≡ record { value = Some (pos 121); test = None; valid = true ∷ true ∷ true ∷ []; verdict = NotMet } }
-    ensures at_level { annual_dv (level_of Annual2012) (replicate 3 (year_above_360 12))
+    ensures at_level { annual_dv (level_of Annual2012) (replicate 3 (year_above 120 12))
         ≡ record { value = Some (pos 120); test = None; valid = true ∷ true ∷ true ∷ []; verdict = Met } }
     ensures passes { annual_dv (level_of Annual2012) (daily_year 90 ∷ daily_year 90 ∷ daily_year 54 ∷ [])
         ≡ record { value = Some (pos 112); test = Some (pos 112); valid = true ∷ true ∷ false ∷ []; verdict = Met } }
     ensures too_few { annual_dv (level_of Annual2012) (daily_year 90 ∷ daily_year 90 ∷ daily_year 44 ∷ [])
         ≡ record { value = Some (pos 112); test = None; valid = true ∷ true ∷ false ∷ []; verdict = Incomplete } }
-    ensures minimum_test_needs_thirty_days_passes { annual_dv (level_of Annual2012) (year_with_second (even_quarter 30 30 130) ∷ year_with_second with_low_day ∷ year_with_second (even_quarter 30 10 130) ∷ [])
+    ensures minimum_test_needs_thirty_days_passes { annual_dv (level_of Annual2012) (year_with_second 130 (even_quarter 30 30 130) ∷ year_with_second 130 (with_low_day 130 120) ∷ year_with_second 130 (even_quarter 30 10 130) ∷ [])
         ≡ record { value = Some (pos 130); test = Some (pos 130); valid = true ∷ true ∷ false ∷ []; verdict = NotMet } }
-    ensures minimum_test_needs_thirty_days_too_few { annual_dv (level_of Annual2012) (year_with_second (even_quarter 30 9 130) ∷ year_with_second (even_quarter 30 9 130) ∷ year_with_second (even_quarter 30 10 130) ∷ [])
+    ensures minimum_test_needs_thirty_days_too_few { annual_dv (level_of Annual2012) (year_with_second 130 (even_quarter 30 9 130) ∷ year_with_second 130 (even_quarter 30 9 130) ∷ year_with_second 130 (even_quarter 30 10 130) ∷ [])
         ≡ record { value = Some (pos 130); test = None; valid = false ∷ false ∷ false ∷ []; verdict = Incomplete } }
-    ensures empty_quarter_leaves_no_value { annual_dv (level_of Annual2012) (year_with_second (even_quarter 30 0 0) ∷ year_with_second with_low_day ∷ year_with_second with_low_day ∷ [])
+    ensures empty_quarter_leaves_no_value { annual_dv (level_of Annual2012) (year_with_second 130 (even_quarter 30 0 0) ∷ year_with_second 130 (with_low_day 130 120) ∷ year_with_second 130 (with_low_day 130 120) ∷ [])
         ≡ record { value = None; test = None; valid = false ∷ true ∷ true ∷ []; verdict = NoValue } }
+{}
+
+/// One value may be above 9.0 and not above 12.0. Thirty values with a sum of 271.5 in each quarter give
+/// 9.05, which rounds to 9.1; a sum of 271.2 gives 9.04, which rounds to 9.0 and meets both. Of three years
+/// at 10.0 the last has a quarter of ten samples. At 9.0 the minimum test adds one copy of the least value
+/// of that calendar quarter, 9.5, and the value stays above the level. At 12.0 the maximum test is asked
+/// for, which a quarter with a capture of 33 does not have.
+pub fn levels_of_2012_and_2024()
+    ensures above_9_0 { annual_dv (level_of Annual2024) (replicate 3 (year_above 90 15))
+        ≡ record { value = Some (pos 91); test = None; valid = true ∷ true ∷ true ∷ []; verdict = NotMet } }
+    ensures within_12_0 { annual_dv (level_of Annual2012) (replicate 3 (year_above 90 15))
+        ≡ record { value = Some (pos 91); test = None; valid = true ∷ true ∷ true ∷ []; verdict = Met } }
+    ensures at_9_0 { annual_dv (level_of Annual2024) (replicate 3 (year_above 90 12))
+        ≡ record { value = Some (pos 90); test = None; valid = true ∷ true ∷ true ∷ []; verdict = Met } }
+    ensures below_12_0 { annual_dv (level_of Annual2012) (replicate 3 (year_above 90 12))
+        ≡ record { value = Some (pos 90); test = None; valid = true ∷ true ∷ true ∷ []; verdict = Met } }
+    ensures minimum_test { annual_dv (level_of Annual2024) three_years_at_ten
+        ≡ record { value = Some (pos 100); test = Some (pos 100); valid = true ∷ true ∷ false ∷ []; verdict = NotMet } }
+    ensures maximum_test { annual_dv (level_of Annual2012) three_years_at_ten
+        ≡ record { value = Some (pos 100); test = None; valid = true ∷ true ∷ false ∷ []; verdict = Incomplete } }
 {}
 
 /// Each quarter counts the same in a year, however many days it has: 10.0 and three times 14.0 have the
 /// mean 13.0. Eleven creditable samples in each quarter are enough for a year whose mean is above the
 /// level, and also where the design value alone is, and ten are not; counted samples and days are other
-/// numbers. A quarter is filled up to its scheduled days by copies for those without a creditable
-/// sample, where half of them have one; what is excluded gets no copy. For the minimum test it is
-/// filled up to eleven, where thirty days have a value. The copies are of the least value for the
-/// minimum test, and of the greatest for the maximum test, of the same quarter of any of the three
-/// years, and of no other quarter.
+/// numbers. For the maximum test a quarter gets as many copies as its scheduled days less its creditable
+/// samples, if half of these days have one; what is excluded gets no copy. For the minimum test it gets
+/// eleven less its creditable samples, if thirty days have a value. The copies are of the least value
+/// for the minimum test, and of the greatest for the maximum test, of the same quarter of any of the
+/// three years, and of no other quarter.
 pub fn quarters_and_their_copies()
     ensures quarters_weigh_the_same { mean_of of_values (even_quarter 30 10 100 ∷ even_quarter 30 30 140 ∷ even_quarter 30 30 140 ∷ even_quarter 30 30 140 ∷ []) ≡ Some (pos 130) }
-    ensures eleven { annual_dv (level_of Annual2012) (replicate 3 (year_with_second (mixed_quarter 30 11 10 12 130)))
+    ensures eleven { annual_dv (level_of Annual2012) (replicate 3 (year_with_second 130 (mixed_quarter 30 11 10 12 130)))
         ≡ record { value = Some (pos 130); test = None; valid = true ∷ true ∷ true ∷ []; verdict = NotMet } }
-    ensures ten { annual_dv (level_of Annual2012) (replicate 3 (year_with_second (mixed_quarter 30 10 11 12 130)))
+    ensures ten { annual_dv (level_of Annual2012) (replicate 3 (year_with_second 130 (mixed_quarter 30 10 11 12 130)))
         ≡ record { value = Some (pos 130); test = Some (pos 130); valid = false ∷ false ∷ false ∷ []; verdict = NotMet } }
     ensures by_the_design_value { annual_dv (level_of Annual2012) (even_year (even_quarter 30 30 140) ∷ even_year (even_quarter 30 30 140) ∷ even_year (mixed_quarter 30 11 10 12 110) ∷ [])
         ≡ record { value = Some (pos 130); test = None; valid = true ∷ true ∷ true ∷ []; verdict = NotMet } }

@@ -19,16 +19,16 @@ ghost use Rattle.aq_rules.specs.Shown.ShownExamples.{between_levels, map_sheet, 
 ghost use Rattle.aq_rules.specs.Shown.Sheet.SheetCell.{Text};
 ghost use Rattle.aq_rules.specs.Shown.Answer.{Days, Export, NoLoad, NoSite, OfExport, Pm10, Pm25, Reply, Report, Value, Windows, answer, is_asked, is_design_year, is_registered};
 
-/// Days, quarters and exports are asked of 2000 to 2049, design values and reports of 2002 to 2049,
-/// windows of a day up to 31 December 2049, and loads have numbers from 1 to 4294967295.
+/// Days, quarters and exports are asked of 1990 to 2059, design values and reports of 1992 to 2059,
+/// windows of a day up to 31 December 2059, and loads have numbers from 1 to 4294967295.
 pub fn years_are_asked()
-    ensures days { (site : Site) → map (λ year. is_asked (Days site year)) (1999 ∷ 2000 ∷ 2049 ∷ 2050 ∷ []) ≡ false ∷ true ∷ true ∷ false ∷ [] }
-    ensures fine { (site : Site) → map (λ year. is_asked (Pm25 site year)) (1999 ∷ 2000 ∷ 2049 ∷ 2050 ∷ []) ≡ false ∷ true ∷ true ∷ false ∷ [] }
-    ensures coarse { (site : Site) → map (λ year. is_asked (Pm10 site year)) (1999 ∷ 2000 ∷ 2049 ∷ 2050 ∷ []) ≡ false ∷ true ∷ true ∷ false ∷ [] }
-    ensures export { (site : Site) (pollutant : Pollutant) → map (λ year. is_asked (Export site pollutant year)) (1999 ∷ 2000 ∷ 2049 ∷ 2050 ∷ []) ≡ false ∷ true ∷ true ∷ false ∷ [] }
-    ensures value { (standard : Standard) (site : Site) → map (λ year. is_asked (Value standard site year)) (2001 ∷ 2002 ∷ 2049 ∷ 2050 ∷ []) ≡ false ∷ true ∷ true ∷ false ∷ [] }
-    ensures report { (standard : Standard) → map (λ year. is_asked (Report standard year)) (2001 ∷ 2002 ∷ 2049 ∷ 2050 ∷ []) ≡ false ∷ true ∷ true ∷ false ∷ [] }
-    ensures windows { (site : Site) → map (λ day. is_asked (Windows site day)) (0 ∷ 18262 ∷ 18263 ∷ []) ≡ true ∷ true ∷ false ∷ [] }
+    ensures days { (site : Site) → map (λ year. is_asked (Days site year)) (1989 ∷ 1990 ∷ 2059 ∷ 2060 ∷ []) ≡ false ∷ true ∷ true ∷ false ∷ [] }
+    ensures fine { (site : Site) → map (λ year. is_asked (Pm25 site year)) (1989 ∷ 1990 ∷ 2059 ∷ 2060 ∷ []) ≡ false ∷ true ∷ true ∷ false ∷ [] }
+    ensures coarse { (site : Site) → map (λ year. is_asked (Pm10 site year)) (1989 ∷ 1990 ∷ 2059 ∷ 2060 ∷ []) ≡ false ∷ true ∷ true ∷ false ∷ [] }
+    ensures export { (site : Site) (pollutant : Pollutant) → map (λ year. is_asked (Export site pollutant year)) (1989 ∷ 1990 ∷ 2059 ∷ 2060 ∷ []) ≡ false ∷ true ∷ true ∷ false ∷ [] }
+    ensures value { (standard : Standard) (site : Site) → map (λ year. is_asked (Value standard site year)) (1991 ∷ 1992 ∷ 2059 ∷ 2060 ∷ []) ≡ false ∷ true ∷ true ∷ false ∷ [] }
+    ensures report { (standard : Standard) → map (λ year. is_asked (Report standard year)) (1991 ∷ 1992 ∷ 2059 ∷ 2060 ∷ []) ≡ false ∷ true ∷ true ∷ false ∷ [] }
+    ensures windows { (site : Site) → map (λ day. is_asked (Windows site day)) (0 ∷ 25566 ∷ 25567 ∷ []) ≡ true ∷ true ∷ false ∷ [] }
     ensures load { map (λ number. is_asked (Reply number)) (0 ∷ 1 ∷ 4294967295 ∷ 4294967296 ∷ []) ≡ false ∷ true ∷ true ∷ false ∷ [] }
 {}
 

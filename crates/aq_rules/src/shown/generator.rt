@@ -6,7 +6,7 @@ ghost use Rattle.std.specs.List.{range_with_len};
 ghost use Rattle.aq_base.specs.Calendar.{year_first, hour_number};
 ghost use Rattle.aq_rules.specs.Lines.Lines.{line_count, texts};
 ghost use Rattle.aq_rules.specs.Shown.Generator.{Wanted, generate, generated_lines, generated_office, load_count, office_load, samples_from, simulation, wanted_hour, wanted_in};
-ghost use Rattle.aq_base.specs.declared.standard.Standard.TheVariants.{Ozone2015, Annual2012, AnnualSecondary, Daily2006, Pm10Of1987};
+ghost use Rattle.aq_base.specs.declared.standard.Standard.TheVariants.{Ozone2015, Annual2012, AnnualSecondary, Annual2024, Daily2006, Pm10Of1987};
 ghost use Rattle.aq_rules.specs.Shown.OtherSheets.{report_answer, summary_sheet};
 ghost use Rattle.aq_rules.specs.Shown.Sheet.{text_of};
 
@@ -44,11 +44,12 @@ pub fn generated_loads()
     ensures coarse { samples_from 3 (take 2 (drop 8882 (wanted_in 1 2021)))
         ≡ codes "RD|I|99|001|0001|81102|1|7|001|000|20210101|00:00|56.3\nRD|I|99|001|0001|81102|1|7|001|000|20210107|00:00|123.8\n" }
     ensures no_more { drop 8943 (wanted_in 1 2021) ≡ [] }
-    ensures simulation_prints_a_summary_and_five_reports { (digest : List ℕ → List ℕ) (start sites : ℕ) → simulation digest start sites 3
+    ensures simulation_prints_a_summary_and_six_reports { (digest : List ℕ → List ℕ) (start sites : ℕ) → simulation digest start sites 3
         ≡ text_of (summary_sheet (1 + sites * 3) (generated_lines start sites 3) (length (generated_office digest start sites 3).observations))
         ++ (text_of (report_answer Ozone2015 (generated_office digest start sites 3) 2023)
         ++ (text_of (report_answer Annual2012 (generated_office digest start sites 3) 2023)
         ++ (text_of (report_answer AnnualSecondary (generated_office digest start sites 3) 2023)
+        ++ (text_of (report_answer Annual2024 (generated_office digest start sites 3) 2023)
         ++ (text_of (report_answer Daily2006 (generated_office digest start sites 3) 2023)
-        ++ text_of (report_answer Pm10Of1987 (generated_office digest start sites 3) 2023))))) }
+        ++ text_of (report_answer Pm10Of1987 (generated_office digest start sites 3) 2023)))))) }
 {}

@@ -2,7 +2,7 @@
 #![tactic(auto)]
 
 ghost use Rattle.std.specs.Prelude.{◌≡◌, ◌∷◌, [], ◌++◌, codes, map, take, replicate, Some, None, pos};
-ghost use Rattle.aq_base.specs.declared.standard.Standard.TheVariants.{Ozone2015, Annual2012, AnnualSecondary, Daily2006, Pm10Of1987};
+ghost use Rattle.aq_base.specs.declared.standard.Standard.TheVariants.{Ozone2015, Annual2012, AnnualSecondary, Annual2024, Daily2006, Pm10Of1987};
 ghost use Rattle.aq_base.specs.declared.standard.Verdict.TheVariants.{Incomplete, NotMet, NoValue};
 ghost use Rattle.aq_rules.specs.Standards.{level_of};
 ghost use Rattle.aq_rules.specs.DesignValues.{OfAnnual};
@@ -84,16 +84,19 @@ pub fn each_column_prints_its_field()
         ≡ codes "standard PM10-24H-1987\nsite 06-037-1103\nyear 2023\nvalue 43.7\ntest -\nverdict NotMet\n"
         ++ codes "year estimate lower exceedances complete\n"
         ++ codes "2021 63.0 20.2 10 N\n2022 43.8 35.6 16 Y\n2023 - 20.2 9 N\n" }
-    ensures sheets { map (λ standard. text_of (value_sheet standard site 2023 (OfAnnual [] tested_annual))) (Annual2012 ∷ AnnualSecondary ∷ [])
+    ensures sheets { map (λ standard. text_of (value_sheet standard site 2023 (OfAnnual [] tested_annual))) (Annual2012 ∷ AnnualSecondary ∷ Annual2024 ∷ [])
         ≡ (codes "standard PM25-ANNUAL-2012\nsite 06-037-1103\nyear 2023\nvalue 12.3\ntest 11.8\nverdict Incomplete\n"
         ++ codes "year mean capture1 capture2 capture3 capture4 valid\n")
         ∷ (codes "standard PM25-ANNUAL-SECONDARY\nsite 06-037-1103\nyear 2023\nvalue 12.3\ntest 11.8\nverdict Incomplete\n"
+        ++ codes "year mean capture1 capture2 capture3 capture4 valid\n")
+        ∷ (codes "standard PM25-ANNUAL-2024\nsite 06-037-1103\nyear 2023\nvalue 12.3\ntest 11.8\nverdict Incomplete\n"
         ++ codes "year mean capture1 capture2 capture3 capture4 valid\n") ∷ [] }
     ensures reports { map (λ standard. text_of (report_sheet standard 2023 (record { site = site; value = Some (pos 71); verdict = Incomplete } ∷ [])))
-        (Ozone2015 ∷ Annual2012 ∷ AnnualSecondary ∷ Daily2006 ∷ Pm10Of1987 ∷ [])
+        (Ozone2015 ∷ Annual2012 ∷ AnnualSecondary ∷ Annual2024 ∷ Daily2006 ∷ Pm10Of1987 ∷ [])
         ≡ codes "standard O3-2015\nyear 2023\nsite value verdict\n06-037-1103 0.071 Incomplete\n"
         ∷ codes "standard PM25-ANNUAL-2012\nyear 2023\nsite value verdict\n06-037-1103 7.1 Incomplete\n"
         ∷ codes "standard PM25-ANNUAL-SECONDARY\nyear 2023\nsite value verdict\n06-037-1103 7.1 Incomplete\n"
+        ∷ codes "standard PM25-ANNUAL-2024\nyear 2023\nsite value verdict\n06-037-1103 7.1 Incomplete\n"
         ∷ codes "standard PM25-24H-2006\nyear 2023\nsite value verdict\n06-037-1103 71 Incomplete\n"
         ∷ codes "standard PM10-24H-1987\nyear 2023\nsite value verdict\n06-037-1103 7.1 Incomplete\n" ∷ [] }
 {}

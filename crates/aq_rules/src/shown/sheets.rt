@@ -22,7 +22,7 @@ ghost use Rattle.aq_rules.specs.Ozone.OzoneExamples.{site, summer_day, day_with,
 /// years and their design value.
 pub fn sheets_of_loads_and_of_ozone_print()
     ensures days_print { text_of
-        (days_sheet site 2000 (record { first = 60; last = 304 })
+        (days_sheet site 2000 (record { first = 3712; last = 3956 })
         (day_with 12 70 ∷ record { averages = 0; valid = false; maximum = None } ∷ [])
         (false ∷ true ∷ []) (year_with 221 71))
         ≡ codes "site 06-037-1103\nyear 2000\nseason_first 2000-03-01\nseason_last 2000-10-31\n"
@@ -35,7 +35,7 @@ pub fn sheets_of_loads_and_of_ozone_print()
     ensures windows { text_of (windows_sheet site summer_day three_windows)
         ≡ codes "site 06-037-1103\nday 2024-07-01\nhour average hours full full_hours\n"
         ++ codes "07:00 0.065 6 0.071 8\n08:00 - 2 - 5\n09:00 - 4 0.068 7\n" }
-    ensures days { map (λ totals. text_of (days_sheet site 2000 (record { first = 60; last = 304 }) two_days (false ∷ true ∷ []) totals)) (take 1 three_ozone_years)
+    ensures days { map (λ totals. text_of (days_sheet site 2000 (record { first = 3712; last = 3956 }) two_days (false ∷ true ∷ []) totals)) (take 1 three_ozone_years)
         ≡ (codes "site 06-037-1103\nyear 2000\nseason_first 2000-03-01\nseason_last 2000-10-31\n"
         ++ codes "season_days 245\nseason_valid 240\nfourth 0.071\n"
         ++ codes "day averages valid approved maximum\n"

@@ -1,5 +1,5 @@
 use Rattle.std.proofs.Common.{◌≡◌, ◌++◌, map}
-use Rattle.aq_loads.specs.KeptLoads.{stored_in}
+use Rattle.aq_rows.specs.KeptLoads.{stored_in}
 use Rattle.aq_rows.specs.OfficeRows.{load_row}
 use Rattle.aq_rows.proofs.office_rows.add_loads.Given as goal
 

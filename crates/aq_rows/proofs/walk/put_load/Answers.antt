@@ -1,5 +1,5 @@
 use Rattle.std.proofs.Common.{◌∙◌}
-use Rattle.aq_loads.specs.KeptLoads.{stored_entry}
+use Rattle.aq_rows.specs.KeptLoads.{stored_entry}
 use Rattle.aq_rules.specs.Office.Office.{load_rank}
 use Rattle.aq_rows.proofs.RisingEnds.{with_row-last}
 use Rattle.aq_rows.proofs.walk.put_load.Goals as goal

@@ -9,3 +9,7 @@ returns-clause-primary c office site year = refl
 pub returns-clause-secondary : goal.returns-clause-secondary
 unfolding design_value
 returns-clause-secondary c office site year = refl
+
+pub returns-clause-primary_of_2024 : goal.returns-clause-primary_of_2024
+unfolding design_value
+returns-clause-primary_of_2024 c office site year = refl

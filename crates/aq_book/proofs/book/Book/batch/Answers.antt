@@ -1,7 +1,7 @@
 use Rattle.std.proofs.Common.{◌∙◌, ◌++◌, map}
 use Rattle.aq_rules.specs.Kept.RowChanges.{row_change}
 use Rattle.aq_rules.specs.Office.Load.{load_change}
-use Rattle.aq_loads.specs.KeptLoads.{stored_as}
+use Rattle.aq_rows.specs.KeptLoads.{stored_as}
 use Rattle.aq_book.proofs.BatchLemmas.{batch_is}
 use Rattle.aq_book.proofs.book.Book.batch.Goals as goal
 

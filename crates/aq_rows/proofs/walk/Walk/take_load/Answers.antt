@@ -1,6 +1,6 @@
 use Rattle.std.proofs.Common.{◌∙◌, sym, ap}
 use Rattle.std.specs.Prelude.{option_map}
-use Rattle.aq_loads.specs.KeptLoads.{stored_entry}
+use Rattle.aq_rows.specs.KeptLoads.{stored_entry}
 use Rattle.aq_rows.specs.Walking.{standing}
 use Rattle.aq_rows.proofs.Following.{load-unsaid, load-not-next, load-follows}
 use Rattle.aq_rows.proofs.walk.Walk.take_load.Goals as goal

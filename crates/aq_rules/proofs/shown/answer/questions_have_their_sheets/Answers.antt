@@ -1,6 +1,6 @@
 use Rattle.std.proofs.Common.{refl}
 use Rattle.aq_rules.specs.Shown.Answer.{answer}
-use Rattle.aq_base.specs.declared.standard.Standard.TheVariants.{Ozone2015, Annual2012, AnnualSecondary, Daily2006, Pm10Of1987}
+use Rattle.aq_base.specs.declared.standard.Standard.TheVariants.{Ozone2015, Annual2012, AnnualSecondary, Annual2024, Daily2006, Pm10Of1987}
 use Rattle.aq_rules.specs.DesignValues.{design_value}
 use Rattle.aq_rules.specs.Shown.Sheets.{load_sheet, windows_answer, windows_sheet, days_answer, days_sheet, ozone_value_sheet}
 use Rattle.aq_rules.specs.Shown.ParticleSheets.{pm25_answer, pm25_sheet, pm10_answer, pm10_sheet, annual_value_sheet, daily_value_sheet, pm10_value_sheet}
@@ -74,6 +74,7 @@ unfolding answer value_answer value_sheet design_value ozone_value_sheet annual_
 returns-clause-value c office Ozone2015 site year at = rw at refl
 returns-clause-value c office Annual2012 site year at = rw at refl
 returns-clause-value c office AnnualSecondary site year at = rw at refl
+returns-clause-value c office Annual2024 site year at = rw at refl
 returns-clause-value c office Daily2006 site year at = rw at refl
 returns-clause-value c office Pm10Of1987 site year at = rw at refl
 

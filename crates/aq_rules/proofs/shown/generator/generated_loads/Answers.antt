@@ -115,6 +115,6 @@ pub returns-clause-no_more : goal.returns-clause-no_more
 unfolding days_of_years days_of_months year_of month_of last_digits digits office_texts rd_texts generated_years office_load days_of wanted_in samples_from
 returns-clause-no_more c = refl
 
-pub returns-clause-simulation_prints_a_summary_and_five_reports : goal.returns-clause-simulation_prints_a_summary_and_five_reports
+pub returns-clause-simulation_prints_a_summary_and_six_reports : goal.returns-clause-simulation_prints_a_summary_and_six_reports
 unfolding simulation
-returns-clause-simulation_prints_a_summary_and_five_reports c digest start sites = simp append-nil
+returns-clause-simulation_prints_a_summary_and_six_reports c digest start sites = simp append-nil

@@ -1,2 +1,0 @@
--- Loads that are kept, as the book of rules has them.
-pub mod KeptLoads

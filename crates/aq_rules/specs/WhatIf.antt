@@ -1,0 +1,3 @@
+-- What a verdict would be if events were concurred in or not (own).
+pub mod Assumed
+pub mod WhatIfExamples

@@ -1,0 +1,4 @@
+//! Laws of areas and critical values.
+
+pub mod area_value;
+pub mod critical_value;
