@@ -51,6 +51,3 @@ pub use rule::Rule;
 pub use site::SiteId;
 pub use standard::{Standard, Verdict};
 pub use steps::Steps;
-
-#[cfg(test)]
-mod tests;

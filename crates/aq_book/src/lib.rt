@@ -24,14 +24,3 @@ pub use fault::{AskFault, UnknownSite};
 pub use opening::{book_of, rows_of};
 pub use ozone::OzoneDays;
 pub use report::SiteValues;
-
-#[cfg(test)]
-mod coarse_tests;
-#[cfg(test)]
-mod particle_tests;
-#[cfg(test)]
-mod question_tests;
-#[cfg(test)]
-mod test_office;
-#[cfg(test)]
-mod tests;

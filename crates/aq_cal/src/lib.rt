@@ -9,6 +9,3 @@ mod text;
 pub use date::{Civil, civil_of, day_of, hour_of};
 pub use spans::{a_quarter_holds_the_days_of_its_span, quarter_of, quarter_span, year_span};
 pub use text::{day_text, last_digits, write_day};
-
-#[cfg(test)]
-mod tests;

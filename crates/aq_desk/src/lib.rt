@@ -23,12 +23,3 @@ pub use command::{end_without_memory, run};
 pub use memory_sink::MemorySink;
 pub use memory_source::MemorySource;
 pub use outside::{Sink, Source};
-
-#[cfg(test)]
-mod load_tests;
-#[cfg(test)]
-mod office_tests;
-#[cfg(test)]
-mod serve_tests;
-#[cfg(test)]
-mod tests;

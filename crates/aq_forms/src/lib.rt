@@ -10,6 +10,3 @@ mod spellings;
 pub use lines::{BodyLine, Lines, MOST_BYTES, count_lines, lines_of};
 pub use print::{print_key, print_office};
 pub use read::read_office;
-
-#[cfg(test)]
-mod tests;

@@ -9,6 +9,3 @@ mod samples;
 
 pub use loads::{generate, load_count};
 pub use office::FIRST_GENERATED_YEAR;
-
-#[cfg(test)]
-mod tests;

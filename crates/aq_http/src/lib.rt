@@ -23,6 +23,3 @@ pub use reply::reply_bytes;
 pub use routes::{Found, Routes};
 pub use step::{Step, next_request};
 pub use verb::Verb;
-
-#[cfg(test)]
-mod tests;

@@ -18,6 +18,3 @@ pub use memory_keeper::MemoryKeeper;
 pub use order::{are_in_order, do_keys_rise};
 pub use row::{LoadRow, ObsRow, OfficeRow, Row, RowContent, Rows};
 pub use steady_keeper::SteadyKeeper;
-
-#[cfg(test)]
-mod tests;

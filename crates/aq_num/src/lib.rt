@@ -10,6 +10,3 @@ pub use decimal::{NumberFault, read_decimal};
 pub use division::{round_half_up, trunc_div};
 pub use ratios::{Frac, sum_of_ratios};
 pub use text::write_fixed;
-
-#[cfg(test)]
-mod tests;

@@ -15,6 +15,3 @@ pub use eight_hour::{DayWindows, WINDOWS, WindowRow, average};
 pub use ozone_day::{OzoneDay, day_of_windows};
 pub use ozone_year::year;
 pub use windows::day_windows;
-
-#[cfg(test)]
-mod tests;

@@ -7,6 +7,3 @@ mod site_quarter;
 mod strata;
 
 pub use site_quarter::{quarter, year};
-
-#[cfg(test)]
-mod tests;

@@ -10,6 +10,3 @@ mod top_eight;
 
 pub use quarters::{quarter, year};
 pub use rank::rank_of;
-
-#[cfg(test)]
-mod tests;

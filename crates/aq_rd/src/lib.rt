@@ -27,6 +27,3 @@ pub use spellings::{
 };
 pub use tag::{Tag, has_office_tag, tag_in, tag_of};
 pub use words::{day_word, site_word};
-
-#[cfg(test)]
-mod tests;

@@ -15,6 +15,3 @@ pub use changes::{Changes, RecordChange, RegistryFault};
 pub use records::Records;
 pub use registry::Registry;
 pub use rows::Rows;
-
-#[cfg(test)]
-mod tests;

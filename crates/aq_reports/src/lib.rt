@@ -30,6 +30,3 @@ pub use single::{conflict_sheet, error_sheet, summary_sheet};
 pub use text::{site_text, text_of};
 pub use value::value_sheet;
 pub use windows::windows_sheet;
-
-#[cfg(test)]
-mod tests;

@@ -23,8 +23,3 @@ pub use observations::{fitting_observations_can_stand, observation_of, observati
 pub use office_rows::rows_of;
 pub use opening::{OpenFault, Opened, Place, open};
 pub use records::{office_row, record_of};
-
-#[cfg(test)]
-mod opening_tests;
-#[cfg(test)]
-mod tests;

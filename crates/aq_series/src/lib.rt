@@ -14,8 +14,3 @@ pub use day_hours::{SPAN_DAYS, SPAN_HOURS, site_hours};
 pub use days::{monitor_day, site_day};
 pub use hours::{Cell, site_hour};
 pub use site_spans::site_days;
-
-#[cfg(test)]
-mod day_tests;
-#[cfg(test)]
-mod tests;

@@ -22,6 +22,3 @@ pub use memory_door::MemoryDoor;
 pub use sending::error_body;
 pub use service::Service;
 pub use serving::serve;
-
-#[cfg(test)]
-mod tests;

@@ -11,6 +11,3 @@ mod service;
 pub use answers::{Unanswered, export_of, sheet_of};
 pub use posting::{Posted, post};
 pub use service::OfficeService;
-
-#[cfg(test)]
-mod tests;

@@ -13,6 +13,3 @@ pub use fault::{NotThere, ShelfFault};
 pub use rows::Rows;
 pub use shelf::Shelf;
 pub use span::Span;
-
-#[cfg(test)]
-mod tests;

@@ -7,6 +7,3 @@ mod taken;
 mod text;
 
 pub use text::simulation;
-
-#[cfg(test)]
-mod tests;

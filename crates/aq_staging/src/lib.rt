@@ -18,6 +18,3 @@ pub use change::OfficeChange;
 pub use list::OfficeChanges;
 pub use load::stage_load;
 pub use staged::{Staged, Taken};
-
-#[cfg(test)]
-mod tests;

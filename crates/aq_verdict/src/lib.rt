@@ -18,8 +18,6 @@ mod pm_year;
 mod quarterly;
 mod rounded;
 mod substitution;
-#[cfg(test)]
-mod tests;
 mod top;
 
 pub use annual_value::{AnnualDv, annual};

@@ -4,6 +4,3 @@
 mod words;
 
 pub use words::{Command, read_words};
-
-#[cfg(test)]
-mod tests;

@@ -1,0 +1,342 @@
+//! Functions that a case may call, by their names, and their answers as text. Each takes words with spaces
+//! between them; bytes are spelled as in a block.
+ghost use Rattle.std.specs.Prelude.{◌≤◌};
+
+use crate::dates::{day_in, day_name};
+use crate::spelling::{spelling_of, write_line};
+use crate::trouble::Trouble;
+use aq_base::{FIRST_YEAR, LAST_YEAR, MOST_BYTES, OfficeLine, Rule};
+use aq_cal::{quarter_of, quarter_span, write_day, year_span};
+use aq_desk::{MemorySink, end_without_memory};
+use aq_forms::{count_lines, lines_of, print_key, print_office, read_office};
+use aq_generator::generate;
+use aq_http::{Routes, Step, Verb, next_request};
+use aq_keeper::{RowChange, RowKey, do_keys_rise};
+use aq_num::{read_decimal, round_half_up, trunc_div, write_fixed};
+use aq_pm25::rank_of;
+use aq_rd::{has_office_tag, print_rd, read_rd, tag_of};
+use aq_words::read_words;
+use std::alloc::Global;
+
+/// What a function answers.
+pub fn answer(alloc: Global, name: &str, arguments: &str) -> Result<String, Trouble> {
+    match name {
+        "command" => command(alloc, arguments),
+        "route" => route(alloc, arguments),
+        "request" => request(alloc, arguments),
+        "line" => line(alloc, arguments),
+        "key" => key(alloc, arguments),
+        "body" => body(alloc, arguments),
+        "generated" => generated(alloc, arguments),
+        "decimal" => decimal(alloc, arguments),
+        "fixed" => fixed(alloc, arguments),
+        _ => number_answer(alloc, name, arguments),
+    }
+}
+
+/// What a function of numbers or dates answers.
+fn number_answer(alloc: Global, name: &str, arguments: &str) -> Result<String, Trouble> {
+    match name {
+        "truncated" => truncated(alloc, arguments),
+        "half_up" => half_up(alloc, arguments),
+        "rank" => rank(alloc, arguments),
+        "day" => day(alloc, arguments),
+        "quarter" => quarter(alloc, arguments),
+        "year" => year(alloc, arguments),
+        "keys_rise" => keys_rise(alloc, arguments),
+        "without_memory" => without_memory(alloc),
+        _ => Err(Trouble::Wrong("there is no such call")),
+    }
+}
+
+const NOT_SO: Trouble = Trouble::Wrong("it is not called so");
+
+fn text(alloc: Global, text: &str) -> Result<String, Trouble> {
+    Ok(String::from_str(alloc, text)?)
+}
+
+/// Bytes as a case spells them.
+fn shown(alloc: Global, bytes: &[u8]) -> Result<String, Trouble> {
+    Ok(spelling_of(alloc, bytes)?)
+}
+
+/// The bytes that a text spells.
+fn spelled(alloc: Global, spelling: &str) -> Result<Vec<u8>, Trouble> {
+    let mut bytes = Vec::new(alloc);
+    write_line(spelling.as_bytes(), &mut bytes)?;
+    // A line ends with LF, and this text does not.
+    if !spelling.ends_with("\\") {
+        let _ = bytes.pop();
+    }
+    Ok(bytes)
+}
+
+/// The command that words name, or `none`.
+fn command(alloc: Global, arguments: &str) -> Result<String, Trouble> {
+    let mut words = Vec::new(alloc);
+    for word in arguments.split(' ') {
+        words.push(String::from_str(alloc, word)?)?;
+    }
+    match read_words(&words) {
+        Some(command) => Ok(format!(in alloc; "{command:?}")?),
+        None => text(alloc, "none"),
+    }
+}
+
+/// `VERB TARGET`: what a request asks.
+fn route(alloc: Global, arguments: &str) -> Result<String, Trouble> {
+    let Some((verb, target)) = arguments.split_once(' ') else {
+        return Err(NOT_SO);
+    };
+    let verb = match verb {
+        "GET" => Verb::Get,
+        "POST" => Verb::Post,
+        _ => Verb::Other,
+    };
+    let routes = Routes::new(alloc)?;
+    let found = routes.find(verb, target.as_bytes());
+    Ok(format!(in alloc; "{found:?}")?)
+}
+
+/// What is due on a connection with these bytes: `more`, `refuse STATUS`, or `whole USED VERB TARGET BODY`,
+/// the last three by their lengths, and `close` where the connection ends behind the reply.
+fn request(alloc: Global, arguments: &str) -> Result<String, Trouble> {
+    let bytes = spelled(alloc, arguments)?;
+    match next_request(&bytes) {
+        Step::More => text(alloc, "more"),
+        Step::Refuse(status) => Ok(format!(in alloc; "refuse {status}")?),
+        Step::Whole {
+            used,
+            verb,
+            target,
+            body,
+            close,
+        } => {
+            let (target, body) = (target.len(), body.len());
+            let end = if close { " close" } else { "" };
+            Ok(format!(in alloc; "whole {used} {verb:?} {target} {body}{end}")?)
+        }
+    }
+}
+
+/// The canonical line of a line's value, or the name of the first reading rule that it breaks.
+fn line(alloc: Global, arguments: &str) -> Result<String, Trouble> {
+    let bytes = spelled(alloc, arguments)?;
+    if let Err(rule) = tag_of(&bytes) {
+        return text(alloc, rule.name());
+    }
+    match read_any(alloc, &bytes)? {
+        Ok(canonical) => shown(alloc, &canonical),
+        Err(rule) => text(alloc, rule.name()),
+    }
+}
+
+#[tactic(auto, using(aq_forms::specs::OfficeTags::no_rd_tag))]
+fn read_any(alloc: Global, line: &[u8]) -> Result<Result<Vec<u8>, Rule>, Trouble> {
+    if has_office_tag(line) {
+        match read_office(line) {
+            Ok(read) => Ok(Ok(print_office(alloc, &read)?)),
+            Err(rule) => Ok(Err(rule)),
+        }
+    } else {
+        match read_rd(line) {
+            Ok(read) => Ok(Ok(print_rd(alloc, &read)?)),
+            Err(rule) => Ok(Err(rule)),
+        }
+    }
+}
+
+/// The key of an office line that drops a record.
+#[tactic(auto, using(aq_forms::specs::OfficeTags::no_rd_tag))]
+fn key(alloc: Global, arguments: &str) -> Result<String, Trouble> {
+    let line = arguments.as_bytes();
+    if !has_office_tag(line) {
+        return Err(NOT_SO);
+    }
+    match read_office(line) {
+        Ok(OfficeLine::Drop(key)) => shown(alloc, &print_key(alloc, &key)?),
+        _ => Err(NOT_SO),
+    }
+}
+
+/// How many lines a body has, and those that are not skipped, each with its number.
+fn body(alloc: Global, arguments: &str) -> Result<String, Trouble> {
+    let bytes = spelled(alloc, arguments)?;
+    if bytes.len() > MOST_BYTES {
+        return Err(NOT_SO);
+    }
+    let mut all = format!(in alloc; "{}", count_lines(&bytes))?;
+    for line in lines_of(&bytes) {
+        let text = shown(alloc, line.text)?;
+        all.push_str(format!(in alloc; " {}:{text}|", line.number)?.as_str())?;
+    }
+    Ok(all)
+}
+
+/// The first number of a text and what stands behind it.
+fn cut(text: &str) -> Result<(i128, &str), Trouble> {
+    let (word, rest) = match text.split_once(' ') {
+        Some(parts) => parts,
+        None => (text, ""),
+    };
+    match word.parse() {
+        Ok(number) => Ok((number, rest)),
+        Err(_) => Err(Trouble::Wrong("no number")),
+    }
+}
+
+/// Two numbers.
+fn two(text: &str) -> Result<(i128, i128), Trouble> {
+    let (first, rest) = cut(text)?;
+    let (second, _) = cut(rest)?;
+    Ok((first, second))
+}
+
+/// `START SITES YEARS LOAD LINE`: a line of a generated load, by its number from 0, or `none`.
+fn generated(alloc: Global, arguments: &str) -> Result<String, Trouble> {
+    let (start, rest) = cut(arguments)?;
+    let (sites, rest) = cut(rest)?;
+    let (years, rest) = cut(rest)?;
+    let (load, place) = two(rest)?;
+    let (Ok(start), Ok(load)) = (u64::try_from(start), u32::try_from(load)) else {
+        return Err(NOT_SO);
+    };
+    if sites < 1 || sites > 32 || years < 3 || years > 10 {
+        return Err(NOT_SO);
+    }
+    match generate(alloc, start, sites as u8, years as u8, load)? {
+        Some(body) => line_at(alloc, &body, place),
+        None => text(alloc, "none"),
+    }
+}
+
+/// A line of a text by its number.
+fn line_at(alloc: Global, body: &[u8], place: i128) -> Result<String, Trouble> {
+    let mut number = 0i128;
+    for line in body.split(|byte| *byte == b'\n') {
+        if number == place {
+            return shown(alloc, line);
+        }
+        number = number.saturating_add(1);
+    }
+    Err(NOT_SO)
+}
+
+/// `TEXT PLACES`: the number that a decimal text is cut to.
+fn decimal(alloc: Global, arguments: &str) -> Result<String, Trouble> {
+    let Some((digits, places)) = arguments.rsplit_once(' ') else {
+        return Err(NOT_SO);
+    };
+    let (places, _) = cut(places)?;
+    if places < 0 || places > 6 {
+        return Err(NOT_SO);
+    }
+    match read_decimal(digits.as_bytes(), places as u8) {
+        Ok(number) => Ok(format!(in alloc; "{number}")?),
+        Err(fault) => Ok(format!(in alloc; "{fault}")?),
+    }
+}
+
+/// `VALUE PLACES`: the value in units of the last place, as it is written.
+fn fixed(alloc: Global, arguments: &str) -> Result<String, Trouble> {
+    let (value, places) = two(arguments)?;
+    let Ok(value) = i64::try_from(value) else {
+        return Err(NOT_SO);
+    };
+    if places < 0 || places > 6 {
+        return Err(NOT_SO);
+    }
+    let mut out = Vec::new(alloc);
+    write_fixed(&mut out, value, places as u8)?;
+    shown(alloc, &out)
+}
+
+/// `A B`: the quotient, cut toward zero.
+fn truncated(alloc: Global, arguments: &str) -> Result<String, Trouble> {
+    let (a, b) = two(arguments)?;
+    let (Ok(a), Ok(b)) = (i64::try_from(a), i64::try_from(b)) else {
+        return Err(NOT_SO);
+    };
+    if b <= 0 {
+        return Err(NOT_SO);
+    }
+    Ok(format!(in alloc; "{}", trunc_div(a, b))?)
+}
+
+/// `A B`: the quotient, halves rounded up.
+fn half_up(alloc: Global, arguments: &str) -> Result<String, Trouble> {
+    let (a, b) = two(arguments)?;
+    let (Ok(a), Ok(b)) = (i32::try_from(a), i32::try_from(b)) else {
+        return Err(NOT_SO);
+    };
+    if b <= 0 {
+        return Err(NOT_SO);
+    }
+    let quotient = round_half_up(i128::from(a), i128::from(b));
+    Ok(format!(in alloc; "{quotient}")?)
+}
+
+/// `COUNTED`: the rank of the percentile.
+fn rank(alloc: Global, arguments: &str) -> Result<String, Trouble> {
+    let (counted, _) = cut(arguments)?;
+    if counted < 1 || counted > 366 {
+        return Err(NOT_SO);
+    }
+    Ok(format!(in alloc; "{}", rank_of(counted as u16))?)
+}
+
+/// `YYYY-MM-DD`: the day's number, and how it is written, or `none`.
+fn day(alloc: Global, arguments: &str) -> Result<String, Trouble> {
+    let Some(day) = day_in(arguments) else {
+        return text(alloc, "none");
+    };
+    let mut written = Vec::new(alloc);
+    write_day(&mut written, day)?;
+    let written = shown(alloc, &written)?;
+    Ok(format!(in alloc; "{} {written}", day.number())?)
+}
+
+/// `YYYY-MM-DD`: the number of the day's quarter, its first day, and how many days it has.
+fn quarter(alloc: Global, arguments: &str) -> Result<String, Trouble> {
+    let Some(day) = day_in(arguments) else {
+        return Err(NOT_SO);
+    };
+    let quarter = quarter_of(day);
+    let (first, days) = quarter_span(quarter);
+    let first = day_name(alloc, first)?;
+    Ok(format!(in alloc; "{} {first} {days}", quarter.number())?)
+}
+
+/// `YYYY`: the number of the year's first day, and how many days it has.
+fn year(alloc: Global, arguments: &str) -> Result<String, Trouble> {
+    let Ok(year) = arguments.parse() else {
+        return Err(NOT_SO);
+    };
+    if year < FIRST_YEAR || year > LAST_YEAR {
+        return Err(NOT_SO);
+    }
+    let (first, days) = year_span(year);
+    Ok(format!(in alloc; "{} {days}", first.number())?)
+}
+
+/// `A B`: whether the keys of the loads with these numbers rise.
+fn keys_rise(alloc: Global, arguments: &str) -> Result<String, Trouble> {
+    let (a, b) = two(arguments)?;
+    let (Ok(a), Ok(b)) = (i64::try_from(a), i64::try_from(b)) else {
+        return Err(NOT_SO);
+    };
+    let batch = [
+        RowChange::drop(RowKey::load(a)),
+        RowChange::drop(RowKey::load(b)),
+    ];
+    let rise = do_keys_rise(&batch);
+    Ok(format!(in alloc; "{rise}")?)
+}
+
+/// How the program ends where its words had no memory: the status, and what is told.
+fn without_memory(alloc: Global) -> Result<String, Trouble> {
+    let mut errors = MemorySink::new(alloc, 1_000, Vec::new(alloc))?;
+    let status = end_without_memory(&mut errors);
+    let told = shown(alloc, errors.written())?;
+    Ok(format!(in alloc; "{status} {told}")?)
+}

@@ -1,0 +1,169 @@
+//! The lines of a block, as bytes: a line stands for itself, or for many by an expansion.
+use crate::dates::{date_text, day_behind, day_in, day_name, hour_behind, hour_in};
+use crate::spelling::write_line;
+use crate::trouble::Trouble;
+use aq_base::Day;
+use std::alloc::Global;
+
+/// What the fields of an expansion's line stand for.
+#[derive(Clone, Copy)]
+struct Fields {
+    number: u32,
+    /// The day and the hour, where the expansion goes over those.
+    time: Option<(Day, u32)>,
+}
+
+/// Appends what a line of a block stands for.
+pub fn write_block_line(alloc: Global, line: &str, out: &mut Vec<u8>) -> Result<(), Trouble> {
+    let Some(expansion) = line.strip_prefix('@') else {
+        return write_line(line.as_bytes(), out);
+    };
+    let (name, rest) = cut(expansion)?;
+    match name {
+        "repeat" => write_repeated(alloc, rest, out),
+        "count" => write_counted(alloc, rest, out),
+        "days" => write_days(alloc, rest, out),
+        "hours" => write_hours(alloc, rest, out),
+        _ => Err(Trouble::Wrong("no such expansion")),
+    }
+}
+
+/// `@repeat COUNT LINE`
+fn write_repeated(alloc: Global, rest: &str, out: &mut Vec<u8>) -> Result<(), Trouble> {
+    let (count, line) = cut_number(rest)?;
+    let mut once = Vec::new(alloc);
+    write_line(line.as_bytes(), &mut once)?;
+    for _ in 0..count {
+        out.extend_from_slice(&once)?;
+    }
+    Ok(())
+}
+
+/// `@count FIRST LAST LINE`
+fn write_counted(alloc: Global, rest: &str, out: &mut Vec<u8>) -> Result<(), Trouble> {
+    let (first, rest) = cut_number(rest)?;
+    let (last, line) = cut_number(rest)?;
+    for number in first..=last {
+        let fields = Fields { number, time: None };
+        write_filled(alloc, line, fields, out)?;
+    }
+    Ok(())
+}
+
+/// `@days DAY COUNT STEP LINE`
+fn write_days(alloc: Global, rest: &str, out: &mut Vec<u8>) -> Result<(), Trouble> {
+    let (first, rest) = cut_day(rest)?;
+    let (count, rest) = cut_number(rest)?;
+    let (step, line) = cut_number(rest)?;
+    for number in 0..count {
+        let days = number.checked_mul(step).ok_or(LATE)?;
+        let day = day_behind(first, days).ok_or(LATE)?;
+        let fields = Fields {
+            number,
+            time: Some((day, 0)),
+        };
+        write_filled(alloc, line, fields, out)?;
+    }
+    Ok(())
+}
+
+/// `@hours DAY TIME COUNT LINE`
+fn write_hours(alloc: Global, rest: &str, out: &mut Vec<u8>) -> Result<(), Trouble> {
+    let (day, rest) = cut_day(rest)?;
+    let (time, rest) = cut(rest)?;
+    let first = hour_in(day, time).ok_or(Trouble::Wrong("no time HH:00"))?;
+    let (count, line) = cut_number(rest)?;
+    for number in 0..count {
+        let time = hour_behind(first, number).ok_or(LATE)?;
+        let fields = Fields {
+            number,
+            time: Some(time),
+        };
+        write_filled(alloc, line, fields, out)?;
+    }
+    Ok(())
+}
+
+const LATE: Trouble = Trouble::Wrong("a day behind the last one");
+
+/// The first word and what stands behind it.
+fn cut(text: &str) -> Result<(&str, &str), Trouble> {
+    match text.split_once(' ') {
+        Some(parts) => Ok(parts),
+        None => Err(Trouble::Wrong("a word is missing")),
+    }
+}
+
+fn cut_number(text: &str) -> Result<(u32, &str), Trouble> {
+    let (word, rest) = cut(text)?;
+    match word.parse() {
+        Ok(number) => Ok((number, rest)),
+        Err(_) => Err(Trouble::Wrong("no number")),
+    }
+}
+
+fn cut_day(text: &str) -> Result<(Day, &str), Trouble> {
+    let (word, rest) = cut(text)?;
+    match day_in(word) {
+        Some(day) => Ok((day, rest)),
+        None => Err(Trouble::Wrong("no day YYYY-MM-DD")),
+    }
+}
+
+/// Appends a line whose fields are filled in.
+fn write_filled(
+    alloc: Global,
+    line: &str,
+    fields: Fields,
+    out: &mut Vec<u8>,
+) -> Result<(), Trouble> {
+    let mut filled = Vec::new(alloc);
+    for (place, part) in line.split('{').enumerate() {
+        if place == 0 {
+            filled.extend_from_slice(part.as_bytes())?;
+        } else {
+            write_field(alloc, part, fields, &mut filled)?;
+        }
+    }
+    write_line(&filled, out)
+}
+
+/// Appends a field, and what stands behind it. The brace before it is cut off.
+fn write_field(
+    alloc: Global,
+    part: &str,
+    fields: Fields,
+    out: &mut Vec<u8>,
+) -> Result<(), Trouble> {
+    let Some((name, rest)) = part.split_once('}') else {
+        return Err(Trouble::Wrong("a field has no end"));
+    };
+    let text = field_text(alloc, name, fields)?;
+    out.extend_from_slice(text.as_bytes())?;
+    out.extend_from_slice(rest.as_bytes())?;
+    Ok(())
+}
+
+fn field_text(alloc: Global, name: &str, fields: Fields) -> Result<String, Trouble> {
+    let number = fields.number;
+    let text = match name {
+        "n" => format!(in alloc; "{number}")?,
+        "n:02" => format!(in alloc; "{number:02}")?,
+        "n:04" => format!(in alloc; "{number:04}")?,
+        _ => return time_text(alloc, name, fields.time),
+    };
+    Ok(text)
+}
+
+fn time_text(alloc: Global, name: &str, time: Option<(Day, u32)>) -> Result<String, Trouble> {
+    let Some((day, hour)) = time else {
+        return Err(Trouble::Wrong("no such field"));
+    };
+    let text = match name {
+        "date" => date_text(alloc, day)?,
+        "day" => day_name(alloc, day)?,
+        "time" => format!(in alloc; "{hour:02}:00")?,
+        _ => return Err(Trouble::Wrong("no such field")),
+    };
+    Ok(text)
+}

@@ -1,0 +1,31 @@
+//! Calls of single functions, that no run shows as directly: `NAME ARGUMENTS => ANSWER`, a line for each.
+//! The names are those of `answers`.
+use crate::answers::answer;
+use crate::trouble::Trouble;
+use aq_base::Memory;
+use std::alloc::Global;
+
+/// The first call that answers something else, told in words, if there is one.
+pub fn try_calls(alloc: Global, text: &str) -> Result<Option<String>, Memory> {
+    for line in text.lines() {
+        if let Some(found) = try_call(alloc, line)? {
+            return Ok(Some(found));
+        }
+    }
+    Ok(None)
+}
+
+fn try_call(alloc: Global, line: &str) -> Result<Option<String>, Memory> {
+    let Some((call, wanted)) = line.split_once(" => ") else {
+        return Ok(Some(format!(in alloc; "`{line}` has no answer")?));
+    };
+    let Some((name, arguments)) = call.split_once(' ') else {
+        return Ok(Some(format!(in alloc; "`{call}` has no arguments")?));
+    };
+    match answer(alloc, name, arguments) {
+        Ok(found) if found.as_str() == wanted => Ok(None),
+        Ok(found) => Ok(Some(format!(in alloc; "{call} is {found}, wanted {wanted}")?)),
+        Err(Trouble::Memory) => Err(Memory),
+        Err(Trouble::Wrong(why)) => Ok(Some(format!(in alloc; "{call}: {why}")?)),
+    }
+}

@@ -1,0 +1,54 @@
+//! Dates and times of the expansions.
+ghost use Rattle.std.specs.Prelude.{◌≤◌, IfSome};
+
+use aq_base::{Day, Hour, LAST_DAY, LAST_HOUR};
+use aq_cal::{civil_of, day_of, hour_of};
+use std::alloc::{AllocError, Global};
+
+/// The day of `YYYY-MM-DD`.
+pub fn day_in(text: &str) -> Option<Day> {
+    let (year, rest) = text.split_once('-')?;
+    let (month, day) = rest.split_once('-')?;
+    day_of(year.parse().ok()?, month.parse().ok()?, day.parse().ok()?)
+}
+
+/// The hour of `HH:00` on a day.
+pub fn hour_in(day: Day, text: &str) -> Option<Hour> {
+    let hour: u8 = text.strip_suffix(":00")?.parse().ok()?;
+    if hour > 23 {
+        return None;
+    }
+    Some(hour_of(day, hour))
+}
+
+/// The day so many days on.
+pub fn day_behind(day: Day, days: u32) -> Option<Day> {
+    let number = u32::from(day.number()).checked_add(days)?;
+    if number > u32::from(LAST_DAY) {
+        return None;
+    }
+    Some(Day::new(number as u16))
+}
+
+/// The day and the hour of the day so many hours on.
+pub fn hour_behind(hour: Hour, hours: u32) -> Option<(Day, u32)> {
+    let number = hour.number().checked_add(hours)?;
+    if number > LAST_HOUR {
+        return None;
+    }
+    Some((Day::new((number / 24) as u16), number % 24))
+}
+
+/// A day as `YYYYMMDD`.
+pub fn date_text(alloc: Global, day: Day) -> Result<String, AllocError> {
+    let date = civil_of(day);
+    let (year, month, day) = (date.year, date.month, date.day);
+    format!(in alloc; "{year:04}{month:02}{day:02}")
+}
+
+/// A day as `YYYY-MM-DD`.
+pub fn day_name(alloc: Global, day: Day) -> Result<String, AllocError> {
+    let date = civil_of(day);
+    let (year, month, day) = (date.year, date.month, date.day);
+    format!(in alloc; "{year:04}-{month:02}-{day:02}")
+}

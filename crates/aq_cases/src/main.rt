@@ -1,0 +1,87 @@
+//! A program for the gate alone: it runs the cases that stand in files of `data/` over sources, sinks,
+//! doors and keepers in memory, and prints a line for each. A case says which words and lines go in, and
+//! what has to come out. `format` says how a case is written.
+//!
+//! The files are those that its words name, or else those that `data/index.txt` lists. It ends with 1 where
+//! a case differs.
+#![tactic(auto)]
+
+mod answers;
+mod blocks;
+mod calls;
+mod case;
+mod compare;
+mod dates;
+mod format;
+mod rows;
+mod spelling;
+mod trial;
+mod trouble;
+
+use aq_base::Memory;
+use case::Case;
+use format::read_cases;
+use std::alloc::Global;
+use std::io::ErrorKind;
+use std::process::ExitCode;
+use std::{env, fs, io};
+use trial::try_case;
+
+/// How many cases were tried, and how many of them differed.
+#[derive(Drop)]
+struct Tally {
+    cases: u32,
+    failures: u32,
+}
+
+fn main(rt: HostRuntime) -> io::Result<ExitCode> {
+    let mut tally = Tally {
+        cases: 0,
+        failures: 0,
+    };
+    let names: Vec<String> = env::args(&rt)?.skip(1).collect(rt.alloc())?;
+    if names.is_empty() {
+        let index = fs::read_to_string(&rt, "index.txt")?;
+        for name in index.lines() {
+            try_file(&rt, name, &mut tally)?;
+        }
+    }
+    for name in &names {
+        try_file(&rt, name.as_str(), &mut tally)?;
+    }
+    println!(rt; "{} cases, {} failures", tally.cases, tally.failures)?;
+    Ok(ExitCode::from(u8::from(tally.failures > 0)))
+}
+
+/// Tries the cases of a file.
+fn try_file(rt: &HostRuntime, name: &str, tally: &mut Tally) -> io::Result<()> {
+    let text = fs::read_to_string(rt, name)?;
+    let cases = known(read_cases(rt.alloc(), text.as_str()))?;
+    println!(rt; "# {name}")?;
+    for case in cases {
+        try_one(rt, case, tally)?;
+    }
+    Ok(())
+}
+
+/// Tries a case, and prints its line.
+fn try_one(rt: &HostRuntime, case: Case, tally: &mut Tally) -> io::Result<()> {
+    let alloc: Global = rt.alloc();
+    let name = case.name.clone()?;
+    tally.cases = tally.cases.saturating_add(1);
+    match known(try_case(alloc, case))? {
+        None => println!(rt; "ok {name}"),
+        Some(difference) => {
+            tally.failures = tally.failures.saturating_add(1);
+            println!(rt; "DIFFERS {name}: {difference}")
+        }
+    }
+}
+
+/// A value, or want of memory as the system tells it.
+fn known<T: Drop>(value: Result<T, Memory>) -> io::Result<T> {
+    match value {
+        Ok(value) => Ok(value),
+        Err(Memory) => Err(io::Error::from(ErrorKind::OutOfMemory)),
+    }
+}

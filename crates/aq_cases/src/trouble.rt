@@ -1,0 +1,28 @@
+//! Why a part of a case could not be read.
+use aq_base::Memory;
+use std::alloc::{AllocError, AllocFailed};
+
+/// What is wrong with a line of a file of cases, or want of memory.
+#[derive(Clone, Copy)]
+pub enum Trouble {
+    Memory,
+    Wrong(&'static str),
+}
+
+impl From<AllocError> for Trouble {
+    fn from(_: AllocError) -> Self {
+        Trouble::Memory
+    }
+}
+
+impl<T: Drop> From<AllocFailed<T>> for Trouble {
+    fn from(_: AllocFailed<T>) -> Self {
+        Trouble::Memory
+    }
+}
+
+impl From<Memory> for Trouble {
+    fn from(_: Memory) -> Self {
+        Trouble::Memory
+    }
+}
