@@ -45,44 +45,57 @@ fn write_counted(alloc: Global, rest: &str, out: &mut Vec<u8>) -> Result<(), Tro
     let (last, line) = cut_number(rest)?;
     for number in first..=last {
         let fields = Fields { number, time: None };
-        write_filled(alloc, line, fields, out)?;
+        write_filled(alloc, line, &fields, out)?;
     }
     Ok(())
 }
 
 /// `@days DAY COUNT STEP LINE`
 fn write_days(alloc: Global, rest: &str, out: &mut Vec<u8>) -> Result<(), Trouble> {
-    let (first, rest) = cut_day(rest)?;
+    let (day, rest) = cut(rest)?;
+    let Some(first) = day_in(day) else {
+        return Err(NO_DAY);
+    };
     let (count, rest) = cut_number(rest)?;
     let (step, line) = cut_number(rest)?;
     for number in 0..count {
-        let days = number.checked_mul(step).ok_or(LATE)?;
-        let day = day_behind(first, days).ok_or(LATE)?;
+        let Some(day) = day_behind(first, number.saturating_mul(step)) else {
+            return Err(LATE);
+        };
         let fields = Fields {
             number,
             time: Some((day, 0)),
         };
-        write_filled(alloc, line, fields, out)?;
+        write_filled(alloc, line, &fields, out)?;
     }
     Ok(())
 }
 
 /// `@hours DAY TIME COUNT LINE`
 fn write_hours(alloc: Global, rest: &str, out: &mut Vec<u8>) -> Result<(), Trouble> {
-    let (day, rest) = cut_day(rest)?;
+    let (day, rest) = cut(rest)?;
     let (time, rest) = cut(rest)?;
-    let first = hour_in(day, time).ok_or(Trouble::Wrong("no time HH:00"))?;
+    let Some(day) = day_in(day) else {
+        return Err(NO_DAY);
+    };
+    let Some(first) = hour_in(day, time) else {
+        return Err(Trouble::Wrong("no time HH:00"));
+    };
     let (count, line) = cut_number(rest)?;
     for number in 0..count {
-        let time = hour_behind(first, number).ok_or(LATE)?;
+        let Some(time) = hour_behind(first, number) else {
+            return Err(LATE);
+        };
         let fields = Fields {
             number,
             time: Some(time),
         };
-        write_filled(alloc, line, fields, out)?;
+        write_filled(alloc, line, &fields, out)?;
     }
     Ok(())
 }
+
+const NO_DAY: Trouble = Trouble::Wrong("no day YYYY-MM-DD");
 
 const LATE: Trouble = Trouble::Wrong("a day behind the last one");
 
@@ -102,19 +115,11 @@ fn cut_number(text: &str) -> Result<(u32, &str), Trouble> {
     }
 }
 
-fn cut_day(text: &str) -> Result<(Day, &str), Trouble> {
-    let (word, rest) = cut(text)?;
-    match day_in(word) {
-        Some(day) => Ok((day, rest)),
-        None => Err(Trouble::Wrong("no day YYYY-MM-DD")),
-    }
-}
-
 /// Appends a line whose fields are filled in.
 fn write_filled(
     alloc: Global,
     line: &str,
-    fields: Fields,
+    fields: &Fields,
     out: &mut Vec<u8>,
 ) -> Result<(), Trouble> {
     let mut filled = Vec::new(alloc);
@@ -132,7 +137,7 @@ fn write_filled(
 fn write_field(
     alloc: Global,
     part: &str,
-    fields: Fields,
+    fields: &Fields,
     out: &mut Vec<u8>,
 ) -> Result<(), Trouble> {
     let Some((name, rest)) = part.split_once('}') else {
@@ -144,24 +149,24 @@ fn write_field(
     Ok(())
 }
 
-fn field_text(alloc: Global, name: &str, fields: Fields) -> Result<String, Trouble> {
+fn field_text(alloc: Global, name: &str, fields: &Fields) -> Result<String, Trouble> {
     let number = fields.number;
     let text = match name {
         "n" => format!(in alloc; "{number}")?,
         "n:02" => format!(in alloc; "{number:02}")?,
         "n:04" => format!(in alloc; "{number:04}")?,
-        _ => return time_text(alloc, name, fields.time),
+        _ => return time_text(alloc, name, &fields.time),
     };
     Ok(text)
 }
 
-fn time_text(alloc: Global, name: &str, time: Option<(Day, u32)>) -> Result<String, Trouble> {
+fn time_text(alloc: Global, name: &str, time: &Option<(Day, u32)>) -> Result<String, Trouble> {
     let Some((day, hour)) = time else {
         return Err(Trouble::Wrong("no such field"));
     };
     let text = match name {
-        "date" => date_text(alloc, day)?,
-        "day" => day_name(alloc, day)?,
+        "date" => date_text(alloc, *day)?,
+        "day" => day_name(alloc, *day)?,
         "time" => format!(in alloc; "{hour:02}:00")?,
         _ => return Err(Trouble::Wrong("no such field")),
     };

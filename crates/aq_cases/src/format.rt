@@ -197,7 +197,7 @@ fn open_in_case(alloc: Global, case: &mut Case, word: &str, rest: &str) -> Resul
             Ok(Block::None)
         }
         "input" if rest == "again" => {
-            repeat_input(&mut case.runs)?;
+            repeat_input(alloc, &mut case.runs)?;
             Ok(Block::Input)
         }
         _ => match case.runs.last_mut() {
@@ -210,12 +210,20 @@ fn open_in_case(alloc: Global, case: &mut Case, word: &str, rest: &str) -> Resul
 const UNKNOWN: Trouble = Trouble::Wrong("no such words");
 
 /// Gives the last run the input of the run before it.
-fn repeat_input(runs: &mut [Run]) -> Result<(), Trouble> {
-    let [.., before, last] = runs else {
-        return Err(Trouble::Wrong("there is no run before"));
-    };
-    last.given.input.extend_from_slice(&before.given.input)?;
+fn repeat_input(alloc: Global, runs: &mut Vec<Run>) -> Result<(), Trouble> {
+    let input = input_before(alloc, runs.as_slice())?;
+    if let Some(run) = runs.last_mut() {
+        run.given.input = input;
+    }
     Ok(())
+}
+
+/// The input of the last run but one.
+fn input_before(alloc: Global, runs: &[Run]) -> Result<Vec<u8>, Trouble> {
+    match runs {
+        [.., before, _] => Ok(before.given.input.to_vec(alloc)?),
+        _ => Err(Trouble::Wrong("there is no run before")),
+    }
 }
 
 fn new_run(alloc: Global, words: Vec<String>) -> Run {
