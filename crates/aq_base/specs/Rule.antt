@@ -1,7 +1,7 @@
 -- The rules that a line can break: each one's number and name.
 use Rattle.std.specs.Prelude.{ℕ, List, [], ◌∷◌, codes}
 use Rattle.aq_base.specs.declared.rule.Rule.{Rule}
-use Rattle.aq_base.specs.declared.rule.Rule.TheVariants.{BadBytes, BadTag, FieldCount, BadAction, BadSite, ParameterOutOfProfile, BadPoc, BadDuration, BadUnit, BadMethod, BadDate, BadTime, ValueAndNull, NeitherValueNorNull, BadValue, ValueOutOfRange, BadNull, BadQualifier, UnknownMonitor, WrongDuration, AlreadyThere, NotThere, ObservationsFull, SitesFull, MonitorsFull, BadSpan, BadInterval, BadSeason, BadMakeup, MakeupsFull, UnknownEvent, EventsFull, BadCode, ListFull}
+use Rattle.aq_base.specs.declared.rule.Rule.TheVariants.{BadBytes, BadTag, FieldCount, BadAction, BadSite, ParameterOutOfProfile, BadPoc, BadDuration, BadUnit, BadMethod, BadDate, BadTime, ValueAndNull, NeitherValueNorNull, BadValue, ValueOutOfRange, BadNull, BadQualifier, UnknownMonitor, WrongDuration, AlreadyThere, NotThere, ObservationsFull, SitesFull, MonitorsFull, BadSpan, BadInterval, BadSeason, BadMakeup, MakeupsFull, UnknownEvent, EventsFull, BadCode, ListFull, BadPair, PairTaken}
 
 -- the number that replies and stored loads give
 abbrev pub rule_number : Rule → ℕ
@@ -39,6 +39,8 @@ rule_number UnknownEvent = 31
 rule_number EventsFull = 32
 rule_number BadCode = 33
 rule_number ListFull = 34
+rule_number BadPair = 35
+rule_number PairTaken = 36
 
 -- the name that replies give
 abbrev pub rule_name : Rule → List ℕ
@@ -76,6 +78,8 @@ rule_name UnknownEvent = codes "UnknownEvent"
 rule_name EventsFull = codes "EventsFull"
 rule_name BadCode = codes "BadCode"
 rule_name ListFull = codes "ListFull"
+rule_name BadPair = codes "BadPair"
+rule_name PairTaken = codes "PairTaken"
 
 -- all rules of the formats, in rising number
 abbrev pub all_rules : List Rule
@@ -83,4 +87,5 @@ all_rules =
     BadBytes ∷ BadTag ∷ FieldCount ∷ BadAction ∷ BadSite ∷ ParameterOutOfProfile ∷ BadPoc ∷ BadDuration ∷ BadUnit ∷ BadMethod
     ∷ BadDate ∷ BadTime ∷ ValueAndNull ∷ NeitherValueNorNull ∷ BadValue ∷ ValueOutOfRange ∷ BadNull ∷ BadQualifier
     ∷ UnknownMonitor ∷ WrongDuration ∷ AlreadyThere ∷ NotThere ∷ ObservationsFull ∷ SitesFull ∷ MonitorsFull
-    ∷ BadSpan ∷ BadInterval ∷ BadSeason ∷ BadMakeup ∷ MakeupsFull ∷ UnknownEvent ∷ EventsFull ∷ BadCode ∷ ListFull ∷ []
+    ∷ BadSpan ∷ BadInterval ∷ BadSeason ∷ BadMakeup ∷ MakeupsFull ∷ UnknownEvent ∷ EventsFull ∷ BadCode ∷ ListFull
+    ∷ BadPair ∷ PairTaken ∷ []

@@ -62,6 +62,14 @@ pub enum OfficeRecord {
         site: SiteId,
         day: Day,
     },
+    /// A site whose record of a pollutant, ozone or PM2.5, goes on at another site, the joined one, from a
+    /// day on. A site is combined once for each pollutant.
+    Combined {
+        site: SiteId,
+        pollutant: Pollutant,
+        from: Day,
+        joined: SiteId,
+    },
 }
 
 /// What tells an office record apart from the others of its kind. It has no order: rows go by kind and
@@ -98,6 +106,10 @@ pub enum OfficeKey {
     Approved {
         site: SiteId,
         day: Day,
+    },
+    Combined {
+        site: SiteId,
+        pollutant: Pollutant,
     },
 }
 

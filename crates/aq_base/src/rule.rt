@@ -2,7 +2,7 @@
 ghost use Rattle.std.specs.Prelude.{◌≡◌};
 ghost use Rattle.aq_base.specs.Rule.{rule_number, rule_name, all_rules};
 
-/// A rule of the line formats (own). Numbers 1 to 18, 26 to 29 and 33 are rules of reading, and the
+/// A rule of the line formats (own). Numbers 1 to 18, 26 to 29, 33 and 35 are rules of reading, and the
 /// others look at what stands.
 #[derive(Clone, Copy, Debug, PartialEq, Eq)]
 pub enum Rule {
@@ -74,11 +74,15 @@ pub enum Rule {
     BadCode,
     /// As many designations or schedules of the site and parameter stand as may.
     ListFull,
+    /// The two sites of a combination are the same.
+    BadPair,
+    /// One of the two sites stands in another combination of the parameter.
+    PairTaken,
 }
 
 impl Rule {
     /// All rules that the formats have, in rising number.
-    pub fn all() -> [Rule; 34]
+    pub fn all() -> [Rule; 36]
         ensures { result ≡ all_rules }
     {
         [
@@ -116,6 +120,8 @@ impl Rule {
             Rule::EventsFull,
             Rule::BadCode,
             Rule::ListFull,
+            Rule::BadPair,
+            Rule::PairTaken,
         ]
     }
 
@@ -158,6 +164,8 @@ impl Rule {
             Rule::EventsFull => 32,
             Rule::BadCode => 33,
             Rule::ListFull => 34,
+            Rule::BadPair => 35,
+            Rule::PairTaken => 36,
         }
     }
 
@@ -200,6 +208,8 @@ impl Rule {
             Rule::EventsFull => "EventsFull",
             Rule::BadCode => "BadCode",
             Rule::ListFull => "ListFull",
+            Rule::BadPair => "BadPair",
+            Rule::PairTaken => "PairTaken",
         }
     }
 }

@@ -47,6 +47,8 @@ fn rules_have_numbers_and_names(rt: HostRuntime) {
         (Rule::BadSpan, 26, "BadSpan"),
         (Rule::BadCode, 33, "BadCode"),
         (Rule::ListFull, 34, "ListFull"),
+        (Rule::BadPair, 35, "BadPair"),
+        (Rule::PairTaken, 36, "PairTaken"),
     ];
     for (rule, number, name) in cases {
         assert_eq!(rt; rule.number(), number);

@@ -1,7 +1,7 @@
 -- What a line and a load make of an office's records and observations does not hang on its loads.
 use Rattle.std.proofs.Common.{◌≡◌, ℕ, Bool, true, false, cond, Option, Some, None, is_some, List, [], ◌∷◌, ◌++◌, length, refl, ap, ◌∙◌}
 use Rattle.std.specs.Option.{option_or}
-use Rattle.aq_base.specs.declared.office.OfficeRecord.TheVariants.{Monitor, Primary, Schedule, Season, Makeup, Event, Concurrence, Approved}
+use Rattle.aq_base.specs.declared.office.OfficeRecord.TheVariants.{Monitor, Primary, Schedule, Season, Makeup, Event, Concurrence, Approved, Combined}
 use Rattle.aq_base.specs.declared.office.OfficeKey.TheVariants as keys
 use Rattle.aq_base.specs.declared.office.OfficeLine.TheVariants.{Put, Change, Drop}
 use Rattle.aq_base.specs.declared.reply.ListedLine.{ListedLine}
@@ -30,6 +30,7 @@ module _ (loads : List StoredLoad) (office : Office) where
   broken_loads (OfOffice (Put (Event number site pollutant first last code))) = refl
   broken_loads (OfOffice (Put (Concurrence number agreed))) = refl
   broken_loads (OfOffice (Put (Approved site day))) = refl
+  broken_loads (OfOffice (Put (Combined site pollutant from joined))) = refl
   broken_loads (OfOffice (Change (Monitor id duration eligible))) = refl
   broken_loads (OfOffice (Change (Concurrence number agreed))) = refl
   broken_loads (OfOffice (Change r)) = refl

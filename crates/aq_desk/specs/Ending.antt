@@ -70,3 +70,17 @@ loads_full = ends 11 (codes "loads full")
 -- with the site that was asked for
 abbrev pub no_site : Site → Ending
 no_site site = ends 12 (codes "no site " ++ site_text site)
+
+-- ---- of the commands to come: what-if, combined sites and areas
+
+-- with the first event number of the list that no event has
+abbrev pub no_event : ℕ → Ending
+no_event number = ends 13 (codes "no event " ++ decimal number)
+
+-- with the site of which no combination stands
+abbrev pub no_combination : Site → Ending
+no_combination site = ends 14 (codes "no combination " ++ site_text site)
+
+-- no registered site of the area has a monitor of the standard's pollutant
+abbrev pub no_site_in_area : Ending
+no_site_in_area = ends 15 (codes "no site in area")

@@ -8,21 +8,21 @@ use Rattle.aq_base.specs.Calendar.{hour_number}
 use Rattle.aq_base.specs.declared.code.Code.{Code}
 use Rattle.aq_base.specs.declared.monitor.Pollutant.{Pollutant}
 use Rattle.aq_base.specs.declared.office.OfficeRecord.{OfficeRecord}
-use Rattle.aq_base.specs.declared.office.OfficeRecord.TheVariants.{Event}
+use Rattle.aq_base.specs.declared.office.OfficeRecord.TheVariants.{Event, Combined}
 use Rattle.aq_base.specs.declared.office.OfficeLine.{OfficeLine}
 use Rattle.aq_base.specs.declared.office.OfficeLine.TheVariants.{Put, Change, Drop}
 use Rattle.aq_base.specs.declared.rule.Rule.{Rule}
-use Rattle.aq_base.specs.declared.rule.Rule.TheVariants.{BadBytes, BadTag, FieldCount, BadAction, BadSite, ParameterOutOfProfile, BadPoc, BadDuration, BadDate, BadTime, BadSpan, BadInterval, BadSeason, BadMakeup, BadCode}
+use Rattle.aq_base.specs.declared.rule.Rule.TheVariants.{BadBytes, BadTag, FieldCount, BadAction, BadSite, ParameterOutOfProfile, BadPoc, BadDuration, BadDate, BadTime, BadSpan, BadInterval, BadSeason, BadMakeup, BadCode, BadPair}
 use Rattle.aq_rules.specs.Lines.Canonical.{is_office_line, is_line_value}
 use Rattle.aq_rules.specs.Lines.Fields.{field, fields}
 use Rattle.aq_rules.specs.Lines.Forms.{acts}
-use Rattle.aq_rules.specs.Lines.FormRules.{xm_rule, xm-rule, xp_rule, xp-rule, xp_key_rule, xp_key-rule, xs_rule, xs-rule, xs_key_rule, xs_key-rule, xo_rule, xo-rule, xo_key_rule, xo_key-rule, xu_rule, xu-rule, xu_key_rule, xu_key-rule, xe_rule, xe-rule, xe_key_rule, xe_key-rule, xc_rule, xc-rule, xa_rule, xa-rule, xa_key_rule, xa_key-rule}
-use Rattle.aq_rules.specs.Lines.OfficeForms.{is_season, is_makeup, is_span, xm_record, xp_record, xp_key, xs_record, xs_key, xo_record, xo_key, xu_record, xu_key, xe_record, xe_key, xc_record, xa_record, xa_key, record_in, key_in, office_line_in}
+use Rattle.aq_rules.specs.Lines.FormRules.{xm_rule, xm-rule, xp_rule, xp-rule, xp_key_rule, xp_key-rule, xs_rule, xs-rule, xs_key_rule, xs_key-rule, xo_rule, xo-rule, xo_key_rule, xo_key-rule, xu_rule, xu-rule, xu_key_rule, xu_key-rule, xe_rule, xe-rule, xe_key_rule, xe_key-rule, xc_rule, xc-rule, xa_rule, xa-rule, xa_key_rule, xa_key-rule, xb_rule, xb-rule, xb_key_rule, xb_key-rule}
+use Rattle.aq_rules.specs.Lines.OfficeForms.{is_season, is_makeup, is_span, is_pair, xm_record, xp_record, xp_key, xs_record, xs_key, xo_record, xo_key, xu_record, xu_key, xe_record, xe_key, xc_record, xa_record, xa_key, xb_record, xb_key, record_in, key_in, office_line_in}
 use Rattle.aq_rules.specs.Lines.RdForm.{monitor_in}
 use Rattle.aq_rules.specs.Lines.Reading.{LineValue, OfOffice, breaks_in, rules_of, rules_for, fails, value_for, action_for, form_value, has_wrong_count, is_deletion, breaks_parts, line_value, reading_rule, is_plain, tag_of}
 use Rattle.aq_rules.specs.Lines.Spellings as spellings
-use Rattle.aq_rules.specs.Lines.Spellings.{Tag, Rd, Xm, Xp, Xs, Xo, Xu, Xe, Xc, Xa, Action, Insert, Update, Delete, site_in, parameter_in, parameter_of, poc_in, primary_in, duration_in, date_in, year_in, time_in, interval_in, truth_in, event_number_in, event_code_in}
-use Rattle.aq_forms.specs.OfficeReading.{◌>>=◌, xm_reading, xp_reading, xp_key_reading, xs_reading, xs_key_reading, xo_reading, xo_key_reading, xu_reading, xu_key_reading, xe_reading, event_reading, xe_key_reading, xc_reading, xa_reading, xa_key_reading, record_reading, key_reading, action_reading, form_reading, office_reading, is_rd, has_rd_tag}
+use Rattle.aq_rules.specs.Lines.Spellings.{Tag, Rd, Xm, Xp, Xs, Xo, Xu, Xe, Xc, Xa, Xb, Action, Insert, Update, Delete, site_in, parameter_in, parameter_of, poc_in, primary_in, duration_in, date_in, year_in, time_in, interval_in, truth_in, event_number_in, event_code_in}
+use Rattle.aq_forms.specs.OfficeReading.{◌>>=◌, xm_reading, xp_reading, xp_key_reading, xs_reading, xs_key_reading, xo_reading, xo_key_reading, xu_reading, xu_key_reading, xe_reading, event_reading, xe_key_reading, xc_reading, xa_reading, xa_key_reading, xb_reading, xb_key_reading, record_reading, key_reading, action_reading, form_reading, office_reading, is_rd, has_rd_tag}
 
 -- a reading gives what is spelled, and else the rule that is broken
 abbrev Reads : {A : Type 0} → Result A Rule → Option A → Option Rule → Type 0
@@ -226,6 +226,23 @@ xa_key-fields texts =
     agree (date_in (field 6 texts)) _ _ _ BadDate _ refl λ day is_day.
     (refl, refl)
 
+xb-fields : (texts : List (List ℕ)) → Reads (xb_reading texts) (xb_record texts) (xb_rule texts)
+unfolding xb_reading xb_record
+xb-fields texts =
+    agree_two (site_in (field 3 texts) (field 4 texts) (field 5 texts)) (site_in (field 8 texts) (field 9 texts) (field 10 texts)) _ _ BadSite _ λ site joined is_site is_joined.
+    agree (parameter_of Xb (field 6 texts)) _ _ _ ParameterOutOfProfile _ refl λ pollutant is_pollutant.
+    agree (date_in (field 7 texts)) _ _ _ BadDate _ refl λ from is_from.
+    agree_test (is_pair site joined) _ BadPair _
+    (ap (λ s. s >>- λ site. site_in (field 8 texts) (field 9 texts) (field 10 texts) >>- λ joined. Some (is_pair site joined)) is_site
+    ∙ ap (λ j. j >>- λ joined. Some (is_pair site joined)) is_joined)
+
+xb_key-fields : (texts : List (List ℕ)) → Reads (xb_key_reading texts) (xb_key texts) (xb_key_rule texts)
+unfolding xb_key_reading xb_key
+xb_key-fields texts =
+    agree (site_in (field 3 texts) (field 4 texts) (field 5 texts)) _ _ _ BadSite _ refl λ site is_site.
+    agree (parameter_of Xb (field 6 texts)) _ _ _ ParameterOutOfProfile _ refl λ pollutant is_pollutant.
+    (refl, refl)
+
 -- ---- the record or the key, by the tag
 
 reads-record : (tag : Tag) (texts : List (List ℕ)) → is_rd (Some tag) ≡ false
@@ -239,6 +256,7 @@ reads-record Xu texts h = subst (Reads (xu_reading texts) (xu_record texts)) (sy
 reads-record Xe texts h = subst (Reads (xe_reading texts) (xe_record texts)) (sym (xe-rule texts)) (xe-fields texts)
 reads-record Xc texts h = subst (Reads (xc_reading texts) (xc_record texts)) (sym (xc-rule texts)) (xc-fields texts)
 reads-record Xa texts h = subst (Reads (xa_reading texts) (xa_record texts)) (sym (xa-rule texts)) (xa-fields texts)
+reads-record Xb texts h = subst (Reads (xb_reading texts) (xb_record texts)) (sym (xb-rule texts)) (xb-fields texts)
 
 reads-key : (tag : Tag) (texts : List (List ℕ)) → is_rd (Some tag) ≡ false → acts tag Delete ≡ true
     → Reads (key_reading tag texts) (key_in tag texts) (find (λ rule. breaks_in rule tag true texts) (rules_of tag true))
@@ -251,6 +269,7 @@ reads-key Xu texts h d = subst (Reads (xu_key_reading texts) (xu_key texts)) (sy
 reads-key Xe texts h d = subst (Reads (xe_key_reading texts) (xe_key texts)) (sym (xe_key-rule texts)) (xe_key-fields texts)
 reads-key Xc texts h d = absurd (false≢true d)
 reads-key Xa texts h d = subst (Reads (xa_key_reading texts) (xa_key texts)) (sym (xa_key-rule texts)) (xa_key-fields texts)
+reads-key Xb texts h d = subst (Reads (xb_key_reading texts) (xb_key texts)) (sym (xb_key-rule texts)) (xb_key-fields texts)
 
 -- ---- the action
 
@@ -270,6 +289,7 @@ office-value Xu action texts h = refl
 office-value Xe action texts h = refl
 office-value Xc action texts h = refl
 office-value Xa action texts h = refl
+office-value Xb action texts h = refl
 
 abbrev rule_of_fields : Tag → Bool → List (List ℕ) → Option Rule
 rule_of_fields tag deletes texts = find (λ rule. breaks_in rule tag deletes texts) (rules_of tag deletes)
@@ -356,7 +376,9 @@ same_rules Xe texts false = refl
 same_rules Xc texts true = refl
 same_rules Xc texts false = refl
 same_rules Xa texts true = refl
+same_rules Xb texts true = refl
 same_rules Xa texts false = refl
+same_rules Xb texts false = refl
 
 -- ---- the line
 

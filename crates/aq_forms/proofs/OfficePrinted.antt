@@ -2,7 +2,7 @@
 use Rattle.std.proofs.Common.{◌≡◌, ℕ, ◌+◌, ◌/◌, ◌%◌, Bool, true, false, cond, List, [], ◌∷◌, ◌++◌, refl, ap, ◌∙◌, append_assoc, arith}
 use Rattle.aq_base.specs.Decimal.{last_digits}
 use Rattle.aq_base.specs.declared.office.OfficeKey.{OfficeKey}
-use Rattle.aq_base.specs.declared.office.OfficeKey.TheVariants.{Monitor, Primary, Schedule, Season, Makeup, Event, Concurrence, Approved}
+use Rattle.aq_base.specs.declared.office.OfficeKey.TheVariants.{Monitor, Primary, Schedule, Season, Makeup, Event, Concurrence, Approved, Combined}
 use Rattle.aq_base.specs.declared.office.OfficeLine.{OfficeLine}
 use Rattle.aq_base.specs.declared.office.OfficeLine.TheVariants.{Put, Change, Drop}
 use Rattle.aq_rules.specs.Office.Office.{key_of}
@@ -37,6 +37,7 @@ behind_the_first_bar (Makeup site missed) tag action = refl
 behind_the_first_bar (Event number) tag action = refl
 behind_the_first_bar (Concurrence number) tag action = refl
 behind_the_first_bar (Approved site day) tag action = refl
+behind_the_first_bar (Combined site pollutant) tag action = refl
 
 -- a written line does not begin with RD
 no_rd-key : (key : OfficeKey) (rest : List ℕ) → is_rd (tag_of (key_tag key ++ 124 ∷ rest)) ≡ false
@@ -48,6 +49,7 @@ no_rd-key (Makeup site missed) rest = refl
 no_rd-key (Event number) rest = refl
 no_rd-key (Concurrence number) rest = refl
 no_rd-key (Approved site day) rest = refl
+no_rd-key (Combined site pollutant) rest = refl
 
 neither : (plain : Bool) (rd : Bool) → rd ≡ false → cond plain rd false ≡ false
 neither true rd h = h

@@ -5,17 +5,17 @@ use Rattle.aq_base.specs.Calendar.{hour_number}
 use Rattle.aq_base.specs.Site.{Site}
 use Rattle.aq_base.specs.declared.monitor.Pollutant.{Pollutant}
 use Rattle.aq_base.specs.declared.office.OfficeRecord.{OfficeRecord}
-use Rattle.aq_base.specs.declared.office.OfficeRecord.TheVariants.{Monitor, Primary, Schedule, Season, Makeup, Event, Concurrence, Approved}
+use Rattle.aq_base.specs.declared.office.OfficeRecord.TheVariants.{Monitor, Primary, Schedule, Season, Makeup, Event, Concurrence, Approved, Combined}
 use Rattle.aq_base.specs.declared.office.OfficeKey.{OfficeKey}
-use Rattle.aq_base.specs.declared.office.OfficeKey.TheVariants.{Primary as PrimaryKey, Schedule as ScheduleKey, Season as SeasonKey, Makeup as MakeupKey, Event as EventKey, Approved as ApprovedKey}
+use Rattle.aq_base.specs.declared.office.OfficeKey.TheVariants.{Primary as PrimaryKey, Schedule as ScheduleKey, Season as SeasonKey, Makeup as MakeupKey, Event as EventKey, Approved as ApprovedKey, Combined as CombinedKey}
 use Rattle.aq_base.specs.declared.office.OfficeLine.{OfficeLine}
 use Rattle.aq_base.specs.declared.office.OfficeLine.TheVariants.{Put, Change, Drop}
 use Rattle.aq_base.specs.declared.rule.Rule.{Rule}
-use Rattle.aq_base.specs.declared.rule.Rule.TheVariants.{BadBytes, BadTag, FieldCount, BadAction, BadSite, ParameterOutOfProfile, BadPoc, BadDuration, BadDate, BadTime, BadSpan, BadInterval, BadSeason, BadMakeup, BadCode}
+use Rattle.aq_base.specs.declared.rule.Rule.TheVariants.{BadBytes, BadTag, FieldCount, BadAction, BadSite, ParameterOutOfProfile, BadPoc, BadDuration, BadDate, BadTime, BadSpan, BadInterval, BadSeason, BadMakeup, BadCode, BadPair}
 use Rattle.aq_rules.specs.Lines.Fields.{fields, field}
-use Rattle.aq_rules.specs.Lines.OfficeForms.{is_season, is_makeup, is_span}
+use Rattle.aq_rules.specs.Lines.OfficeForms.{is_season, is_makeup, is_span, is_pair}
 use Rattle.aq_rules.specs.Lines.Reading.{is_plain, tag_of, is_deletion, has_wrong_count, action_for}
-use Rattle.aq_rules.specs.Lines.Spellings.{Tag, Rd, Xm, Xp, Xs, Xo, Xu, Xe, Xc, Xa, Action, Insert, Update, Delete, site_in, parameter_in, parameter_of, poc_in, primary_in, duration_in, date_in, year_in, time_in, interval_in, truth_in, event_number_in, event_code_in}
+use Rattle.aq_rules.specs.Lines.Spellings.{Tag, Rd, Xm, Xp, Xs, Xo, Xu, Xe, Xc, Xa, Xb, Action, Insert, Update, Delete, site_in, parameter_in, parameter_of, poc_in, primary_in, duration_in, date_in, year_in, time_in, interval_in, truth_in, event_number_in, event_code_in}
 
 infixl 10 ◌>>=◌
 abbrev pub ◌>>=◌ : {A B : Type 0} → Result A Rule → (A → Result B Rule) → Result B Rule
@@ -140,6 +140,21 @@ xa_key_reading texts = do
   day ← ok_or (date_in (field 6 texts)) BadDate
   Ok (ApprovedKey site day)
 
+-- XB: a site that is combined with another one; both sites are read first
+unfoldable pub xb_reading : List (List ℕ) → Result OfficeRecord Rule
+xb_reading texts = do
+  site ← ok_or (site_in (field 3 texts) (field 4 texts) (field 5 texts)) BadSite
+  joined ← ok_or (site_in (field 8 texts) (field 9 texts) (field 10 texts)) BadSite
+  pollutant ← ok_or (parameter_of Xb (field 6 texts)) ParameterOutOfProfile
+  from ← ok_or (date_in (field 7 texts)) BadDate
+  if is_pair site joined then Ok (Combined site pollutant from joined) else Err BadPair
+
+unfoldable pub xb_key_reading : List (List ℕ) → Result OfficeKey Rule
+xb_key_reading texts = do
+  site ← ok_or (site_in (field 3 texts) (field 4 texts) (field 5 texts)) BadSite
+  pollutant ← ok_or (parameter_of Xb (field 6 texts)) ParameterOutOfProfile
+  Ok (CombinedKey site pollutant)
+
 -- the record of an insertion or update
 abbrev pub record_reading : Tag → List (List ℕ) → Result OfficeRecord Rule
 record_reading Rd texts = Err BadTag
@@ -151,6 +166,7 @@ record_reading Xu texts = xu_reading texts
 record_reading Xe texts = xe_reading texts
 record_reading Xc texts = xc_reading texts
 record_reading Xa texts = xa_reading texts
+record_reading Xb texts = xb_reading texts
 
 -- the key of a deletion, which the forms XM and XC do not have
 abbrev pub key_reading : Tag → List (List ℕ) → Result OfficeKey Rule
@@ -163,6 +179,7 @@ key_reading Xu texts = xu_key_reading texts
 key_reading Xe texts = xe_key_reading texts
 key_reading Xc texts = Err BadAction
 key_reading Xa texts = xa_key_reading texts
+key_reading Xb texts = xb_key_reading texts
 
 abbrev pub action_reading : Tag → Action → List (List ℕ) → Result OfficeLine Rule
 action_reading tag Insert texts = record_reading tag texts >>= λ r. Ok (Put r)

@@ -2,7 +2,7 @@
 use Rattle.std.proofs.Common.{◌≡◌, ℕ, Bool, true, false, cond, List, Some, None, Option, refl}
 use Rattle.std.proofs.lemmas.Bool.{false≢true}
 use Rattle.aq_rules.specs.Lines.Reading.{is_plain, tag_of}
-use Rattle.aq_rules.specs.Lines.Spellings.{Tag, Rd, Xm, Xp, Xs, Xo, Xu, Xe, Xc, Xa}
+use Rattle.aq_rules.specs.Lines.Spellings.{Tag, Rd, Xm, Xp, Xs, Xo, Xu, Xe, Xc, Xa, Xb}
 use Rattle.aq_rd.specs.Tags.{is_office, has_office_tag}
 use Rattle.aq_forms.specs.OfficeReading.{is_rd, has_rd_tag}
 
@@ -18,6 +18,7 @@ by_tag true (Some Xu) office = refl
 by_tag true (Some Xe) office = refl
 by_tag true (Some Xc) office = refl
 by_tag true (Some Xa) office = refl
+by_tag true (Some Xb) office = refl
 
 pub no_rd_tag : (line : List ℕ) → has_office_tag line ≡ true → has_rd_tag line ≡ false
 no_rd_tag line office = by_tag (is_plain line) (tag_of line) office

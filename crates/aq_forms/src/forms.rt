@@ -1,11 +1,11 @@
 //! What the fields of a form must be beside their spelling (own).
 ghost use Rattle.std.specs.Prelude.{◌≡◌, ◌≤◌, true};
 ghost use Rattle.aq_rules.specs.Lines.Forms.{fewest_fields, most_fields};
-ghost use Rattle.aq_rules.specs.Lines.OfficeForms.{is_season, is_makeup, is_span};
+ghost use Rattle.aq_rules.specs.Lines.OfficeForms.{is_season, is_makeup, is_span, is_pair};
 ghost use Rattle.aq_rules.specs.Lines.Reading.{has_wrong_count, is_deletion};
 ghost use Rattle.aq_rd.specs.Tags.{tag_value};
 
-use aq_base::{Day, Hour, MOST_EVENT_HOURS};
+use aq_base::{Day, Hour, MOST_EVENT_HOURS, SiteId};
 use aq_cal::{civil_of, quarter_of};
 use aq_rd::{Fields, MOST_FIELDS, Tag};
 
@@ -36,7 +36,7 @@ fn key_fields(tag: Tag) -> usize
     match tag {
         Tag::Rd => 12,
         Tag::Xm | Tag::Xp | Tag::Xs | Tag::Xu => 7,
-        Tag::Xo | Tag::Xa => 6,
+        Tag::Xo | Tag::Xa | Tag::Xb => 6,
         Tag::Xe | Tag::Xc => 3,
     }
 }
@@ -52,6 +52,7 @@ fn most_fields(tag: Tag) -> usize
         Tag::Xe => 12,
         Tag::Xc => 4,
         Tag::Xa => 6,
+        Tag::Xb => 10,
     }
 }
 
@@ -69,6 +70,16 @@ pub(crate) fn is_makeup(missed: Day, makeup: Day) -> bool
     missed.number() < makeup.number()
         && quarter_of(makeup).number() == quarter_of(missed).number()
         && makeup.number() <= missed.number() + 7
+}
+
+/// Whether a site is combined with another one.
+pub(crate) fn is_pair(site: &SiteId, joined: &SiteId) -> bool
+    ensures { result ≡ is_pair site.now joined.now }
+{
+    let is_same = site.state() == joined.state()
+        && site.county() == joined.county()
+        && site.site() == joined.site();
+    !is_same
 }
 
 /// Whether an event has its last hour at or after its first, and not too many hours.

@@ -87,6 +87,11 @@ fn key_of(entry: &OfficeRecord) -> OfficeKey
         OfficeRecord::Event { number, .. } => OfficeKey::Event { number },
         OfficeRecord::Concurrence { number, .. } => OfficeKey::Concurrence { number },
         OfficeRecord::Approved { site, day } => OfficeKey::Approved { site, day },
+        OfficeRecord::Combined {
+            site,
+            pollutant,
+            ..
+        } => OfficeKey::Combined { site, pollutant },
     }
 }
 
@@ -114,6 +119,7 @@ fn key_tag(key: &OfficeKey) -> &'static [u8]
         OfficeKey::Event { .. } => b"XE",
         OfficeKey::Concurrence { .. } => b"XC",
         OfficeKey::Approved { .. } => b"XA",
+        OfficeKey::Combined { .. } => b"XB",
     }
 }
 
@@ -147,6 +153,7 @@ fn write_deletion(out: &mut Vec<u8>, key: &OfficeKey) -> Result<(), Memory>
             write_fixed(out, i64::from(*number), 0)
         }
         OfficeKey::Approved { site, day } => write_site_day(out, site, *day),
+        OfficeKey::Combined { site, pollutant } => write_series(out, site, *pollutant),
     }
 }
 
@@ -207,6 +214,12 @@ fn write_content(out: &mut Vec<u8>, entry: &OfficeRecord) -> Result<(), Memory>
             Ok(())
         }
         OfficeRecord::Approved { .. } => Ok(()),
+        OfficeRecord::Combined { from, joined, .. } => {
+            write_date(out, *from)?;
+            out.push(b'|')?;
+            write_site(out, joined)?;
+            Ok(())
+        }
     }
 }
 
@@ -229,7 +242,8 @@ fn write_key(out: &mut Vec<u8>, key: &OfficeKey) -> Result<(), Memory>
         OfficeKey::Primary { .. }
         | OfficeKey::Schedule { .. }
         | OfficeKey::Season { .. }
-        | OfficeKey::Approved { .. } => write_deletion(out, key),
+        | OfficeKey::Approved { .. }
+        | OfficeKey::Combined { .. } => write_deletion(out, key),
     }
 }
 

@@ -4,9 +4,9 @@ ghost use Rattle.aq_rules.specs.Lines.Canonical.{is_office_line};
 ghost use Rattle.aq_rules.specs.Lines.Reading.{reading_rule, line_value, OfOffice};
 ghost use Rattle.aq_rd.specs.Tags.{tag_value};
 ghost use Rattle.aq_forms.specs.Actions.{action_value};
-ghost use Rattle.aq_forms.specs.OfficeReading.{has_rd_tag, office_reading, form_reading, action_reading, record_reading, key_reading, xm_reading, xp_reading, xp_key_reading, xs_reading, xs_key_reading, xo_reading, xo_key_reading, xu_reading, xu_key_reading, xe_reading, event_reading, xe_key_reading, xc_reading, xa_reading, xa_key_reading};
+ghost use Rattle.aq_forms.specs.OfficeReading.{has_rd_tag, office_reading, form_reading, action_reading, record_reading, key_reading, xm_reading, xp_reading, xp_key_reading, xs_reading, xs_key_reading, xo_reading, xo_key_reading, xu_reading, xu_key_reading, xe_reading, event_reading, xe_key_reading, xc_reading, xa_reading, xa_key_reading, xb_reading, xb_key_reading};
 
-use crate::forms::{has_wrong_count, is_makeup, is_season, is_span};
+use crate::forms::{has_wrong_count, is_makeup, is_pair, is_season, is_span};
 use crate::spellings::{
     Action, action_for, event_code_in, event_number_in, interval_in, parameter_of, primary_in,
 };
@@ -81,6 +81,7 @@ fn read_record(tag: Tag, texts: &Fields<'_>) -> Result<OfficeRecord, Rule>
         Tag::Xe => read_event(texts),
         Tag::Xc => read_concurrence(texts),
         Tag::Xa => read_approved(texts),
+        Tag::Xb => read_combined(texts),
     }
 }
 
@@ -97,6 +98,7 @@ fn read_key(tag: Tag, texts: &Fields<'_>) -> Result<OfficeKey, Rule>
         Tag::Xu => read_makeup_key(texts),
         Tag::Xe => read_event_key(texts),
         Tag::Xa => read_approved_key(texts),
+        Tag::Xb => read_combined_key(texts),
     }
 }
 
@@ -316,4 +318,34 @@ fn read_approved_key(texts: &Fields<'_>) -> Result<OfficeKey, Rule>
     let site = site_in(texts.field(3), texts.field(4), texts.field(5)).ok_or(Rule::BadSite)?;
     let day = date_in(texts.field(6)).ok_or(Rule::BadDate)?;
     Ok(OfficeKey::Approved { site, day })
+}
+
+// Both sites are read before the parameter and the date.
+#[tactic(auto, unfolding(crate::specs::OfficeReading::xb_reading))]
+fn read_combined(texts: &Fields<'_>) -> Result<OfficeRecord, Rule>
+    ensures { result ≡ xb_reading texts.now }
+{
+    let site = site_in(texts.field(3), texts.field(4), texts.field(5)).ok_or(Rule::BadSite)?;
+    let joined = site_in(texts.field(8), texts.field(9), texts.field(10)).ok_or(Rule::BadSite)?;
+    let pollutant = parameter_of(Tag::Xb, texts.field(6)).ok_or(Rule::ParameterOutOfProfile)?;
+    let from = date_in(texts.field(7)).ok_or(Rule::BadDate)?;
+    if is_pair(&site, &joined) {
+        Ok(OfficeRecord::Combined {
+            site,
+            pollutant,
+            from,
+            joined,
+        })
+    } else {
+        Err(Rule::BadPair)
+    }
+}
+
+#[tactic(auto, unfolding(crate::specs::OfficeReading::xb_key_reading))]
+fn read_combined_key(texts: &Fields<'_>) -> Result<OfficeKey, Rule>
+    ensures { result ≡ xb_key_reading texts.now }
+{
+    let site = site_in(texts.field(3), texts.field(4), texts.field(5)).ok_or(Rule::BadSite)?;
+    let pollutant = parameter_of(Tag::Xb, texts.field(6)).ok_or(Rule::ParameterOutOfProfile)?;
+    Ok(OfficeKey::Combined { site, pollutant })
 }

@@ -51,8 +51,8 @@ fn deletes(tag: Tag) -> bool
     !matches!(tag, Tag::Xm | Tag::Xc)
 }
 
-/// The pollutant of a parameter, if it is one of the form's: schedules are for particles, and
-/// make-up samples for PM2.5.
+/// The pollutant of a parameter, if it is one of the form's: schedules are for particles,
+/// make-up samples for PM2.5, and combined sites for ozone and PM2.5.
 #[tactic(auto, unfolding(aq_rules::specs::Lines::Spellings::parameter_of))]
 pub(crate) fn parameter_of(tag: Tag, text: &[u8]) -> Option<Pollutant>
     ensures { result ≡ parameter_of (tag_value tag) text.now }
@@ -71,6 +71,7 @@ fn has_parameter(tag: Tag, pollutant: Pollutant) -> bool
     match tag {
         Tag::Xs => pollutant != Pollutant::Ozone,
         Tag::Xu => pollutant == Pollutant::Pm25,
+        Tag::Xb => pollutant != Pollutant::Pm10,
         _ => true,
     }
 }

@@ -12,7 +12,7 @@ use Rattle.aq_base.specs.declared.office.OfficeRecord.{OfficeRecord}
 use Rattle.aq_base.specs.declared.office.OfficeRecord.TheVariants.{Makeup as MakeupRecord}
 use Rattle.aq_rules.specs.Lines.OfficeForms.{is_makeup}
 use Rattle.aq_rules.specs.Office.Monitors.{is_same_site}
-use Rattle.aq_rules.specs.Office.Office.{IsOffice, fits_records, has_own_makeup_day, is_day, is_record, is_same, is_site, makes_up_on, makeups_on, site_numbers}
+use Rattle.aq_rules.specs.Office.Office.{IsOffice, fits_records, is_alone, is_day, is_record, is_same, is_site, makes_up_on, makeups_on, site_numbers}
 use Rattle.aq_rules.specs.Office.Sameness.{same_site}
 use Rattle.aq_rules.specs.Particles.QuarterCounts.{Makeup, makeup_by}
 use Rattle.aq_rules.proofs.Elements.{Every}
@@ -97,7 +97,7 @@ module _ (records : List OfficeRecord) (site : Site) (quarter first many : ℕ) 
         let number : a.number ≡ b.number = cc in
         λ i. record { state = state i; county = county i; number = number i }
 
-    own_day : (r : OfficeRecord) → makes_up_on site d r ≡ true → has_own_makeup_day (office_with records) r ≡ true → count_by (makes_up_on site d) records ≤ 1
+    own_day : (r : OfficeRecord) → makes_up_on site d r ≡ true → is_alone (office_with records) r ≡ true → count_by (makes_up_on site d) records ≤ 1
     own_day (MakeupRecord other missed makeup) on_day own =
         let parts = and_parts (is_same (site_numbers other) (site_numbers site)) (makeup == d) on_day in
         let s : other ≡ site = same_numbers other site ((bytes_eq-Decides (site_numbers other) (site_numbers site)).0 parts.0) in
@@ -107,13 +107,13 @@ module _ (records : List OfficeRecord) (site : Site) (quarter first many : ℕ) 
         omega (arith, here)
     own_day r on_day own = cc
 
-    none_or_one : (rs : List OfficeRecord) → list_all (has_own_makeup_day (office_with records)) rs ≡ true → (count_by (makes_up_on site d) rs ≡ 0) ⊎ (count_by (makes_up_on site d) records ≤ 1)
+    none_or_one : (rs : List OfficeRecord) → list_all (is_alone (office_with records)) rs ≡ true → (count_by (makes_up_on site d) rs ≡ 0) ⊎ (count_by (makes_up_on site d) records ≤ 1)
     none_or_one [] own = inl refl
     none_or_one (r ∷ rs) own =
-        let parts = and_parts (has_own_makeup_day (office_with records) r) (list_all (has_own_makeup_day (office_with records)) rs) own in
+        let parts = and_parts (is_alone (office_with records) r) (list_all (is_alone (office_with records)) rs) own in
         by_test (makes_up_on site d r) refl parts.0 (none_or_one rs parts.1)
       where
-        by_test : (b : Bool) → makes_up_on site d r ≡ b → has_own_makeup_day (office_with records) r ≡ true → (count_by (makes_up_on site d) rs ≡ 0) ⊎ (count_by (makes_up_on site d) records ≤ 1)
+        by_test : (b : Bool) → makes_up_on site d r ≡ b → is_alone (office_with records) r ≡ true → (count_by (makes_up_on site d) rs ≡ 0) ⊎ (count_by (makes_up_on site d) records ≤ 1)
             → (count_by (makes_up_on site d) (r ∷ rs) ≡ 0) ⊎ (count_by (makes_up_on site d) records ≤ 1)
         by_test true e mine rest = inr (own_day r e mine)
         by_test false e mine (inr few) = inr few
@@ -122,7 +122,7 @@ module _ (records : List OfficeRecord) (site : Site) (quarter first many : ℕ) 
             inl (omega (arith, first_is, none))
 
     one_makeup : count_by (makes_up_on site d) records ≤ 1
-    one_makeup = elim (none_or_one records valid.makeup_days_differ) [ inl none ↦ omega (arith, none) | inr few ↦ few ]
+    one_makeup = elim (none_or_one records valid.records_alone) [ inl none ↦ omega (arith, none) | inr few ↦ few ]
 
   -- ---- so those whose make-up day passes a test are no more than such days
 

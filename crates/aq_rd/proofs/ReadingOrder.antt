@@ -18,7 +18,7 @@ use Rattle.aq_rules.specs.Office.Office.{is_content, is_measured}
 use Rattle.aq_rules.specs.Lines.Canonical.{is_rd_value, is_line_value}
 use Rattle.aq_rules.specs.Lines.Fields.{is_empty, field, fields}
 use Rattle.aq_rules.specs.Lines.Spellings as spellings
-use Rattle.aq_rules.specs.Lines.Spellings.{Tag, Rd, Xm, Xp, Xs, Xo, Xu, Xe, Xc, Xa, Insert, Update, Delete, tag_in, action_in, parameter_in, parameter_of, poc_in, site_in, duration_in, unit_in, method_in, date_in, time_in, value_in, is_in_range, null_in, qualifiers_in}
+use Rattle.aq_rules.specs.Lines.Spellings.{Tag, Rd, Xm, Xp, Xs, Xo, Xu, Xe, Xc, Xa, Xb, Insert, Update, Delete, tag_in, action_in, parameter_in, parameter_of, poc_in, site_in, duration_in, unit_in, method_in, date_in, time_in, value_in, is_in_range, null_in, qualifiers_in}
 use Rattle.aq_rules.specs.Lines.RdForm.{RdValue, monitor_in, start_in, content_in, put_in, delete_in, qualifier_fields}
 use Rattle.aq_rules.specs.Lines.Reading.{LineValue, OfRd, breaks_in, rules_of, reported_value, value_for, action_for, form_value, has_wrong_count, is_deletion, breaks_parts, rules_for, line_value, reading_rule, is_plain, tag_of}
 use Rattle.aq_rules.specs.Lines.Forms.{acts}
@@ -211,7 +211,8 @@ reads-line line none =
     by-tag (is_plain line) (bytes_eq text (codes "RD")) _ (tag_of line) (fields line) refl
     (no_office (bytes_eq text (codes "XM")) Xm _ refl (no_office (bytes_eq text (codes "XP")) Xp _ refl (no_office (bytes_eq text (codes "XS")) Xs _ refl
     (no_office (bytes_eq text (codes "XO")) Xo _ refl (no_office (bytes_eq text (codes "XU")) Xu _ refl (no_office (bytes_eq text (codes "XE")) Xe _ refl
-    (no_office (bytes_eq text (codes "XC")) Xc _ refl (no_office (bytes_eq text (codes "XA")) Xa _ refl (λ _. refl)))))))))
+    (no_office (bytes_eq text (codes "XC")) Xc _ refl (no_office (bytes_eq text (codes "XA")) Xa _ refl
+    (no_office (bytes_eq text (codes "XB")) Xb _ refl (λ _. refl))))))))))
     none
 
 -- ---- the clauses, one by one

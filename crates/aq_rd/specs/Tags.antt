@@ -6,7 +6,7 @@ use Rattle.aq_rules.specs.Lines.Spellings as spellings
 use Rattle.aq_rules.specs.Lines.Reading.{is_plain}
 use Rattle.aq_rules.specs.Lines.Reading as reading
 use Rattle.aq_rd.specs.declared.tag.Tag.{Tag}
-use Rattle.aq_rd.specs.declared.tag.Tag.TheVariants.{Rd, Xm, Xp, Xs, Xo, Xu, Xe, Xc, Xa}
+use Rattle.aq_rd.specs.declared.tag.Tag.TheVariants.{Rd, Xm, Xp, Xs, Xo, Xu, Xe, Xc, Xa, Xb}
 
 abbrev pub tag_value : Tag → spellings.Tag
 tag_value Rd = spellings.Rd
@@ -18,6 +18,7 @@ tag_value Xu = spellings.Xu
 tag_value Xe = spellings.Xe
 tag_value Xc = spellings.Xc
 tag_value Xa = spellings.Xa
+tag_value Xb = spellings.Xb
 
 abbrev pub is_office : Option spellings.Tag → Bool
 is_office None = false

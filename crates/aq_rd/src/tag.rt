@@ -32,6 +32,8 @@ pub enum Tag {
     Xc,
     /// A day of approved ozone hours.
     Xa,
+    /// A site that is combined with another one, from a day on.
+    Xb,
 }
 
 /// The form of a line. `BadBytes` exactly where a byte is outside 20 to 7E (hexadecimal), else
@@ -74,6 +76,7 @@ pub fn tag_in(text: &[u8]) -> Option<Tag>
         b"XE" => Some(Tag::Xe),
         b"XC" => Some(Tag::Xc),
         b"XA" => Some(Tag::Xa),
+        b"XB" => Some(Tag::Xb),
         _ => None,
     }
 }

@@ -44,6 +44,7 @@ fn each_first_field_has_its_tag(rt: HostRuntime) {
         ("XE|", Ok(Tag::Xe)),
         ("XC|", Ok(Tag::Xc)),
         ("XA|~", Ok(Tag::Xa)),
+        ("XB|", Ok(Tag::Xb)),
         ("", Err(Rule::BadTag)),
         ("rd|I", Err(Rule::BadTag)),
         ("|RD", Err(Rule::BadTag)),

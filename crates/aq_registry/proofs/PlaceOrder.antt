@@ -10,7 +10,7 @@ use Rattle.std.proofs.lemmas.Cmp.{nat_cmp_total, on_total, then_total}
 use Rattle.std.proofs.lemmas.Bool.Decides.{nat_tests}
 use Rattle.aq_base.specs.Site.{Site}
 use Rattle.aq_base.specs.declared.office.OfficeKey.{OfficeKey}
-use Rattle.aq_base.specs.declared.office.OfficeKey.TheVariants.{Monitor, Primary, Schedule, Season, Makeup, Event, Concurrence, Approved}
+use Rattle.aq_base.specs.declared.office.OfficeKey.TheVariants.{Monitor, Primary, Schedule, Season, Makeup, Event, Concurrence, Approved, Combined}
 use Rattle.aq_rules.specs.Office.Office.{key_numbers, comes_before, is_same, parameter_number}
 use Rattle.aq_registry.specs.declared.place.Place.{Place}
 use Rattle.aq_registry.specs.Places.{place_of, place_cmp}
@@ -73,6 +73,7 @@ before-places (Makeup s d) (Makeup t e) = lt-site s t _ _ (lt-nat_cmp d e)
 before-places (Event d) (Event e) = lt-nat_cmp d e
 before-places (Concurrence d) (Concurrence e) = lt-nat_cmp d e
 before-places (Approved s d) (Approved t e) = lt-site s t _ _ (lt-nat_cmp d e)
+before-places (Combined s p) (Combined t q) = lt-site s t _ _ (lt-then (parameter_number p) (parameter_number q) (nat_cmp 0 0) false refl)
 before-places a b = refl
 
 -- two keys are the same where neither comes first
@@ -85,6 +86,7 @@ same-places (Makeup s d) (Makeup t e) = eq-site s t _ _ (eq-last d e)
 same-places (Event d) (Event e) = eq-last d e
 same-places (Concurrence d) (Concurrence e) = eq-last d e
 same-places (Approved s d) (Approved t e) = eq-site s t _ _ (eq-last d e)
+same-places (Combined s p) (Combined t q) = eq-site s t _ _ (eq-then (parameter_number p) (parameter_number q) (nat_cmp 0 0) true refl)
 same-places a b = refl
 
 -- ---- places that compare alike are one

@@ -11,16 +11,16 @@ use Rattle.aq_base.specs.declared.monitor.Pollutant.{Pollutant}
 use Rattle.aq_base.specs.declared.monitor.Pollutant.TheVariants.{Ozone, Pm25, Pm10}
 use Rattle.aq_base.specs.declared.monitor.MonitorId.{MonitorId}
 use Rattle.aq_base.specs.declared.office.OfficeRecord.{OfficeRecord}
-use Rattle.aq_base.specs.declared.office.OfficeRecord.TheVariants.{Monitor, Season, Makeup, Event, Approved}
+use Rattle.aq_base.specs.declared.office.OfficeRecord.TheVariants.{Monitor, Season, Makeup, Event, Approved, Combined}
 use Rattle.aq_base.specs.declared.office.OfficeKey.{OfficeKey}
-use Rattle.aq_base.specs.declared.office.OfficeKey.TheVariants.{Monitor as MonitorKey, Season as SeasonKey, Makeup as MakeupKey, Event as EventKey, Approved as ApprovedKey}
+use Rattle.aq_base.specs.declared.office.OfficeKey.TheVariants.{Monitor as MonitorKey, Season as SeasonKey, Makeup as MakeupKey, Event as EventKey, Approved as ApprovedKey, Combined as CombinedKey}
 use Rattle.aq_rules.specs.Office.Office.{key_numbers, record_rank, is_same, parameter_number}
 use Rattle.aq_rules.specs.Office.Monitors.{is_same_site, is_same_pollutant, is_same_monitor}
-use Rattle.aq_rules.specs.Office.Questions.{first_given, record_of, registration_by, registration_of, poc_above, next_poc, makeup_for, makeup_of, coverage_by, covers}
+use Rattle.aq_rules.specs.Office.Questions.{first_given, record_of, registration_by, registration_of, poc_above, next_poc, makeup_for, makeup_of, coverage_by, covers, joined_by, combined}
 use Rattle.aq_rules.specs.Office.Season.{season_by, season_of, whole_year, Season as Days}
 use Rattle.aq_rules.specs.Office.Approval.{approves, is_approved}
 use Rattle.aq_registry.specs.Places.{is_of_from}
-use Rattle.aq_registry.specs.Registry.{registration_in, poc_in, season_in, makeup_in, coverage_in}
+use Rattle.aq_registry.specs.Registry.{registration_in, poc_in, season_in, makeup_in, coverage_in, joined_in}
 
 -- ---- the first answer
 
@@ -177,3 +177,22 @@ pub approval_found : (rows : List OfficeRecord) (site : Site) (day : ℕ) → is
 unfolding is_approved has_key
 approval_found rows site day =
     ap (λ (test : OfficeRecord → Bool). list_any test rows) (fun_ext (approval-tells site day)) ∙ any-found (has_key (ApprovedKey site day)) rows
+
+-- ---- combined sites
+
+combined-tells : (site : Site) (pollutant : Pollutant) (r : OfficeRecord) → joined_by site pollutant r ≡ cond (has_key (CombinedKey site pollutant) r) (joined_in r) None
+unfolding has_key
+combined-tells site pollutant (Combined other p from joined) =
+    ap (λ b. cond (is_same_site other site && b) (joined_in (Combined other p from joined)) None) (same-parameters p pollutant)
+    ∙ ap (λ b. cond b (joined_in (Combined other p from joined)) None) (same-days other site (parameter_number p) (parameter_number pollutant))
+combined-tells site pollutant r = refl
+
+combined-says : (site : Site) (pollutant : Pollutant) (r : OfficeRecord) → has_key (CombinedKey site pollutant) r ≡ true → is_some (joined_in r) ≡ true
+unfolding has_key
+combined-says site pollutant (Combined other p from joined) h = refl
+combined-says site pollutant r h = absurd (false≢true h)
+
+pub combined_found : (rows : List OfficeRecord) (site : Site) (pollutant : Pollutant) → combined rows site pollutant ≡ option_and_then joined_in (record_of rows (CombinedKey site pollutant))
+unfolding combined has_key
+combined_found rows site pollutant =
+    first_given-found (joined_by site pollutant) joined_in (has_key (CombinedKey site pollutant)) (combined-tells site pollutant) (combined-says site pollutant) rows

@@ -1,6 +1,6 @@
 -- What the rules of the office ask is found by searches, and by walks over parts of the map.
 use Rattle.std.proofs.Common.{◌≡◌, ℕ, ◌+◌, ◌<◌, ◌≤◌, ◌↔◌, Bool, true, false, cond, not, ◌&&◌, ◌||◌, ◌==◌, List, [], ◌∷◌, Option, Some, None, is_some, refl, sym, ap, ◌∙◌, arith}
-use Rattle.std.specs.Prelude.{find, filter_map, count_by, nat_le, nat_lt, slice_get}
+use Rattle.std.specs.Prelude.{find, filter, filter_map, count_by, nat_le, nat_lt, slice_get}
 use mathlib.Core.Path.{fun_ext}
 use Rattle.std.specs.List.{cons_option, list_all, list_any}
 use Rattle.std.proofs.lemmas.Bool.{false≢true, and_parts, and_from, leb-true, ltb-true, le-leb, lt-ltb, eqb-true, eqb-false, false_from_ne_true}
@@ -11,21 +11,22 @@ use Rattle.aq_base.specs.Site.{Site}
 use Rattle.aq_base.specs.declared.day.TheConstants.{LAST_DAY}
 use Rattle.aq_base.specs.declared.monitor.Pollutant.{Pollutant}
 use Rattle.aq_base.specs.declared.office.OfficeRecord.{OfficeRecord}
-use Rattle.aq_base.specs.declared.office.OfficeRecord.TheVariants.{Monitor, Primary, Schedule, Season, Makeup, Event, Concurrence, Approved}
+use Rattle.aq_base.specs.declared.office.OfficeRecord.TheVariants.{Monitor, Primary, Schedule, Season, Makeup, Event, Concurrence, Approved, Combined}
 use Rattle.aq_base.specs.declared.office.OfficeKey.{OfficeKey}
 use Rattle.aq_base.specs.declared.office.OfficeKey.TheVariants.{Monitor as MonitorKey, Event as EventKey, Concurrence as ConcurrenceKey}
 use Rattle.aq_base.specs.declared.office.OfficeLine.TheVariants.{Put, Change, Drop}
 use Rattle.aq_base.specs.declared.rule.Rule.{Rule}
 use Rattle.aq_rules.specs.Lines.Canonical.{is_office_line}
 use Rattle.aq_rules.specs.Lines.Reading.{OfOffice}
-use Rattle.aq_rules.specs.Office.Office.{Office, key_of, parameter_number, site_numbers, series_numbers, is_same, group_of, is_day, is_key, is_content_of, is_record, registers, makes_up_on}
+use Rattle.aq_rules.specs.Office.Office.{Office, key_of, parameter_number, site_numbers, series_numbers, is_same, group_of, is_day, is_key, is_content_of, is_record, registers, makes_up_on, combines_either}
 use Rattle.aq_rules.specs.Office.Monitors.{is_same_site}
 use Rattle.aq_rules.specs.Office.Questions.{first_given, missed_for, missed_of}
 use Rattle.aq_rules.specs.Office.Refusal.{broken}
-use Rattle.aq_registry.specs.Places.{is_of, is_of_from, is_of_between}
+use Rattle.aq_registry.specs.declared.place.Place.{Place}
+use Rattle.aq_registry.specs.Places.{is_of, is_of_from, is_of_between, lies_between, of_kind, place_of}
 use Rattle.aq_registry.specs.Rules.{new_rule, change_rule, drop_rule, makes_up_in}
 use Rattle.aq_registry.proofs.QuestionLemmas.{any-found, four_tests, last_test}
-use Rattle.aq_registry.proofs.SiteLemmas.{flipped, numbers}
+use Rattle.aq_registry.proofs.SiteLemmas.{all-below, flipped, numbers}
 
 -- ---- monitors of a site and pollutant
 
@@ -147,6 +148,37 @@ pub taken_found : (rows : List OfficeRecord) (site : Site) (day : ℕ) → nat_l
 unfolding missed_of
 taken_found rows site day = taken rows site day
 
+-- ---- combined sites
+
+pub some_counted : (p : OfficeRecord → Bool) (rows : List OfficeRecord) → nat_lt 0 (count_by p rows) ≡ list_any p rows
+some_counted p [] = refl
+some_counted p (r ∷ rows) = ap (nat_lt 0) (count-cons p r rows) ∙ some_more (p r) (count_by p rows) ∙ ap (λ b. p r || b) (some_counted p rows)
+
+-- a combination stands between the first place of its kind and that of the next
+combined-part : (site joined : Site) (pollutant : Pollutant) (r : OfficeRecord) → combines_either site joined pollutant r ≡ (lies_between (of_kind 9) (of_kind 10) r && combines_either site joined pollutant r)
+combined-part site joined pollutant (Combined first other from second) =
+    ap (λ b. (b && true) && combines_either site joined pollutant (Combined first other from second)) (sym (all-below (place_of (key_of (Combined first other from second)))))
+combined-part site joined pollutant r = nowhere (lies_between (of_kind 9) (of_kind 10) r)
+  where
+    nowhere : (b : Bool) → false ≡ (b && false)
+    nowhere true = refl
+    nowhere false = refl
+
+any_part : (test part : OfficeRecord → Bool) → ((r : OfficeRecord) → test r ≡ (part r && test r)) → (rows : List OfficeRecord) → list_any test (filter part rows) ≡ list_any test rows
+any_part test part inside [] = refl
+any_part test part inside (r ∷ rows) = choose (part r) (inside r) (any_part test part inside rows)
+  where
+    choose : (b : Bool) → test r ≡ (b && test r) → list_any test (filter part rows) ≡ list_any test rows → list_any test (cond b (r ∷ filter part rows) (filter part rows)) ≡ (test r || list_any test rows)
+    choose true h rest = ap (λ c. test r || c) rest
+    choose false h rest = rest ∙ ap (λ c. c || list_any test rows) (sym h)
+
+pub combined_in_part : (rows : List OfficeRecord) (site joined : Site) (pollutant : Pollutant) (start end : Place) (part : List OfficeRecord)
+    → start ≡ of_kind 9 → end ≡ of_kind 10 → part ≡ filter (lies_between start end) rows
+    → list_any (combines_either site joined pollutant) part ≡ list_any (combines_either site joined pollutant) rows
+combined_in_part rows site joined pollutant start end part first last is =
+    ap (list_any (combines_either site joined pollutant)) (is ∙ ap (λ s. filter (lies_between s end) rows) first ∙ ap (λ e. filter (lies_between (of_kind 9) e) rows) last)
+    ∙ any_part (combines_either site joined pollutant) (lies_between (of_kind 9) (of_kind 10)) (combined-part site joined pollutant) rows
+
 -- ---- sites
 
 pub site_listed : (sites : List Site) (site : Site) → list_any (λ other. is_same (site_numbers other) (site_numbers site)) sites ≡ list_any (is_same_site site) sites
@@ -167,6 +199,7 @@ new_is office (Makeup site missed makeup) h = refl
 new_is office (Event number site pollutant first last code) h = refl
 new_is office (Concurrence number agreed) h = absurd (false≢true h)
 new_is office (Approved site day) h = refl
+new_is office (Combined site pollutant from joined) h = refl
 
 pub change_is : (office : Office) (r : OfficeRecord) → is_office_line (Change r) ≡ true → broken office (OfOffice (Change r)) ≡ change_rule office r
 change_is office (Monitor id duration eligible) h = refl

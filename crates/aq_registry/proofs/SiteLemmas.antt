@@ -126,10 +126,10 @@ le-next : (m n : ℕ) (o : Ordering) → is_le o ≡ true → is_le (ordering_th
 le-next m n o h = grind (arith, nat_tests)
 
 -- a place of the kinds behind monitors
-all-below : (p : Place) → is_le (ordering_then (nat_cmp 0 p.state) (ordering_then (nat_cmp 0 p.county) (ordering_then (nat_cmp 0 p.number) (ordering_then (nat_cmp 0 p.parameter) (nat_cmp 0 p.part))))) ≡ true
+pub all-below : (p : Place) → is_le (ordering_then (nat_cmp 0 p.state) (ordering_then (nat_cmp 0 p.county) (ordering_then (nat_cmp 0 p.number) (ordering_then (nat_cmp 0 p.parameter) (nat_cmp 0 p.part))))) ≡ true
 all-below p = below-then p.state _ (below-then p.county _ (below-then p.number _ (below-then p.parameter _ (none_below p.part))))
 
-not_both : (a b : Bool) → b ≡ true → (a && not b) ≡ false
+pub not_both : (a b : Bool) → b ≡ true → (a && not b) ≡ false
 not_both true b h = ap not h
 not_both false b h = refl
 

@@ -1,6 +1,6 @@
 -- Lemmas, no definition: an office line reads the records of an office alone, and changes them alone.
 use Rattle.std.specs.Prelude.{◌≡◌, refl}
-use Rattle.aq_base.specs.declared.office.OfficeRecord.TheVariants.{Monitor, Primary, Schedule, Season, Makeup, Event, Concurrence, Approved}
+use Rattle.aq_base.specs.declared.office.OfficeRecord.TheVariants.{Monitor, Primary, Schedule, Season, Makeup, Event, Concurrence, Approved, Combined}
 use Rattle.aq_base.specs.declared.office.OfficeKey.TheVariants.{Monitor as MonitorKey, Event as EventKey, Concurrence as ConcurrenceKey}
 use Rattle.aq_base.specs.declared.office.OfficeLine.{OfficeLine}
 use Rattle.aq_base.specs.declared.office.OfficeLine.TheVariants.{Put, Change, Drop}
@@ -19,6 +19,7 @@ broken_by_records office (Put (Makeup site missed makeup)) = refl
 broken_by_records office (Put (Event number site pollutant first last code)) = refl
 broken_by_records office (Put (Concurrence number agreed)) = refl
 broken_by_records office (Put (Approved site day)) = refl
+broken_by_records office (Put (Combined site pollutant from joined)) = refl
 broken_by_records office (Change (Monitor id duration eligible)) = refl
 broken_by_records office (Change (Concurrence number agreed)) = refl
 broken_by_records office (Change r) = refl

@@ -7,7 +7,7 @@ use Rattle.std.specs.Ordering.{nat_cmp, ordering_then, is_le, is_gt}
 use Rattle.aq_base.specs.Site.{Site}
 use Rattle.aq_base.specs.declared.office.OfficeRecord.{OfficeRecord}
 use Rattle.aq_base.specs.declared.office.OfficeKey.{OfficeKey}
-use Rattle.aq_base.specs.declared.office.OfficeKey.TheVariants.{Monitor, Primary, Schedule, Season, Makeup, Event, Concurrence, Approved}
+use Rattle.aq_base.specs.declared.office.OfficeKey.TheVariants.{Monitor, Primary, Schedule, Season, Makeup, Event, Concurrence, Approved, Combined}
 use Rattle.aq_rules.specs.Office.Office.{key_of, parameter_number}
 use Rattle.aq_registry.specs.declared.place.Place.{Place}
 
@@ -56,6 +56,7 @@ place_of (Makeup site missed) = of_site 5 site 0 missed
 place_of (Event number) = of_event 6 number
 place_of (Concurrence number) = of_event 7 number
 place_of (Approved site day) = of_site 8 site 0 day
+place_of (Combined site pollutant) = of_site 9 site (parameter_number pollutant) 0
 
 -- by kind, site, parameter, and POC, day, year or number
 abbrev pub place_cmp : Place → Place → Ordering

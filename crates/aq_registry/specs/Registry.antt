@@ -3,14 +3,14 @@ use Rattle.std.specs.Prelude.{◌≡◌, ◌==◌, if◌then◌else◌, ℕ, Boo
 use Rattle.aq_base.specs.Site.{Site}
 use Rattle.aq_base.specs.declared.monitor.Duration.{Duration}
 use Rattle.aq_base.specs.declared.office.OfficeRecord.{OfficeRecord}
-use Rattle.aq_base.specs.declared.office.OfficeRecord.TheVariants.{Monitor, Primary, Schedule, Season, Makeup, Event, Concurrence}
+use Rattle.aq_base.specs.declared.office.OfficeRecord.TheVariants.{Monitor, Primary, Schedule, Season, Makeup, Event, Concurrence, Combined}
 use Rattle.aq_base.specs.declared.office.OfficeKey.{OfficeKey}
 use Rattle.aq_base.specs.declared.office.OfficeKey.TheVariants.{Event as EventKey}
 use Rattle.aq_registry.specs.declared.agreed.Span.{Span}
 use Rattle.aq_registry.specs.Agreed.{AreAgreedOf}
 use Rattle.aq_rules.specs.Office.Refusal.{key_stands}
 use Rattle.aq_rules.specs.Office.Office.{Office, IsOffice, group_of, is_same, sites_of}
-use Rattle.aq_rules.specs.Office.Questions.{Registered}
+use Rattle.aq_rules.specs.Office.Questions.{Registered, Joined}
 use Rattle.aq_rules.specs.Office.Season.{Season as Days}
 use Rattle.aq_rules.specs.Office.Designation.{Designation}
 use Rattle.aq_rules.specs.Office.Schedule.{Schedule as Sampling}
@@ -68,6 +68,14 @@ days_of season = (season.first, season.last)
 abbrev pub makeup_in : OfficeRecord → Option ℕ
 makeup_in (Makeup site missed makeup) = Some makeup
 makeup_in r = None
+
+abbrev pub joined_in : OfficeRecord → Option Joined
+joined_in (Combined site pollutant from joined) = Some (record { site = joined; from = from })
+joined_in r = None
+
+-- a joined site as the registry answers it
+abbrev pub joined_from : Joined → Site × ℕ
+joined_from joined = (joined.site, joined.from)
 
 abbrev pub coverage_in : ℕ → OfficeRecord → Option Bool
 coverage_in hour (Event number site pollutant first last code) = Some (nat_le first hour && nat_le hour last)

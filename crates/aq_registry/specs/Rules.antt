@@ -9,13 +9,13 @@ use Rattle.aq_base.specs.declared.office.OfficeKey.{OfficeKey}
 use Rattle.aq_base.specs.declared.office.OfficeKey.TheVariants.{Event as EventKey}
 use Rattle.aq_base.specs.declared.office.OfficeLine.TheVariants.{Put}
 use Rattle.aq_base.specs.declared.rule.Rule.{Rule}
-use Rattle.aq_base.specs.declared.rule.Rule.TheVariants.{UnknownMonitor, WrongDuration, AlreadyThere, NotThere, SitesFull, MonitorsFull, MakeupsFull, UnknownEvent, EventsFull, ListFull}
+use Rattle.aq_base.specs.declared.rule.Rule.TheVariants.{UnknownMonitor, WrongDuration, AlreadyThere, NotThere, SitesFull, MonitorsFull, MakeupsFull, UnknownEvent, EventsFull, ListFull, PairTaken}
 use Rattle.aq_rules.specs.Lines.Spellings.{◌>>=◌}
 use Rattle.aq_base.specs.declared.monitor.Duration.{Duration}
 use Rattle.aq_rules.specs.Limits.{MOST_SITES}
 use Rattle.aq_rules.specs.Lines.Reading.{OfOffice}
 use Rattle.aq_rules.specs.Office.Office.{Office, key_of, site_numbers, sites_of, is_same, group_of, group_size, most_in_group, has_monitor, has_its_monitor, duration_at, monitor_duration}
-use Rattle.aq_rules.specs.Office.Refusal.{key_stands, is_taken, is_new_site, is_other_duration}
+use Rattle.aq_rules.specs.Office.Refusal.{key_stands, is_taken, is_combined, is_new_site, is_other_duration}
 
 -- the rule of a full list, where as many stand as may
 abbrev pub rule_where_full : ℕ → ℕ → Rule → Option Rule
@@ -45,7 +45,8 @@ abbrev pub new_rule : Office → OfficeRecord → Option Rule
 new_rule office r =
     if not (has_its_monitor office r) then Some UnknownMonitor
     else (if key_stands office (key_of r) || is_taken office r then Some AlreadyThere
-    else (if lacks_site_room office r then Some SitesFull else full_rule office r))
+    else (if lacks_site_room office r then Some SitesFull
+    else (if is_combined office r then Some PairTaken else full_rule office r)))
 
 -- the rule that a changed record breaks
 abbrev pub change_rule : Office → OfficeRecord → Option Rule

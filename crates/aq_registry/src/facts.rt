@@ -2,12 +2,13 @@
 ghost use Rattle.std.specs.Prelude.{◌≡◌, false, option_map, IfSome, IsTrue};
 ghost use Rattle.std.specs.Option.{option_and_then, option_map_or};
 ghost use Rattle.aq_rules.specs.Office.Designation.{designated_poc};
-ghost use Rattle.aq_rules.specs.Office.Office.{is_record};
+ghost use Rattle.aq_rules.specs.Office.Office.{combines, combines_either, is_record, is_same, series_numbers};
 ghost use Rattle.aq_rules.specs.Office.Schedule.{asks_for, distance};
 ghost use Rattle.aq_registry.specs.Rules.{duration_in};
-ghost use Rattle.aq_registry.specs.Registry.{agreement_in, coverage_in, days_of, designation_in, schedule_in, missed_by, makeup_in, pair_of, poc_in, registration_in, season_in, site_in};
+ghost use Rattle.aq_registry.specs.Registry.{agreement_in, coverage_in, days_of, designation_in, joined_from, joined_in, schedule_in, missed_by, makeup_in, pair_of, poc_in, registration_in, season_in, site_in};
 
-use aq_base::{Day, Duration, Hour, OfficeRecord, SiteId};
+use crate::place::parameter;
+use aq_base::{Day, Duration, Hour, OfficeRecord, Pollutant, SiteId};
 
 /// How long a monitor's samples last, and whether its values count.
 pub(crate) fn registration(of: &Option<OfficeRecord>) -> Option<(Duration, bool)>
@@ -73,6 +74,56 @@ pub(crate) fn makeup(of: &Option<OfficeRecord>) -> Option<Day>
         Some(OfficeRecord::Makeup { makeup, .. }) => Some(*makeup),
         _ => None,
     }
+}
+
+/// The site that is joined to another one, and the day from which it is.
+pub(crate) fn joined(of: &Option<OfficeRecord>) -> Option<(SiteId, Day)>
+    ensures { result ≡ option_map joined_from (option_and_then joined_in of.now) }
+{
+    match of {
+        Some(OfficeRecord::Combined { from, joined, .. }) => Some((*joined, *from)),
+        _ => None,
+    }
+}
+
+/// Whether a record combines one of two sites for a pollutant, in either part.
+pub(crate) fn combines_either(
+    of: &OfficeRecord,
+    site: &SiteId,
+    joined: &SiteId,
+    pollutant: Pollutant,
+) -> bool
+    ensures { result ≡ combines_either site.now joined.now pollutant of.now }
+{
+    combines(of, site, pollutant) || combines(of, joined, pollutant)
+}
+
+/// Whether a record combines a site for a pollutant, in either part.
+fn combines(of: &OfficeRecord, site: &SiteId, pollutant: Pollutant) -> bool
+    ensures { result ≡ combines site.now pollutant of.now }
+{
+    match of {
+        OfficeRecord::Combined {
+            site: first,
+            pollutant: other,
+            joined,
+            ..
+        } => {
+            is_same_series(first, *other, site, pollutant)
+                || is_same_series(joined, *other, site, pollutant)
+        }
+        _ => false,
+    }
+}
+
+/// Whether a site and pollutant are the same as others.
+fn is_same_series(a: &SiteId, p: Pollutant, b: &SiteId, q: Pollutant) -> bool
+    ensures { result ≡ is_same (series_numbers a.now p) (series_numbers b.now q) }
+{
+    a.state() == b.state()
+        && a.county() == b.county()
+        && a.site() == b.site()
+        && parameter(p) == parameter(q)
 }
 
 /// Whether an event holds an hour in its span.

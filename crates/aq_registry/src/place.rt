@@ -9,7 +9,7 @@ use aq_base::{OfficeKey, OfficeRecord, Pollutant, SiteId};
 /// number. What a kind does not have is 0.
 #[derive(Clone, Copy, Debug, PartialEq, Eq, PartialOrd, Ord)]
 pub(crate) struct Place {
-    /// The number of the kind in the order of rows, from monitors, 1, to approved days, 8.
+    /// The number of the kind in the order of rows, from monitors, 1, to combined sites, 9.
     kind: u8,
     state: u8,
     county: u16,
@@ -96,6 +96,9 @@ impl Place {
             OfficeKey::Approved { site, day } => {
                 Place::of_site(8, site, 0, u32::from(day.number()))
             }
+            OfficeKey::Combined { site, pollutant } => {
+                Place::of_site(9, site, parameter(*pollutant), 0)
+            }
         }
     }
 }
@@ -150,6 +153,14 @@ pub(crate) fn key(of: &OfficeRecord) -> OfficeKey
         OfficeRecord::Approved { site, day } => OfficeKey::Approved {
             site: *site,
             day: *day,
+        },
+        OfficeRecord::Combined {
+            site,
+            pollutant,
+            ..
+        } => OfficeKey::Combined {
+            site: *site,
+            pollutant: *pollutant,
         },
     }
 }

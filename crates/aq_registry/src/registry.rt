@@ -11,7 +11,7 @@ ghost use Rattle.aq_rules.specs.Office.Season as seasons;
 ghost use Rattle.aq_rules.specs.Office.Approval as approvals;
 ghost use Rattle.aq_rules.specs.Office.Exclusion as exclusions;
 ghost use Rattle.aq_registry.specs.Places.{behind_sites};
-ghost use Rattle.aq_registry.specs.Registry.{days_of, missed_by, office_with, pair_of};
+ghost use Rattle.aq_registry.specs.Registry.{days_of, joined_from, missed_by, office_with, pair_of};
 ghost use Rattle.aq_base.specs.declared.day.TheConstants.{FIRST_YEAR, LAST_YEAR};
 
 mod apply;
@@ -221,6 +221,15 @@ impl Registry {
         let start = Place::of_site(5, &site, 0, end.saturating_sub(7));
         let end = Place::of_site(5, &site, 0, end);
         first_missed(self.records.between(start, end), makeup)
+    }
+
+    /// The site that is joined to a site for a pollutant, and the day from which it is; `None` where the
+    /// site is not the first one of a combination of the pollutant (own). By one search of the map.
+    #[tactic(auto, using(crate::proofs::QuestionLemmas::combined_found))]
+    pub fn combined(&self, site: SiteId, pollutant: Pollutant) -> Option<(SiteId, Day)>
+        ensures { result ≡ option_map joined_from (book.combined self.now site pollutant) }
+    {
+        facts::joined(&self.records.get(&OfficeKey::Combined { site, pollutant }))
     }
 
     /// Whether an event holds an hour in its span, and `None` where no event has the number, by one search

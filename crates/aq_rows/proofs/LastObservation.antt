@@ -41,7 +41,7 @@ module _ (office : Office) (entry : ObsKey × Observation) where
   observation-taken is rising fits room = record {
     keys_rise = record { records = is.keys_rise.records; observations = rising; loads = is.keys_rise.loads };
     records_fit = is.records_fit;
-    makeup_days_differ = is.makeup_days_differ;
+    records_alone = is.records_alone;
     few_sites = is.few_sites;
     observations_fit = all-pass (fits_monitors office) office.observations entry is.observations_fit fits;
     few_observations = let long = length-append office.observations (entry ∷ []) in omega arith;
@@ -72,7 +72,7 @@ module _ (office : Office) (load : StoredLoad) where
   load-taken is rising fits room = record {
     keys_rise = record { records = is.keys_rise.records; observations = is.keys_rise.observations; loads = rising };
     records_fit = is.records_fit;
-    makeup_days_differ = is.makeup_days_differ;
+    records_alone = is.records_alone;
     few_sites = is.few_sites;
     observations_fit = is.observations_fit;
     few_observations = is.few_observations;

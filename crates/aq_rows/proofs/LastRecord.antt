@@ -7,23 +7,25 @@ use Rattle.std.proofs.lemmas.Bool.Decides.{nat_tests}
 use Rattle.std.proofs.lemmas.List.Folds.{list_any-append}
 use Rattle.std.proofs.Math.Bool.{or-false}
 use Rattle.aq_base.specs.Site.{Site}
+use Rattle.aq_base.specs.declared.monitor.Pollutant.{Pollutant}
 use Rattle.aq_base.specs.declared.monitor.Pollutant.TheVariants.{Ozone, Pm25}
 use Rattle.aq_base.specs.declared.office.OfficeRecord.{OfficeRecord}
-use Rattle.aq_base.specs.declared.office.OfficeRecord.TheVariants.{Monitor, Primary, Schedule, Season, Makeup, Event, Concurrence, Approved}
+use Rattle.aq_base.specs.declared.office.OfficeRecord.TheVariants.{Monitor, Primary, Schedule, Season, Makeup, Event, Concurrence, Approved, Combined}
 use Rattle.aq_base.specs.declared.office.OfficeKey.TheVariants.{Monitor as MonitorKey, Event as EventKey}
 use Rattle.aq_base.specs.declared.office.OfficeLine.TheVariants.{Put, Change}
 use Rattle.aq_base.specs.declared.rule.Rule.{Rule}
-use Rattle.aq_base.specs.declared.rule.Rule.TheVariants.{UnknownMonitor, AlreadyThere, SitesFull, MonitorsFull, MakeupsFull, UnknownEvent, EventsFull, ListFull}
+use Rattle.aq_base.specs.declared.rule.Rule.TheVariants.{UnknownMonitor, AlreadyThere, SitesFull, MonitorsFull, MakeupsFull, UnknownEvent, EventsFull, ListFull, PairTaken}
 use Rattle.aq_rules.specs.Limits.{MOST_SITES}
 use Rattle.aq_rules.specs.Lines.Canonical.{record_line, is_line_value}
 use Rattle.aq_rules.specs.Lines.Reading.{OfOffice}
 use Rattle.aq_rules.specs.Lines.Spellings.{◌>>=◌}
-use Rattle.aq_rules.specs.Office.Office.{Office, IsOffice, key_of, key_numbers, record_rank, is_same, rises, site_numbers, with_site, sites_of, monitor_duration, registers, event_stands, group_of, group_size, most_in_group, makes_up_on, makeups_on, has_its_monitor, has_its_event, is_record, fits_records, has_own_makeup_day}
-use Rattle.aq_rules.specs.Office.Refusal.{broken, breaks_office, key_stands, is_taken}
+use Rattle.aq_rules.specs.Office.Office.{Office, IsOffice, key_of, key_numbers, record_rank, is_same, rises, site_numbers, with_site, sites_of, monitor_duration, registers, event_stands, group_of, group_size, most_in_group, makes_up_on, makeups_on, combines_either, combinations_of, has_monitor, has_its_monitor, has_its_event, is_record, fits_records, is_alone}
+use Rattle.aq_rules.specs.Office.Refusal.{broken, breaks_office, key_stands, is_taken, is_combined}
 use Rattle.aq_rules.specs.Office.Load.{changed, with_record}
 use Rattle.aq_rules.proofs.RowsPlaced.{is_same-refl, find_passed, count_joined}
 use Rattle.aq_rules.proofs.SitesCounted.{lists, sites_joined, length-with_site}
 use Rattle.aq_rules.proofs.ValidAfter.{changed-valid}
+use Rattle.aq_rules.proofs.ValidRecords.{combines_itself}
 use Rattle.aq_rules.proofs.Fronts.{records-front}
 use Rattle.aq_rows.proofs.RisingEnds.{with_row-last, absent}
 
@@ -63,6 +65,11 @@ module _ (records : List OfficeRecord) where
   monitor-before (Event number site pollutant first last code) = any-before (registers site pollutant) (Event number site pollutant first last code) refl
   monitor-before (Concurrence number agreed) = refl
   monitor-before (Approved site day) = any-before (registers site Ozone) (Approved site day) refl
+  monitor-before (Combined site pollutant from joined) =
+      let x : OfficeRecord = Combined site pollutant from joined in
+      let first = any-before (registers site pollutant) x refl in
+      let second = any-before (registers joined pollutant) x refl in
+      λ i. first i && second i
 
 -- what a record meets behind the others of a valid office
 record Last (records : List OfficeRecord) (x : OfficeRecord) : Type 0 where
@@ -70,7 +77,7 @@ record Last (records : List OfficeRecord) (x : OfficeRecord) : Type 0 where
   monitor : has_its_monitor (office_of records) x ≡ true
   event : has_its_event (office_of (records ++ x ∷ [])) x ≡ true
   room : nat_le (most_in_group x) (group_size (office_of records) x) ≡ false
-  day : has_own_makeup_day (office_of (records ++ x ∷ [])) x ≡ true
+  day : is_alone (office_of (records ++ x ∷ [])) x ≡ true
   sites : length (sites_of (records ++ x ∷ [])) ≤ MOST_SITES
 
 below : (size one most : ℕ) → one ≡ size + 1 → one ≤ most → nat_le most size ≡ false
@@ -90,7 +97,7 @@ last-of records x is =
       room = below (group_size (office_of records) x) (group_size n x) (most_in_group x)
           (count-last records (λ other. is_same (group_of other) (group_of x)) x (is_same-refl (group_of x) (group_of x) refl))
           (leb-true (group_size n x) (most_in_group x) few.1);
-      day = last-passes (has_own_makeup_day n) records x is.makeup_days_differ;
+      day = last-passes (is_alone n) records x is.records_alone;
       sites = is.few_sites;
     }
 
@@ -103,7 +110,7 @@ there-none : (a b : Bool) → a ≡ false → b ≡ false → (a || b) ≡ false
 there-none true b e f = e
 there-none false b e f = f
 
-none-taken : (records : List OfficeRecord) (x : OfficeRecord) → has_own_makeup_day (office_of (records ++ x ∷ [])) x ≡ true → is_taken (office_of records) x ≡ false
+none-taken : (records : List OfficeRecord) (x : OfficeRecord) → is_alone (office_of (records ++ x ∷ [])) x ≡ true → is_taken (office_of records) x ≡ false
 none-taken records (Makeup site missed makeup) h =
     let x : OfficeRecord = Makeup site missed makeup in
     let one = eqb-true (makeups_on (office_of (records ++ x ∷ [])) site makeup) 1 h in
@@ -119,6 +126,19 @@ none-taken records (Season site year first last) h = refl
 none-taken records (Event number site pollutant first last code) h = refl
 none-taken records (Concurrence number agreed) h = refl
 none-taken records (Approved site day) h = refl
+none-taken records (Combined site pollutant from joined) h = refl
+
+none-combined : (records : List OfficeRecord) (site joined : Site) (pollutant : Pollutant) (from : ℕ)
+    → is_alone (office_of (records ++ Combined site pollutant from joined ∷ [])) (Combined site pollutant from joined) ≡ true
+    → is_combined (office_of records) (Combined site pollutant from joined) ≡ false
+none-combined records site joined pollutant from h =
+    let x : OfficeRecord = Combined site pollutant from joined in
+    let one = eqb-true (combinations_of (office_of (records ++ x ∷ [])) site joined pollutant) 1 h in
+    let count = count-last records (combines_either site joined pollutant) x (combines_itself site joined pollutant from) in
+    none (combinations_of (office_of records) site joined pollutant) (combinations_of (office_of (records ++ x ∷ [])) site joined pollutant) count one
+  where
+    none : (size all : ℕ) → all ≡ size + 1 → all ≡ 1 → nat_lt 0 size ≡ false
+    none size all e f = grind (arith, nat_tests)
 
 site-room : (records : List OfficeRecord) (site : Site) (all : ℕ) → all ≡ cond {A = ℕ} (lists site (sites_of records)) 0 1 + length (sites_of records) → all ≤ MOST_SITES
     → (not (lists site (sites_of records)) && nat_le MOST_SITES (length (sites_of records))) ≡ false
@@ -180,6 +200,12 @@ unbroken records (Approved site day) last =
     let p : Rule → Bool = λ rule. breaks_office rule (office_of records) (OfOffice (Put x)) in
     passed p UnknownMonitor (AlreadyThere ∷ []) (lacks-none (has_its_monitor (office_of records) x) last.monitor)
     (passed p AlreadyThere [] (there-none (key_stands (office_of records) (key_of x)) false last.new refl) refl)
+unbroken records (Combined site pollutant from joined) last =
+    let x : OfficeRecord = Combined site pollutant from joined in
+    let p : Rule → Bool = λ rule. breaks_office rule (office_of records) (OfOffice (Put x)) in
+    passed p UnknownMonitor (AlreadyThere ∷ PairTaken ∷ []) (lacks-none (has_its_monitor (office_of records) x) last.monitor)
+    (passed p AlreadyThere (PairTaken ∷ []) (there-none (key_stands (office_of records) (key_of x)) false last.new refl)
+    (passed p PairTaken [] (none-combined records site joined pollutant from last.day) refl))
 
 -- ---- what the office tells
 
@@ -192,6 +218,7 @@ line-changed office (Makeup site missed makeup) = refl
 line-changed office (Event number site pollutant first last code) = refl
 line-changed office (Concurrence number agreed) = refl
 line-changed office (Approved site day) = refl
+line-changed office (Combined site pollutant from joined) = refl
 
 -- a record that is applied behind the others is the last one
 pub record-last : (records : List OfficeRecord) (x : OfficeRecord) → rises record_rank (records ++ x ∷ []) ≡ true

@@ -9,7 +9,7 @@ use Rattle.aq_base.specs.Rule.{rule_number}
 use Rattle.aq_base.specs.declared.reply.ListedLine.{ListedLine}
 use Rattle.aq_base.specs.declared.reply.RestRule.{RestRule}
 use Rattle.aq_base.specs.declared.rule.Rule.{Rule}
-use Rattle.aq_base.specs.declared.rule.Rule.TheVariants.{BadBytes, BadTag, FieldCount, BadAction, BadSite, ParameterOutOfProfile, BadPoc, BadDuration, BadUnit, BadMethod, BadDate, BadTime, ValueAndNull, NeitherValueNorNull, BadValue, ValueOutOfRange, BadNull, BadQualifier, UnknownMonitor, WrongDuration, AlreadyThere, NotThere, ObservationsFull, SitesFull, MonitorsFull, BadSpan, BadInterval, BadSeason, BadMakeup, MakeupsFull, UnknownEvent, EventsFull, BadCode, ListFull}
+use Rattle.aq_base.specs.declared.rule.Rule.TheVariants.{BadBytes, BadTag, FieldCount, BadAction, BadSite, ParameterOutOfProfile, BadPoc, BadDuration, BadUnit, BadMethod, BadDate, BadTime, ValueAndNull, NeitherValueNorNull, BadValue, ValueOutOfRange, BadNull, BadQualifier, UnknownMonitor, WrongDuration, AlreadyThere, NotThere, ObservationsFull, SitesFull, MonitorsFull, BadSpan, BadInterval, BadSeason, BadMakeup, MakeupsFull, UnknownEvent, EventsFull, BadCode, ListFull, BadPair, PairTaken}
 use Rattle.aq_rules.specs.Limits.{MOST_LINES, MOST_LISTED, LAST_LOAD_NUMBER}
 use Rattle.aq_rules.specs.Lines.Spellings.{◌>>=◌}
 use Rattle.aq_rules.specs.Office.Office.{StoredLoad, is_load, is_reply, is_listed, is_rest, listed_rank, rest_rank, rises}
@@ -20,7 +20,7 @@ use Rattle.aq_rows.proofs.Chains.{tested, ends, refused, same_first, none_behind
 use Rattle.aq_rows.proofs.Gathered.{FitsInFront, gathered-is, each-tested, two_tests}
 
 -- each rule has one of the numbers
-pub known_rule : (rule : Rule) → nat_le (rule_number rule) 34 ≡ true
+pub known_rule : (rule : Rule) → nat_le (rule_number rule) 36 ≡ true
 known_rule BadBytes = refl
 known_rule BadTag = refl
 known_rule FieldCount = refl
@@ -55,6 +55,8 @@ known_rule UnknownEvent = refl
 known_rule EventsFull = refl
 known_rule BadCode = refl
 known_rule ListFull = refl
+known_rule BadPair = refl
+known_rule PairTaken = refl
 
 -- ---- words
 
@@ -143,7 +145,7 @@ all-lines : (lines : ℕ) (listed : List ListedLine) → lines ≤ 120000 → li
 all-lines lines [] few all = refl
 all-lines lines (l ∷ listed) few all =
     let parts = and_parts (is_listed lines l) (list_all (is_listed lines) listed) all in
-    let b = and_parts (nat_le 1 l.line) (nat_le l.line lines) (and_parts (nat_le 1 l.line && nat_le l.line lines) (nat_le (rule_number l.rule) 34) parts.0).0 in
+    let b = and_parts (nat_le 1 l.line) (nat_le l.line lines) (and_parts (nat_le 1 l.line && nat_le l.line lines) (nat_le (rule_number l.rule) 36) parts.0).0 in
     let low = leb-true l.line lines b.1 in
     and_from (small_line l) (list_all small_line listed) (grind (arith, nat_tests)) (all-lines lines listed few parts.1)
 

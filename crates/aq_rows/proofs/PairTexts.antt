@@ -32,10 +32,10 @@ no_rest text none = rw (nothing_behind text none) (none_behind (rule_in (before_
 
 -- ---- rules have small numbers
 
-none_so_great : (n : ℕ) (rules : List Rule) → list_all (λ r. nat_le (rule_number r) 34) rules ≡ true → 34 < n → find (λ r. rule_number r == n) rules ≡ None
+none_so_great : (n : ℕ) (rules : List Rule) → list_all (λ r. nat_le (rule_number r) 36) rules ≡ true → 36 < n → find (λ r. rule_number r == n) rules ≡ None
 none_so_great n [] all great = refl
 none_so_great n (rule ∷ rules) all great =
-    let parts = and_parts (nat_le (rule_number rule) 34) (list_all (λ r. nat_le (rule_number r) 34) rules) all in
+    let parts = and_parts (nat_le (rule_number rule) 36) (list_all (λ r. nat_le (rule_number r) 36) rules) all in
     let other : (rule_number rule == n) ≡ false = grind (arith, nat_tests) in
     ap (λ b. cond b (Some rule) (find (λ r. rule_number r == n) rules)) other ∙ none_so_great n rules parts.1 great
 

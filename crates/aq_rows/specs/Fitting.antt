@@ -10,7 +10,7 @@ use Rattle.aq_base.specs.declared.monitor.MonitorId.{MonitorId}
 use Rattle.aq_base.specs.declared.observation.ObsKey.{ObsKey}
 use Rattle.aq_base.specs.declared.observation.Observation.{Observation}
 use Rattle.aq_base.specs.declared.office.OfficeRecord.{OfficeRecord}
-use Rattle.aq_base.specs.declared.office.OfficeRecord.TheVariants.{Monitor, Primary, Schedule, Season, Makeup, Event, Concurrence, Approved}
+use Rattle.aq_base.specs.declared.office.OfficeRecord.TheVariants.{Monitor, Primary, Schedule, Season, Makeup, Event, Concurrence, Approved, Combined}
 use Rattle.aq_base.specs.declared.office.OfficeKey.TheVariants.{Monitor as MonitorKey}
 use Rattle.aq_rules.specs.Lines.Spellings.{◌>>=◌}
 use Rattle.aq_rules.specs.Office.Office.{Office, is_same, key_numbers, record_rank, record_at, monitor_duration, duration_at, is_site, is_poc, is_record, is_content, is_kept_hour, has_its_monitor, has_its_event, group_size, most_in_group, fits_records, fits_monitors}
@@ -62,6 +62,7 @@ monitor-fits id (Some (Makeup site missed makeup)) hour found kept = cc
 monitor-fits id (Some (Event number site pollutant first last code)) hour found kept = cc
 monitor-fits id (Some (Concurrence number agreed)) hour found kept = cc
 monitor-fits id (Some (Approved site day)) hour found kept = cc
+monitor-fits id (Some (Combined site pollutant from joined)) hour found kept = cc
 
 pub fitting_can_stand : (office : Office) (entry : ObsKey × Observation) → list_all (fits_records office) office.records ≡ true → fits_monitors office entry ≡ true → can_stand entry ≡ true
 fitting_can_stand office entry records fits =

@@ -18,7 +18,7 @@ pub fn office_key(alloc: Global, key: &OfficeKey) -> Result<RowKey, Memory>
     Ok(RowKey::office(kind_of(key), Bytes::from_vec(text)))
 }
 
-/// A key's kind, from 1 (a monitor) to 8 (an approved day).
+/// A key's kind, from 1 (a monitor) to 9 (a combination).
 pub(crate) fn kind_of(key: &OfficeKey) -> i64
     ensures { result ≡ pos (kind_of key.now) }
 {
@@ -31,6 +31,7 @@ pub(crate) fn kind_of(key: &OfficeKey) -> i64
         OfficeKey::Event { .. } => 6,
         OfficeKey::Concurrence { .. } => 7,
         OfficeKey::Approved { .. } => 8,
+        OfficeKey::Combined { .. } => 9,
     }
 }
 

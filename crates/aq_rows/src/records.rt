@@ -121,5 +121,10 @@ pub(crate) fn key_of(entry: &OfficeRecord) -> OfficeKey
         OfficeRecord::Event { number, .. } => OfficeKey::Event { number },
         OfficeRecord::Concurrence { number, .. } => OfficeKey::Concurrence { number },
         OfficeRecord::Approved { site, day } => OfficeKey::Approved { site, day },
+        OfficeRecord::Combined {
+            site,
+            pollutant,
+            ..
+        } => OfficeKey::Combined { site, pollutant },
     }
 }

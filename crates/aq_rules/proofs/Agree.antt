@@ -5,20 +5,21 @@ use Rattle.std.specs.Prelude.{bytes_eq, codes, filter, find, is_some, is_none, �
 use Rattle.std.proofs.lemmas.Bool.{false≢true, cases_Bool}
 use Rattle.std.proofs.lemmas.Slice.Eq.{bytes_eq-Decides}
 use Rattle.aq_base.specs.Decimal.{is_decimal, cut}
+use Rattle.aq_base.specs.Site.{Site}
 use Rattle.aq_base.specs.declared.code.Code.{Code}
 use Rattle.aq_base.specs.declared.monitor.Pollutant.{Pollutant}
 use Rattle.aq_base.specs.Calendar.{hour_number}
 use Rattle.aq_base.specs.declared.observation.Observation.{Observation}
 use Rattle.aq_base.specs.declared.office.OfficeRecord.{OfficeRecord}
-use Rattle.aq_base.specs.declared.office.OfficeRecord.TheVariants.{Season, Makeup, Event, Concurrence}
+use Rattle.aq_base.specs.declared.office.OfficeRecord.TheVariants.{Season, Makeup, Event, Concurrence, Combined}
 use Rattle.aq_base.specs.declared.rule.Rule.{Rule}
-use Rattle.aq_base.specs.declared.rule.Rule.TheVariants.{BadBytes, BadTag, FieldCount, BadAction, BadSite, ParameterOutOfProfile, BadPoc, BadDuration, BadUnit, BadMethod, BadDate, BadTime, ValueAndNull, NeitherValueNorNull, BadValue, ValueOutOfRange, BadNull, BadQualifier, BadSpan, BadInterval, BadSeason, BadMakeup, BadCode}
-use Rattle.aq_rules.specs.Lines.FormRules.{rd_put_rule, rd_put-rule, rd_delete_rule, rd_delete-rule, xm_rule, xm-rule, xp_rule, xp-rule, xp_key_rule, xp_key-rule, xs_rule, xs-rule, xs_key_rule, xs_key-rule, xo_rule, xo-rule, xo_key_rule, xo_key-rule, xu_rule, xu-rule, xu_key_rule, xu_key-rule, xe_rule, xe-rule, xe_key_rule, xe_key-rule, xc_rule, xc-rule, xa_rule, xa-rule, xa_key_rule, xa_key-rule}
+use Rattle.aq_base.specs.declared.rule.Rule.TheVariants.{BadBytes, BadTag, FieldCount, BadAction, BadSite, ParameterOutOfProfile, BadPoc, BadDuration, BadUnit, BadMethod, BadDate, BadTime, ValueAndNull, NeitherValueNorNull, BadValue, ValueOutOfRange, BadNull, BadQualifier, BadSpan, BadInterval, BadSeason, BadMakeup, BadCode, BadPair}
+use Rattle.aq_rules.specs.Lines.FormRules.{rd_put_rule, rd_put-rule, rd_delete_rule, rd_delete-rule, xm_rule, xm-rule, xp_rule, xp-rule, xp_key_rule, xp_key-rule, xs_rule, xs-rule, xs_key_rule, xs_key-rule, xo_rule, xo-rule, xo_key_rule, xo_key-rule, xu_rule, xu-rule, xu_key_rule, xu_key-rule, xe_rule, xe-rule, xe_key_rule, xe_key-rule, xc_rule, xc-rule, xa_rule, xa-rule, xa_key_rule, xa_key-rule, xb_rule, xb-rule, xb_key_rule, xb_key-rule}
 use Rattle.aq_rules.specs.Lines.Fields.{is_empty, field, fields}
 use Rattle.aq_rules.specs.Lines.Forms.{acts}
-use Rattle.aq_rules.specs.Lines.Spellings.{◌>>=◌, Action, Insert, Update, Delete, action_in, Tag, Rd, Xm, Xp, Xs, Xo, Xu, Xe, Xc, Xa, parameter_in, parameter_of, poc_in, site_in, duration_in, unit_in, method_in, date_in, time_in, value_in, is_in_range, null_in, qualifiers_in, truth_in, primary_in, interval_in, year_in, event_number_in, event_code_in}
+use Rattle.aq_rules.specs.Lines.Spellings.{◌>>=◌, Action, Insert, Update, Delete, action_in, Tag, Rd, Xm, Xp, Xs, Xo, Xu, Xe, Xc, Xa, Xb, parameter_in, parameter_of, poc_in, site_in, duration_in, unit_in, method_in, date_in, time_in, value_in, is_in_range, null_in, qualifiers_in, truth_in, primary_in, interval_in, year_in, event_number_in, event_code_in}
 use Rattle.aq_rules.specs.Lines.RdForm.{monitor_in, start_in, content_in, put_in, delete_in, qualifier_fields}
-use Rattle.aq_rules.specs.Lines.OfficeForms.{hour_in, is_season, is_makeup, is_span, xm_record, xp_record, xp_key, xs_record, xs_key, xo_record, xo_key, xu_record, xu_key, xe_record, xe_key, xc_record, xa_record, xa_key}
+use Rattle.aq_rules.specs.Lines.OfficeForms.{hour_in, is_season, is_makeup, is_span, is_pair, xm_record, xp_record, xp_key, xs_record, xs_key, xo_record, xo_key, xu_record, xu_key, xe_record, xe_key, xc_record, xa_record, xa_key, xb_record, xb_key}
 use Rattle.aq_rules.specs.Lines.Reading.{FIELD_RULES, demands_on, is_of_rule, breaks_in, rules_of, reported_value, fails, value_for, action_for, form_value, has_wrong_count, is_deletion, breaks_parts, rules_for, line_value, reading_rule, is_plain, tag_of}
 
 -- a part that spells something, exactly where its rule is not broken
@@ -293,6 +294,32 @@ agree-xa_key texts =
     agree (date_in (field 6 texts)) _ _ BadDate _ refl λ day is_day.
     refl
 
+-- XB
+xb_end : (site joined : Option Site) (pollutant : Option Pollutant) (from : Option ℕ) (f : Site → Site → Bool) (h : Site → Site → Pollutant → ℕ → OfficeRecord)
+    → is_some (site >>= λ s. joined >>= λ j. pollutant >>= λ p. from >>= λ d. if f s j then Some (h s j p d) else None)
+    ≡ is_none (cond (is_none site || is_none joined) (Some BadSite)
+    (cond (is_none pollutant) (Some ParameterOutOfProfile)
+    (cond (is_none from) (Some BadDate)
+    (cond (fails (site >>= λ s. joined >>= λ j. Some (f s j))) (Some BadPair) None))))
+xb_end None joined pollutant from f h = refl
+xb_end (Some s) None pollutant from f h = refl
+xb_end (Some s) (Some j) None from f h = refl
+xb_end (Some s) (Some j) (Some p) None f h = refl
+xb_end (Some s) (Some j) (Some p) (Some d) f h = tested (f s j) (h s j p d) BadPair
+
+agree-xb : (texts : List (List ℕ)) → is_some (xb_record texts) ≡ is_none (xb_rule texts)
+unfolding xb_record
+agree-xb texts =
+    xb_end (site_in (field 3 texts) (field 4 texts) (field 5 texts)) (site_in (field 8 texts) (field 9 texts) (field 10 texts)) (parameter_of Xb (field 6 texts)) (date_in (field 7 texts)) is_pair
+    (λ s j p d. Combined s p d j)
+
+agree-xb_key : (texts : List (List ℕ)) → is_some (xb_key texts) ≡ is_none (xb_key_rule texts)
+unfolding xb_key
+agree-xb_key texts =
+    agree (site_in (field 3 texts) (field 4 texts) (field 5 texts)) _ _ BadSite _ refl λ site is_site.
+    agree (parameter_of Xb (field 6 texts)) _ _ ParameterOutOfProfile _ refl λ pollutant is_pollutant.
+    refl
+
 -- ---- the whole line
 
 is_delete : Action → Bool
@@ -351,6 +378,9 @@ agree-value Xc Delete texts may = absurd (false≢true may)
 agree-value Xa Insert texts may = kept_twice (xa_record texts) _ _ ∙ agree-xa texts ∙ ap is_none (sym (xa-rule texts))
 agree-value Xa Update texts may = absurd (false≢true may)
 agree-value Xa Delete texts may = kept_twice (xa_key texts) _ _ ∙ agree-xa_key texts ∙ ap is_none (sym (xa_key-rule texts))
+agree-value Xb Insert texts may = kept_twice (xb_record texts) _ _ ∙ agree-xb texts ∙ ap is_none (sym (xb-rule texts))
+agree-value Xb Update texts may = absurd (false≢true may)
+agree-value Xb Delete texts may = kept_twice (xb_key texts) _ _ ∙ agree-xb_key texts ∙ ap is_none (sym (xb_key-rule texts))
 
 -- an action of the form is one that the text spells
 spelled : (tag : Tag) (part : Option Action) (action : Action)
@@ -388,7 +418,7 @@ pub same_rule : (tag : Tag) (texts : List (List ℕ))
 same_rule tag texts =
     same_find (λ rule. breaks_parts rule true (Some tag) texts) (λ rule. breaks_in rule tag (is_deletion texts) texts)
     (λ rule. list_any (is_of_rule rule) (demands_on tag (is_deletion texts))) FIELD_RULES
-    (refl, (refl, (refl, (refl, (refl, (refl, (refl, (refl, (refl, (refl, (refl, (refl, (refl, (refl, (refl, (refl, (refl, (refl, (refl, tt)))))))))))))))))))
+    (refl, (refl, (refl, (refl, (refl, (refl, (refl, (refl, (refl, (refl, (refl, (refl, (refl, (refl, (refl, (refl, (refl, (refl, (refl, (refl, tt))))))))))))))))))))
 
 agree-form : (tag : Tag) (texts : List (List ℕ)) (wrong : Bool) (rest : Option Rule)
     → rest ≡ find (λ rule. breaks_in rule tag (is_deletion texts) texts) (rules_of tag (is_deletion texts))

@@ -20,9 +20,9 @@ use Rattle.aq_base.specs.declared.monitor.Pollutant.TheVariants.{Ozone, Pm25}
 use Rattle.aq_base.specs.declared.observation.ObsKey.{ObsKey}
 use Rattle.aq_base.specs.declared.observation.Observation.{Observation}
 use Rattle.aq_base.specs.declared.office.OfficeRecord.{OfficeRecord}
-use Rattle.aq_base.specs.declared.office.OfficeRecord.TheVariants.{Monitor, Primary, Schedule, Season, Makeup, Event, Concurrence, Approved}
+use Rattle.aq_base.specs.declared.office.OfficeRecord.TheVariants.{Monitor, Primary, Schedule, Season, Makeup, Event, Concurrence, Approved, Combined}
 use Rattle.aq_rules.specs.Lines.Spellings.{◌>>=◌}
-use Rattle.aq_rules.specs.Office.Office.{Office, StoredLoad, IsOffice, observation_rank, load_rank, fits_monitors, is_load, is_same, comes_before, rises_from, rises, part_numbers, kind_of, key_of, record_rank, monitor_duration, registers, has_monitor, has_its_monitor, has_its_event, group_of, group_size, most_in_group, is_record, fits_records, site_numbers, makes_up_on, makeups_on, has_own_makeup_day, with_site, sites_of}
+use Rattle.aq_rules.specs.Office.Office.{Office, StoredLoad, IsOffice, observation_rank, load_rank, fits_monitors, is_load, is_same, comes_before, rises_from, rises, part_numbers, kind_of, key_of, record_rank, monitor_duration, registers, has_monitor, has_its_monitor, has_its_event, group_of, group_size, most_in_group, is_record, fits_records, site_numbers, series_numbers, makes_up_on, makeups_on, combines_either, combinations_of, is_alone, with_site, sites_of}
 use Rattle.aq_rules.proofs.Elements.{Every, every-to}
 
 -- ---- the records behind one have its kind or a greater one
@@ -106,6 +106,7 @@ not_registers site pollutant (Makeup a b c) h = refl
 not_registers site pollutant (Event a b c d e f) h = refl
 not_registers site pollutant (Concurrence a b) h = refl
 not_registers site pollutant (Approved a b) h = refl
+not_registers site pollutant (Combined a b c d) h = refl
 
 module _ (office : Office) (xs ys : List OfficeRecord) (is : office.records ≡ xs ++ ys) where
   abbrev front : Office
@@ -143,6 +144,10 @@ module _ (office : Office) (xs ys : List OfficeRecord) (is : office.records ≡ 
   monitor-front (Event number site pollutant first last code) every h = sym (has-front site pollutant (above 1 6 (omega arith) every)) ∙ h
   monitor-front (Concurrence number agreed) every h = h
   monitor-front (Approved site day) every h = sym (has-front site Ozone (above 1 8 (omega arith) every)) ∙ h
+  monitor-front (Combined site pollutant from joined) every h =
+      let low = above 1 9 (omega arith) every in
+      let parts = and_parts (has_monitor office site pollutant) (has_monitor office joined pollutant) h in
+      and_from (has_monitor front site pollutant) (has_monitor front joined pollutant) (sym (has-front site pollutant low) ∙ parts.0) (sym (has-front joined pollutant low) ∙ parts.1)
 
   event-front : (r : OfficeRecord) → Every (λ s. kind r ≤ kind s) ys → has_its_event office r ≡ true → has_its_event front r ≡ true
   event-front (Monitor id duration eligible) every h = h
@@ -153,6 +158,7 @@ module _ (office : Office) (xs ys : List OfficeRecord) (is : office.records ≡ 
   event-front (Event number site pollutant first last code) every h = h
   event-front (Concurrence number agreed) every h = sym (ap is_some (at-front 6 (number ∷ []) (above 6 7 (omega arith) every))) ∙ h
   event-front (Approved site day) every h = h
+  event-front (Combined site pollutant from joined) every h = h
 
   count-front : (p : OfficeRecord → Bool) → count_by p xs ≤ count_by p office.records
   count-front p =
@@ -232,6 +238,7 @@ distinct-sites (Makeup a b c ∷ records) = distinct-sites records
 distinct-sites (Event a b c d e f ∷ records) = distinct-sites records
 distinct-sites (Concurrence a b ∷ records) = distinct-sites records
 distinct-sites (Approved a b ∷ records) = distinct-sites records
+distinct-sites (Combined a b c d ∷ records) = distinct-sites records
 
 -- a site that is there stays when another is put before
 member-with : (site q : Site) (small large : List Site) → ((p : Site) → is_member same_sites small p ≡ true → is_member same_sites large p ≡ true)
@@ -286,11 +293,12 @@ member-front (Makeup a b c ∷ xs) ys q h = member-front xs ys q h
 member-front (Event a b c d e f ∷ xs) ys q h = member-front xs ys q h
 member-front (Concurrence a b ∷ xs) ys q h = member-front xs ys q h
 member-front (Approved a b ∷ xs) ys q h = member-front xs ys q h
+member-front (Combined a b c d ∷ xs) ys q h = member-front xs ys q h
 
 sites-front : (xs ys : List OfficeRecord) → length (sites_of xs) ≤ length (sites_of (xs ++ ys))
 sites-front xs ys = length-le_from_is_member sites_laws (sites_of xs) (sites_of (xs ++ ys)) (distinct-sites xs) (member-front xs ys)
 
--- ---- make-up days of a front
+-- ---- make-up days and combined sites of a front
 
 module _ (office : Office) (xs ys : List OfficeRecord) (is : office.records ≡ xs ++ ys) where
   here : (before : List OfficeRecord) (r : OfficeRecord) (rest : List OfficeRecord) (p : OfficeRecord → Bool) → xs ≡ before ++ r ∷ rest → p r ≡ true → 1 ≤ count_by p xs
@@ -299,7 +307,7 @@ module _ (office : Office) (xs ys : List OfficeRecord) (is : office.records ≡ 
       let one : count_by p (r ∷ rest) ≡ 1 + count_by p rest = sum_by-cons (λ s. cond (p s) 1 0) r rest ∙ rw passes refl in
       omega (arith, all, one)
 
-  own-front : (before : List OfficeRecord) (r : OfficeRecord) (rest : List OfficeRecord) → xs ≡ before ++ r ∷ rest → has_own_makeup_day office r ≡ true → has_own_makeup_day (front office xs ys is) r ≡ true
+  own-front : (before : List OfficeRecord) (r : OfficeRecord) (rest : List OfficeRecord) → xs ≡ before ++ r ∷ rest → is_alone office r ≡ true → is_alone (front office xs ys is) r ≡ true
   own-front before (Makeup site missed makeup) rest split own =
       let p : OfficeRecord → Bool = makes_up_on site makeup in
       let itself : p (Makeup site missed makeup) ≡ true =
@@ -316,12 +324,20 @@ module _ (office : Office) (xs ys : List OfficeRecord) (is : office.records ≡ 
   own-front before (Event a b c d e f) rest split own = refl
   own-front before (Concurrence a b) rest split own = refl
   own-front before (Approved a b) rest split own = refl
+  own-front before (Combined site pollutant from joined) rest split own =
+      let p : OfficeRecord → Bool = combines_either site joined pollutant in
+      let first : is_same (series_numbers site pollutant) (series_numbers site pollutant) ≡ true = (bytes_eq-Decides (series_numbers site pollutant) (series_numbers site pollutant)).1 refl in
+      let itself : p (Combined site pollutant from joined) ≡ true = rw first refl in
+      let one : combinations_of office site joined pollutant ≡ 1 = eqb-true (combinations_of office site joined pollutant) 1 own in
+      let few = count-front office xs ys is p in
+      let some = here before (Combined site pollutant from joined) rest p split itself in
+      eq-eqb (count_by p xs) 1 (omega (arith, one, few, some))
 
-  all-own : (before rest : List OfficeRecord) → xs ≡ before ++ rest → list_all (has_own_makeup_day office) rest ≡ true → list_all (has_own_makeup_day (front office xs ys is)) rest ≡ true
+  all-own : (before rest : List OfficeRecord) → xs ≡ before ++ rest → list_all (is_alone office) rest ≡ true → list_all (is_alone (front office xs ys is)) rest ≡ true
   all-own before [] split own = refl
   all-own before (r ∷ rest) split own =
-      let parts = and_parts (has_own_makeup_day office r) (list_all (has_own_makeup_day office) rest) own in
-      and_from (has_own_makeup_day (front office xs ys is) r) (list_all (has_own_makeup_day (front office xs ys is)) rest) (own-front before r rest split parts.0)
+      let parts = and_parts (is_alone office r) (list_all (is_alone office) rest) own in
+      and_from (is_alone (front office xs ys is) r) (list_all (is_alone (front office xs ys is)) rest) (own-front before r rest split parts.0)
       (all-own (before ++ r ∷ []) rest (split ∙ sym (append_assoc before (r ∷ []) rest)) parts.1)
 
 all-front : {X : Type 0} (p : X → Bool) (xs ys : List X) → list_all p (xs ++ ys) ≡ true → list_all p xs ≡ true
@@ -337,13 +353,13 @@ pub records-front : (office : Office) (xs ys : List OfficeRecord) → office.rec
 records-front office xs ys is valid =
     let rising : rises record_rank (xs ++ ys) ≡ true = ap (rises record_rank) (sym is) ∙ valid.keys_rise.records in
     let fit : list_all (fits_records office) (xs ++ ys) ≡ true = ap (list_all (fits_records office)) (sym is) ∙ valid.records_fit in
-    let own : list_all (has_own_makeup_day office) (xs ++ ys) ≡ true = ap (list_all (has_own_makeup_day office)) (sym is) ∙ valid.makeup_days_differ in
+    let own : list_all (is_alone office) (xs ++ ys) ≡ true = ap (list_all (is_alone office)) (sym is) ∙ valid.records_alone in
     let sites : length (sites_of office.records) ≤ 256 = valid.few_sites in
     let all : length (sites_of office.records) ≡ length (sites_of (xs ++ ys)) = ap (λ (l : List OfficeRecord). length (sites_of l)) is in
     record {
       keys_rise = record { records = rises-front record_rank xs ys rising; observations = refl; loads = refl };
       records_fit = all-fit office xs ys is xs (front-kinds xs ys rising) (all-front (fits_records office) xs ys fit);
-      makeup_days_differ = all-own office xs ys is [] xs refl (all-front (has_own_makeup_day office) xs ys own);
+      records_alone = all-own office xs ys is [] xs refl (all-front (is_alone office) xs ys own);
       few_sites = omega (arith, sites, all, sites-front xs ys);
       observations_fit = refl;
       few_observations = omega arith;
@@ -359,7 +375,7 @@ observations-front office xs ys is valid =
     record {
       keys_rise = record { records = valid.keys_rise.records; observations = rises-front observation_rank xs ys rising; loads = refl };
       records_fit = valid.records_fit;
-      makeup_days_differ = valid.makeup_days_differ;
+      records_alone = valid.records_alone;
       few_sites = valid.few_sites;
       observations_fit = all-front (fits_monitors office) xs ys fit;
       few_observations = omega (arith, few, ap length is, length-front xs ys);
@@ -375,7 +391,7 @@ loads-front office xs ys is valid =
     record {
       keys_rise = record { records = valid.keys_rise.records; observations = valid.keys_rise.observations; loads = rises-front load_rank xs ys rising };
       records_fit = valid.records_fit;
-      makeup_days_differ = valid.makeup_days_differ;
+      records_alone = valid.records_alone;
       few_sites = valid.few_sites;
       observations_fit = valid.observations_fit;
       few_observations = valid.few_observations;

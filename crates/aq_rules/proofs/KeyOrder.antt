@@ -7,12 +7,12 @@ use Rattle.std.proofs.lemmas.Bool.Decides.{nat_tests}
 use Rattle.aq_base.specs.Calendar.{days_of_years, days_of_months, year_of, month_of, day_of_month, days_in_month, is_year}
 use Rattle.aq_base.specs.Decimal.{last_digits}
 use Rattle.aq_base.specs.declared.office.OfficeKey.{OfficeKey}
-use Rattle.aq_base.specs.declared.office.OfficeKey.TheVariants.{Monitor as MonitorKey, Primary as PrimaryKey, Schedule as ScheduleKey, Season as SeasonKey, Makeup as MakeupKey, Event as EventKey, Concurrence as ConcurrenceKey, Approved as ApprovedKey}
+use Rattle.aq_base.specs.declared.office.OfficeKey.TheVariants.{Monitor as MonitorKey, Primary as PrimaryKey, Schedule as ScheduleKey, Season as SeasonKey, Makeup as MakeupKey, Event as EventKey, Concurrence as ConcurrenceKey, Approved as ApprovedKey, Combined as CombinedKey}
 use Rattle.aq_base.specs.Site.{Site}
 use Rattle.aq_base.specs.declared.day.TheConstants.{FIRST_YEAR, LAST_YEAR, LAST_DAY}
 use Rattle.aq_base.specs.declared.monitor.Pollutant.{Pollutant}
 use Rattle.aq_base.specs.declared.monitor.Pollutant.TheVariants.{Ozone, Pm25, Pm10}
-use Rattle.aq_rules.specs.Lines.Spellings.{has_parameter, Xs}
+use Rattle.aq_rules.specs.Lines.Spellings.{has_parameter, Xs, Xb}
 use Rattle.aq_rules.specs.Office.Office.{is_same, comes_before, parameter_number, site_numbers, series_numbers, part_numbers, key_numbers, kind_of, is_site, is_day, is_poc, is_key}
 use Rattle.aq_rules.specs.Lines.Canonical.{parameter_text, date_text, site_texts, joined, key_texts, printed_key}
 use Rattle.aq_rules.specs.Office.RowOrder.{before-total}
@@ -324,6 +324,10 @@ same_kind (ApprovedKey s d) (ApprovedKey t f) h i e =
     let x = and_parts (is_site s) (is_day d) h in
     let y = and_parts (is_site t) (is_day f) i in
     site_parts s t _ _ (d ∷ []) (f ∷ []) x.0 y.0 (last_part _ _ d f (ordered-date d f (at_most_day d x.1) (at_most_day f y.1)))
+same_kind (CombinedKey s p) (CombinedKey t q) h i e =
+    let x = and_parts (is_site s) (has_parameter Xb p) h in
+    let y = and_parts (is_site t) (has_parameter Xb q) i in
+    site_parts s t _ _ (parameter_number p ∷ []) (parameter_number q ∷ []) x.0 y.0 (last_part _ _ (parameter_number p) (parameter_number q) (ordered-parameter p q))
 same_kind (EventKey m) (EventKey n) h i e =
     let x = and_parts (nat_le 1 m) (nat_le m 999999) h in
     let y = and_parts (nat_le 1 n) (nat_le n 999999) i in

@@ -12,7 +12,7 @@ use Rattle.aq_base.specs.declared.office.OfficeRecord.TheVariants.{Monitor, Prim
 use Rattle.aq_base.specs.declared.office.OfficeKey.TheVariants.{Monitor as MonitorKey, Event as EventKey}
 use Rattle.aq_base.specs.declared.office.OfficeLine.TheVariants.{Put, Change, Drop}
 use Rattle.aq_rules.specs.Lines.Fields.{fields}
-use Rattle.aq_rules.specs.Lines.Spellings.{Tag, Rd, Xm, Xp, Xs, Xo, Xu, Xe, Xc, Xa}
+use Rattle.aq_rules.specs.Lines.Spellings.{Tag, Rd, Xm, Xp, Xs, Xo, Xu, Xe, Xc, Xa, Xb}
 use Rattle.aq_rules.specs.Lines.RdForm.{Put as PutSample, Delete as DeleteSample}
 use Rattle.aq_rules.specs.Lines.Reading.{LineValue, OfRd, OfOffice, rules_of, rules_for, reading_rules, tag_of, is_deletion}
 use Rattle.aq_rules.specs.Office.Refusal.{office_rules}
@@ -105,6 +105,8 @@ tag_rises Xc true = refl
 tag_rises Xc false = refl
 tag_rises Xa true = refl
 tag_rises Xa false = refl
+tag_rises Xb true = refl
+tag_rises Xb false = refl
 
 parts_rise : (tag : Option Tag) (texts : List (List ℕ)) → rises rule_rank (BadBytes ∷ BadTag ∷ FieldCount ∷ BadAction ∷ rules_for tag texts) ≡ true
 parts_rise None texts = refl

@@ -38,7 +38,7 @@ load-fits office load valid room is = by_number (load.number == 0)
     by_number false = record {
       keys_rise = record { records = valid.keys_rise.records; observations = valid.keys_rise.observations; loads = with_row-rises load_rank load office.loads valid.keys_rise.loads };
       records_fit = valid.records_fit;
-      makeup_days_differ = valid.makeup_days_differ;
+      records_alone = valid.records_alone;
       few_sites = valid.few_sites;
       observations_fit = valid.observations_fit;
       few_observations = valid.few_observations;

@@ -17,7 +17,7 @@ use Rattle.aq_base.specs.declared.monitor.Pollutant.TheVariants.{Ozone, Pm25, Pm
 use Rattle.aq_base.specs.declared.observation.ObsKey.{ObsKey}
 use Rattle.aq_base.specs.declared.observation.Observation.{Observation}
 use Rattle.aq_base.specs.declared.office.OfficeRecord.{OfficeRecord}
-use Rattle.aq_base.specs.declared.office.OfficeRecord.TheVariants.{Monitor, Primary, Schedule, Season, Makeup, Event, Concurrence, Approved}
+use Rattle.aq_base.specs.declared.office.OfficeRecord.TheVariants.{Monitor, Primary, Schedule, Season, Makeup, Event, Concurrence, Approved, Combined}
 use Rattle.aq_base.specs.declared.office.OfficeKey.TheVariants.{Monitor as MonitorKey}
 use Rattle.aq_rules.specs.Lines.Spellings.{◌>>=◌}
 use Rattle.aq_rules.specs.Office.Office.{Office, StoredLoad, IsOffice, is_same, key_numbers, record_rank, record_at, monitor_duration, duration_at, is_site, is_poc, is_record, fits_records, has_its_monitor, has_its_event, group_size, most_in_group, is_qualifier, is_measured, is_content, is_kept_hour, fits_monitors, is_load, pollutant_number}
@@ -76,6 +76,7 @@ monitor-site id (Some (Makeup site missed makeup)) hour found kept = cc
 monitor-site id (Some (Event number site pollutant first last code)) hour found kept = cc
 monitor-site id (Some (Concurrence number agreed)) hour found kept = cc
 monitor-site id (Some (Approved site day)) hour found kept = cc
+monitor-site id (Some (Combined site pollutant from joined)) hour found kept = cc
 
 site-back : (site : Site) → is_site site ≡ true → site_with (site_key site) ≡ site
 site-back site is =

@@ -19,7 +19,7 @@ use Rattle.aq_base.specs.declared.monitor.Pollutant.TheVariants.{Ozone}
 use Rattle.aq_base.specs.declared.observation.ObsKey.{ObsKey}
 use Rattle.aq_base.specs.declared.observation.Observation.{Observation}
 use Rattle.aq_base.specs.declared.office.OfficeRecord.{OfficeRecord}
-use Rattle.aq_base.specs.declared.office.OfficeRecord.TheVariants.{Monitor, Primary, Schedule, Season as SeasonRecord, Makeup, Event, Concurrence, Approved}
+use Rattle.aq_base.specs.declared.office.OfficeRecord.TheVariants.{Monitor, Primary, Schedule, Season as SeasonRecord, Makeup, Event, Concurrence, Approved, Combined}
 use Rattle.aq_rules.specs.Lines.Spellings.{is_in_range}
 use Rattle.aq_rules.specs.Lines.OfficeForms.{is_season}
 use Rattle.aq_rules.specs.Office.Office.{Office, IsOffice, is_site, is_day, is_record, fits_records, is_measured, fits_monitors}
@@ -217,6 +217,7 @@ module _ (site : Site) (year : ℕ) (holds : HoldsYear year) where
   season-begins (Event number other pollutant first last code) is = tt
   season-begins (Concurrence number agreed) is = tt
   season-begins (Approved other day) is = tt
+  season-begins (Combined other pollutant from joined) is = tt
 
   some_days : 1 ≤ days_in_year year
   some_days = elim (year % 4 == 0) as (λ b. 1 ≤ cond b 366 365) [ true ↦ omega arith | false ↦ omega arith ]

@@ -11,10 +11,10 @@ use Rattle.aq_base.specs.Site.{Site}
 use Rattle.aq_base.specs.declared.day.TheConstants.{LAST_DAY}
 use Rattle.aq_base.specs.declared.monitor.Pollutant.TheVariants.{Pm25}
 use Rattle.aq_base.specs.declared.office.OfficeRecord.{OfficeRecord}
-use Rattle.aq_base.specs.declared.office.OfficeRecord.TheVariants.{Monitor, Primary, Schedule, Season, Makeup as MakeupRecord, Event, Concurrence, Approved}
+use Rattle.aq_base.specs.declared.office.OfficeRecord.TheVariants.{Monitor, Primary, Schedule, Season, Makeup as MakeupRecord, Event, Concurrence, Approved, Combined}
 use Rattle.aq_base.specs.declared.office.OfficeKey.TheVariants.{Makeup as MakeupKey}
 use Rattle.aq_rules.specs.Lines.OfficeForms.{is_makeup}
-use Rattle.aq_rules.specs.Office.Office.{Office, IsOffice, key_numbers, record_rank, is_same, site_numbers, is_site, is_day, is_record, fits_records, has_its_monitor, has_its_event, group_size, most_in_group, makes_up_on, makeups_on, has_own_makeup_day}
+use Rattle.aq_rules.specs.Office.Office.{Office, IsOffice, key_numbers, record_rank, is_same, site_numbers, is_site, is_day, is_record, fits_records, has_its_monitor, has_its_event, group_size, most_in_group, makes_up_on, makeups_on, is_alone}
 use Rattle.aq_rules.specs.Office.Monitors.{is_same_site}
 use Rattle.aq_rules.specs.Office.Schedule.{is_scheduled}
 use Rattle.aq_rules.specs.Ozone.SiteHour.{Cell}
@@ -86,6 +86,7 @@ module _ (site : Site) (quarter : ℕ) where
   made-in_quarter (Event number other pollutant first last code) is = tt
   made-in_quarter (Concurrence number agreed) is = tt
   made-in_quarter (Approved other day) is = tt
+  made-in_quarter (Combined other pollutant from joined) is = tt
 
   onto : (P : Makeup → Type 0) (o : Option Makeup) (ms : List Makeup) → IfMade P o → Every P ms → Every P (cons_option o ms)
   onto P None ms h every = every
@@ -122,6 +123,7 @@ module _ (site : Site) (quarter : ℕ) where
   missed-key d (Event number other pollutant first last code) = tt
   missed-key d (Concurrence number agreed) = tt
   missed-key d (Approved other day) = tt
+  missed-key d (Combined other pollutant from joined) = tt
 
   makeup-key : (d : ℕ) (r : OfficeRecord) → IfMade (λ m. m.makeup ≡ d → makes_up_on site d r ≡ true) (makeup_by site quarter r)
   makeup-key d (MakeupRecord other missed makeup) = by_test (is_same_site other site) (quarter_of missed == quarter) refl
@@ -142,6 +144,7 @@ module _ (site : Site) (quarter : ℕ) where
   makeup-key d (Event number other pollutant first last code) = tt
   makeup-key d (Concurrence number agreed) = tt
   makeup-key d (Approved other day) = tt
+  makeup-key d (Combined other pollutant from joined) = tt
 
   -- each make-up of a day comes from a record that passes the test
   module _ (day : Makeup → ℕ) (d : ℕ) (test : OfficeRecord → Bool)
@@ -173,7 +176,7 @@ same_numbers a b e =
     λ i. record { state = state i; county = county i; number = number i }
 
 module _ (office : Office) (site : Site) (d : ℕ) where
-  own_day : (r : OfficeRecord) → makes_up_on site d r ≡ true → has_own_makeup_day office r ≡ true → makeups_on office site d ≤ 1
+  own_day : (r : OfficeRecord) → makes_up_on site d r ≡ true → is_alone office r ≡ true → makeups_on office site d ≤ 1
   own_day (MakeupRecord other missed makeup) on_day own =
       let parts = and_parts (is_same (site_numbers other) (site_numbers site)) (makeup == d) on_day in
       let s : other ≡ site = same_numbers other site ((bytes_eq-Decides (site_numbers other) (site_numbers site)).0 parts.0) in
@@ -188,14 +191,15 @@ module _ (office : Office) (site : Site) (d : ℕ) where
   own_day (Event number other pollutant first last code) on_day own = cc
   own_day (Concurrence number agreed) on_day own = cc
   own_day (Approved other day) on_day own = cc
+  own_day (Combined other pollutant from joined) on_day own = cc
 
-  none_or_one : (records : List OfficeRecord) → list_all (has_own_makeup_day office) records ≡ true → (count_by (makes_up_on site d) records ≡ 0) ⊎ (makeups_on office site d ≤ 1)
+  none_or_one : (records : List OfficeRecord) → list_all (is_alone office) records ≡ true → (count_by (makes_up_on site d) records ≡ 0) ⊎ (makeups_on office site d ≤ 1)
   none_or_one [] own = inl refl
   none_or_one (r ∷ records) own =
-      let parts = and_parts (has_own_makeup_day office r) (list_all (has_own_makeup_day office) records) own in
+      let parts = and_parts (is_alone office r) (list_all (is_alone office) records) own in
       by_test (makes_up_on site d r) refl parts.0 (none_or_one records parts.1)
     where
-      by_test : (b : Bool) → makes_up_on site d r ≡ b → has_own_makeup_day office r ≡ true → (count_by (makes_up_on site d) records ≡ 0) ⊎ (makeups_on office site d ≤ 1)
+      by_test : (b : Bool) → makes_up_on site d r ≡ b → is_alone office r ≡ true → (count_by (makes_up_on site d) records ≡ 0) ⊎ (makeups_on office site d ≤ 1)
           → (count_by (makes_up_on site d) (r ∷ records) ≡ 0) ⊎ (makeups_on office site d ≤ 1)
       by_test true e mine rest = inr (own_day r e mine)
       by_test false e mine (inr few) = inr few
@@ -204,7 +208,7 @@ module _ (office : Office) (site : Site) (d : ℕ) where
           inl (omega (arith, first, none))
 
   one_makeup : IsOffice office → makeups_on office site d ≤ 1
-  one_makeup is = elim (none_or_one office.records is.makeup_days_differ) [ inl none ↦ omega (arith, none) | inr few ↦ few ]
+  one_makeup is = elim (none_or_one office.records is.records_alone) [ inl none ↦ omega (arith, none) | inr few ↦ few ]
 
 -- ---- counts of days
 

@@ -18,15 +18,15 @@ use Rattle.aq_base.specs.declared.monitor.Duration.{Duration}
 use Rattle.aq_base.specs.declared.monitor.Duration.TheVariants.{Hour, Day}
 use Rattle.aq_base.specs.declared.monitor.MonitorId.{MonitorId}
 use Rattle.aq_base.specs.declared.office.OfficeRecord.{OfficeRecord}
-use Rattle.aq_base.specs.declared.office.OfficeRecord.TheVariants.{Monitor, Primary, Schedule, Season, Makeup, Event, Concurrence, Approved}
+use Rattle.aq_base.specs.declared.office.OfficeRecord.TheVariants.{Monitor, Primary, Schedule, Season, Makeup, Event, Concurrence, Approved, Combined}
 use Rattle.aq_base.specs.declared.office.OfficeKey.{OfficeKey}
-use Rattle.aq_base.specs.declared.office.OfficeKey.TheVariants.{Monitor as MonitorKey, Primary as PrimaryKey, Schedule as ScheduleKey, Season as SeasonKey, Makeup as MakeupKey, Event as EventKey, Concurrence as ConcurrenceKey, Approved as ApprovedKey}
+use Rattle.aq_base.specs.declared.office.OfficeKey.TheVariants.{Monitor as MonitorKey, Primary as PrimaryKey, Schedule as ScheduleKey, Season as SeasonKey, Makeup as MakeupKey, Event as EventKey, Concurrence as ConcurrenceKey, Approved as ApprovedKey, Combined as CombinedKey}
 use Rattle.aq_base.specs.declared.office.OfficeLine.{OfficeLine}
 use Rattle.aq_base.specs.declared.office.OfficeLine.TheVariants.{Put, Change, Drop}
 use Rattle.aq_rules.specs.Lines.Fields.{field, fields}
-use Rattle.aq_rules.specs.Lines.Spellings.{◌>>=◌, tag_in, Rd, Xm, Xs, Xp, Xu, Xe, is_interval, is_event_number, is_event_code, event_number_in, event_code_in, is_code_byte, has_parameter, has_duration}
+use Rattle.aq_rules.specs.Lines.Spellings.{◌>>=◌, tag_in, Rd, Xm, Xs, Xp, Xu, Xe, Xb, is_interval, is_event_number, is_event_code, event_number_in, event_code_in, is_code_byte, has_parameter, has_duration}
 use Rattle.aq_rules.specs.Lines.RdForm.{monitor_in}
-use Rattle.aq_rules.specs.Lines.OfficeForms.{is_season, is_makeup, is_span, xm_record, xp_record, xp_key, xs_record, xs_key, xo_record, xo_key, xu_record, xu_key, xe_record, xe_key, xc_record, xa_record, xa_key}
+use Rattle.aq_rules.specs.Lines.OfficeForms.{is_season, is_makeup, is_span, is_pair, xm_record, xp_record, xp_key, xs_record, xs_key, xo_record, xo_key, xu_record, xu_key, xe_record, xe_key, xc_record, xa_record, xa_key, xb_record, xb_key}
 use Rattle.aq_rules.specs.Lines.Reading.{OfOffice, line_value, form_value}
 use Rattle.aq_rules.specs.Lines.Canonical.{is_office_line, parameter_text, duration_text, date_text, time_text, truth_text, code_text, joined, office_texts, canonical_office}
 use Rattle.aq_rules.specs.Office.Office.{is_site, is_poc, is_day}
@@ -288,6 +288,37 @@ read-xa_key s d h i =
     (clean-site s (date_text d ∷ []) (one (date_text d) (clean-date d)))
     (drop_is _ _ (xa_key_read (codes "XA") (codes "D") s d h i))
 
+-- combined sites
+xb_read : (tag action : List ℕ) (s : Site) (p : Pollutant) (d : ℕ) (j : Site) → is_site s ≡ true → has_parameter Xb p ≡ true → is_day d ≡ true → is_site j ≡ true → is_pair s j ≡ true
+    → xb_record (tag ∷ action ∷ series_with s p d (site_with j [])) ≡ Some (Combined s p d j)
+unfolding xb_record
+xb_read tag action s p d j h e i k l =
+    bind-is _ (site_is s h) ∙ bind-is _ (site_is j k) ∙ bind-is _ (parameter_of-is Xb p e) ∙ bind-is _ (date_is d (at_most_day d i))
+    ∙ ap (λ b. if b then Some (Combined s p d j) else None) l
+
+read-xb : (s : Site) (p : Pollutant) (d : ℕ) (j : Site) → is_site s ≡ true → has_parameter Xb p ≡ true → is_day d ≡ true → is_site j ≡ true → is_pair s j ≡ true
+    → line_value (canonical_office (Put (Combined s p d j))) ≡ Some (OfOffice (Put (Combined s p d j)))
+unfolding office_texts
+read-xb s p d j h e i k l =
+    round (Put (Combined s p d j)) (codes "XB") (codes "I" ∷ series_with s p d (site_with j [])) refl
+    (clean-series s p d (site_with j [])
+    (also (last_digits 2 j.state) (last_digits 3 j.county ∷ last_digits 4 j.number ∷ []) (clean-digits 2 j.state)
+    (also (last_digits 3 j.county) (last_digits 4 j.number ∷ []) (clean-digits 3 j.county) (one (last_digits 4 j.number) (clean-digits 4 j.number)))))
+    (put_is _ _ (xb_read (codes "XB") (codes "I") s p d j h e i k l))
+
+xb_key_read : (tag action : List ℕ) (s : Site) (p : Pollutant) → is_site s ≡ true → has_parameter Xb p ≡ true
+    → xb_key (tag ∷ action ∷ site_with s (parameter_text p ∷ [])) ≡ Some (CombinedKey s p)
+unfolding xb_key
+xb_key_read tag action s p h e = bind-is _ (site_is s h) ∙ bind-is _ (parameter_of-is Xb p e)
+
+read-xb_key : (s : Site) (p : Pollutant) → is_site s ≡ true → has_parameter Xb p ≡ true
+    → line_value (canonical_office (Drop (CombinedKey s p))) ≡ Some (OfOffice (Drop (CombinedKey s p)))
+unfolding office_texts
+read-xb_key s p h e =
+    round (Drop (CombinedKey s p)) (codes "XB") (codes "D" ∷ site_with s (parameter_text p ∷ [])) refl
+    (clean-site s (parameter_text p ∷ []) (one (parameter_text p) (clean-parameter p)))
+    (drop_is _ _ (xb_key_read (codes "XB") (codes "D") s p h e))
+
 -- monitors
 pub poc_short : (p : ℕ) → is_poc p ≡ true → p < 2 ^ 64
 poc_short p h = small_poc p (and_parts (nat_le 1 p) (nat_le p 99) h).1
@@ -484,6 +515,12 @@ round-put (Approved s d) h =
     let x = and_parts (is_site s && is_day d) true h in
     let y = and_parts (is_site s) (is_day d) x.0 in
     read-xa s d y.0 y.1
+round-put (Combined s p d j) h =
+    let x = and_parts (is_site s && has_parameter Xb p) (is_day d && is_site j && is_pair s j) h in
+    let y = and_parts (is_site s) (has_parameter Xb p) x.0 in
+    let z = and_parts (is_day d && is_site j) (is_pair s j) x.1 in
+    let w = and_parts (is_day d) (is_site j) z.0 in
+    read-xb s p d j y.0 y.1 w.0 w.1 z.1
 
 pub round-office : (line : OfficeLine) → is_office_line line ≡ true → line_value (canonical_office line) ≡ Some (OfOffice line)
 round-office (Put r) h = round-put r h
@@ -512,3 +549,6 @@ round-office (Drop (ConcurrenceKey n)) h = absurd (false≢true h)
 round-office (Drop (ApprovedKey s d)) h =
     let x = and_parts (is_site s) (is_day d) h in
     read-xa_key s d x.0 x.1
+round-office (Drop (CombinedKey s p)) h =
+    let x = and_parts (is_site s) (has_parameter Xb p) h in
+    read-xb_key s p x.0 x.1

@@ -12,7 +12,7 @@ use Rattle.aq_base.specs.declared.code.Code.{Code}
 use Rattle.aq_base.specs.declared.reply.ListedLine.{ListedLine}
 use Rattle.aq_base.specs.declared.reply.RestRule.{RestRule}
 use Rattle.aq_base.specs.declared.rule.Rule.{Rule}
-use Rattle.aq_base.specs.declared.rule.Rule.TheVariants.{BadBytes, BadTag, FieldCount, BadAction, BadSite, ParameterOutOfProfile, BadPoc, BadDuration, BadUnit, BadMethod, BadDate, BadTime, ValueAndNull, NeitherValueNorNull, BadValue, ValueOutOfRange, BadNull, BadQualifier, UnknownMonitor, WrongDuration, AlreadyThere, NotThere, ObservationsFull, SitesFull, MonitorsFull, BadSpan, BadInterval, BadSeason, BadMakeup, MakeupsFull, UnknownEvent, EventsFull, BadCode, ListFull}
+use Rattle.aq_base.specs.declared.rule.Rule.TheVariants.{BadBytes, BadTag, FieldCount, BadAction, BadSite, ParameterOutOfProfile, BadPoc, BadDuration, BadUnit, BadMethod, BadDate, BadTime, ValueAndNull, NeitherValueNorNull, BadValue, ValueOutOfRange, BadNull, BadQualifier, UnknownMonitor, WrongDuration, AlreadyThere, NotThere, ObservationsFull, SitesFull, MonitorsFull, BadSpan, BadInterval, BadSeason, BadMakeup, MakeupsFull, UnknownEvent, EventsFull, BadCode, ListFull, BadPair, PairTaken}
 use Rattle.aq_rules.specs.Lines.Fields.{is_empty, is_space}
 use Rattle.aq_rules.specs.Lines.Spellings.{◌>>=◌, is_code_byte, qualifier_in}
 use Rattle.aq_rules.specs.Lines.Canonical.{code_text}
@@ -215,7 +215,7 @@ pair-word a b small_a small_b =
 
 -- ---- rules
 
-pub rule-read : (rule : Rule) → nat_le (rule_number rule) 34 ≡ true → rule_with (rule_number rule) ≡ Some rule
+pub rule-read : (rule : Rule) → nat_le (rule_number rule) 36 ≡ true → rule_with (rule_number rule) ≡ Some rule
 rule-read BadBytes h = refl
 rule-read BadTag h = refl
 rule-read FieldCount h = refl
@@ -250,9 +250,11 @@ rule-read UnknownEvent h = refl
 rule-read EventsFull h = refl
 rule-read BadCode h = refl
 rule-read ListFull h = refl
+rule-read BadPair h = refl
+rule-read PairTaken h = refl
 
-rule_small : (rule : Rule) → nat_le (rule_number rule) 34 ≡ true → rule_number rule < 2 ^ 64
-rule_small rule h = let low : rule_number rule ≤ 34 = grind (arith, nat_tests) in omega arith
+rule_small : (rule : Rule) → nat_le (rule_number rule) 36 ≡ true → rule_number rule < 2 ^ 64
+rule_small rule h = let low : rule_number rule ≤ 36 = grind (arith, nat_tests) in omega arith
 
 abbrev pub listed_write : ListedLine → List ℕ
 listed_write l = pair_text l.line (rule_number l.rule)
@@ -260,7 +262,7 @@ listed_write l = pair_text l.line (rule_number l.rule)
 abbrev pub rest_write : RestRule → List ℕ
 rest_write r = pair_text (rule_number r.rule) r.count
 
-pub listed-read : (l : ListedLine) → l.line < 2 ^ 64 → nat_le (rule_number l.rule) 34 ≡ true → listed_in (listed_write l) ≡ Some l
+pub listed-read : (l : ListedLine) → l.line < 2 ^ 64 → nat_le (rule_number l.rule) 36 ≡ true → listed_in (listed_write l) ≡ Some l
 unfolding listed_in
 listed-read l small known =
     let n = rule_number l.rule in
@@ -269,7 +271,7 @@ listed-read l small known =
     let rule = rule-read l.rule known in
     rw before (rw after (rw rule refl))
 
-pub rest-read : (r : RestRule) → r.count < 2 ^ 64 → nat_le (rule_number r.rule) 34 ≡ true → rest_in (rest_write r) ≡ Some r
+pub rest-read : (r : RestRule) → r.count < 2 ^ 64 → nat_le (rule_number r.rule) 36 ≡ true → rest_in (rest_write r) ≡ Some r
 unfolding rest_in
 rest-read r small known =
     let n = rule_number r.rule in
@@ -279,8 +281,8 @@ rest-read r small known =
     let rule = rule-read r.rule known in
     rw before (rw rule (rw after refl))
 
-pub listed-word : (l : ListedLine) → l.line < 2 ^ 64 → nat_le (rule_number l.rule) 34 ≡ true → IsWord (listed_write l)
+pub listed-word : (l : ListedLine) → l.line < 2 ^ 64 → nat_le (rule_number l.rule) 36 ≡ true → IsWord (listed_write l)
 listed-word l small known = pair-word l.line (rule_number l.rule) small (rule_small l.rule known)
 
-pub rest-word : (r : RestRule) → r.count < 2 ^ 64 → nat_le (rule_number r.rule) 34 ≡ true → IsWord (rest_write r)
+pub rest-word : (r : RestRule) → r.count < 2 ^ 64 → nat_le (rule_number r.rule) 36 ≡ true → IsWord (rest_write r)
 rest-word r small known = pair-word (rule_number r.rule) r.count (rule_small r.rule known) small

@@ -8,7 +8,7 @@ use Rattle.std.proofs.lemmas.Slice.Eq.{bytes_eq-Decides}
 use Rattle.std.proofs.lemmas.Bool.{and_from, and_parts, eqb-true, leb-true}
 use Rattle.aq_base.specs.Rule.{rule_number}
 use Rattle.aq_base.specs.declared.office.OfficeRecord.{OfficeRecord}
-use Rattle.aq_base.specs.declared.office.OfficeRecord.TheVariants.{Monitor, Primary, Schedule, Season, Makeup, Event, Concurrence, Approved}
+use Rattle.aq_base.specs.declared.office.OfficeRecord.TheVariants.{Monitor, Primary, Schedule, Season, Makeup, Event, Concurrence, Approved, Combined}
 use Rattle.aq_base.specs.declared.reply.ListedLine.{ListedLine}
 use Rattle.aq_base.specs.declared.reply.RestRule.{RestRule}
 use Rattle.aq_rules.specs.Limits.{MOST_LINES, MOST_LISTED}
@@ -36,6 +36,7 @@ line-of (Makeup site missed makeup) h = h
 line-of (Event number site pollutant first last code) h = h
 line-of (Concurrence number agreed) h = h
 line-of (Approved site day) h = h
+line-of (Combined site pollutant from joined) h = h
 
 record-of_line : (r : OfficeRecord) → record_in (OfOffice (record_line r)) ≡ Some r
 record-of_line (Monitor id duration eligible) = refl
@@ -46,6 +47,7 @@ record-of_line (Makeup site missed makeup) = refl
 record-of_line (Event number site pollutant first last code) = refl
 record-of_line (Concurrence number agreed) = refl
 record-of_line (Approved site day) = refl
+record-of_line (Combined site pollutant from joined) = refl
 
 office_row-itself : (row : OfficeRow) → is_office_row row row ≡ true
 office_row-itself row =
@@ -74,16 +76,16 @@ load_row-itself row =
 
 -- a listed line, and a rule of the rest, that have a text
 abbrev KnownLine : ListedLine → Type 0
-KnownLine l = (l.line < 2 ^ 64) × (nat_le (rule_number l.rule) 34 ≡ true)
+KnownLine l = (l.line < 2 ^ 64) × (nat_le (rule_number l.rule) 36 ≡ true)
 
 abbrev KnownRest : RestRule → Type 0
-KnownRest r = (r.count < 2 ^ 64) × (nat_le (rule_number r.rule) 34 ≡ true)
+KnownRest r = (r.count < 2 ^ 64) × (nat_le (rule_number r.rule) 36 ≡ true)
 
 listed-known : (lines : ℕ) (listed : List ListedLine) → lines ≤ 120000 → list_all (is_listed lines) listed ≡ true → Every KnownLine listed
 listed-known lines [] few all = tt
 listed-known lines (l ∷ listed) few all =
     let parts = and_parts (is_listed lines l) (list_all (is_listed lines) listed) all in
-    let c = and_parts (nat_le 1 l.line && nat_le l.line lines) (nat_le (rule_number l.rule) 34) parts.0 in
+    let c = and_parts (nat_le 1 l.line && nat_le l.line lines) (nat_le (rule_number l.rule) 36) parts.0 in
     let b = and_parts (nat_le 1 l.line) (nat_le l.line lines) c.0 in
     let low = leb-true l.line lines b.1 in
     ((omega arith, c.1), listed-known lines listed few parts.1)
@@ -92,7 +94,7 @@ rest-known : (rest : List RestRule) → sum_by (λ (r : RestRule). r.count) rest
 rest-known [] few all = tt
 rest-known (r ∷ rest) few all =
     let parts = and_parts (is_rest r) (list_all is_rest rest) all in
-    let c = and_parts (nat_le (rule_number r.rule) 34) (nat_le 1 r.count) parts.0 in
+    let c = and_parts (nat_le (rule_number r.rule) 36) (nat_le 1 r.count) parts.0 in
     let sum = sum_by-cons (λ (o : RestRule). o.count) r rest in
     ((omega (arith, sum), c.0), rest-known rest (omega (arith, sum)) parts.1)
 

@@ -13,7 +13,7 @@ use Rattle.aq_base.specs.declared.monitor.Duration.{Duration}
 use Rattle.aq_base.specs.declared.monitor.Duration.TheVariants.{Hour, Day}
 use Rattle.aq_base.specs.declared.observation.Observation.{Observation}
 use Rattle.aq_base.specs.declared.office.OfficeRecord.{OfficeRecord}
-use Rattle.aq_base.specs.declared.office.OfficeRecord.TheVariants.{Monitor, Primary, Schedule, Season, Makeup, Event, Concurrence, Approved}
+use Rattle.aq_base.specs.declared.office.OfficeRecord.TheVariants.{Monitor, Primary, Schedule, Season, Makeup, Event, Concurrence, Approved, Combined}
 use Rattle.aq_rules.specs.Office.Monitors.{is_same_site, is_same_pollutant, is_same_monitor}
 use Rattle.aq_rules.specs.Office.Load.{is_same_duration, is_same_record, is_same_content}
 use Rattle.aq_rules.proofs.Tests.{int_is, int_itself}
@@ -112,6 +112,15 @@ record-same (Approved site day) (Approved site2 day2) h =
     let site_is = same_site site site2 b.0 in
     let day_is = eqb-true day day2 b.1 in
     λ i. Approved (site_is i) (day_is i)
+record-same (Combined site pollutant from joined) (Combined site2 pollutant2 from2 joined2) h =
+    let d = and_parts (is_same_site site site2 && is_same_pollutant pollutant pollutant2 && (from == from2)) (is_same_site joined joined2) h in
+    let c = and_parts (is_same_site site site2 && is_same_pollutant pollutant pollutant2) (from == from2) d.0 in
+    let b = and_parts (is_same_site site site2) (is_same_pollutant pollutant pollutant2) c.0 in
+    let site_is = same_site site site2 b.0 in
+    let pollutant_is = same_pollutant pollutant pollutant2 b.1 in
+    let from_is = eqb-true from from2 c.1 in
+    let joined_is = same_site joined joined2 d.1 in
+    λ i. Combined (site_is i) (pollutant_is i) (from_is i) (joined_is i)
 record-same a b h = absurd (false≢true h)
 
 pub record-itself : (a : OfficeRecord) → is_same_record a a ≡ true
@@ -126,6 +135,8 @@ record-itself (Event number site pollutant first last code) =
     rw (number_itself number, site_itself site, pollutant_itself pollutant, number_itself first, number_itself last, code-itself code) refl
 record-itself (Concurrence number agreed) = rw (number_itself number, truth-itself agreed) refl
 record-itself (Approved site day) = rw (site_itself site, number_itself day) refl
+record-itself (Combined site pollutant from joined) =
+    rw (site_itself site, pollutant_itself pollutant, number_itself from, site_itself joined) refl
 
 -- ---- observations
 

@@ -17,12 +17,12 @@ use Rattle.aq_base.specs.declared.monitor.Pollutant.TheVariants.{Ozone, Pm25, Pm
 use Rattle.aq_base.specs.declared.observation.ObsKey.{ObsKey}
 use Rattle.aq_base.specs.declared.observation.Observation.{Observation}
 use Rattle.aq_base.specs.declared.office.OfficeRecord.{OfficeRecord}
-use Rattle.aq_base.specs.declared.office.OfficeRecord.TheVariants.{Monitor, Primary, Schedule, Season, Makeup, Event, Concurrence, Approved}
+use Rattle.aq_base.specs.declared.office.OfficeRecord.TheVariants.{Monitor, Primary, Schedule, Season, Makeup, Event, Concurrence, Approved, Combined}
 use Rattle.aq_base.specs.declared.office.OfficeKey.{OfficeKey}
-use Rattle.aq_base.specs.declared.office.OfficeKey.TheVariants.{Monitor as MonitorKey, Primary as PrimaryKey, Schedule as ScheduleKey, Season as SeasonKey, Makeup as MakeupKey, Event as EventKey, Concurrence as ConcurrenceKey, Approved as ApprovedKey}
+use Rattle.aq_base.specs.declared.office.OfficeKey.TheVariants.{Monitor as MonitorKey, Primary as PrimaryKey, Schedule as ScheduleKey, Season as SeasonKey, Makeup as MakeupKey, Event as EventKey, Concurrence as ConcurrenceKey, Approved as ApprovedKey, Combined as CombinedKey}
 use Rattle.aq_base.specs.declared.office.OfficeLine.TheVariants.{Put, Change, Drop}
 use Rattle.aq_base.specs.declared.rule.Rule.{Rule}
-use Rattle.aq_base.specs.declared.rule.Rule.TheVariants.{UnknownMonitor, WrongDuration, AlreadyThere, NotThere, ObservationsFull, SitesFull, MonitorsFull, MakeupsFull, UnknownEvent, EventsFull, ListFull}
+use Rattle.aq_base.specs.declared.rule.Rule.TheVariants.{UnknownMonitor, WrongDuration, AlreadyThere, NotThere, ObservationsFull, SitesFull, MonitorsFull, MakeupsFull, UnknownEvent, EventsFull, ListFull, PairTaken}
 use Rattle.aq_rules.specs.Limits.{MOST_SITES, MOST_OBSERVATIONS}
 use Rattle.aq_rules.specs.Lines.Lines.{NumberedLine}
 use Rattle.aq_rules.specs.Lines.Spellings.{◌>>=◌}
@@ -30,7 +30,7 @@ use Rattle.aq_rules.specs.Lines.RdForm.{RdValue, Put as PutSample, Delete as Del
 use Rattle.aq_rules.specs.Lines.Reading.{LineValue, OfRd, OfOffice, line_value, reading_rule}
 use Rattle.aq_rules.specs.Lines.Canonical.{is_line_value}
 use Rattle.aq_rules.specs.Office.Office.{Office, IsOffice, KeysRise, is_same, key_of, key_numbers, record_rank, observation_rank, observation_numbers, series_numbers, parameter_number, row_at, with_row, without_row, record_at, duration_at, monitor_duration, has_its_monitor, has_its_event, event_stands, group_of, group_size, most_in_group, sites_of, is_record, is_kept_hour, is_content, fits_monitors, content_of, site_numbers, kind_of, part_numbers, with_site}
-use Rattle.aq_rules.specs.Office.Refusal.{broken, breaks_office, kept_key, kept_at, is_other_duration, is_taken, key_stands}
+use Rattle.aq_rules.specs.Office.Refusal.{broken, breaks_office, kept_key, kept_at, is_other_duration, is_taken, is_combined, key_stands}
 use Rattle.aq_rules.specs.Office.Load.{with_record, without_record, without_key, changed, changed_by, broken_by, after, after_all}
 use Rattle.aq_rules.proofs.Loads.{KeysRise-changed}
 use Rattle.aq_rules.specs.Office.RowOrder.{without_row-rises}
@@ -92,6 +92,7 @@ alone (Makeup site missed makeup) kind parts a b c d e h = absurd (false≢true 
 alone (Event number site pollutant first last code) kind parts a b c d e h = absurd (false≢true (sym (ap (λ t. t && bytes_eq [] parts) e) ∙ h))
 alone (Concurrence number agreed) kind parts a b c d e h = h
 alone (Approved site day) kind parts a b c d e h = h
+alone (Combined site pollutant from joined) kind parts a b c d e h = h
 
 group_alone : (office : Office) (r : OfficeRecord) (kind : ℕ) (parts : List ℕ) → (1 == kind) ≡ false → (2 == kind) ≡ false → (3 == kind) ≡ false → (5 == kind) ≡ false → (6 == kind) ≡ false
     → group_of r ≡ kind ∷ parts → record_rank r ≡ kind ∷ parts → record_at office (key_of r) ≡ None → group_size office r ≡ 0
@@ -133,7 +134,7 @@ with_observations : (office : Office) (rows : List (ObsKey × Observation)) → 
 with_observations office rows is rise fit few = record {
   keys_rise = rise;
   records_fit = is.records_fit;
-  makeup_days_differ = is.makeup_days_differ;
+  records_alone = is.records_alone;
   few_sites = is.few_sites;
   observations_fit = fit;
   few_observations = few;
@@ -185,12 +186,12 @@ sample-valid office (DeleteSample monitor hour) is spelled unbroken =
 -- ---- records that are added
 
 put_new : (office : Office) (r : OfficeRecord) → IsOffice office → is_record r ≡ true → has_its_monitor office r ≡ true → has_its_event office r ≡ true
-    → (key_stands office (key_of r) || is_taken office r) ≡ false → (record_at office (key_of r) ≡ None → group_size office r < most_in_group r)
+    → (key_stands office (key_of r) || is_taken office r) ≡ false → is_combined office r ≡ false → (record_at office (key_of r) ≡ None → group_size office r < most_in_group r)
     → length (sites_with r (sites_of office.records)) ≤ MOST_SITES → IsOffice (with_record r office)
-put_new office r is spelled monitor event there room sites =
+put_new office r is spelled monitor event there uncombined room sites =
     let parts = or_parts (key_stands office (key_of r)) (is_taken office r) there in
     let none = is_absent (record_at office (key_of r)) parts.0 in
-    joined office r (record { new = none; spelled = spelled; monitor = monitor; event = event; room = room none; free = parts.1; sites = sites }) is
+    joined office r (record { new = none; spelled = spelled; monitor = monitor; event = event; room = room none; free = parts.1; uncombined = uncombined; sites = sites }) is
 
 site_room : (office : Office) (site : Site) → length (sites_of office.records) ≤ MOST_SITES
     → (not (lists site (sites_of office.records)) && nat_le MOST_SITES (length (sites_of office.records))) ≡ false
@@ -212,34 +213,39 @@ put-valid : (office : Office) (r : OfficeRecord) → IsOffice office → is_line
 put-valid office (Monitor id duration eligible) is spelled unbroken =
     let r : OfficeRecord = Monitor id duration eligible in
     let rules = none_of_three (λ rule. breaks_office rule office (OfOffice (Put r))) AlreadyThere SitesFull MonitorsFull unbroken in
-    put_new office r is spelled refl refl rules.0 (λ none. less (group_size office r) (most_in_group r) rules.2) (site_room office id.site is.few_sites rules.1)
+    put_new office r is spelled refl refl rules.0 refl (λ none. less (group_size office r) (most_in_group r) rules.2) (site_room office id.site is.few_sites rules.1)
 put-valid office (Primary site pollutant from poc) is spelled unbroken =
     let r : OfficeRecord = Primary site pollutant from poc in
     let rules = none_of_three (λ rule. breaks_office rule office (OfOffice (Put r))) UnknownMonitor AlreadyThere ListFull unbroken in
-    put_new office r is spelled (untrue _ rules.0) refl rules.1 (λ none. less (group_size office r) (most_in_group r) rules.2) is.few_sites
+    put_new office r is spelled (untrue _ rules.0) refl rules.1 refl (λ none. less (group_size office r) (most_in_group r) rules.2) is.few_sites
 put-valid office (Schedule site pollutant from interval anchor) is spelled unbroken =
     let r : OfficeRecord = Schedule site pollutant from interval anchor in
     let rules = none_of_three (λ rule. breaks_office rule office (OfOffice (Put r))) UnknownMonitor AlreadyThere ListFull unbroken in
-    put_new office r is spelled (untrue _ rules.0) refl rules.1 (λ none. less (group_size office r) (most_in_group r) rules.2) is.few_sites
+    put_new office r is spelled (untrue _ rules.0) refl rules.1 refl (λ none. less (group_size office r) (most_in_group r) rules.2) is.few_sites
 put-valid office (Season site year first last) is spelled unbroken =
     let r : OfficeRecord = Season site year first last in
     let rules = none_of_two (λ rule. breaks_office rule office (OfOffice (Put r))) UnknownMonitor AlreadyThere unbroken in
-    put_new office r is spelled (untrue _ rules.0) refl rules.1
+    put_new office r is spelled (untrue _ rules.0) refl rules.1 refl
     (λ none. let size = group_alone office r 4 (site_numbers site ++ year ∷ []) refl refl refl refl refl refl refl none in omega arith) is.few_sites
 put-valid office (Makeup site missed makeup) is spelled unbroken =
     let r : OfficeRecord = Makeup site missed makeup in
     let rules = none_of_three (λ rule. breaks_office rule office (OfOffice (Put r))) UnknownMonitor AlreadyThere MakeupsFull unbroken in
-    put_new office r is spelled (untrue _ rules.0) refl rules.1 (λ none. less (group_size office r) (most_in_group r) rules.2) is.few_sites
+    put_new office r is spelled (untrue _ rules.0) refl rules.1 refl (λ none. less (group_size office r) (most_in_group r) rules.2) is.few_sites
 put-valid office (Event number site pollutant first last code) is spelled unbroken =
     let r : OfficeRecord = Event number site pollutant first last code in
     let rules = none_of_three (λ rule. breaks_office rule office (OfOffice (Put r))) UnknownMonitor AlreadyThere EventsFull unbroken in
-    put_new office r is spelled (untrue _ rules.0) refl rules.1 (λ none. less (group_size office r) (most_in_group r) rules.2) is.few_sites
+    put_new office r is spelled (untrue _ rules.0) refl rules.1 refl (λ none. less (group_size office r) (most_in_group r) rules.2) is.few_sites
 put-valid office (Concurrence number agreed) is spelled unbroken = absurd (false≢true spelled)
 put-valid office (Approved site day) is spelled unbroken =
     let r : OfficeRecord = Approved site day in
     let rules = none_of_two (λ rule. breaks_office rule office (OfOffice (Put r))) UnknownMonitor AlreadyThere unbroken in
-    put_new office r is spelled (untrue _ rules.0) refl rules.1
+    put_new office r is spelled (untrue _ rules.0) refl rules.1 refl
     (λ none. let size = group_alone office r 8 (site_numbers site ++ day ∷ []) refl refl refl refl refl refl refl none in omega arith) is.few_sites
+put-valid office (Combined site pollutant from joined) is spelled unbroken =
+    let r : OfficeRecord = Combined site pollutant from joined in
+    let rules = none_of_three (λ rule. breaks_office rule office (OfOffice (Put r))) UnknownMonitor AlreadyThere PairTaken unbroken in
+    put_new office r is spelled (untrue _ rules.0) refl rules.1 rules.2
+    (λ none. let size = group_alone office r 9 (series_numbers site pollutant) refl refl refl refl refl refl refl none in omega arith) is.few_sites
 
 -- ---- records that change
 
@@ -283,7 +289,8 @@ alike_monitors a b d e v w id duration = record {
   makes_up = λ site day. refl;
   group = ap (λ (i : MonitorId). 1 ∷ series_numbers i.site i.pollutant) id;
   sites = λ sites. ap (λ (i : MonitorId). with_site i.site sites) id;
-  no_makeup = λ office. refl;
+  combined = λ site joined pollutant. refl;
+  alone = λ office. refl;
 }
 
 alike_concurrences : (n m : ℕ) (v w : Bool) → n ≡ m → Alike (Concurrence n v) (Concurrence m w)
@@ -294,7 +301,8 @@ alike_concurrences n m v w number = record {
   makes_up = λ site day. refl;
   group = ap (λ k. 7 ∷ k ∷ []) number;
   sites = λ sites. refl;
-  no_makeup = λ office. refl;
+  combined = λ site joined pollutant. refl;
+  alone = λ office. refl;
 }
 
 same_duration : (d e : Duration) → is_other_duration (Some d) e ≡ false → d ≡ e
@@ -325,6 +333,7 @@ change_concurrence office number agreed None is spelled there event =
       event = event;
       room = let size = group_alone office (Concurrence number agreed) 7 (number ∷ []) refl refl refl refl refl refl refl there in omega arith;
       free = refl;
+      uncombined = refl;
       sites = is.few_sites;
     }) is
 change_concurrence office number agreed (Some (Concurrence other before)) is spelled there event =
@@ -387,6 +396,7 @@ drop-valid office (EventKey number) is spelled =
     (subst (λ rows. KeysRise (record office { records = rows })) both_dropped rise) is)
 drop-valid office (ConcurrenceKey number) is spelled = absurd (false≢true spelled)
 drop-valid office (ApprovedKey site day) is spelled = drop_key office (ApprovedKey site day) refl refl is
+drop-valid office (CombinedKey site pollutant) is spelled = drop_key office (CombinedKey site pollutant) refl refl is
 
 -- ---- the line
 

@@ -12,14 +12,14 @@ use Rattle.aq_base.specs.declared.day.TheConstants.{LAST_HOUR}
 use Rattle.aq_base.specs.declared.monitor.Pollutant.{Pollutant}
 use Rattle.aq_base.specs.declared.monitor.MonitorId.{MonitorId}
 use Rattle.aq_base.specs.declared.office.OfficeRecord.{OfficeRecord}
-use Rattle.aq_base.specs.declared.office.OfficeRecord.TheVariants.{Season, Makeup, Event}
+use Rattle.aq_base.specs.declared.office.OfficeRecord.TheVariants.{Season, Makeup, Event, Combined}
 use Rattle.aq_base.specs.declared.office.OfficeKey.{OfficeKey}
 use Rattle.aq_base.specs.declared.office.OfficeLine.TheVariants.{Put, Change, Drop}
 use Rattle.aq_rules.specs.Lines.Fields.{field, fields, is_empty}
 use Rattle.aq_rules.specs.Lines.Forms.{State, County, SiteNumber, Parameter, Poc, acts, text_of}
-use Rattle.aq_rules.specs.Lines.Spellings.{◌>>=◌, Tag, Rd, Xm, Xp, Xs, Xo, Xu, Xe, Xc, Xa, Action, Insert, Update, Delete, action_in, site_in, parameter_in, parameter_of, poc_in, primary_in, duration_in, unit_in, method_in, date_in, year_in, interval_in, truth_in, value_in, is_in_range, null_in, qualifier_in, qualifiers_onto, qualifiers_in, event_number_in, event_code_in, has_parameter, has_duration, is_interval, is_event_number, is_event_code, is_code_byte}
+use Rattle.aq_rules.specs.Lines.Spellings.{◌>>=◌, Tag, Rd, Xm, Xp, Xs, Xo, Xu, Xe, Xc, Xa, Xb, Action, Insert, Update, Delete, action_in, site_in, parameter_in, parameter_of, poc_in, primary_in, duration_in, unit_in, method_in, date_in, year_in, interval_in, truth_in, value_in, is_in_range, null_in, qualifier_in, qualifiers_onto, qualifiers_in, event_number_in, event_code_in, has_parameter, has_duration, is_interval, is_event_number, is_event_code, is_code_byte}
 use Rattle.aq_rules.specs.Lines.RdForm.{RdValue, monitor_in, start_in, content_in, put_in, delete_in, qualifier_fields}
-use Rattle.aq_rules.specs.Lines.OfficeForms.{hour_in, is_season, is_makeup, is_span, xm_record, xp_record, xp_key, xs_record, xs_key, xo_record, xo_key, xu_record, xu_key, xe_record, xe_key, xc_record, xa_record, xa_key}
+use Rattle.aq_rules.specs.Lines.OfficeForms.{hour_in, is_season, is_makeup, is_span, is_pair, xm_record, xp_record, xp_key, xs_record, xs_key, xo_record, xo_key, xu_record, xu_key, xe_record, xe_key, xc_record, xa_record, xa_key, xb_record, xb_key}
 use Rattle.aq_rules.specs.Lines.Reading.{LineValue, OfRd, OfOffice, line_value, value_for, form_value, action_for, has_wrong_count, is_deletion, is_plain, tag_of}
 use Rattle.aq_rules.specs.Lines.Canonical.{is_rd_value, is_office_line, is_line_value}
 use Rattle.aq_rules.specs.Office.Office.{is_site, is_poc, is_day, is_qualifier, is_null_code, is_measured, is_content}
@@ -286,6 +286,23 @@ xa_key-valid texts =
     valid (λ d. is_day d ≡ true) (λ (k : OfficeKey). is_office_line (Drop k) ≡ true) (date_in (field 6 texts)) _ (date_valid (field 6 texts)) λ d j.
     and_from (is_site s) (is_day d) h j
 
+xb_record-valid : (texts : List (List ℕ)) → IfSome (xb_record texts) (λ (r : OfficeRecord). is_office_line (Put r) ≡ true)
+unfolding xb_record
+xb_record-valid texts =
+    valid (λ s. is_site s ≡ true) (λ (r : OfficeRecord). is_office_line (Put r) ≡ true) (site_in (field 3 texts) (field 4 texts) (field 5 texts)) _ (site_valid (field 3 texts) (field 4 texts) (field 5 texts)) λ s h.
+    valid (λ s. is_site s ≡ true) (λ (r : OfficeRecord). is_office_line (Put r) ≡ true) (site_in (field 8 texts) (field 9 texts) (field 10 texts)) _ (site_valid (field 8 texts) (field 9 texts) (field 10 texts)) λ j k.
+    valid (λ p. has_parameter Xb p ≡ true) (λ (r : OfficeRecord). is_office_line (Put r) ≡ true) (parameter_of Xb (field 6 texts)) _ (parameter_valid Xb (field 6 texts)) λ p e.
+    valid (λ d. is_day d ≡ true) (λ (r : OfficeRecord). is_office_line (Put r) ≡ true) (date_in (field 7 texts)) _ (date_valid (field 7 texts)) λ d i.
+    valid_if (λ (r : OfficeRecord). is_office_line (Put r) ≡ true) (is_pair s j) (Combined s p d j)
+    (λ l. and_from (is_site s && has_parameter Xb p) (is_day d && is_site j && is_pair s j) (and_from (is_site s) (has_parameter Xb p) h e) (and_from (is_day d && is_site j) (is_pair s j) (and_from (is_day d) (is_site j) i k) l))
+
+xb_key-valid : (texts : List (List ℕ)) → IfSome (xb_key texts) (λ (k : OfficeKey). is_office_line (Drop k) ≡ true)
+unfolding xb_key
+xb_key-valid texts =
+    valid (λ s. is_site s ≡ true) (λ (k : OfficeKey). is_office_line (Drop k) ≡ true) (site_in (field 3 texts) (field 4 texts) (field 5 texts)) _ (site_valid (field 3 texts) (field 4 texts) (field 5 texts)) λ s h.
+    valid (λ p. has_parameter Xb p ≡ true) (λ (k : OfficeKey). is_office_line (Drop k) ≡ true) (parameter_of Xb (field 6 texts)) _ (parameter_valid Xb (field 6 texts)) λ p e.
+    and_from (is_site s) (has_parameter Xb p) h e
+
 -- ---- the whole line
 
 handed : {A : Type 0} (Q : LineValue → Type 0) (P : A → Type 0) (part : Option A) (f : A → LineValue) → IfSome part P → ((x : A) → P x → Q (f x))
@@ -345,6 +362,9 @@ value_for-valid Xc Delete texts may = tt
 value_for-valid Xa Insert texts may = put (xa_record texts) (xa_record-valid texts)
 value_for-valid Xa Update texts may = absurd (false≢true may)
 value_for-valid Xa Delete texts may = drops (xa_key texts) (xa_key-valid texts)
+value_for-valid Xb Insert texts may = put (xb_record texts) (xb_record-valid texts)
+value_for-valid Xb Update texts may = absurd (false≢true may)
+value_for-valid Xb Delete texts may = drops (xb_key texts) (xb_key-valid texts)
 
 action_valid : (tag : Tag) (text : List ℕ) → IfSome (action_for tag text) (λ a. acts tag a ≡ true)
 action_valid tag text =

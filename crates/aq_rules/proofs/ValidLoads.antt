@@ -55,7 +55,7 @@ with_load-valid office stored is good room = choose (stored.number == 0)
         loads = with_row-rises load_rank stored office.loads is.keys_rise.loads;
       };
       records_fit = is.records_fit;
-      makeup_days_differ = is.makeup_days_differ;
+      records_alone = is.records_alone;
       few_sites = is.few_sites;
       observations_fit = is.observations_fit;
       few_observations = is.few_observations;

@@ -12,13 +12,13 @@ use Rattle.aq_base.specs.declared.monitor.Pollutant.TheVariants.{Ozone, Pm25}
 use Rattle.aq_base.specs.declared.observation.ObsKey.{ObsKey}
 use Rattle.aq_base.specs.declared.observation.Observation.{Observation}
 use Rattle.aq_base.specs.declared.office.OfficeRecord.{OfficeRecord}
-use Rattle.aq_base.specs.declared.office.OfficeRecord.TheVariants.{Monitor, Primary, Schedule, Season, Makeup, Event, Concurrence, Approved}
+use Rattle.aq_base.specs.declared.office.OfficeRecord.TheVariants.{Monitor, Primary, Schedule, Season, Makeup, Event, Concurrence, Approved, Combined}
 use Rattle.aq_base.specs.declared.office.OfficeKey.{OfficeKey}
 use Rattle.aq_base.specs.declared.office.OfficeKey.TheVariants.{Monitor as MonitorKey, Event as EventKey}
 use Rattle.aq_rules.specs.Limits.{MOST_SITES, MOST_MONITORS, MOST_IN_LIST, MOST_MAKEUPS, MOST_EVENTS}
 use Rattle.aq_rules.specs.Lines.Spellings.{◌>>=◌}
-use Rattle.aq_rules.specs.Office.Office.{Office, IsOffice, KeysRise, is_same, key_of, key_numbers, record_rank, with_row, record_at, duration_at, monitor_duration, registers, has_monitor, site_numbers, sites_of, group_of, most_in_group, group_size, makes_up_on, makeups_on, has_its_monitor, has_its_event, is_record, fits_records, has_own_makeup_day, is_kept_hour, is_content, fits_monitors}
-use Rattle.aq_rules.specs.Office.Refusal.{is_taken}
+use Rattle.aq_rules.specs.Office.Office.{Office, IsOffice, KeysRise, is_same, key_of, key_numbers, record_rank, with_row, record_at, duration_at, monitor_duration, registers, has_monitor, site_numbers, sites_of, group_of, most_in_group, group_size, makes_up_on, makeups_on, series_numbers, combines_either, combinations_of, has_its_monitor, has_its_event, is_record, fits_records, is_alone, is_kept_hour, is_content, fits_monitors}
+use Rattle.aq_rules.specs.Office.Refusal.{is_taken, is_combined}
 use Rattle.aq_rules.specs.Office.Load.{with_record}
 use Rattle.aq_rules.proofs.Lookups.{same-is}
 use Rattle.aq_rules.proofs.RowsPlaced.{Inserted, Replaced, is_same-refl, all_joined, all_at, all_rest, all_weaker, all_standing, any_joined, any_alike, is_some-find, find_alike, count_joined, count_alike, counted_once, filter_all, filter_keeps, find-filter, any-filter, count-filter, with_row-new, with_row-old, row_at-inserted}
@@ -65,6 +65,9 @@ monitor-keeps before now keeps (Makeup site missed makeup) h = keeps.monitors si
 monitor-keeps before now keeps (Event number site pollutant first last code) h = keeps.monitors site pollutant h
 monitor-keeps before now keeps (Concurrence number agreed) h = refl
 monitor-keeps before now keeps (Approved site day) h = keeps.monitors site Ozone h
+monitor-keeps before now keeps (Combined site pollutant from joined) h =
+    let parts = and_parts (has_monitor before site pollutant) (has_monitor before joined pollutant) h in
+    and_from (has_monitor now site pollutant) (has_monitor now joined pollutant) (keeps.monitors site pollutant parts.0) (keeps.monitors joined pollutant parts.1)
 
 observation-keeps : (before now : Office) → Keeps before now → (row : ObsKey × Observation) → fits_monitors before row ≡ true → fits_monitors now row ≡ true
 observation-keeps before now keeps row h =
@@ -122,9 +125,39 @@ most_of (Makeup site missed makeup) = refl
 most_of (Event number site pollutant first last code) = refl
 most_of (Concurrence number agreed) = refl
 most_of (Approved site day) = refl
+most_of (Combined site pollutant from joined) = refl
 
 most-same : (r other : OfficeRecord) → group_of r ≡ group_of other → most_in_group r ≡ most_in_group other
 most-same r other e = most_of r ∙ ap most_for e ∙ sym (most_of other)
+
+-- ---- combinations that share a site
+
+equal_flip : (a b : ℕ) → (a == b) ≡ (b == a)
+equal_flip a b = grind (arith, nat_tests)
+
+same_flip : (xs ys : List ℕ) → is_same xs ys ≡ is_same ys xs
+same_flip [] [] = refl
+same_flip [] (y ∷ ys) = refl
+same_flip (x ∷ xs) [] = refl
+same_flip (x ∷ xs) (y ∷ ys) = λ i. equal_flip x y i && same_flip xs ys i
+
+crossed : (a b c d : Bool) → ((a || c) || (b || d)) ≡ ((a || b) || (c || d))
+crossed true b c d = refl
+crossed false true true d = refl
+crossed false true false d = refl
+crossed false false c d = refl
+
+-- which of two combinations is looked at makes no difference
+either_way : (site joined other other_joined : Site) (p q : Pollutant) (from other_from : ℕ)
+    → combines_either other other_joined q (Combined site p from joined) ≡ combines_either site joined p (Combined other q other_from other_joined)
+either_way site joined other other_joined p q from other_from =
+    (λ i. (same_flip (series_numbers site p) (series_numbers other q) i || same_flip (series_numbers joined p) (series_numbers other q) i)
+    || (same_flip (series_numbers site p) (series_numbers other_joined q) i || same_flip (series_numbers joined p) (series_numbers other_joined q) i))
+    ∙ crossed (is_same (series_numbers other q) (series_numbers site p)) (is_same (series_numbers other_joined q) (series_numbers site p))
+    (is_same (series_numbers other q) (series_numbers joined p)) (is_same (series_numbers other_joined q) (series_numbers joined p))
+
+pub combines_itself : (site joined : Site) (p : Pollutant) (from : ℕ) → combines_either site joined p (Combined site p from joined) ≡ true
+combines_itself site joined p from = ap (λ b. (b || is_same (series_numbers joined p) (series_numbers site p)) || (is_same (series_numbers site p) (series_numbers joined p) || is_same (series_numbers joined p) (series_numbers joined p))) (is_same-refl (series_numbers site p) (series_numbers site p) refl)
 
 -- ---- a new record
 
@@ -136,6 +169,7 @@ pub record MayJoin (office : Office) (r : OfficeRecord) : Type 0 where
   pub event : has_its_event office r ≡ true
   pub room : group_size office r < most_in_group r
   pub free : is_taken office r ≡ false
+  pub uncombined : is_combined office r ≡ false
   pub sites : length (sites_with r (sites_of office.records)) ≤ MOST_SITES
 
 module _ (office : Office) (r : OfficeRecord) (may : MayJoin office r) where
@@ -238,23 +272,44 @@ module _ (office : Office) (r : OfficeRecord) (may : MayJoin office r) where
       choose false b h k = refl
   free_day site makeup one other free = refl
 
-  joined-makeups : list_all (has_own_makeup_day office) office.records ≡ true
-      → list_all (has_own_makeup_day (with_record r office)) (with_record r office).records ≡ true
-  joined-makeups h =
-      subst (λ rows. list_all (has_own_makeup_day (with_record r office)) rows ≡ true) (sym placed.after)
-      (all_joined (has_own_makeup_day (with_record r office)) placed.front placed.back r (own r refl)
-      (all_weaker (has_own_makeup_day office) (has_own_makeup_day (with_record r office)) (placed.front ++ placed.back) other
-      (subst (λ rows. list_all (has_own_makeup_day office) rows ≡ true) placed.before h)))
+  -- a combination that stands has no site of one that may join
+  free_site : (site joined : Site) (p : Pollutant) (from : ℕ) (front back : List OfficeRecord) → office.records ≡ front ++ Combined site p from joined ∷ back
+      → (other : OfficeRecord) → is_combined office other ≡ false → combines_either site joined p other ≡ false
+  free_site site joined p from front back stands (Combined first q since second) free = choose (combines_either site joined p (Combined first q since second)) refl
     where
-      other : (x : OfficeRecord) → has_own_makeup_day office x ≡ true → has_own_makeup_day (with_record r office) x ≡ true
-      other (Makeup site missed makeup) h =
+      choose : (b : Bool) → combines_either site joined p (Combined first q since second) ≡ b → b ≡ false
+      choose false e = refl
+      choose true e =
+          let shared : combines_either first second q (Combined site p from joined) ≡ true = either_way site joined first second p q from since ∙ e in
+          let none : combinations_of office first second q ≡ 0 = none_above (combinations_of office first second q) free in
+          let some : 1 ≤ combinations_of office first second q =
+          subst (λ rows. 1 ≤ count_by (combines_either first second q) rows) (sym stands) (counted_once (combines_either first second q) front back (Combined site p from joined) shared) in
+          absurd (omega arith)
+  free_site site joined p from front back stands other free = refl
+
+  joined-alone : list_all (is_alone office) office.records ≡ true
+      → list_all (is_alone (with_record r office)) (with_record r office).records ≡ true
+  joined-alone h =
+      subst (λ rows. list_all (is_alone (with_record r office)) rows ≡ true) (sym placed.after)
+      (all_joined (is_alone (with_record r office)) placed.front placed.back r (own r refl)
+      (all_standing (is_alone (with_record r office)) (placed.front ++ placed.back) (λ x front back stands.
+      other x front back (placed.before ∙ stands)
+      (all_at (is_alone office) front back x (subst (λ rows. list_all (is_alone office) rows ≡ true) (placed.before ∙ stands) h)))))
+    where
+      other : (x : OfficeRecord) (front back : List OfficeRecord) → office.records ≡ front ++ x ∷ back → is_alone office x ≡ true → is_alone (with_record r office) x ≡ true
+      other (Makeup site missed makeup) front back stands h =
           let one = eqb-true (makeups_on office site makeup) 1 h in
           let beside : cond {A = ℕ} (makes_up_on site makeup r) 1 0 ≡ 0 = ap (λ b. cond {A = ℕ} b 1 0) (free_day site makeup one r may.free) in
           let count = counted (makes_up_on site makeup) in
           eq-eqb (makeups_on (with_record r office) site makeup) 1 (omega arith)
-      other x h = refl
+      other (Combined site p from joined) front back stands h =
+          let one = eqb-true (combinations_of office site joined p) 1 h in
+          let beside : cond {A = ℕ} (combines_either site joined p r) 1 0 ≡ 0 = ap (λ b. cond {A = ℕ} b 1 0) (free_site site joined p from front back stands r may.uncombined) in
+          let count = counted (combines_either site joined p) in
+          eq-eqb (combinations_of (with_record r office) site joined p) 1 (omega arith)
+      other x front back stands h = refl
 
-      own : (x : OfficeRecord) → x ≡ r → has_own_makeup_day (with_record r office) x ≡ true
+      own : (x : OfficeRecord) → x ≡ r → is_alone (with_record r office) x ≡ true
       own (Makeup site missed makeup) is =
           let free : is_taken office (Makeup site missed makeup) ≡ false = ap (is_taken office) is ∙ may.free in
           let none = none_above (makeups_on office site makeup) free in
@@ -264,6 +319,13 @@ module _ (office : Office) (r : OfficeRecord) (may : MayJoin office r) where
           let once : cond {A = ℕ} (makes_up_on site makeup r) 1 0 ≡ 1 = ap (λ b. cond {A = ℕ} b 1 0) itself in
           let count = counted (makes_up_on site makeup) in
           eq-eqb (makeups_on (with_record r office) site makeup) 1 (omega arith)
+      own (Combined site p from joined) is =
+          let free : is_combined office (Combined site p from joined) ≡ false = ap (is_combined office) is ∙ may.uncombined in
+          let none = none_above (combinations_of office site joined p) free in
+          let itself : combines_either site joined p r ≡ true = ap (combines_either site joined p) (sym is) ∙ combines_itself site joined p from in
+          let once : cond {A = ℕ} (combines_either site joined p r) 1 0 ≡ 1 = ap (λ b. cond {A = ℕ} b 1 0) itself in
+          let count = counted (combines_either site joined p) in
+          eq-eqb (combinations_of (with_record r office) site joined p) 1 (omega arith)
       own x is = refl
 
   joined-sites : length (sites_of (with_record r office).records) ≤ MOST_SITES
@@ -285,7 +347,7 @@ module _ (office : Office) (r : OfficeRecord) (may : MayJoin office r) where
       loads = is.keys_rise.loads;
     };
     records_fit = joined-records is.records_fit;
-    makeup_days_differ = joined-makeups is.makeup_days_differ;
+    records_alone = joined-alone is.records_alone;
     few_sites = joined-sites;
     observations_fit = observations-keep office (with_record r office) joined-keeps office.observations is.observations_fit;
     few_observations = is.few_observations;
@@ -303,8 +365,9 @@ pub record Alike (old r : OfficeRecord) : Type 0 where
   pub makes_up : (site : Site) (day : ℕ) → makes_up_on site day old ≡ makes_up_on site day r
   pub group : group_of old ≡ group_of r
   pub sites : (sites : List Site) → sites_with old sites ≡ sites_with r sites
-  -- neither is a make-up record
-  pub no_makeup : (office : Office) → has_own_makeup_day office r ≡ true
+  pub combined : (site joined : Site) (pollutant : Pollutant) → combines_either site joined pollutant old ≡ combines_either site joined pollutant r
+  -- neither is a make-up record or a combination
+  pub alone : (office : Office) → is_alone office r ≡ true
 
 module _ (office : Office) (old r : OfficeRecord) (alike : Alike old r) (is : IsOffice office) (there : record_at office (key_of r) ≡ Some old) where
   put : Replaced old r office.records (with_row record_rank r office.records)
@@ -376,12 +439,12 @@ module _ (office : Office) (old r : OfficeRecord) (alike : Alike old r) (is : Is
         (all_weaker (fits_records office) (fits_records (with_record r office)) (put.front ++ put.back)
         (λ other h. replaced-fits other (fits_parts office other h))
         (all_rest (fits_records office) put.front put.back old before)));
-    makeup_days_differ =
-        let before = subst (λ rows. list_all (has_own_makeup_day office) rows ≡ true) put.before is.makeup_days_differ in
-        subst (λ rows. list_all (has_own_makeup_day (with_record r office)) rows ≡ true) (sym put.after)
-        (all_joined (has_own_makeup_day (with_record r office)) put.front put.back r (alike.no_makeup (with_record r office))
-        (all_weaker (has_own_makeup_day office) (has_own_makeup_day (with_record r office)) (put.front ++ put.back) other
-        (all_rest (has_own_makeup_day office) put.front put.back old before)));
+    records_alone =
+        let before = subst (λ rows. list_all (is_alone office) rows ≡ true) put.before is.records_alone in
+        subst (λ rows. list_all (is_alone (with_record r office)) rows ≡ true) (sym put.after)
+        (all_joined (is_alone (with_record r office)) put.front put.back r (alike.alone (with_record r office))
+        (all_weaker (is_alone office) (is_alone (with_record r office)) (put.front ++ put.back) other
+        (all_rest (is_alone office) put.front put.back old before)));
     few_sites =
         let same : length (sites_of (with_record r office).records) ≡ length (sites_of office.records) =
         ap (λ rows. length (sites_of rows)) put.after ∙ ap length (sym (sites_alike put.front put.back old r alike.sites))
@@ -394,8 +457,9 @@ module _ (office : Office) (old r : OfficeRecord) (alike : Alike old r) (is : Is
     few_loads = is.few_loads;
   }
     where
-      other : (x : OfficeRecord) → has_own_makeup_day office x ≡ true → has_own_makeup_day (with_record r office) x ≡ true
+      other : (x : OfficeRecord) → is_alone office x ≡ true → is_alone (with_record r office) x ≡ true
       other (Makeup site missed makeup) h = ap (λ n. n == 1) (same_count (makes_up_on site makeup) (alike.makes_up site makeup)) ∙ h
+      other (Combined site p from joined) h = ap (λ n. n == 1) (same_count (combines_either site joined p) (alike.combined site joined p)) ∙ h
       other x h = refl
 
 -- ---- records that are dropped
@@ -449,15 +513,20 @@ module _ (office : Office) (keep : OfficeRecord → Bool) (own : KeepsItsOwn kee
   once : (p : OfficeRecord → Bool) (x : OfficeRecord) (front back rows : List OfficeRecord) → rows ≡ front ++ x ∷ back → p x ≡ true → 1 ≤ count_by p rows
   once p x front back rows is h = subst (λ l. 1 ≤ count_by p l) (sym is) (counted_once p front back x h)
 
-  kept-makeup : (x : OfficeRecord) (front back : List OfficeRecord) → filter keep office.records ≡ front ++ x ∷ back
-      → has_own_makeup_day office x ≡ true → has_own_makeup_day (keeping keep office) x ≡ true
-  kept-makeup (Makeup site missed makeup) front back stands h =
+  kept-alone : (x : OfficeRecord) (front back : List OfficeRecord) → filter keep office.records ≡ front ++ x ∷ back
+      → is_alone office x ≡ true → is_alone (keeping keep office) x ≡ true
+  kept-alone (Makeup site missed makeup) front back stands h =
       let one = eqb-true (makeups_on office site makeup) 1 h in
       let fewer = count-filter (makes_up_on site makeup) keep office.records in
       let itself = once (makes_up_on site makeup) (Makeup site missed makeup) front back (filter keep office.records) stands
       (and_from _ _ (is_same-refl (site_numbers site) (site_numbers site) refl) (eq-eqb makeup makeup refl)) in
       eq-eqb (makeups_on (keeping keep office) site makeup) 1 (omega arith)
-  kept-makeup x front back stands h = refl
+  kept-alone (Combined site p from joined) front back stands h =
+      let one = eqb-true (combinations_of office site joined p) 1 h in
+      let fewer = count-filter (combines_either site joined p) keep office.records in
+      let itself = once (combines_either site joined p) (Combined site p from joined) front back (filter keep office.records) stands (combines_itself site joined p from) in
+      eq-eqb (combinations_of (keeping keep office) site joined p) 1 (omega arith)
+  kept-alone x front back stands h = refl
 
   pub kept : KeysRise (keeping keep office) → IsOffice office → IsOffice (keeping keep office)
   kept rise is = record {
@@ -467,10 +536,10 @@ module _ (office : Office) (keep : OfficeRecord → Bool) (own : KeepsItsOwn kee
         (all_at keep front back x (subst (λ rows. list_all keep rows ≡ true) stands (filter_keeps keep office.records)))
         (all_at (fits_records office) front back x
         (subst (λ rows. list_all (fits_records office) rows ≡ true) stands (filter_all (fits_records office) keep office.records is.records_fit))));
-    makeup_days_differ = all_standing (has_own_makeup_day (keeping keep office)) (filter keep office.records) (λ x front back stands.
-        kept-makeup x front back stands
-        (all_at (has_own_makeup_day office) front back x
-        (subst (λ rows. list_all (has_own_makeup_day office) rows ≡ true) stands (filter_all (has_own_makeup_day office) keep office.records is.makeup_days_differ))));
+    records_alone = all_standing (is_alone (keeping keep office)) (filter keep office.records) (λ x front back stands.
+        kept-alone x front back stands
+        (all_at (is_alone office) front back x
+        (subst (λ rows. list_all (is_alone office) rows ≡ true) stands (filter_all (is_alone office) keep office.records is.records_alone))));
     few_sites =
         let same : length (sites_of (filter keep office.records)) ≡ length (sites_of office.records) = ap length (sites-filter keep office.records own.monitors) in
         let few = is.few_sites in

@@ -19,7 +19,7 @@ use Rattle.aq_base.specs.declared.rule.Rule.TheVariants.{BadBytes, BadTag, Field
 use Rattle.aq_rules.specs.Limits.{MOST_LINES, MOST_LISTED}
 use Rattle.aq_rules.specs.Lines.Lines.{NumberedLine, numbered, texts, line_count, is_skipped, body_lines}
 use Rattle.aq_rules.specs.Lines.Fields.{fields}
-use Rattle.aq_rules.specs.Lines.Spellings.{Tag, Rd, Xm, Xp, Xs, Xo, Xu, Xe, Xc, Xa}
+use Rattle.aq_rules.specs.Lines.Spellings.{Tag, Rd, Xm, Xp, Xs, Xo, Xu, Xe, Xc, Xa, Xb}
 use Rattle.aq_rules.specs.Lines.RdForm.{Put as PutSample, Delete as DeleteSample}
 use Rattle.aq_rules.specs.Lines.Reading.{LineValue, OfRd, OfOffice, breaks, rules_of, rules_for, reading_rules, reading_rule, line_value, tag_of, is_deletion}
 use Rattle.aq_rules.specs.Office.Office.{Office, rises, rises_from, is_rest, is_reply}
@@ -128,10 +128,10 @@ module _ {X : Type 0} where
       choose true here is later = let same : y ≡ x = cc in subst (λ z. q z ≡ true) same here
       choose false here is later = later is
 
--- ---- rules have numbers of at most 34
+-- ---- rules have numbers of at most 36
 
 abbrev is_built : Rule → Bool
-is_built rule = nat_le (rule_number rule) 34
+is_built rule = nat_le (rule_number rule) 36
 
 tag_built : (tag : Tag) (deletes : Bool) → list_all is_built (BadBytes ∷ BadTag ∷ FieldCount ∷ BadAction ∷ rules_of tag deletes) ≡ true
 tag_built Rd true = refl
@@ -152,6 +152,8 @@ tag_built Xc true = refl
 tag_built Xc false = refl
 tag_built Xa true = refl
 tag_built Xa false = refl
+tag_built Xb true = refl
+tag_built Xb false = refl
 
 reading_built : (tag : Option Tag) (texts : List (List ℕ)) → list_all is_built (BadBytes ∷ BadTag ∷ FieldCount ∷ BadAction ∷ rules_for tag texts) ≡ true
 reading_built None texts = refl
@@ -307,17 +309,17 @@ rest_counts refused (rule ∷ rules) = choose (refused_under rule refused == 0) 
 
 rules_rise : ℕ → List Rule → Bool
 rules_rise first [] = true
-rules_rise first (rule ∷ rules) = nat_le first (rule_number rule) && nat_le (rule_number rule) 34 && rules_rise (rule_number rule + 1) rules
+rules_rise first (rule ∷ rules) = nat_le first (rule_number rule) && nat_le (rule_number rule) 36 && rules_rise (rule_number rule + 1) rules
 
-rules_up-from : (first : ℕ) (rules : List Rule) → rules_rise first rules ≡ true → Up rule_number first 34 rules
+rules_up-from : (first : ℕ) (rules : List Rule) → rules_rise first rules ≡ true → Up rule_number first 36 rules
 unfolding rules_rise
 rules_up-from first [] h = tt
 rules_up-from first (rule ∷ rules) h =
     let rest = and_parts _ (rules_rise (rule_number rule + 1) rules) h in
-    let here = and_parts (nat_le first (rule_number rule)) (nat_le (rule_number rule) 34) rest.0 in
-    (leb-true first (rule_number rule) here.0, leb-true (rule_number rule) 34 here.1, rules_up-from (rule_number rule + 1) rules rest.1)
+    let here = and_parts (nat_le first (rule_number rule)) (nat_le (rule_number rule) 36) rest.0 in
+    (leb-true first (rule_number rule) here.0, leb-true (rule_number rule) 36 here.1, rules_up-from (rule_number rule + 1) rules rest.1)
 
-rules_up : Up rule_number 1 34 all_rules
+rules_up : Up rule_number 1 36 all_rules
 unfolding rules_rise
 rules_up = rules_up-from 1 all_rules refl
 
@@ -374,7 +376,7 @@ reply-in_order number lines taken refused few within fewer up built =
     (all-take (λ listed. is_built listed.rule) MOST_LISTED refused built)))
     (le-leb (length (take MOST_LISTED refused)) MOST_LISTED (omega (arith, length-take MOST_LISTED refused))))
     (listed_or_none refused))
-    (Up-rises (λ (rest : RestRule). rule_number rest.rule) 1 34 (rest_of (drop MOST_LISTED refused)) rest_up))
+    (Up-rises (λ (rest : RestRule). rule_number rest.rule) 1 36 (rest_of (drop MOST_LISTED refused)) rest_up))
     (all-filter_map is_built is_rest (rest_for (drop MOST_LISTED refused)) all_rules (rest_is (drop MOST_LISTED refused)) refl))
     (eq-eqb (length refused) _ (omega (arith, length-take MOST_LISTED refused, length-drop MOST_LISTED refused, counts))))
     (le-leb (taken - length refused + length refused) lines (omega arith))
@@ -382,8 +384,8 @@ reply-in_order number lines taken refused few within fewer up built =
     listed_up : Up (λ (listed : ListedLine). listed.line) 1 lines (take MOST_LISTED refused)
     listed_up = Up-take (λ listed. listed.line) MOST_LISTED 1 lines refused up
 
-    rest_up : Up (λ (rest : RestRule). rule_number rest.rule) 1 34 (rest_of (drop MOST_LISTED refused))
-    rest_up = Up-filter_map (λ rest. rule_number rest.rule) (rest_for (drop MOST_LISTED refused)) rule_number 1 34 all_rules (rest_rule (drop MOST_LISTED refused)) rules_up
+    rest_up : Up (λ (rest : RestRule). rule_number rest.rule) 1 36 (rest_of (drop MOST_LISTED refused))
+    rest_up = Up-filter_map (λ rest. rule_number rest.rule) (rest_for (drop MOST_LISTED refused)) rule_number 1 36 all_rules (rest_rule (drop MOST_LISTED refused)) rules_up
 
     counts : sum_by (λ (rest : RestRule). rest.count) (rest_of (drop MOST_LISTED refused)) ≡ length (drop MOST_LISTED refused)
     counts =

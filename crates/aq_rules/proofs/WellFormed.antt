@@ -59,17 +59,17 @@ Listed lines listed = is_listed lines listed ≡ true
 listed-row : (lines : ℕ) → lines ≤ 120000 → (listed : ListedLine) → Listed lines listed → is_row load_columns (listed_row listed) ≡ true
 unfolding load_columns
 listed-row lines few listed h =
-    let a = and_parts (nat_le 1 listed.line && nat_le listed.line lines) (nat_le (rule_number listed.rule) 34) h in
+    let a = and_parts (nat_le 1 listed.line && nat_le listed.line lines) (nat_le (rule_number listed.rule) 36) h in
     let b = and_parts (nat_le 1 listed.line) (nat_le listed.line lines) a.0 in
     let line = leb-true listed.line lines b.1 in
-    let rule = leb-true (rule_number listed.rule) 34 a.1 in
+    let rule = leb-true (rule_number listed.rule) 36 a.1 in
     row-of load_columns (listed_row listed) refl
     (count listed.line (omega arith), (count (rule_number listed.rule) (omega arith), (rule-word listed.rule, (count 1 (omega arith), tt))))
 
-rest-row : (rest : RestRule) → (nat_le (rule_number rest.rule) 34 ≡ true) × (rest.count ≤ 120000) → is_row load_columns (rest_row rest) ≡ true
+rest-row : (rest : RestRule) → (nat_le (rule_number rest.rule) 36 ≡ true) × (rest.count ≤ 120000) → is_row load_columns (rest_row rest) ≡ true
 unfolding load_columns
 rest-row rest h =
-    let rule = leb-true (rule_number rest.rule) 34 h.0 in
+    let rule = leb-true (rule_number rest.rule) 36 h.0 in
     row-of load_columns (rest_row rest) refl
     (refl, (count (rule_number rest.rule) (omega arith), (rule-word rest.rule, (count rest.count (omega (arith, h.1)), tt))))
 
@@ -78,12 +78,12 @@ every-passes p [] h = tt
 every-passes p (x ∷ xs) h = let parts = and_parts (p x) (list_all p xs) h in (parts.0, every-passes p xs parts.1)
 
 rest-each : (most : ℕ) (rest : List RestRule) → list_all is_rest rest ≡ true → sum_by (λ (r : RestRule). r.count) rest ≤ most
-    → Every (λ (r : RestRule). (nat_le (rule_number r.rule) 34 ≡ true) × (r.count ≤ most)) rest
+    → Every (λ (r : RestRule). (nat_le (rule_number r.rule) 36 ≡ true) × (r.count ≤ most)) rest
 rest-each most [] h few = tt
 rest-each most (r ∷ rest) h few =
     let parts = and_parts (is_rest r) (list_all is_rest rest) h in
     let sum = sum_by-cons (λ (o : RestRule). o.count) r rest in
-    (((and_parts (nat_le (rule_number r.rule) 34) (nat_le 1 r.count) parts.0).0, omega (arith, sum, few)), rest-each most rest parts.1 (omega (arith, sum, few)))
+    (((and_parts (nat_le (rule_number r.rule) 36) (nat_le 1 r.count) parts.0).0, omega (arith, sum, few)), rest-each most rest parts.1 (omega (arith, sum, few)))
 
 pub load-well_formed : (reply : LoadReply) → is_reply reply ≡ true → reply.number ≤ LAST_LOAD_NUMBER → IsWellFormed (load_sheet reply)
 unfolding load_sheet load_columns
@@ -107,7 +107,7 @@ load-well_formed reply valid few =
       rows =
           all-append (is_row load_columns) (map listed_row reply.listed) (map rest_row reply.rest)
           (rows-of load_columns (Listed reply.lines) listed_row (listed-row reply.lines lines) reply.listed (every-passes (is_listed reply.lines) reply.listed g.1))
-          (rows-of load_columns (λ (r : RestRule). (nat_le (rule_number r.rule) 34 ≡ true) × (r.count ≤ 120000)) rest_row rest-row reply.rest
+          (rows-of load_columns (λ (r : RestRule). (nat_le (rule_number r.rule) 36 ≡ true) × (r.count ≤ 120000)) rest_row rest-row reply.rest
           (rest-each 120000 reply.rest c.1 (omega (arith, sum, taken, lines))));
     }
 

@@ -4,7 +4,7 @@ use Rattle.std.specs.List.{list_any}
 use Rattle.aq_base.specs.declared.code.Code.{Code}
 use Rattle.aq_base.specs.declared.observation.ObsKey.{ObsKey}
 use Rattle.aq_base.specs.declared.office.OfficeRecord.{OfficeRecord}
-use Rattle.aq_base.specs.declared.office.OfficeRecord.TheVariants.{Monitor, Primary, Schedule, Season, Makeup, Event, Concurrence, Approved}
+use Rattle.aq_base.specs.declared.office.OfficeRecord.TheVariants.{Monitor, Primary, Schedule, Season, Makeup, Event, Concurrence, Approved, Combined}
 use Rattle.aq_rules.specs.Office.Exclusion.{agrees_to, asks_exclusion, excluded, is_within, takes_out}
 
 and_false : (b : Bool) → (b && false) ≡ false
@@ -23,6 +23,7 @@ none_taken all key (Season site year first last ∷ rest) = none_taken all key r
 none_taken all key (Makeup site missed makeup ∷ rest) = none_taken all key rest
 none_taken all key (Concurrence number agreed ∷ rest) = none_taken all key rest
 none_taken all key (Approved site day ∷ rest) = none_taken all key rest
+none_taken all key (Combined site pollutant from joined ∷ rest) = none_taken all key rest
 
 pub excluded_without_codes : (records : List OfficeRecord) (key : ObsKey) (codes : List Code) → length codes ≡ 0 → excluded records key codes ≡ false
 unfolding excluded

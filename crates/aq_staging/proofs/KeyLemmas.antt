@@ -5,7 +5,7 @@ use Rattle.aq_base.specs.Site.{Site}
 use Rattle.aq_base.specs.declared.monitor.Pollutant.{Pollutant}
 use Rattle.aq_base.specs.declared.monitor.Pollutant.TheVariants.{Ozone, Pm25, Pm10}
 use Rattle.aq_base.specs.declared.office.OfficeKey.{OfficeKey}
-use Rattle.aq_base.specs.declared.office.OfficeKey.TheVariants.{Monitor, Primary, Schedule, Season, Makeup, Event, Concurrence, Approved}
+use Rattle.aq_base.specs.declared.office.OfficeKey.TheVariants.{Monitor, Primary, Schedule, Season, Makeup, Event, Concurrence, Approved, Combined}
 use Rattle.aq_rules.specs.Office.Office.{key_numbers, parameter_number}
 
 -- ---- the key of some numbers
@@ -25,6 +25,10 @@ with_number : (ℕ → OfficeKey) → List ℕ → Option OfficeKey
 with_number make (n ∷ []) = Some (make n)
 with_number make _ = None
 
+with_pair : List ℕ → Option OfficeKey
+with_pair (a ∷ b ∷ c ∷ p ∷ []) = Some (Combined (record { state = a; county = b; number = c }) (pollutant_of p))
+with_pair _ = None
+
 key_from : List ℕ → Option OfficeKey
 key_from [] = None
 key_from (kind ∷ rest) =
@@ -35,7 +39,8 @@ key_from (kind ∷ rest) =
     else (if kind == 5 then with_site (λ site missed. Makeup site missed) rest
     else (if kind == 6 then with_number (λ number. Event number) rest
     else (if kind == 7 then with_number (λ number. Concurrence number) rest
-    else with_site (λ site day. Approved site day) rest))))))
+    else (if kind == 8 then with_site (λ site day. Approved site day) rest
+    else with_pair rest)))))))
 
 pollutant-back : (p : Pollutant) → pollutant_of (parameter_number p) ≡ p
 unfolding pollutant_of
@@ -44,7 +49,7 @@ pollutant-back Pm25 = refl
 pollutant-back Pm10 = refl
 
 key-back : (key : OfficeKey) → key_from (key_numbers key) ≡ Some key
-unfolding key_from with_series with_site with_number
+unfolding key_from with_series with_site with_number with_pair
 key-back (Monitor id) = ap (λ (p : Pollutant). Some (Monitor (record { site = id.site; pollutant = p; poc = id.poc }))) (pollutant-back id.pollutant)
 key-back (Primary site pollutant from) = ap (λ (p : Pollutant). Some (Primary site p from)) (pollutant-back pollutant)
 key-back (Schedule site pollutant from) = ap (λ (p : Pollutant). Some (Schedule site p from)) (pollutant-back pollutant)
@@ -53,6 +58,7 @@ key-back (Makeup site missed) = refl
 key-back (Event number) = refl
 key-back (Concurrence number) = refl
 key-back (Approved site day) = refl
+key-back (Combined site pollutant) = ap (λ (p : Pollutant). Some (Combined site p)) (pollutant-back pollutant)
 
 pub one_office_key : (a b : OfficeKey) → key_numbers a ≡ key_numbers b → a ≡ b
 one_office_key a b e =

@@ -110,5 +110,13 @@ pub(crate) fn key_of(row: &OfficeRecord) -> OfficeKey
             site: *site,
             day: *day,
         },
+        OfficeRecord::Combined {
+            site,
+            pollutant,
+            ..
+        } => OfficeKey::Combined {
+            site: *site,
+            pollutant: *pollutant,
+        },
     }
 }

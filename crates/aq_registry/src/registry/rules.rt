@@ -1,5 +1,7 @@
 //! The first rule of the office that a line breaks.
 ghost use Rattle.std.specs.Prelude.{◌≡◌, count_by, IsTrue};
+ghost use Rattle.std.specs.List.{list_any};
+ghost use Rattle.std.specs.Map.{values_of};
 ghost use Rattle.aq_base.specs.declared.office.OfficeLine.TheVariants.{Put};
 ghost use Rattle.aq_rules.specs.Lines.Canonical.{is_office_line};
 ghost use Rattle.aq_rules.specs.Lines.Reading.{OfOffice};
@@ -17,11 +19,13 @@ use aq_base::{
     OfficeKey, OfficeLine, OfficeRecord, Pollutant, Rule, SiteId,
 };
 use aq_cal::{a_quarter_holds_the_days_of_its_span, quarter_of, quarter_span};
+use std::collections::btree_map::Range;
+use std::iter::Iterator;
 
 impl Registry {
     /// The first rule of the office that a line breaks, in the order of their numbers. Sites and events
     /// are not counted anew: a walk goes over the monitors, designations or schedules of one site and
-    /// pollutant, or the make-up samples of one quarter, at most.
+    /// pollutant, the make-up samples of one quarter, or the combined sites, at most.
     #[tactic(auto, using(crate::proofs::RuleLemmas::new_is, crate::proofs::RuleLemmas::change_is, crate::proofs::RuleLemmas::drop_is))]
     pub(super) fn broken_rule(&self, line: &OfficeLine) -> Option<Rule>
         requires { IsTrue (is_office_line line.now) }
@@ -46,6 +50,9 @@ impl Registry {
         }
         if self.lacks_site_room(row) {
             return Some(Rule::SitesFull);
+        }
+        if self.is_combined(row) {
+            return Some(Rule::PairTaken);
         }
         self.full_rule(row)
     }
@@ -131,6 +138,12 @@ impl Registry {
             OfficeRecord::Season { site, .. } => self.has_monitor(site, Pollutant::Ozone),
             OfficeRecord::Approved { site, .. } => self.has_monitor(site, Pollutant::Ozone),
             OfficeRecord::Makeup { site, .. } => self.has_monitor(site, Pollutant::Pm25),
+            OfficeRecord::Combined {
+                site,
+                pollutant,
+                joined,
+                ..
+            } => self.has_monitor(site, *pollutant) && self.has_monitor(joined, *pollutant),
             OfficeRecord::Monitor { .. } => true,
             OfficeRecord::Concurrence { .. } => true,
         }
@@ -160,6 +173,30 @@ impl Registry {
             OfficeRecord::Makeup { site, makeup, .. } => self.missed_of(*site, *makeup).is_some(),
             _ => false,
         }
+    }
+
+    /// Whether a record combines a site that stands in another combination of the pollutant.
+    fn is_combined(&self, row: &OfficeRecord) -> bool
+        ensures { result ≡ refusals.is_combined (office_with self.now) row.now }
+    {
+        match row {
+            OfficeRecord::Combined {
+                site,
+                pollutant,
+                joined,
+                ..
+            } => self.combines_either(site, joined, *pollutant),
+            _ => false,
+        }
+    }
+
+    /// Whether one of two sites stands in a combination of a pollutant, by a walk over the combined sites.
+    fn combines_either(&self, site: &SiteId, joined: &SiteId, pollutant: Pollutant) -> bool
+        ensures { result ≡ list_any (offices.combines_either site.now joined.now pollutant) self.now }
+    {
+        let start = Place::of_kind(9);
+        let end = Place::of_kind(10);
+        any_combines(self.records.between(start, end), site, joined, pollutant)
     }
 
     /// Whether a record is a monitor of a new site, and as many sites are registered as may be.
@@ -238,6 +275,23 @@ impl Registry {
         let end = Place::of_site(5, site, 0, first + u32::from(days));
         self.records.count_between(start, end)
     }
+}
+
+/// Whether a record of a part of the map combines one of two sites for a pollutant.
+fn any_combines(
+    part: Range<'_, Place, OfficeRecord>,
+    site: &SiteId,
+    joined: &SiteId,
+    pollutant: Pollutant,
+) -> bool
+    ensures { result ≡ list_any (offices.combines_either site.now joined.now pollutant) (values_of part.entry) }
+{
+    for (_, row) in part {
+        if facts::combines_either(row, site, joined, pollutant) {
+            return true;
+        }
+    }
+    false
 }
 
 /// The rule of a full list, where as many stand as may.

@@ -33,6 +33,15 @@ record_with kind key line = OfOfficeRow (record { kind = kind; key = key; line =
 abbrev pub monitor_row : Row
 monitor_row = record_with (pos 1) (codes "06|037|1103|88101|01") (codes "XM|I|06|037|1103|88101|1|7|Y")
 
+-- the row of one at the site beside it
+abbrev pub neighbor_row : Row
+neighbor_row = record_with (pos 1) (codes "06|037|1104|88101|01") (codes "XM|I|06|037|1104|88101|1|7|Y")
+
+-- the row that combines two sites, of these numbers, for PM2.5 from 2 July 2024
+abbrev pub combination_row : List ℕ → List ℕ → Row
+combination_row site joined =
+    record_with (pos 9) (codes "06|037|" ++ site ++ codes "|88101") (codes "XB|I|06|037|" ++ site ++ codes "|88101|20240702|06|037|" ++ joined)
+
 -- the row of its sample of 7 January 2024 with this value, null code and qualifiers
 abbrev pub sample_with : Option ℤ → List ℕ → List ℕ → Row
 sample_with value null quals =

@@ -24,12 +24,12 @@ use Rattle.aq_rules.specs.Lines.Spellings.{◌>>=◌, qualifier_in}
 use Rattle.aq_rules.specs.Lines.Fields.{is_empty, is_space}
 use Rattle.aq_rules.specs.Lines.Reading.{LineValue, OfOffice, line_value}
 use Rattle.aq_rules.specs.Lines.Canonical.{canonical_office, record_line, printed_key}
-use Rattle.aq_rules.specs.Office.Office.{Office, StoredLoad, kind_of, key_of, pollutant_number, record_rank, observation_rank, load_rank, rises, fits_records, has_own_makeup_day, sites_of, fits_monitors, is_load}
+use Rattle.aq_rules.specs.Office.Office.{Office, StoredLoad, kind_of, key_of, pollutant_number, record_rank, observation_rank, load_rank, rises, fits_records, is_alone, sites_of, fits_monitors, is_load}
 use Rattle.aq_rules.specs.Shown.Export.{null_text, codes_text}
 
 -- ---- rows; a keeper may hand out any
 
--- by kind from 1 (a monitor) to 8 (an approved day) and printed key: the record's canonical line
+-- by kind from 1 (a monitor) to 9 (a combination) and printed key: the record's canonical line
 pub record OfficeRow : Type 0 where
   pub kind : ℤ
   pub key : List ℕ
@@ -253,7 +253,7 @@ tables_follow (row ∷ next ∷ rows) = nat_le (table_of row) (table_of next) &&
 abbrev pub is_valid : Office → Bool
 is_valid office =
     rises record_rank office.records && rises observation_rank office.observations && rises load_rank office.loads
-    && list_all (fits_records office) office.records && list_all (has_own_makeup_day office) office.records
+    && list_all (fits_records office) office.records && list_all (is_alone office) office.records
     && nat_le (length (sites_of office.records)) MOST_SITES
     && list_all (fits_monitors office) office.observations && nat_le (length office.observations) MOST_OBSERVATIONS
     && list_all is_load office.loads && nat_le (length office.loads) MOST_LOADS

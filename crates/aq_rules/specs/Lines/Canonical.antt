@@ -11,9 +11,9 @@ use Rattle.aq_base.specs.declared.monitor.Duration.{Duration}
 use Rattle.aq_base.specs.declared.monitor.Duration.TheVariants.{Hour, Day}
 use Rattle.aq_base.specs.declared.monitor.MonitorId.{MonitorId}
 use Rattle.aq_base.specs.declared.office.OfficeRecord.{OfficeRecord}
-use Rattle.aq_base.specs.declared.office.OfficeRecord.TheVariants.{Monitor, Primary, Schedule, Season, Makeup, Event, Concurrence, Approved}
+use Rattle.aq_base.specs.declared.office.OfficeRecord.TheVariants.{Monitor, Primary, Schedule, Season, Makeup, Event, Concurrence, Approved, Combined}
 use Rattle.aq_base.specs.declared.office.OfficeKey.{OfficeKey}
-use Rattle.aq_base.specs.declared.office.OfficeKey.TheVariants.{Monitor as MonitorKey, Primary as PrimaryKey, Schedule as ScheduleKey, Season as SeasonKey, Makeup as MakeupKey, Event as EventKey, Concurrence as ConcurrenceKey, Approved as ApprovedKey}
+use Rattle.aq_base.specs.declared.office.OfficeKey.TheVariants.{Monitor as MonitorKey, Primary as PrimaryKey, Schedule as ScheduleKey, Season as SeasonKey, Makeup as MakeupKey, Event as EventKey, Concurrence as ConcurrenceKey, Approved as ApprovedKey, Combined as CombinedKey}
 use Rattle.aq_base.specs.declared.office.OfficeLine.{OfficeLine}
 use Rattle.aq_base.specs.declared.office.OfficeLine.TheVariants.{Put, Change, Drop}
 use Rattle.aq_rules.specs.Office.Office.{key_of, is_key, is_record, is_site, is_poc, is_content}
@@ -107,6 +107,10 @@ is_rd_value (DeleteSample monitor hour) = is_site monitor.site && is_poc monitor
 abbrev pub list_texts : Site → Pollutant → ℕ → List (List ℕ)
 list_texts site pollutant from = site_texts site ++ parameter_text pollutant ∷ date_text from ∷ []
 
+-- site and parameter
+abbrev pub series_texts : Site → Pollutant → List (List ℕ)
+series_texts site pollutant = site_texts site ++ parameter_text pollutant ∷ []
+
 -- the form of a key, and the fields of its deletion
 abbrev pub key_tag : OfficeKey → List ℕ
 key_tag (MonitorKey id) = codes "XM"
@@ -117,6 +121,7 @@ key_tag (MakeupKey site missed) = codes "XU"
 key_tag (EventKey number) = codes "XE"
 key_tag (ConcurrenceKey number) = codes "XC"
 key_tag (ApprovedKey site day) = codes "XA"
+key_tag (CombinedKey site pollutant) = codes "XB"
 
 abbrev pub deletion_texts : OfficeKey → List (List ℕ)
 deletion_texts (MonitorKey id) = monitor_texts id
@@ -127,6 +132,7 @@ deletion_texts (MakeupKey site missed) = list_texts site Pm25 missed
 deletion_texts (EventKey number) = decimal number ∷ []
 deletion_texts (ConcurrenceKey number) = decimal number ∷ []
 deletion_texts (ApprovedKey site day) = site_texts site ++ date_text day ∷ []
+deletion_texts (CombinedKey site pollutant) = series_texts site pollutant
 
 -- what a record's line has behind the fields of its key
 abbrev pub content_texts : OfficeRecord → List (List ℕ)
@@ -139,6 +145,7 @@ content_texts (Event number site pollutant first last code) =
     site_texts site ++ parameter_text pollutant ∷ start_texts first ++ start_texts last ++ code_text code ∷ []
 content_texts (Concurrence number agreed) = truth_text agreed ∷ []
 content_texts (Approved site day) = []
+content_texts (Combined site pollutant from joined) = date_text from ∷ site_texts joined
 
 abbrev pub office_texts_of : List ℕ → OfficeRecord → List (List ℕ)
 office_texts_of action r = key_tag (key_of r) ∷ action ∷ deletion_texts (key_of r) ++ content_texts r
@@ -183,6 +190,7 @@ key_texts (MakeupKey site missed) = site_texts site ++ date_text missed ∷ []
 key_texts (EventKey number) = last_digits 6 number ∷ []
 key_texts (ConcurrenceKey number) = last_digits 6 number ∷ []
 key_texts (ApprovedKey site day) = site_texts site ++ date_text day ∷ []
+key_texts (CombinedKey site pollutant) = series_texts site pollutant
 
 abbrev pub printed_key : OfficeKey → List ℕ
 printed_key key = joined (key_texts key)

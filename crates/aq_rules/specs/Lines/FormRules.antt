@@ -3,11 +3,11 @@ use Rattle.std.proofs.Common.{◌≡◌, ℕ, Bool, true, false, cond, not, ◌&
 use Rattle.std.specs.Prelude.{find, is_none}
 use Rattle.aq_base.specs.Decimal.{is_decimal}
 use Rattle.aq_base.specs.declared.rule.Rule.{Rule}
-use Rattle.aq_base.specs.declared.rule.Rule.TheVariants.{BadSite, ParameterOutOfProfile, BadPoc, BadDuration, BadUnit, BadMethod, BadDate, BadTime, ValueAndNull, NeitherValueNorNull, BadValue, ValueOutOfRange, BadNull, BadQualifier, BadSpan, BadInterval, BadSeason, BadMakeup, BadCode}
+use Rattle.aq_base.specs.declared.rule.Rule.TheVariants.{BadSite, ParameterOutOfProfile, BadPoc, BadDuration, BadUnit, BadMethod, BadDate, BadTime, ValueAndNull, NeitherValueNorNull, BadValue, ValueOutOfRange, BadNull, BadQualifier, BadSpan, BadInterval, BadSeason, BadMakeup, BadCode, BadPair}
 use Rattle.aq_rules.specs.Lines.Fields.{is_empty, field}
-use Rattle.aq_rules.specs.Lines.Spellings.{◌>>=◌, Rd, Xm, Xp, Xs, Xo, Xu, Xe, Xc, Xa, digits_in, site_in, parameter_of, poc_in, primary_in, duration_in, unit_in, method_in, date_in, year_in, time_in, null_in, qualifiers_in, interval_in, truth_in, event_number_in, event_code_in}
+use Rattle.aq_rules.specs.Lines.Spellings.{◌>>=◌, Rd, Xm, Xp, Xs, Xo, Xu, Xe, Xc, Xa, Xb, digits_in, site_in, parameter_of, poc_in, primary_in, duration_in, unit_in, method_in, date_in, year_in, time_in, null_in, qualifiers_in, interval_in, truth_in, event_number_in, event_code_in}
 use Rattle.aq_rules.specs.Lines.RdForm.{qualifier_fields}
-use Rattle.aq_rules.specs.Lines.OfficeForms.{hour_in, is_season, is_makeup, is_span}
+use Rattle.aq_rules.specs.Lines.OfficeForms.{hour_in, is_season, is_makeup, is_span, is_pair}
 use Rattle.aq_rules.specs.Lines.Reading.{breaks_in, rules_of, reported_value, fails}
 
 or_false : (a : Bool) → (a || false) ≡ a
@@ -32,6 +32,20 @@ site_spelled : (state county number : List ℕ)
     → (is_none (digits_in 2 state) || (is_none (digits_in 3 county) || (is_none (digits_in 4 number) || false))) ≡ is_none (site_in state county number)
 unfolding site_in
 site_spelled state county number = three_parts (digits_in 2 state) (digits_in 3 county) (digits_in 4 number) _
+
+regroup : (a b c rest : Bool) → (a || (b || (c || rest))) ≡ ((a || (b || (c || false))) || rest)
+regroup true b c rest = refl
+regroup false true c rest = refl
+regroup false false true rest = refl
+regroup false false false rest = refl
+
+two_sites_spelled : (state county number joined_state joined_county joined_number : List ℕ)
+    → (is_none (digits_in 2 state) || (is_none (digits_in 3 county) || (is_none (digits_in 4 number) || (is_none (digits_in 2 joined_state) || (is_none (digits_in 3 joined_county) || (is_none (digits_in 4 joined_number) || false))))))
+    ≡ (is_none (site_in state county number) || is_none (site_in joined_state joined_county joined_number))
+two_sites_spelled state county number joined_state joined_county joined_number =
+    regroup (is_none (digits_in 2 state)) (is_none (digits_in 3 county)) (is_none (digits_in 4 number)) _
+    ∙ ap (λ b. b || (is_none (digits_in 2 joined_state) || (is_none (digits_in 3 joined_county) || (is_none (digits_in 4 joined_number) || false)))) (site_spelled state county number)
+    ∙ ap (λ b. is_none (site_in state county number) || b) (site_spelled joined_state joined_county joined_number)
 
 -- a rule and those behind it
 link : {a b : Bool} (rule : Rule) {rest others : Option Rule} → a ≡ b → rest ≡ others → cond a (Some rule) rest ≡ cond b (Some rule) others
@@ -478,3 +492,53 @@ xa_key_same texts =
 
 pub xa_key-rule : (texts : List (List ℕ)) → find (λ rule. breaks_in rule Xa true texts) (rules_of Xa true) ≡ xa_key_rule texts
 xa_key-rule texts = xa_key_found texts ∙ xa_key_same texts
+
+-- XB
+abbrev xb_tests : List (List ℕ) → Option Rule
+xb_tests texts =
+    cond (is_none (digits_in 2 (field 3 texts)) || (is_none (digits_in 3 (field 4 texts)) || (is_none (digits_in 4 (field 5 texts)) || (is_none (digits_in 2 (field 8 texts)) || (is_none (digits_in 3 (field 9 texts)) || (is_none (digits_in 4 (field 10 texts)) || false)))))) (Some BadSite)
+    (cond (is_none (parameter_of Xb (field 6 texts)) || false) (Some ParameterOutOfProfile)
+    (cond (is_none (date_in (field 7 texts)) || false) (Some BadDate)
+    (cond (fails (site_in (field 3 texts) (field 4 texts) (field 5 texts) >>= λ site. site_in (field 8 texts) (field 9 texts) (field 10 texts) >>= λ joined. Some (is_pair site joined)) || false) (Some BadPair) None)))
+
+abbrev pub xb_rule : List (List ℕ) → Option Rule
+xb_rule texts =
+    cond (is_none (site_in (field 3 texts) (field 4 texts) (field 5 texts)) || is_none (site_in (field 8 texts) (field 9 texts) (field 10 texts))) (Some BadSite)
+    (cond (is_none (parameter_of Xb (field 6 texts))) (Some ParameterOutOfProfile)
+    (cond (is_none (date_in (field 7 texts))) (Some BadDate)
+    (cond (fails (site_in (field 3 texts) (field 4 texts) (field 5 texts) >>= λ site. site_in (field 8 texts) (field 9 texts) (field 10 texts) >>= λ joined. Some (is_pair site joined))) (Some BadPair) None)))
+
+xb_found : (texts : List (List ℕ)) → find (λ rule. breaks_in rule Xb false texts) (rules_of Xb false) ≡ xb_tests texts
+xb_found texts = refl
+
+xb_same : (texts : List (List ℕ)) → xb_tests texts ≡ xb_rule texts
+xb_same texts =
+    link BadSite (two_sites_spelled (field 3 texts) (field 4 texts) (field 5 texts) (field 8 texts) (field 9 texts) (field 10 texts))
+    (link ParameterOutOfProfile (or_false (is_none (parameter_of Xb (field 6 texts))))
+    (link BadDate (or_false (is_none (date_in (field 7 texts))))
+    (link BadPair (or_false (fails (site_in (field 3 texts) (field 4 texts) (field 5 texts) >>= λ site. site_in (field 8 texts) (field 9 texts) (field 10 texts) >>= λ joined. Some (is_pair site joined)))) refl)))
+
+pub xb-rule : (texts : List (List ℕ)) → find (λ rule. breaks_in rule Xb false texts) (rules_of Xb false) ≡ xb_rule texts
+xb-rule texts = xb_found texts ∙ xb_same texts
+
+-- XB, a deletion
+abbrev xb_key_tests : List (List ℕ) → Option Rule
+xb_key_tests texts =
+    cond (is_none (digits_in 2 (field 3 texts)) || (is_none (digits_in 3 (field 4 texts)) || (is_none (digits_in 4 (field 5 texts)) || false))) (Some BadSite)
+    (cond (is_none (parameter_of Xb (field 6 texts)) || false) (Some ParameterOutOfProfile) None)
+
+abbrev pub xb_key_rule : List (List ℕ) → Option Rule
+xb_key_rule texts =
+    cond (is_none (site_in (field 3 texts) (field 4 texts) (field 5 texts))) (Some BadSite)
+    (cond (is_none (parameter_of Xb (field 6 texts))) (Some ParameterOutOfProfile) None)
+
+xb_key_found : (texts : List (List ℕ)) → find (λ rule. breaks_in rule Xb true texts) (rules_of Xb true) ≡ xb_key_tests texts
+xb_key_found texts = refl
+
+xb_key_same : (texts : List (List ℕ)) → xb_key_tests texts ≡ xb_key_rule texts
+xb_key_same texts =
+    link BadSite (site_spelled (field 3 texts) (field 4 texts) (field 5 texts))
+    (link ParameterOutOfProfile (or_false (is_none (parameter_of Xb (field 6 texts)))) refl)
+
+pub xb_key-rule : (texts : List (List ℕ)) → find (λ rule. breaks_in rule Xb true texts) (rules_of Xb true) ≡ xb_key_rule texts
+xb_key-rule texts = xb_key_found texts ∙ xb_key_same texts

@@ -5,7 +5,7 @@ use Rattle.aq_base.specs.declared.monitor.Pollutant.{Pollutant}
 use Rattle.aq_base.specs.declared.rule.Rule.{Rule}
 use Rattle.aq_base.specs.declared.rule.Rule.TheVariants.{BadSite, ParameterOutOfProfile, BadPoc, BadDuration, BadUnit, BadMethod, BadDate, BadTime, BadValue, BadNull, BadQualifier, BadInterval, BadCode}
 use Rattle.aq_rules.specs.Lines.Fields.{field}
-use Rattle.aq_rules.specs.Lines.Spellings.{Tag, Rd, Xm, Xp, Xs, Xo, Xu, Xe, Xc, Xa, Action, Insert, Update, Delete, site_in, parameter_of}
+use Rattle.aq_rules.specs.Lines.Spellings.{Tag, Rd, Xm, Xp, Xs, Xo, Xu, Xe, Xc, Xa, Xb, Action, Insert, Update, Delete, site_in, parameter_of}
 
 -- the tag stands in the first field of a line, and the action in the second
 abbrev pub TAG_PLACE : ℕ
@@ -19,6 +19,7 @@ pub data FieldName : Type 0 where
   State County SiteNumber Parameter Poc SampleDuration Unit Method Date StartTime SampleValue NullCode Qualifiers : FieldName
   Eligible PrimaryPoc Interval Anchor Year FirstDay LastDay MissedDay MakeupDay : FieldName
   EventNumber FirstDate FirstTime LastDate LastTime EventCode Agreed : FieldName
+  JoinedState JoinedCounty JoinedNumber : FieldName
 
 -- a row of a form's table: where a field stands, its name, and the rule that a wrong spelling of it breaks
 pub data Row : Type 0 where
@@ -168,6 +169,22 @@ form Xa = record {
   deletes = true;
   rows = Key 3 State BadSite ∷ Key 4 County BadSite ∷ Key 5 SiteNumber BadSite ∷ Key 6 Date BadDate ∷ [];
 }
+-- a site that is combined with another one, the joined site, from a date on
+form Xb = record {
+  inserts = true;
+  updates = false;
+  deletes = true;
+  rows =
+      Key 3 State BadSite
+      ∷ Key 4 County BadSite
+      ∷ Key 5 SiteNumber BadSite
+      ∷ Key 6 Parameter ParameterOutOfProfile
+      ∷ Content 7 Date BadDate
+      ∷ Content 8 JoinedState BadSite
+      ∷ Content 9 JoinedCounty BadSite
+      ∷ Content 10 JoinedNumber BadSite
+      ∷ [];
+}
 
 abbrev pub acts : Tag → Action → Bool
 acts tag Insert = (form tag).inserts
@@ -207,6 +224,9 @@ name_number LastDate = 26
 name_number LastTime = 27
 name_number EventCode = 28
 name_number Agreed = 29
+name_number JoinedState = 30
+name_number JoinedCounty = 31
+name_number JoinedNumber = 32
 
 abbrev pub has_name : FieldName → Row → Bool
 has_name name (Key place other rule) = name_number name == name_number other
@@ -243,6 +263,11 @@ texts_from tag name texts = texts_at (row_of tag name) texts
 
 abbrev pub site_of : Tag → List (List ℕ) → Option Site
 site_of tag texts = site_in (text_of tag State texts) (text_of tag County texts) (text_of tag SiteNumber texts)
+
+-- the site that is joined to another one
+abbrev pub joined_of : Tag → List (List ℕ) → Option Site
+joined_of tag texts =
+    site_in (text_of tag JoinedState texts) (text_of tag JoinedCounty texts) (text_of tag JoinedNumber texts)
 
 abbrev pub pollutant_of : Tag → List (List ℕ) → Option Pollutant
 pollutant_of tag texts = parameter_of tag (text_of tag Parameter texts)

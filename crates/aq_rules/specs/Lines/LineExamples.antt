@@ -1,12 +1,12 @@
 -- A small office, on which laws of the lines compute their examples.
-use Rattle.std.specs.Prelude.{ℕ, ◌+◌, true, false, Some, None, List, [], ◌∷◌, map, codes, pos, ℤ, replicate}
+use Rattle.std.specs.Prelude.{ℕ, ◌+◌, true, false, Some, None, List, [], ◌∷◌, ◌++◌, map, codes, pos, ℤ, replicate}
 use Rattle.std.specs.List.{range_with_len}
 use Rattle.aq_base.specs.Site.{Site}
 use Rattle.aq_base.specs.declared.code.Code.{Code}
 use Rattle.aq_base.specs.declared.monitor.MonitorId.{MonitorId}
 use Rattle.aq_base.specs.declared.monitor.Pollutant.TheVariants.{Ozone, Pm25}
 use Rattle.aq_base.specs.declared.monitor.Duration.TheVariants.{Hour, Day}
-use Rattle.aq_base.specs.declared.office.OfficeRecord.TheVariants.{Monitor, Primary, Schedule, Season, Makeup, Event, Concurrence, Approved}
+use Rattle.aq_base.specs.declared.office.OfficeRecord.TheVariants.{Monitor, Primary, Schedule, Season, Makeup, Event, Concurrence, Approved, Combined}
 use Rattle.aq_base.specs.declared.reply.ListedLine.{ListedLine}
 use Rattle.aq_base.specs.declared.rule.Rule.TheVariants.{BadTag}
 use Rattle.aq_base.specs.declared.observation.ObsKey.{ObsKey}
@@ -15,6 +15,10 @@ use Rattle.aq_rules.specs.Office.Office.{Office, nothing}
 
 abbrev pub home : Site
 home = record { state = 6; county = 37; number = 1103 }
+
+-- the site beside it
+abbrev pub neighbor : Site
+neighbor = record home { number = 1104 }
 
 abbrev pub ozone_monitor : MonitorId
 ozone_monitor = record { site = home; pollutant = Ozone; poc = 1 }
@@ -39,6 +43,21 @@ valued value = record { value = Some value; null = None; quals = [] }
 -- only the ozone monitor stands
 abbrev pub one_monitor : Office
 one_monitor = record nothing { records = Monitor ozone_monitor Hour true ∷ [] }
+
+-- two sites and a third one have an ozone monitor each, and the third one a PM2.5 monitor too
+abbrev pub three_sites : Office
+three_sites = record nothing {
+  records =
+      Monitor ozone_monitor Hour true
+      ∷ Monitor (record ozone_monitor { site = neighbor }) Hour true
+      ∷ Monitor (record ozone_monitor { site = record home { number = 1105 } }) Hour true
+      ∷ Monitor (record particle_monitor { site = record home { number = 1105 } }) Day true
+      ∷ [];
+}
+
+-- the first of them is combined with the second, from 2024-07-02
+abbrev pub two_combined : Office
+two_combined = record three_sites { records = three_sites.records ++ Combined home Ozone 12601 neighbor ∷ [] }
 
 -- the monitor has an ozone hour
 abbrev pub one_hour : Office
@@ -114,12 +133,13 @@ digest_b = replicate 32 2
 abbrev pub refused_lines : ℕ → List ListedLine
 refused_lines count = map (λ line. record { line = line; rule = BadTag }) (range_with_len 1 count)
 
--- an office with a record of each kind, whose fields differ
+-- an office with a record of each kind, whose fields differ, and with the monitor that the joined site needs
 abbrev pub one_of_each : Office
 one_of_each = record nothing {
   records =
       Monitor (record { site = home; pollutant = Ozone; poc = 3 }) Hour true
       ∷ Monitor (record { site = home; pollutant = Pm25; poc = 4 }) Day false
+      ∷ Monitor (record { site = neighbor; pollutant = Ozone; poc = 5 }) Hour true
       ∷ Primary home Ozone 12419 3
       ∷ Schedule home Pm25 12420 6 12424
       ∷ Season home 2024 12478 12722
@@ -127,5 +147,6 @@ one_of_each = record nothing {
       ∷ Event 21 home Ozone 302419 302452 code_rt
       ∷ Concurrence 21 true
       ∷ Approved home 12603
+      ∷ Combined home Ozone 12432 neighbor
       ∷ [];
 }

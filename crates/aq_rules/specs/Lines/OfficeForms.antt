@@ -1,16 +1,18 @@
 -- The record that an office line spells, and the key that a line of deletion spells, form by form (own).
-use Rattle.std.specs.Prelude.{ℕ, ◌+◌, Bool, ◌&&◌, ◌==◌, nat_le, nat_lt, if◌then◌else◌, Option, Some, None, List}
+use Rattle.std.specs.Prelude.{ℕ, ◌+◌, Bool, not, ◌&&◌, ◌==◌, nat_le, nat_lt, if◌then◌else◌, Option, Some, None, List}
 use Rattle.aq_base.specs.Calendar.{hour_number, year_of, quarter_of}
+use Rattle.aq_base.specs.Site.{Site}
 use Rattle.aq_base.specs.declared.office.OfficeRecord.{OfficeRecord}
-use Rattle.aq_base.specs.declared.office.OfficeRecord.TheVariants.{Monitor, Primary, Schedule, Season, Makeup, Event, Concurrence, Approved}
+use Rattle.aq_base.specs.declared.office.OfficeRecord.TheVariants.{Monitor, Primary, Schedule, Season, Makeup, Event, Concurrence, Approved, Combined}
 use Rattle.aq_base.specs.declared.office.OfficeKey.{OfficeKey}
-use Rattle.aq_base.specs.declared.office.OfficeKey.TheVariants.{Primary as PrimaryKey, Schedule as ScheduleKey, Season as SeasonKey, Makeup as MakeupKey, Event as EventKey, Approved as ApprovedKey}
+use Rattle.aq_base.specs.declared.office.OfficeKey.TheVariants.{Primary as PrimaryKey, Schedule as ScheduleKey, Season as SeasonKey, Makeup as MakeupKey, Event as EventKey, Approved as ApprovedKey, Combined as CombinedKey}
 use Rattle.aq_base.specs.declared.office.OfficeLine.{OfficeLine}
 use Rattle.aq_base.specs.declared.office.OfficeLine.TheVariants.{Put, Change, Drop}
-use Rattle.aq_rules.specs.Lines.Forms.{SampleDuration, Date, Eligible, PrimaryPoc, Interval, Anchor, Year, FirstDay, LastDay, MissedDay, MakeupDay, EventNumber, FirstDate, FirstTime, LastDate, LastTime, EventCode, Agreed, text_of, site_of, pollutant_of}
+use Rattle.aq_rules.specs.Lines.Forms.{SampleDuration, Date, Eligible, PrimaryPoc, Interval, Anchor, Year, FirstDay, LastDay, MissedDay, MakeupDay, EventNumber, FirstDate, FirstTime, LastDate, LastTime, EventCode, Agreed, text_of, site_of, pollutant_of, joined_of}
 use Rattle.aq_rules.specs.Limits.{MOST_EVENT_HOURS}
 use Rattle.aq_rules.specs.Lines.RdForm.{monitor_in}
-use Rattle.aq_rules.specs.Lines.Spellings.{◌>>=◌, Tag, Rd, Xm, Xp, Xs, Xo, Xu, Xe, Xc, Xa, Action, Insert, Update, Delete, primary_in, duration_in, date_in, year_in, time_in, interval_in, truth_in, event_number_in, event_code_in}
+use Rattle.aq_rules.specs.Office.Monitors.{is_same_site}
+use Rattle.aq_rules.specs.Lines.Spellings.{◌>>=◌, Tag, Rd, Xm, Xp, Xs, Xo, Xu, Xe, Xc, Xa, Xb, Action, Insert, Update, Delete, primary_in, duration_in, date_in, year_in, time_in, interval_in, truth_in, event_number_in, event_code_in}
 
 -- a date and a time, in two fields
 abbrev pub hour_in : List ℕ → List ℕ → Option ℕ
@@ -30,6 +32,10 @@ is_makeup missed makeup = nat_lt missed makeup && (quarter_of makeup == quarter_
 -- an event has its last hour at or after its first, and not too many hours
 abbrev pub is_span : ℕ → ℕ → Bool
 is_span first last = nat_le first last && nat_lt last (first + MOST_EVENT_HOURS)
+
+-- a site is combined with another one
+abbrev pub is_pair : Site → Site → Bool
+is_pair site joined = not (is_same_site site joined)
 
 -- XM: a monitor
 unfoldable pub xm_record : List (List ℕ) → Option OfficeRecord
@@ -139,6 +145,21 @@ xa_key texts = do
   day ← date_in (text_of Xa Date texts)
   Some (ApprovedKey site day)
 
+-- XB: a site that is combined with another one; both sites are read first
+unfoldable pub xb_record : List (List ℕ) → Option OfficeRecord
+xb_record texts = do
+  site ← site_of Xb texts
+  joined ← joined_of Xb texts
+  pollutant ← pollutant_of Xb texts
+  from ← date_in (text_of Xb Date texts)
+  if is_pair site joined then Some (Combined site pollutant from joined) else None
+
+unfoldable pub xb_key : List (List ℕ) → Option OfficeKey
+xb_key texts = do
+  site ← site_of Xb texts
+  pollutant ← pollutant_of Xb texts
+  Some (CombinedKey site pollutant)
+
 -- the record of an insertion or update
 abbrev pub record_in : Tag → List (List ℕ) → Option OfficeRecord
 record_in Rd texts = None
@@ -150,6 +171,7 @@ record_in Xu texts = xu_record texts
 record_in Xe texts = xe_record texts
 record_in Xc texts = xc_record texts
 record_in Xa texts = xa_record texts
+record_in Xb texts = xb_record texts
 
 -- the key of a deletion, which the forms XM and XC do not have
 abbrev pub key_in : Tag → List (List ℕ) → Option OfficeKey
@@ -162,6 +184,7 @@ key_in Xu texts = xu_key texts
 key_in Xe texts = xe_key texts
 key_in Xc texts = None
 key_in Xa texts = xa_key texts
+key_in Xb texts = xb_key texts
 
 abbrev pub office_line_in : Tag → Action → List (List ℕ) → Option OfficeLine
 office_line_in tag Insert texts = record_in tag texts >>= λ r. Some (Put r)

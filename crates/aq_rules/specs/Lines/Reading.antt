@@ -5,12 +5,12 @@ use Rattle.aq_base.specs.Decimal.{is_decimal}
 use Rattle.aq_base.specs.Rule.{rule_number}
 use Rattle.aq_base.specs.declared.office.OfficeLine.{OfficeLine}
 use Rattle.aq_base.specs.declared.rule.Rule.{Rule}
-use Rattle.aq_base.specs.declared.rule.Rule.TheVariants.{BadBytes, BadTag, FieldCount, BadAction, BadSite, ParameterOutOfProfile, BadPoc, BadDuration, BadUnit, BadMethod, BadDate, BadTime, ValueAndNull, NeitherValueNorNull, BadValue, ValueOutOfRange, BadNull, BadQualifier, BadSpan, BadInterval, BadSeason, BadMakeup, BadCode}
+use Rattle.aq_base.specs.declared.rule.Rule.TheVariants.{BadBytes, BadTag, FieldCount, BadAction, BadSite, ParameterOutOfProfile, BadPoc, BadDuration, BadUnit, BadMethod, BadDate, BadTime, ValueAndNull, NeitherValueNorNull, BadValue, ValueOutOfRange, BadNull, BadQualifier, BadSpan, BadInterval, BadSeason, BadMakeup, BadCode, BadPair}
 use Rattle.aq_rules.specs.Lines.Fields.{is_empty, fields, field}
-use Rattle.aq_rules.specs.Lines.Forms.{FieldName, State, County, SiteNumber, Parameter, Poc, SampleDuration, Unit, Method, Date, StartTime, SampleValue, NullCode, Qualifiers, Eligible, PrimaryPoc, Interval, Anchor, Year, FirstDay, LastDay, MissedDay, MakeupDay, EventNumber, FirstDate, FirstTime, LastDate, LastTime, EventCode, Agreed, Row, Key, Content, Optional, Unread, form, acts, key_rows, text_of, pollutant_of, fewest_fields, most_fields, TAG_PLACE, ACTION_PLACE}
-use Rattle.aq_rules.specs.Lines.Spellings.{◌>>=◌, Tag, Rd, Xm, Xp, Xs, Xo, Xu, Xe, Xc, Xa, Action, Insert, Update, Delete, tag_in, action_in, digits_in, poc_in, primary_in, duration_in, unit_in, method_in, date_in, year_in, time_in, value_in, null_in, qualifiers_in, interval_in, truth_in, event_number_in, event_code_in}
+use Rattle.aq_rules.specs.Lines.Forms.{FieldName, State, County, SiteNumber, Parameter, Poc, SampleDuration, Unit, Method, Date, StartTime, SampleValue, NullCode, Qualifiers, Eligible, PrimaryPoc, Interval, Anchor, Year, FirstDay, LastDay, MissedDay, MakeupDay, EventNumber, FirstDate, FirstTime, LastDate, LastTime, EventCode, Agreed, JoinedState, JoinedCounty, JoinedNumber, Row, Key, Content, Optional, Unread, form, acts, key_rows, text_of, site_of, joined_of, pollutant_of, fewest_fields, most_fields, TAG_PLACE, ACTION_PLACE}
+use Rattle.aq_rules.specs.Lines.Spellings.{◌>>=◌, Tag, Rd, Xm, Xp, Xs, Xo, Xu, Xe, Xc, Xa, Xb, Action, Insert, Update, Delete, tag_in, action_in, digits_in, poc_in, primary_in, duration_in, unit_in, method_in, date_in, year_in, time_in, value_in, null_in, qualifiers_in, interval_in, truth_in, event_number_in, event_code_in}
 use Rattle.aq_rules.specs.Lines.RdForm.{RdValue, qualifier_fields, put_in, delete_in}
-use Rattle.aq_rules.specs.Lines.OfficeForms.{hour_in, is_season, is_makeup, is_span, office_line_in}
+use Rattle.aq_rules.specs.Lines.OfficeForms.{hour_in, is_season, is_makeup, is_span, is_pair, office_line_in}
 
 -- ---- the rules of all forms
 
@@ -76,6 +76,9 @@ is_misspelled tag LastDate texts = is_none (date_in (text_of tag LastDate texts)
 is_misspelled tag LastTime texts = is_none (time_in (text_of tag LastTime texts))
 is_misspelled tag EventCode texts = is_none (event_code_in (text_of tag EventCode texts))
 is_misspelled tag Agreed texts = is_none (truth_in (text_of tag Agreed texts))
+is_misspelled tag JoinedState texts = is_none (digits_in 2 (text_of tag JoinedState texts))
+is_misspelled tag JoinedCounty texts = is_none (digits_in 3 (text_of tag JoinedCounty texts))
+is_misspelled tag JoinedNumber texts = is_none (digits_in 4 (text_of tag JoinedNumber texts))
 
 -- ---- the rules across fields
 
@@ -119,6 +122,12 @@ makeup_test texts = do
   makeup ← date_in (text_of Xu MakeupDay texts)
   Some (is_makeup missed makeup)
 
+abbrev pub pair_test : List (List ℕ) → Option Bool
+pair_test texts = do
+  site ← site_of Xb texts
+  joined ← joined_of Xb texts
+  Some (is_pair site joined)
+
 -- a rule, and whether a line's fields break it
 pub record Demand : Type 0 where
   pub rule : Rule
@@ -139,6 +148,7 @@ demands_across Xu = record { rule = BadMakeup; is_broken = λ texts. fails (make
 demands_across Xe = record { rule = BadSpan; is_broken = λ texts. fails (span_test texts) } ∷ []
 demands_across Xc = []
 demands_across Xa = []
+demands_across Xb = record { rule = BadPair; is_broken = λ texts. fails (pair_test texts) } ∷ []
 
 -- ---- the rules that a line breaks
 
@@ -187,7 +197,7 @@ abbrev pub FIELD_RULES : List Rule
 FIELD_RULES =
     BadSite ∷ ParameterOutOfProfile ∷ BadPoc ∷ BadDuration ∷ BadUnit ∷ BadMethod ∷ BadDate ∷ BadTime
     ∷ ValueAndNull ∷ NeitherValueNorNull ∷ BadValue ∷ ValueOutOfRange ∷ BadNull ∷ BadQualifier
-    ∷ BadSpan ∷ BadInterval ∷ BadSeason ∷ BadMakeup ∷ BadCode ∷ []
+    ∷ BadSpan ∷ BadInterval ∷ BadSeason ∷ BadMakeup ∷ BadCode ∷ BadPair ∷ []
 
 abbrev pub rules_of : Tag → Bool → List Rule
 rules_of tag deletes = filter (λ rule. list_any (is_of_rule rule) (demands_on tag deletes)) FIELD_RULES

@@ -22,7 +22,7 @@ Some x >>= next = next x
 
 -- the forms of lines: RD for samples, and the agency's own for its office
 pub data Tag : Type 0 where
-  Rd Xm Xp Xs Xo Xu Xe Xc Xa : Tag
+  Rd Xm Xp Xs Xo Xu Xe Xc Xa Xb : Tag
 
 pub data Action : Type 0 where
   Insert Update Delete : Action
@@ -37,7 +37,8 @@ tag_in text =
     else (if bytes_eq text (codes "XU") then Some Xu
     else (if bytes_eq text (codes "XE") then Some Xe
     else (if bytes_eq text (codes "XC") then Some Xc
-    else (if bytes_eq text (codes "XA") then Some Xa else None))))))))
+    else (if bytes_eq text (codes "XA") then Some Xa
+    else (if bytes_eq text (codes "XB") then Some Xb else None)))))))))
 
 abbrev pub action_in : List ℕ → Option Action
 action_in text =
@@ -65,11 +66,12 @@ parameter_in text =
     else (if bytes_eq text (codes "88101") then Some Pm25
     else (if bytes_eq text (codes "81102") then Some Pm10 else None))
 
--- the parameters of a form: schedules are for particles, and make-up samples for PM2.5
+-- the parameters of a form: schedules are for particles, make-up samples for PM2.5, and combined sites for ozone and PM2.5
 abbrev pub has_parameter : Tag → Pollutant → Bool
 has_parameter Xs Ozone = false
 has_parameter Xu Ozone = false
 has_parameter Xu Pm10 = false
+has_parameter Xb Pm10 = false
 has_parameter tag pollutant = true
 
 unfoldable pub parameter_of : Tag → List ℕ → Option Pollutant

@@ -11,7 +11,7 @@ use Rattle.aq_base.specs.declared.observation.Observation.{Observation}
 use Rattle.aq_base.specs.declared.monitor.Duration.{Duration}
 use Rattle.aq_base.specs.declared.monitor.Duration.TheVariants.{Hour, Day}
 use Rattle.aq_base.specs.declared.office.OfficeRecord.{OfficeRecord}
-use Rattle.aq_base.specs.declared.office.OfficeRecord.TheVariants.{Monitor, Primary, Schedule, Season, Makeup, Event, Concurrence, Approved}
+use Rattle.aq_base.specs.declared.office.OfficeRecord.TheVariants.{Monitor, Primary, Schedule, Season, Makeup, Event, Concurrence, Approved, Combined}
 use Rattle.aq_base.specs.declared.office.OfficeKey.{OfficeKey}
 use Rattle.aq_base.specs.declared.office.OfficeKey.TheVariants.{Event as EventKey, Concurrence as ConcurrenceKey}
 use Rattle.aq_base.specs.declared.office.OfficeLine.TheVariants.{Put, Change, Drop}
@@ -226,6 +226,8 @@ is_same_record (Event number site pollutant first last code) (Event number2 site
 is_same_record (Concurrence number agreed) (Concurrence number2 agreed2) =
     (number == number2) && is_same_truth agreed agreed2
 is_same_record (Approved site day) (Approved site2 day2) = is_same_site site site2 && (day == day2)
+is_same_record (Combined site pollutant from joined) (Combined site2 pollutant2 from2 joined2) =
+    is_same_site site site2 && is_same_pollutant pollutant pollutant2 && (from == from2) && is_same_site joined joined2
 is_same_record _ _ = false
 
 -- whether two observations have equal values, null codes and qualifiers

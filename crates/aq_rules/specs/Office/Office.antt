@@ -14,17 +14,17 @@ use Rattle.aq_base.specs.declared.monitor.Duration.{Duration}
 use Rattle.aq_base.specs.declared.monitor.Duration.TheVariants.{Hour, Day}
 use Rattle.aq_base.specs.declared.monitor.MonitorId.{MonitorId}
 use Rattle.aq_base.specs.declared.office.OfficeRecord.{OfficeRecord}
-use Rattle.aq_base.specs.declared.office.OfficeRecord.TheVariants.{Monitor, Primary, Schedule, Season, Makeup, Event, Concurrence, Approved}
+use Rattle.aq_base.specs.declared.office.OfficeRecord.TheVariants.{Monitor, Primary, Schedule, Season, Makeup, Event, Concurrence, Approved, Combined}
 use Rattle.aq_base.specs.declared.office.OfficeKey.{OfficeKey}
-use Rattle.aq_base.specs.declared.office.OfficeKey.TheVariants.{Monitor as MonitorKey, Primary as PrimaryKey, Schedule as ScheduleKey, Season as SeasonKey, Makeup as MakeupKey, Event as EventKey, Concurrence as ConcurrenceKey, Approved as ApprovedKey}
+use Rattle.aq_base.specs.declared.office.OfficeKey.TheVariants.{Monitor as MonitorKey, Primary as PrimaryKey, Schedule as ScheduleKey, Season as SeasonKey, Makeup as MakeupKey, Event as EventKey, Concurrence as ConcurrenceKey, Approved as ApprovedKey, Combined as CombinedKey}
 use Rattle.aq_base.specs.declared.observation.ObsKey.{ObsKey}
 use Rattle.aq_base.specs.declared.observation.Observation.{Observation}
 use Rattle.aq_base.specs.declared.reply.LoadReply.{LoadReply}
 use Rattle.aq_base.specs.declared.reply.ListedLine.{ListedLine}
 use Rattle.aq_base.specs.declared.reply.RestRule.{RestRule}
 use Rattle.aq_rules.specs.Limits.{MOST_LINES, MOST_LISTED, MOST_LOADS, MOST_OBSERVATIONS, MOST_SITES, MOST_MONITORS, MOST_IN_LIST, MOST_MAKEUPS, MOST_EVENTS, LAST_LOAD_NUMBER}
-use Rattle.aq_rules.specs.Lines.Spellings.{◌>>=◌, has_parameter, Xs, has_duration, is_in_range, is_code_byte, is_interval, is_event_number, is_event_code}
-use Rattle.aq_rules.specs.Lines.OfficeForms.{is_season, is_makeup, is_span}
+use Rattle.aq_rules.specs.Lines.Spellings.{◌>>=◌, has_parameter, Xs, Xb, has_duration, is_in_range, is_code_byte, is_interval, is_event_number, is_event_code}
+use Rattle.aq_rules.specs.Lines.OfficeForms.{is_season, is_makeup, is_span, is_pair}
 
 -- a load that was taken: its number, the SHA-256 of its body, and its reply
 pub record StoredLoad : Type 0 where
@@ -51,6 +51,7 @@ kind_of (MakeupKey site missed) = 5
 kind_of (EventKey number) = 6
 kind_of (ConcurrenceKey number) = 7
 kind_of (ApprovedKey site day) = 8
+kind_of (CombinedKey site pollutant) = 9
 
 abbrev pub key_of : OfficeRecord → OfficeKey
 key_of (Monitor id duration eligible) = MonitorKey id
@@ -61,6 +62,7 @@ key_of (Makeup site missed makeup) = MakeupKey site missed
 key_of (Event number site pollutant first last code) = EventKey number
 key_of (Concurrence number agreed) = ConcurrenceKey number
 key_of (Approved site day) = ApprovedKey site day
+key_of (Combined site pollutant from joined) = CombinedKey site pollutant
 
 -- A key as whole numbers, from the kind on. The printed key has each of them in a fixed width, so this is the order by kind and then by the bytes of the printed key.
 abbrev pub site_numbers : Site → List ℕ
@@ -84,6 +86,7 @@ part_numbers (MakeupKey site missed) = site_numbers site ++ missed ∷ []
 part_numbers (EventKey number) = number ∷ []
 part_numbers (ConcurrenceKey number) = number ∷ []
 part_numbers (ApprovedKey site day) = site_numbers site ++ day ∷ []
+part_numbers (CombinedKey site pollutant) = series_numbers site pollutant
 
 abbrev pub key_numbers : OfficeKey → List ℕ
 key_numbers key = kind_of key ∷ part_numbers key
@@ -216,6 +219,20 @@ makes_up_on site day _ = false
 abbrev pub makeups_on : Office → Site → ℕ → ℕ
 makeups_on office site day = count_by (makes_up_on site day) office.records
 
+-- a combination with the site in either part
+abbrev pub combines : Site → Pollutant → OfficeRecord → Bool
+combines site pollutant (Combined first other from joined) =
+    is_same (series_numbers first other) (series_numbers site pollutant)
+    || is_same (series_numbers joined other) (series_numbers site pollutant)
+combines site pollutant _ = false
+
+abbrev pub combines_either : Site → Site → Pollutant → OfficeRecord → Bool
+combines_either site joined pollutant r = combines site pollutant r || combines joined pollutant r
+
+-- how many combinations have one of the two sites in either part
+abbrev pub combinations_of : Office → Site → Site → Pollutant → ℕ
+combinations_of office site joined pollutant = count_by (combines_either site joined pollutant) office.records
+
 -- the monitors without which a record does not stand: of a designation the monitor itself, unless it names none
 abbrev pub has_its_monitor : Office → OfficeRecord → Bool
 has_its_monitor office (Monitor id duration eligible) = true
@@ -228,6 +245,8 @@ has_its_monitor office (Makeup site missed makeup) = has_monitor office site Pm2
 has_its_monitor office (Event number site pollutant first last code) = has_monitor office site pollutant
 has_its_monitor office (Concurrence number agreed) = true
 has_its_monitor office (Approved site day) = has_monitor office site Ozone
+has_its_monitor office (Combined site pollutant from joined) =
+    has_monitor office site pollutant && has_monitor office joined pollutant
 
 abbrev pub event_stands : Office → ℕ → Bool
 event_stands office number = is_some (record_at office (EventKey number))
@@ -257,6 +276,7 @@ is_key (MakeupKey site missed) = is_site site && is_day missed
 is_key (EventKey number) = is_event_number number
 is_key (ConcurrenceKey number) = is_event_number number
 is_key (ApprovedKey site day) = is_site site && is_day day
+is_key (CombinedKey site pollutant) = is_site site && has_parameter Xb pollutant
 
 -- what a line can spell beside a key
 abbrev pub is_content_of : OfficeRecord → Bool
@@ -269,6 +289,7 @@ is_content_of (Event number site pollutant first last code) =
     is_site site && nat_le last LAST_HOUR && is_span first last && is_event_code code
 is_content_of (Concurrence number agreed) = true
 is_content_of (Approved site day) = true
+is_content_of (Combined site pollutant from joined) = is_day from && is_site joined && is_pair site joined
 
 abbrev pub is_record : OfficeRecord → Bool
 is_record r = is_key (key_of r) && is_content_of r
@@ -279,9 +300,11 @@ fits_records office r =
     is_record r && has_its_monitor office r && has_its_event office r
     && nat_le (group_size office r) (most_in_group r)
 
-abbrev pub has_own_makeup_day : Office → OfficeRecord → Bool
-has_own_makeup_day office (Makeup site missed makeup) = makeups_on office site makeup == 1
-has_own_makeup_day office r = true
+-- a make-up day makes up for one missed day alone, and a site is combined once for a pollutant
+abbrev pub is_alone : Office → OfficeRecord → Bool
+is_alone office (Makeup site missed makeup) = makeups_on office site makeup == 1
+is_alone office (Combined site pollutant from joined) = combinations_of office site joined pollutant == 1
+is_alone office r = true
 
 abbrev pub is_null_code : Code → Bool
 is_null_code code = is_code_byte code.first && is_code_byte code.second
@@ -317,13 +340,13 @@ abbrev pub listed_rank : ListedLine → List ℕ
 listed_rank listed = listed.line ∷ []
 
 abbrev pub is_listed : ℕ → ListedLine → Bool
-is_listed lines listed = nat_le 1 listed.line && nat_le listed.line lines && nat_le (rule_number listed.rule) 34
+is_listed lines listed = nat_le 1 listed.line && nat_le listed.line lines && nat_le (rule_number listed.rule) 36
 
 abbrev pub rest_rank : RestRule → List ℕ
 rest_rank rest = rule_number rest.rule ∷ []
 
 abbrev pub is_rest : RestRule → Bool
-is_rest rest = nat_le (rule_number rest.rule) 34 && nat_le 1 rest.count
+is_rest rest = nat_le (rule_number rest.rule) 36 && nat_le 1 rest.count
 
 abbrev pub is_reply : LoadReply → Bool
 is_reply reply =
@@ -350,7 +373,7 @@ pub record KeysRise (office : Office) : Type 0 where
 pub record IsOffice (office : Office) : Type 0 where
   pub keys_rise : KeysRise office
   pub records_fit : IsTrue (list_all (fits_records office) office.records)
-  pub makeup_days_differ : IsTrue (list_all (has_own_makeup_day office) office.records)
+  pub records_alone : IsTrue (list_all (is_alone office) office.records)
   pub few_sites : length (sites_of office.records) ≤ MOST_SITES
   pub observations_fit : IsTrue (list_all (fits_monitors office) office.observations)
   pub few_observations : length office.observations ≤ MOST_OBSERVATIONS

@@ -5,7 +5,7 @@ use Rattle.aq_base.specs.declared.monitor.Pollutant.{Pollutant}
 use Rattle.aq_base.specs.declared.monitor.Duration.{Duration}
 use Rattle.aq_base.specs.declared.monitor.MonitorId.{MonitorId}
 use Rattle.aq_base.specs.declared.office.OfficeRecord.{OfficeRecord}
-use Rattle.aq_base.specs.declared.office.OfficeRecord.TheVariants.{Monitor, Makeup, Event}
+use Rattle.aq_base.specs.declared.office.OfficeRecord.TheVariants.{Monitor, Makeup, Event, Combined}
 use Rattle.aq_base.specs.declared.office.OfficeKey.{OfficeKey}
 use Rattle.aq_rules.specs.Office.Office.{key_numbers, record_rank, row_at, comes_before, site_numbers}
 use Rattle.aq_rules.specs.Office.Monitors.{is_same_site, is_same_pollutant, is_same_monitor}
@@ -82,6 +82,22 @@ missed_for site day _ = None
 
 unfoldable pub missed_of : List OfficeRecord → Site → ℕ → Option ℕ
 missed_of records site makeup = first_given (missed_for site makeup) records
+
+-- ---- combined sites
+
+-- the site that is joined to another one for a pollutant, and from which day on
+pub record Joined : Type 0 where
+  pub site : Site
+  pub from : ℕ
+
+abbrev pub joined_by : Site → Pollutant → OfficeRecord → Option Joined
+joined_by site pollutant (Combined other kind from joined) =
+    if is_same_site other site && is_same_pollutant kind pollutant then Some (record { site = joined; from = from }) else None
+joined_by site pollutant _ = None
+
+-- none where the site is not the first one of a combination of the pollutant
+unfoldable pub combined : List OfficeRecord → Site → Pollutant → Option Joined
+combined records site pollutant = first_given (joined_by site pollutant) records
 
 -- ---- events
 

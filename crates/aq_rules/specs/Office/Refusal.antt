@@ -7,16 +7,16 @@ use Rattle.aq_base.specs.declared.monitor.Duration.TheVariants.{Hour, Day}
 use Rattle.aq_base.specs.declared.monitor.MonitorId.{MonitorId}
 use Rattle.aq_base.specs.declared.observation.ObsKey.{ObsKey}
 use Rattle.aq_base.specs.declared.office.OfficeRecord.{OfficeRecord}
-use Rattle.aq_base.specs.declared.office.OfficeRecord.TheVariants.{Monitor, Primary, Schedule, Season, Makeup, Event, Concurrence, Approved}
+use Rattle.aq_base.specs.declared.office.OfficeRecord.TheVariants.{Monitor, Primary, Schedule, Season, Makeup, Event, Concurrence, Approved, Combined}
 use Rattle.aq_base.specs.declared.office.OfficeKey.{OfficeKey}
 use Rattle.aq_base.specs.declared.office.OfficeKey.TheVariants.{Monitor as MonitorKey, Event as EventKey, Concurrence as ConcurrenceKey}
 use Rattle.aq_base.specs.declared.office.OfficeLine.TheVariants.{Put, Change, Drop}
 use Rattle.aq_base.specs.declared.rule.Rule.{Rule}
-use Rattle.aq_base.specs.declared.rule.Rule.TheVariants.{UnknownMonitor, WrongDuration, AlreadyThere, NotThere, ObservationsFull, SitesFull, MonitorsFull, MakeupsFull, UnknownEvent, EventsFull, ListFull}
+use Rattle.aq_base.specs.declared.rule.Rule.TheVariants.{UnknownMonitor, WrongDuration, AlreadyThere, NotThere, ObservationsFull, SitesFull, MonitorsFull, MakeupsFull, UnknownEvent, EventsFull, ListFull, PairTaken}
 use Rattle.aq_rules.specs.Limits.{MOST_OBSERVATIONS, MOST_SITES}
 use Rattle.aq_rules.specs.Lines.RdForm.{Put as PutSample, Delete as DeleteSample}
 use Rattle.aq_rules.specs.Lines.Reading.{LineValue, OfRd, OfOffice}
-use Rattle.aq_rules.specs.Office.Office.{Office, key_of, record_at, observation_at, duration_at, is_same, site_numbers, sites_of, group_size, most_in_group, makeups_on, has_its_monitor, event_stands}
+use Rattle.aq_rules.specs.Office.Office.{Office, key_of, record_at, observation_at, duration_at, is_same, site_numbers, sites_of, group_size, most_in_group, makeups_on, combinations_of, has_its_monitor, event_stands}
 
 -- ---- samples
 
@@ -84,6 +84,15 @@ lacks_event office (OfOffice (Change (Concurrence number agreed))) = not (event_
 lacks_event office (OfOffice (Drop (EventKey number))) = not (event_stands office number)
 lacks_event office value = false
 
+-- one of the two sites stands in a combination of the pollutant, in either part
+abbrev pub is_combined : Office → OfficeRecord → Bool
+is_combined office (Combined site pollutant from joined) = nat_lt 0 (combinations_of office site joined pollutant)
+is_combined office r = false
+
+abbrev pub has_combined_site : Office → LineValue → Bool
+has_combined_site office (OfOffice (Put r)) = is_combined office r
+has_combined_site office value = false
+
 -- whether the value breaks the rule; the rules of full lists differ in the form that meets them
 abbrev pub breaks_office : Rule → Office → LineValue → Bool
 breaks_office UnknownMonitor office value = lacks_monitor office value
@@ -97,6 +106,7 @@ breaks_office MakeupsFull office value = is_full office value
 breaks_office UnknownEvent office value = lacks_event office value
 breaks_office EventsFull office value = is_full office value
 breaks_office ListFull office value = is_full office value
+breaks_office PairTaken office value = has_combined_site office value
 breaks_office rule office value = false
 
 -- ---- the rules that a value meets, in rising number
@@ -110,6 +120,7 @@ rules_of_new (Makeup site missed makeup) = UnknownMonitor ∷ AlreadyThere ∷ M
 rules_of_new (Event number site pollutant first last code) = UnknownMonitor ∷ AlreadyThere ∷ EventsFull ∷ []
 rules_of_new (Concurrence number agreed) = []
 rules_of_new (Approved site day) = UnknownMonitor ∷ AlreadyThere ∷ []
+rules_of_new (Combined site pollutant from joined) = UnknownMonitor ∷ AlreadyThere ∷ PairTaken ∷ []
 
 abbrev pub rules_of_change : OfficeRecord → List Rule
 rules_of_change (Monitor id duration eligible) = UnknownMonitor ∷ WrongDuration ∷ []

@@ -5,7 +5,7 @@ use Rattle.std.specs.List.{list_any}
 use Rattle.aq_base.specs.declared.code.Code.{Code}
 use Rattle.aq_base.specs.declared.observation.ObsKey.{ObsKey}
 use Rattle.aq_base.specs.declared.office.OfficeRecord.{OfficeRecord}
-use Rattle.aq_base.specs.declared.office.OfficeRecord.TheVariants.{Monitor, Primary, Schedule, Season, Makeup, Event, Concurrence, Approved}
+use Rattle.aq_base.specs.declared.office.OfficeRecord.TheVariants.{Monitor, Primary, Schedule, Season, Makeup, Event, Concurrence, Approved, Combined}
 use Rattle.aq_rules.specs.Office.Exclusion.{excluded, takes_out, agrees_to}
 
 none_of : {X : Type 0} (test : X → Bool) (xs : List X) → ((x : X) → test x ≡ false) → list_any test xs ≡ false
@@ -26,3 +26,4 @@ excluded-unagreed records key codes none = none_of (takes_out records key codes)
     each none (Event number site pollutant first last code) = and_right _ (list_any (agrees_to number) records) (none number)
     each none (Concurrence number agreed) = refl
     each none (Approved site day) = refl
+    each none (Combined site pollutant from joined) = refl

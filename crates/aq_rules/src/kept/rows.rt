@@ -10,7 +10,7 @@ ghost use Rattle.aq_rules.specs.Lines.LineExamples.{many_monitors, many_sites, r
 ghost use Rattle.aq_rules.specs.Office.Office.{IsOffice, Office, StoredLoad, is_load, load_at};
 ghost use Rattle.aq_rules.specs.Office.Load.{with_load};
 ghost use Rattle.aq_rules.specs.Kept.Rows.{are_office_rows, hour_of_stored, hours_before_2000, is_valid, load_row, office_row, stored_hour};
-ghost use Rattle.aq_rules.specs.Kept.RowExamples.{kept_load, load_of, load_with, monitor_row, nine_monitors, ozone_at, ozone_row, record_with, sample_with};
+ghost use Rattle.aq_rules.specs.Kept.RowExamples.{combination_row, neighbor_row, kept_load, load_of, load_with, monitor_row, nine_monitors, ozone_at, ozone_row, record_with, sample_with};
 
 /// A record's row has its kind, its key and its canonical line; a concurrence has its event.
 pub fn record_rows()
@@ -28,6 +28,16 @@ pub fn record_rows()
     ensures no_monitor { are_office_rows (record_with (pos 6) (codes "000012") (codes "XE|I|12|06|037|1103|88101|20240101|00:00|20240101|05:00|RT") ∷ []) ≡ false }
     ensures twice { are_office_rows (monitor_row ∷ monitor_row ∷ []) ≡ false }
     ensures concurrence { office_row (Concurrence 12 true) ≡ record { kind = pos 7; key = codes "000012"; line = codes "XC|U|12|Y" } }
+{}
+
+/// A combination's row has a monitor at each of its sites, and no site of another combination.
+pub fn combination_rows()
+    ensures combined { are_office_rows (monitor_row ∷ neighbor_row ∷ combination_row (codes "1103") (codes "1104") ∷ []) ≡ true }
+    ensures other_line { are_office_rows (monitor_row ∷ neighbor_row ∷ record_with (pos 9) (codes "06|037|1104|88101") (codes "XB|I|06|037|1103|88101|20240702|06|037|1104") ∷ []) ≡ false }
+    ensures no_monitor { are_office_rows (neighbor_row ∷ combination_row (codes "1103") (codes "1104") ∷ []) ≡ false }
+    ensures no_joined_monitor { are_office_rows (monitor_row ∷ combination_row (codes "1103") (codes "1104") ∷ []) ≡ false }
+    ensures both_ways { are_office_rows (monitor_row ∷ neighbor_row ∷ combination_row (codes "1103") (codes "1104") ∷ combination_row (codes "1104") (codes "1103") ∷ []) ≡ false }
+    ensures same_site { are_office_rows (monitor_row ∷ neighbor_row ∷ combination_row (codes "1103") (codes "1103") ∷ []) ≡ false }
 {}
 
 /// An observation's row has a value in range or a null code, and at most ten distinct qualifiers.
@@ -79,8 +89,8 @@ pub fn load_rows()
     ensures line_beyond { are_office_rows (load_with (pos 3) (pos 0) (codes "4:21") [] ∷ []) ≡ false }
     ensures falling { are_office_rows (load_with (pos 3) (pos 0) (codes "3:6 2:21") [] ∷ []) ≡ false }
     ensures one_line_twice { are_office_rows (load_with (pos 3) (pos 0) (codes "2:6 2:21") [] ∷ []) ≡ false }
-    ensures last_rule { are_office_rows (load_with (pos 3) (pos 0) (codes "2:34") [] ∷ []) ≡ true }
-    ensures no_rule { are_office_rows (load_with (pos 3) (pos 0) (codes "2:35") [] ∷ []) ≡ false }
+    ensures last_rule { are_office_rows (load_with (pos 3) (pos 0) (codes "2:36") [] ∷ []) ≡ true }
+    ensures no_rule { are_office_rows (load_with (pos 3) (pos 0) (codes "2:37") [] ∷ []) ≡ false }
     ensures rule_99 { are_office_rows (load_with (pos 3) (pos 0) (codes "2:99") [] ∷ []) ≡ false }
     ensures zeros { are_office_rows (load_with (pos 3) (pos 0) (codes "02:21") [] ∷ []) ≡ false }
     ensures spaces { are_office_rows (load_with (pos 3) (pos 0) (codes "2:21  3:6") [] ∷ []) ≡ false }

@@ -3,11 +3,11 @@ ghost use Rattle.std.specs.Prelude.{◌≡◌, ℕ, ◌∷◌, [], List, Some, N
 ghost use Rattle.aq_base.specs.declared.monitor.MonitorId.{MonitorId};
 ghost use Rattle.aq_base.specs.declared.monitor.Pollutant.TheVariants.{Ozone, Pm25, Pm10};
 ghost use Rattle.aq_base.specs.declared.monitor.Duration.TheVariants.{Hour, Day};
-ghost use Rattle.aq_base.specs.declared.office.OfficeRecord.TheVariants.{Monitor, Primary, Schedule, Season, Makeup, Event, Concurrence, Approved};
-ghost use Rattle.aq_base.specs.declared.office.OfficeKey.TheVariants.{Monitor as MonitorKey, Primary as PrimaryKey, Season as SeasonKey, Makeup as MakeupKey, Event as EventKey, Approved as ApprovedKey};
+ghost use Rattle.aq_base.specs.declared.office.OfficeRecord.TheVariants.{Monitor, Primary, Schedule, Season, Makeup, Event, Concurrence, Approved, Combined};
+ghost use Rattle.aq_base.specs.declared.office.OfficeKey.TheVariants.{Monitor as MonitorKey, Primary as PrimaryKey, Season as SeasonKey, Makeup as MakeupKey, Event as EventKey, Approved as ApprovedKey, Combined as CombinedKey};
 ghost use Rattle.aq_base.specs.declared.office.OfficeLine.{OfficeLine};
 ghost use Rattle.aq_base.specs.declared.office.OfficeLine.TheVariants.{Put as PutRecord, Change as ChangeRecord, Drop as DropKey};
-ghost use Rattle.aq_rules.specs.Lines.LineExamples.{home, ozone_monitor, particle_monitor, new_year, noon, code_rt};
+ghost use Rattle.aq_rules.specs.Lines.LineExamples.{home, neighbor, ozone_monitor, particle_monitor, new_year, noon, code_rt};
 ghost use Rattle.aq_rules.specs.Lines.Spellings.{unit_in, value_in, null_in, qualifiers_in};
 ghost use Rattle.aq_rules.specs.Lines.RdForm.{Put, Delete, RdValue};
 ghost use Rattle.aq_rules.specs.Lines.Reading.{LineValue, OfRd, OfOffice, line_value};
@@ -59,7 +59,7 @@ pub fn samples_are_written()
 {}
 
 /// A canonical line of each office form, and the value that it spells.
-#[tactic(auto, unfolding(crate::specs::Lines::Spellings::site_in, crate::specs::Lines::Spellings::parameter_of, crate::specs::Lines::Spellings::date_in, crate::specs::Lines::Spellings::year_in, crate::specs::Lines::Spellings::time_in, crate::specs::Lines::Spellings::interval_in, crate::specs::Lines::Spellings::event_number_in, crate::specs::Lines::Spellings::event_code_in, crate::specs::Lines::RdForm::monitor_in, crate::specs::Lines::OfficeForms::xm_record, crate::specs::Lines::OfficeForms::xp_record, crate::specs::Lines::OfficeForms::xp_key, crate::specs::Lines::OfficeForms::xs_record, crate::specs::Lines::OfficeForms::xo_record, crate::specs::Lines::OfficeForms::xo_key, crate::specs::Lines::OfficeForms::xu_record, crate::specs::Lines::OfficeForms::xu_key, crate::specs::Lines::OfficeForms::xe_record, crate::specs::Lines::OfficeForms::xe_key, crate::specs::Lines::OfficeForms::xc_record, crate::specs::Lines::OfficeForms::xa_record, crate::specs::Lines::OfficeForms::xa_key, aq_base::specs::Calendar::days_of_years, aq_base::specs::Calendar::days_of_months, aq_base::specs::Calendar::year_of, aq_base::specs::Calendar::month_of))]
+#[tactic(auto, unfolding(crate::specs::Lines::Spellings::site_in, crate::specs::Lines::Spellings::parameter_of, crate::specs::Lines::Spellings::date_in, crate::specs::Lines::Spellings::year_in, crate::specs::Lines::Spellings::time_in, crate::specs::Lines::Spellings::interval_in, crate::specs::Lines::Spellings::event_number_in, crate::specs::Lines::Spellings::event_code_in, crate::specs::Lines::RdForm::monitor_in, crate::specs::Lines::OfficeForms::xm_record, crate::specs::Lines::OfficeForms::xp_record, crate::specs::Lines::OfficeForms::xp_key, crate::specs::Lines::OfficeForms::xs_record, crate::specs::Lines::OfficeForms::xo_record, crate::specs::Lines::OfficeForms::xo_key, crate::specs::Lines::OfficeForms::xu_record, crate::specs::Lines::OfficeForms::xu_key, crate::specs::Lines::OfficeForms::xe_record, crate::specs::Lines::OfficeForms::xe_key, crate::specs::Lines::OfficeForms::xc_record, crate::specs::Lines::OfficeForms::xa_record, crate::specs::Lines::OfficeForms::xa_key, crate::specs::Lines::OfficeForms::xb_record, crate::specs::Lines::OfficeForms::xb_key, aq_base::specs::Calendar::days_of_years, aq_base::specs::Calendar::days_of_months, aq_base::specs::Calendar::year_of, aq_base::specs::Calendar::month_of))]
 pub fn office_lines_are_read()
     ensures monitor { line_value (codes "XM|I|06|037|1103|44201|1|1|Y") ≡ Some (OfOffice (PutRecord (Monitor ozone_monitor Hour true))) }
     ensures eligibility { line_value (codes "XM|U|06|037|1103|88101|1|7|N") ≡ Some (OfOffice (ChangeRecord (Monitor particle_monitor Day false))) }
@@ -75,6 +75,8 @@ pub fn office_lines_are_read()
     ensures concurrence { line_value (codes "XC|U|12|Y") ≡ Some (OfOffice (ChangeRecord (Concurrence 12 true))) }
     ensures approved { line_value (codes "XA|I|06|037|1103|20240701") ≡ Some (OfOffice (PutRecord (Approved home 12600))) }
     ensures approval_deleted { line_value (codes "XA|D|06|037|1103|20240701") ≡ Some (OfOffice (DropKey (ApprovedKey home 12600))) }
+    ensures combined { line_value (codes "XB|I|06|037|1103|44201|20240702|06|037|1104") ≡ Some (OfOffice (PutRecord (Combined home Ozone 12601 neighbor))) }
+    ensures combination_deleted { line_value (codes "XB|D|06|037|1103|44201") ≡ Some (OfOffice (DropKey (CombinedKey home Ozone))) }
 {}
 
 /// The same values are written as these lines, and keys as these texts.
@@ -91,9 +93,12 @@ pub fn office_lines_are_written()
     ensures event_deleted { canonical_office (DropKey (EventKey 12)) ≡ codes "XE|D|12" }
     ensures concurrence { canonical_office (ChangeRecord (Concurrence 12 true)) ≡ codes "XC|U|12|Y" }
     ensures approved { canonical_office (PutRecord (Approved home 12600)) ≡ codes "XA|I|06|037|1103|20240701" }
+    ensures combined { canonical_office (PutRecord (Combined home Ozone 12601 neighbor)) ≡ codes "XB|I|06|037|1103|44201|20240702|06|037|1104" }
+    ensures combination_deleted { canonical_office (DropKey (CombinedKey home Ozone)) ≡ codes "XB|D|06|037|1103|44201" }
     ensures monitor_key { printed_key (MonitorKey ozone_monitor) ≡ codes "06|037|1103|44201|01" }
     ensures makeup_key { printed_key (MakeupKey home 12424) ≡ codes "06|037|1103|20240107" }
     ensures event_key { printed_key (EventKey 12) ≡ codes "000012" }
+    ensures combined_key { printed_key (CombinedKey home Pm25) ≡ codes "06|037|1103|88101" }
 {}
 
 /// The canonical line of an office line is read as that line, for each that a body's line can spell.

@@ -1,7 +1,7 @@
 //! Which reading rule a line breaks.
 ghost use Rattle.std.specs.Prelude.{◌≡◌, ℕ, ◌∷◌, [], ◌++◌, true, false, Some, None, codes, List, map, All, is_some, is_none};
-ghost use Rattle.aq_base.specs.declared.rule.Rule.TheVariants.{BadBytes, BadTag, FieldCount, BadAction, BadSite, ParameterOutOfProfile, BadPoc, BadDuration, BadUnit, BadMethod, BadDate, BadTime, ValueAndNull, NeitherValueNorNull, BadValue, ValueOutOfRange, BadNull, BadQualifier, BadSpan, BadInterval, BadSeason, BadMakeup, BadCode};
-ghost use Rattle.aq_rules.specs.Lines.Spellings.{Rd, Xm, Xp, Xs, Xo, Xu, Xe, Xc, Xa};
+ghost use Rattle.aq_base.specs.declared.rule.Rule.TheVariants.{BadBytes, BadTag, FieldCount, BadAction, BadSite, ParameterOutOfProfile, BadPoc, BadDuration, BadUnit, BadMethod, BadDate, BadTime, ValueAndNull, NeitherValueNorNull, BadValue, ValueOutOfRange, BadNull, BadQualifier, BadSpan, BadInterval, BadSeason, BadMakeup, BadCode, BadPair};
+ghost use Rattle.aq_rules.specs.Lines.Spellings.{Rd, Xm, Xp, Xs, Xo, Xu, Xe, Xc, Xa, Xb};
 ghost use Rattle.aq_rules.specs.Lines.Forms.{fewest_fields, most_fields};
 ghost use Rattle.aq_rules.specs.Lines.Reading.{breaks, line_value, reading_rule, reading_rules, rules_of};
 ghost use Rattle.aq_rules.specs.Least.{IsLeastBroken};
@@ -85,13 +85,15 @@ pub fn rules_of_each_form()
     ensures concurrence_not_deleted { rules_of Xc true ≡ rules_of Xc false }
     ensures approved { rules_of Xa false ≡ BadSite ∷ BadDate ∷ [] }
     ensures approval_deleted { rules_of Xa true ≡ BadSite ∷ BadDate ∷ [] }
+    ensures combined { rules_of Xb false ≡ BadSite ∷ ParameterOutOfProfile ∷ BadDate ∷ BadPair ∷ [] }
+    ensures combination_deleted { rules_of Xb true ≡ BadSite ∷ ParameterOutOfProfile ∷ [] }
 {}
 
 /// How many fields a line of each form has: an insertion or update, a deletion, and at most.
 pub fn fields_of_each_form()
-    ensures put { map (λ tag. fewest_fields tag false) (Rd ∷ Xm ∷ Xp ∷ Xs ∷ Xo ∷ Xu ∷ Xe ∷ Xc ∷ Xa ∷ []) ≡ 13 ∷ 9 ∷ 8 ∷ 9 ∷ 8 ∷ 8 ∷ 12 ∷ 4 ∷ 6 ∷ [] }
-    ensures deleted { map (λ tag. fewest_fields tag true) (Rd ∷ Xm ∷ Xp ∷ Xs ∷ Xo ∷ Xu ∷ Xe ∷ Xc ∷ Xa ∷ []) ≡ 12 ∷ 7 ∷ 7 ∷ 7 ∷ 6 ∷ 7 ∷ 3 ∷ 3 ∷ 6 ∷ [] }
-    ensures most { map most_fields (Rd ∷ Xm ∷ Xp ∷ Xs ∷ Xo ∷ Xu ∷ Xe ∷ Xc ∷ Xa ∷ []) ≡ 28 ∷ 9 ∷ 8 ∷ 9 ∷ 8 ∷ 8 ∷ 12 ∷ 4 ∷ 6 ∷ [] }
+    ensures put { map (λ tag. fewest_fields tag false) (Rd ∷ Xm ∷ Xp ∷ Xs ∷ Xo ∷ Xu ∷ Xe ∷ Xc ∷ Xa ∷ Xb ∷ []) ≡ 13 ∷ 9 ∷ 8 ∷ 9 ∷ 8 ∷ 8 ∷ 12 ∷ 4 ∷ 6 ∷ 10 ∷ [] }
+    ensures deleted { map (λ tag. fewest_fields tag true) (Rd ∷ Xm ∷ Xp ∷ Xs ∷ Xo ∷ Xu ∷ Xe ∷ Xc ∷ Xa ∷ Xb ∷ []) ≡ 12 ∷ 7 ∷ 7 ∷ 7 ∷ 6 ∷ 7 ∷ 3 ∷ 3 ∷ 6 ∷ 6 ∷ [] }
+    ensures most { map most_fields (Rd ∷ Xm ∷ Xp ∷ Xs ∷ Xo ∷ Xu ∷ Xe ∷ Xc ∷ Xa ∷ Xb ∷ []) ≡ 28 ∷ 9 ∷ 8 ∷ 9 ∷ 8 ∷ 8 ∷ 12 ∷ 4 ∷ 6 ∷ 10 ∷ [] }
 {}
 
 /// Samples on both sides of a rule of their line.
@@ -142,6 +144,28 @@ pub fn office_lines_at_the_edge_of_a_rule()
     ensures approval_updated { reading_rule (codes "XA|U|06|037|1103|20240701") ≡ Some BadAction }
     ensures designation_updated { reading_rule (codes "XP|U|06|037|1103|44201|20240101|1") ≡ Some BadAction }
     ensures monitor_deleted { reading_rule (codes "XM|D|06|037|1103|44201|1") ≡ Some BadAction }
+{}
+
+/// Lines that combine two sites, of ozone or PM2.5. Both sites are read before the parameter and the
+/// date, and then they must differ. Of a deletion six fields are read, and no field behind them.
+#[tactic(auto, unfolding(crate::specs::Lines::Spellings::site_in, crate::specs::Lines::Spellings::parameter_of, crate::specs::Lines::Spellings::date_in, aq_base::specs::Calendar::days_of_years, aq_base::specs::Calendar::days_of_months))]
+pub fn lines_that_combine_sites()
+    ensures ozone { reading_rule (codes "XB|I|06|037|1103|44201|20240702|06|037|1104") ≡ None }
+    ensures particles { reading_rule (codes "XB|I|06|037|1103|88101|20240702|06|037|1104") ≡ None }
+    ensures pm10 { reading_rule (codes "XB|I|06|037|1103|81102|20240702|06|037|1104") ≡ Some ParameterOutOfProfile }
+    ensures same_site { reading_rule (codes "XB|I|06|037|1103|44201|20240702|06|037|1103") ≡ Some BadPair }
+    ensures same_number_elsewhere { reading_rule (codes "XB|I|06|037|1103|44201|20240702|06|059|1103") ≡ None }
+    ensures joined_site_before_parameter { reading_rule (codes "XB|I|06|037|1103|81102|20240702|06|37|1104") ≡ Some BadSite }
+    ensures parameter_before_date { reading_rule (codes "XB|I|06|037|1103|81102|20240732|06|037|1104") ≡ Some ParameterOutOfProfile }
+    ensures date_before_pair { reading_rule (codes "XB|I|06|037|1103|44201|20240732|06|037|1103") ≡ Some BadDate }
+    ensures nine_fields { reading_rule (codes "XB|I|06|037|1103|44201|20240702|06|037") ≡ Some FieldCount }
+    ensures eleven_fields { reading_rule (codes "XB|I|06|037|1103|44201|20240702|06|037|1104|x") ≡ Some FieldCount }
+    ensures updated { reading_rule (codes "XB|U|06|037|1103|44201|20240702|06|037|1104") ≡ Some BadAction }
+    ensures deleted { reading_rule (codes "XB|D|06|037|1103|44201") ≡ None }
+    ensures deleted_whatever_follows { reading_rule (codes "XB|D|06|037|1103|44201|x|x|x|x") ≡ None }
+    ensures deletion_of_pm10 { reading_rule (codes "XB|D|06|037|1103|81102") ≡ Some ParameterOutOfProfile }
+    ensures deletion_of_five_fields { reading_rule (codes "XB|D|06|037|1103") ≡ Some FieldCount }
+    ensures deletion_of_eleven_fields { reading_rule (codes "XB|D|06|037|1103|44201|||||x") ≡ Some FieldCount }
 {}
 
 /// The rule of a line is the least one of those that its form meets and that the line breaks.

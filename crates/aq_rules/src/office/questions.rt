@@ -1,10 +1,10 @@
 //! What is asked of the records of an office, worked out over those of two sites.
-ghost use Rattle.std.specs.Prelude.{◌≡◌, Some, None, true, false};
+ghost use Rattle.std.specs.Prelude.{◌≡◌, ◌∷◌, [], Some, None, true, false};
 ghost use Rattle.aq_base.specs.declared.monitor.Pollutant.TheVariants.{Ozone, Pm10, Pm25};
 ghost use Rattle.aq_base.specs.declared.monitor.Duration.TheVariants.{Hour, Day};
 ghost use Rattle.aq_base.specs.declared.office.OfficeKey.TheVariants.{Monitor as MonitorKey, Primary as PrimaryKey, Event as EventKey, Concurrence as ConcurrenceKey};
-ghost use Rattle.aq_base.specs.declared.office.OfficeRecord.TheVariants.{Monitor, Primary, Makeup, Concurrence};
-ghost use Rattle.aq_rules.specs.Office.Questions.{covers, following, makeup_of, missed_of, next_poc, next_site, record_of, registration_of};
+ghost use Rattle.aq_base.specs.declared.office.OfficeRecord.TheVariants.{Monitor, Primary, Makeup, Concurrence, Combined};
+ghost use Rattle.aq_rules.specs.Office.Questions.{combined, covers, following, makeup_of, missed_of, next_poc, next_site, record_of, registration_of};
 ghost use Rattle.aq_rules.specs.Office.QuestionExamples.{coast, desert, monitor_at, two_sites, valley};
 
 /// A record is found by its key, and the next one by any key, whether or not a record has it. PM10
@@ -41,6 +41,16 @@ pub fn days_that_are_made_up()
     ensures own_makeup { makeup_of two_sites valley 12424 ≡ Some 12427 }
     ensures other_site { missed_of two_sites coast 12427 ≡ None }
     ensures not_missed { makeup_of two_sites coast 12426 ≡ None }
+{}
+
+/// A site has the site that is joined to it, for the pollutant alone; the joined site itself has none.
+#[tactic(auto, unfolding(crate::specs::Office::Questions::combined))]
+pub fn sites_that_are_combined()
+    ensures joined { combined (Combined coast Ozone 12601 valley ∷ Combined valley Pm25 12602 desert ∷ []) coast Ozone ≡ Some (record { site = valley; from = 12601 }) }
+    ensures own { combined (Combined coast Ozone 12601 valley ∷ Combined valley Pm25 12602 desert ∷ []) valley Pm25 ≡ Some (record { site = desert; from = 12602 }) }
+    ensures other_pollutant { combined (Combined coast Ozone 12601 valley ∷ Combined valley Pm25 12602 desert ∷ []) coast Pm25 ≡ None }
+    ensures joined_site { combined (Combined coast Ozone 12601 valley ∷ Combined valley Pm25 12602 desert ∷ []) valley Ozone ≡ None }
+    ensures none { combined two_sites coast Ozone ≡ None }
 {}
 
 /// An event covers its hours from the first to the last; of an unknown event nothing is said.

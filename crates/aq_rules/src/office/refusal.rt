@@ -1,6 +1,6 @@
 //! Which office rule a line breaks, against what stands.
 ghost use Rattle.std.specs.Prelude.{◌≡◌, ℕ, false, Some, None, codes, All, IsFalse, length};
-ghost use Rattle.aq_base.specs.declared.rule.Rule.TheVariants.{BadDuration, BadInterval, BadSeason, BadSpan, BadCode, UnknownMonitor, WrongDuration, AlreadyThere, NotThere, ObservationsFull, SitesFull, MonitorsFull, MakeupsFull, UnknownEvent, EventsFull, ListFull};
+ghost use Rattle.aq_base.specs.declared.rule.Rule.TheVariants.{BadDuration, BadInterval, BadSeason, BadSpan, BadCode, UnknownMonitor, WrongDuration, AlreadyThere, NotThere, ObservationsFull, SitesFull, MonitorsFull, MakeupsFull, UnknownEvent, EventsFull, ListFull, BadPair, PairTaken, ParameterOutOfProfile};
 ghost use Rattle.aq_base.specs.declared.rule.Rule.{Rule};
 ghost use Rattle.aq_rules.specs.Office.Office.{Office, duration_at};
 ghost use Rattle.aq_base.specs.declared.monitor.MonitorId.{MonitorId};
@@ -11,7 +11,7 @@ ghost use Rattle.aq_rules.specs.Lines.Reading.{LineValue, OfRd};
 ghost use Rattle.aq_rules.specs.Office.Refusal.{broken, breaks_office, office_rules, sample_stands};
 ghost use Rattle.aq_rules.specs.Least.{IsLeastBroken};
 ghost use Rattle.aq_rules.specs.Office.Load.{refusal};
-ghost use Rattle.aq_rules.specs.Lines.LineExamples.{one_monitor, one_hour, one_sample, one_of_each, hourly_particles, many_monitors, many_sites, many_primaries, many_makeups, many_events};
+ghost use Rattle.aq_rules.specs.Lines.LineExamples.{one_monitor, one_hour, one_sample, one_of_each, hourly_particles, many_monitors, many_sites, many_primaries, many_makeups, many_events, three_sites, two_combined};
 
 /// Samples, against an office with an ozone hour or a PM2.5 sample. Samples of the other duration than
 /// their monitor's, and a deletion, which names none.
@@ -39,7 +39,7 @@ pub fn samples_and_their_rules()
 /// same key again is refused, whatever the other fields, and one that differs in a part of the key is
 /// new. A deletion needs its key to stand, and a concurrence its event. The monitors that office lines
 /// need.
-#[tactic(auto, unfolding(crate::specs::Lines::Spellings::site_in, crate::specs::Lines::Spellings::parameter_of, crate::specs::Lines::Spellings::date_in, crate::specs::Lines::Spellings::year_in, crate::specs::Lines::Spellings::time_in, crate::specs::Lines::Spellings::interval_in, crate::specs::Lines::Spellings::event_number_in, crate::specs::Lines::Spellings::event_code_in, crate::specs::Lines::RdForm::monitor_in, crate::specs::Lines::OfficeForms::xm_record, crate::specs::Lines::OfficeForms::xp_record, crate::specs::Lines::OfficeForms::xs_record, crate::specs::Lines::OfficeForms::xo_record, crate::specs::Lines::OfficeForms::xu_record, crate::specs::Lines::OfficeForms::xe_record, crate::specs::Lines::OfficeForms::xe_key, crate::specs::Lines::OfficeForms::xc_record, crate::specs::Lines::OfficeForms::xa_record, crate::specs::Lines::OfficeForms::xa_key, aq_base::specs::Calendar::days_of_years, aq_base::specs::Calendar::days_of_months, aq_base::specs::Calendar::year_of, aq_base::specs::Calendar::month_of, crate::specs::Lines::OfficeForms::xp_key, crate::specs::Lines::OfficeForms::xs_key, crate::specs::Lines::OfficeForms::xo_key, crate::specs::Lines::OfficeForms::xu_key))]
+#[tactic(auto, unfolding(crate::specs::Lines::Spellings::site_in, crate::specs::Lines::Spellings::parameter_of, crate::specs::Lines::Spellings::date_in, crate::specs::Lines::Spellings::year_in, crate::specs::Lines::Spellings::time_in, crate::specs::Lines::Spellings::interval_in, crate::specs::Lines::Spellings::event_number_in, crate::specs::Lines::Spellings::event_code_in, crate::specs::Lines::RdForm::monitor_in, crate::specs::Lines::OfficeForms::xm_record, crate::specs::Lines::OfficeForms::xp_record, crate::specs::Lines::OfficeForms::xs_record, crate::specs::Lines::OfficeForms::xo_record, crate::specs::Lines::OfficeForms::xu_record, crate::specs::Lines::OfficeForms::xe_record, crate::specs::Lines::OfficeForms::xe_key, crate::specs::Lines::OfficeForms::xc_record, crate::specs::Lines::OfficeForms::xa_record, crate::specs::Lines::OfficeForms::xa_key, crate::specs::Lines::OfficeForms::xb_record, crate::specs::Lines::OfficeForms::xb_key, aq_base::specs::Calendar::days_of_years, aq_base::specs::Calendar::days_of_months, aq_base::specs::Calendar::year_of, aq_base::specs::Calendar::month_of, crate::specs::Lines::OfficeForms::xp_key, crate::specs::Lines::OfficeForms::xs_key, crate::specs::Lines::OfficeForms::xo_key, crate::specs::Lines::OfficeForms::xu_key))]
 pub fn office_lines_and_their_rules()
     ensures primary_elsewhere { refusal one_monitor (codes "XP|I|06|037|1104|44201|20240101|0") ≡ Some UnknownMonitor }
     ensures primary_of_two { refusal one_monitor (codes "XP|I|06|037|1103|44201|20240101|2") ≡ Some UnknownMonitor }
@@ -88,6 +88,9 @@ pub fn office_lines_and_their_rules()
     ensures records_deleted_by_their_keys_event_of_another_number { refusal one_of_each (codes "XE|D|22") ≡ Some UnknownEvent }
     ensures records_deleted_by_their_keys_approved { refusal one_of_each (codes "XA|D|06|037|1103|20240704") ≡ None }
     ensures approved_elsewhere { refusal one_of_each (codes "XA|D|06|031|1103|20240704") ≡ Some NotThere }
+    ensures one_record_for_each_key_combined { refusal one_of_each (codes "XB|I|06|037|1103|44201|20240201|06|037|1104") ≡ Some AlreadyThere }
+    ensures records_deleted_by_their_keys_combined { refusal one_of_each (codes "XB|D|06|037|1103|44201") ≡ None }
+    ensures combined_for_another_pollutant { refusal one_of_each (codes "XB|D|06|037|1103|88101") ≡ Some NotThere }
     ensures concurrence_again { refusal one_of_each (codes "XC|U|21|N") ≡ None }
     ensures concurrence_of_another_number { refusal one_of_each (codes "XC|U|22|N") ≡ Some UnknownEvent }
     ensures season_where_only_a_monitor_stands { refusal one_monitor (codes "XO|I|06|037|1103|2024|20240301|20241031") ≡ None }
@@ -101,6 +104,29 @@ pub fn office_lines_and_their_rules()
     ensures eligibility_of_no_monitor { refusal one_monitor (codes "XM|U|06|037|1103|44201|2|1|N") ≡ Some UnknownMonitor }
     ensures monitors_that_office_lines_need_eligibility { refusal one_of_each (codes "XM|U|06|037|1103|88101|4|7|Y") ≡ None }
     ensures hours_of_a_monitor_of_days { refusal one_of_each (codes "XM|U|06|037|1103|88101|4|1|Y") ≡ Some WrongDuration }
+{}
+
+/// Lines that combine sites, against three sites with ozone monitors, and against them with the first
+/// two combined. Each site needs a monitor of the parameter. A site is combined once for a parameter,
+/// as the first site or as the joined one.
+#[tactic(auto, unfolding(crate::specs::Lines::Spellings::site_in, crate::specs::Lines::Spellings::parameter_of, crate::specs::Lines::Spellings::date_in, crate::specs::Lines::OfficeForms::xb_record, crate::specs::Lines::OfficeForms::xb_key, aq_base::specs::Calendar::days_of_years, aq_base::specs::Calendar::days_of_months))]
+pub fn combined_sites_and_their_rules()
+    ensures combined { refusal three_sites (codes "XB|I|06|037|1103|44201|20240702|06|037|1104") ≡ None }
+    ensures same_site { refusal three_sites (codes "XB|I|06|037|1103|44201|20240702|06|037|1103") ≡ Some BadPair }
+    ensures unknown_first_site { refusal three_sites (codes "XB|I|06|037|1109|44201|20240702|06|037|1104") ≡ Some UnknownMonitor }
+    ensures unknown_joined_site { refusal three_sites (codes "XB|I|06|037|1103|44201|20240702|06|037|1109") ≡ Some UnknownMonitor }
+    ensures of_particles { refusal three_sites (codes "XB|I|06|037|1105|88101|20240702|06|037|1103") ≡ Some UnknownMonitor }
+    ensures pm10 { refusal three_sites (codes "XB|I|06|037|1103|81102|20240702|06|037|1104") ≡ Some ParameterOutOfProfile }
+    ensures again { refusal two_combined (codes "XB|I|06|037|1103|44201|20240801|06|037|1105") ≡ Some AlreadyThere }
+    ensures unknown_before_again { refusal two_combined (codes "XB|I|06|037|1103|44201|20240801|06|037|1109") ≡ Some UnknownMonitor }
+    ensures the_other_way { refusal two_combined (codes "XB|I|06|037|1104|44201|20240702|06|037|1103") ≡ Some PairTaken }
+    ensures first_site_joined { refusal two_combined (codes "XB|I|06|037|1105|44201|20240702|06|037|1103") ≡ Some PairTaken }
+    ensures joined_site_joined { refusal two_combined (codes "XB|I|06|037|1105|44201|20240702|06|037|1104") ≡ Some PairTaken }
+    ensures joined_site_first { refusal two_combined (codes "XB|I|06|037|1104|44201|20240702|06|037|1105") ≡ Some PairTaken }
+    ensures deleted { refusal two_combined (codes "XB|D|06|037|1103|44201") ≡ None }
+    ensures deleted_of_particles { refusal two_combined (codes "XB|D|06|037|1103|88101") ≡ Some NotThere }
+    ensures deleted_by_joined_site { refusal two_combined (codes "XB|D|06|037|1104|44201") ≡ Some NotThere }
+    ensures deleted_where_none_stands { refusal three_sites (codes "XB|D|06|037|1103|44201") ≡ Some NotThere }
 {}
 
 /// Office lines, against lists that are full and lists with room for one more.

@@ -4,7 +4,7 @@ use Rattle.std.proofs.lemmas.Bool.Decides.{nat_tests}
 use Rattle.aq_base.specs.declared.code.Code.{Code}
 use Rattle.aq_base.specs.declared.observation.ObsKey.{ObsKey}
 use Rattle.aq_base.specs.declared.office.OfficeRecord.{OfficeRecord}
-use Rattle.aq_base.specs.declared.office.OfficeRecord.TheVariants.{Monitor, Primary, Schedule, Season, Makeup, Event, Concurrence, Approved}
+use Rattle.aq_base.specs.declared.office.OfficeRecord.TheVariants.{Monitor, Primary, Schedule, Season, Makeup, Event, Concurrence, Approved, Combined}
 use Rattle.aq_rules.specs.Office.Exclusion.{asks_exclusion, excluded, takes_out}
 use Rattle.aq_series.proofs.hours.is_excluded.Goals as goal
 
@@ -21,6 +21,7 @@ takes_none records key (Season site year first last) = refl
 takes_none records key (Makeup site missed makeup) = refl
 takes_none records key (Concurrence number agreed) = refl
 takes_none records key (Approved site day) = refl
+takes_none records key (Combined site pollutant from joined) = refl
 
 excluded_none : (records : List OfficeRecord) (key : ObsKey) → excluded records key [] ≡ false
 unfolding excluded

@@ -64,3 +64,15 @@ returns-clause-makeup_key c = refl
 pub returns-clause-event_key : goal.returns-clause-event_key
 unfolding key_texts digits last_digits year_of month_of days_of_years days_of_months
 returns-clause-event_key c = refl
+
+pub returns-clause-combined : goal.returns-clause-combined
+unfolding office_texts digits last_digits year_of month_of days_of_years days_of_months
+returns-clause-combined c = refl
+
+pub returns-clause-combination_deleted : goal.returns-clause-combination_deleted
+unfolding office_texts digits last_digits year_of month_of days_of_years days_of_months
+returns-clause-combination_deleted c = refl
+
+pub returns-clause-combined_key : goal.returns-clause-combined_key
+unfolding key_texts digits last_digits year_of month_of days_of_years days_of_months
+returns-clause-combined_key c = refl
