@@ -14,4 +14,5 @@ pub mod AssumedPlaces
 pub mod Sites
 pub mod SitePlaces
 pub mod Areas
+pub mod OfficeKeys
 pub mod Faults

@@ -1,4 +1,7 @@
 //! The agency's own records, beside the observations.
+ghost use Rattle.std.specs.Prelude.{◌≡◌};
+ghost use Rattle.aq_base.specs.OfficeKeys.{key_of};
+
 use crate::code::Code;
 use crate::day::{Day, Hour};
 use crate::monitor::{Duration, MonitorId, Pollutant};
@@ -70,6 +73,47 @@ pub enum OfficeRecord {
         from: Day,
         joined: SiteId,
     },
+}
+
+impl OfficeRecord {
+    /// The key under which the record is kept (own).
+    pub fn key(&self) -> OfficeKey
+        ensures { result ≡ key_of self.now }
+    {
+        match *self {
+            OfficeRecord::Monitor { id, .. } => OfficeKey::Monitor { id },
+            OfficeRecord::Primary {
+                site,
+                pollutant,
+                from,
+                ..
+            } => OfficeKey::Primary {
+                site,
+                pollutant,
+                from,
+            },
+            OfficeRecord::Schedule {
+                site,
+                pollutant,
+                from,
+                ..
+            } => OfficeKey::Schedule {
+                site,
+                pollutant,
+                from,
+            },
+            OfficeRecord::Season { site, year, .. } => OfficeKey::Season { site, year },
+            OfficeRecord::Makeup { site, missed, .. } => OfficeKey::Makeup { site, missed },
+            OfficeRecord::Event { number, .. } => OfficeKey::Event { number },
+            OfficeRecord::Concurrence { number, .. } => OfficeKey::Concurrence { number },
+            OfficeRecord::Approved { site, day } => OfficeKey::Approved { site, day },
+            OfficeRecord::Combined {
+                site,
+                pollutant,
+                ..
+            } => OfficeKey::Combined { site, pollutant },
+        }
+    }
 }
 
 /// What tells an office record apart from the others of its kind. It has no order: rows go by kind and

@@ -20,7 +20,7 @@ use Rattle.aq_rules.specs.Lines.Spellings.{◌>>=◌}
 use Rattle.aq_rules.specs.Office.Office.{Office, IsOffice, KeysRise, is_same, key_of, key_numbers, record_rank, with_row, record_at, duration_at, monitor_duration, registers, has_monitor, site_numbers, sites_of, group_of, most_in_group, group_size, makes_up_on, makeups_on, series_numbers, combines_either, combinations_of, has_its_monitor, has_its_event, is_record, fits_records, is_alone, is_kept_hour, is_content, fits_monitors}
 use Rattle.aq_rules.specs.Office.Refusal.{is_taken, is_combined}
 use Rattle.aq_rules.specs.Office.Load.{with_record}
-use Rattle.aq_rules.proofs.Lookups.{same-is}
+use Rattle.aq_rules.proofs.Lookups.{same-is, same-flip}
 use Rattle.aq_rules.proofs.RowsPlaced.{Inserted, Replaced, is_same-refl, all_joined, all_at, all_rest, all_weaker, all_standing, any_joined, any_alike, is_some-find, find_alike, count_joined, count_alike, counted_once, filter_all, filter_keeps, find-filter, any-filter, count-filter, with_row-new, with_row-old, row_at-inserted}
 use Rattle.aq_rules.proofs.SitesCounted.{sites_with, sites_joined, sites_alike, sites-filter}
 use Rattle.aq_rules.specs.Office.RowOrder.{with_row-rises}
@@ -132,15 +132,6 @@ most-same r other e = most_of r ∙ ap most_for e ∙ sym (most_of other)
 
 -- ---- combinations that share a site
 
-equal_flip : (a b : ℕ) → (a == b) ≡ (b == a)
-equal_flip a b = grind (arith, nat_tests)
-
-same_flip : (xs ys : List ℕ) → is_same xs ys ≡ is_same ys xs
-same_flip [] [] = refl
-same_flip [] (y ∷ ys) = refl
-same_flip (x ∷ xs) [] = refl
-same_flip (x ∷ xs) (y ∷ ys) = λ i. equal_flip x y i && same_flip xs ys i
-
 crossed : (a b c d : Bool) → ((a || c) || (b || d)) ≡ ((a || b) || (c || d))
 crossed true b c d = refl
 crossed false true true d = refl
@@ -151,8 +142,8 @@ crossed false false c d = refl
 either_way : (site joined other other_joined : Site) (p q : Pollutant) (from other_from : ℕ)
     → combines_either other other_joined q (Combined site p from joined) ≡ combines_either site joined p (Combined other q other_from other_joined)
 either_way site joined other other_joined p q from other_from =
-    (λ i. (same_flip (series_numbers site p) (series_numbers other q) i || same_flip (series_numbers joined p) (series_numbers other q) i)
-    || (same_flip (series_numbers site p) (series_numbers other_joined q) i || same_flip (series_numbers joined p) (series_numbers other_joined q) i))
+    (λ i. (same-flip (series_numbers site p) (series_numbers other q) i || same-flip (series_numbers joined p) (series_numbers other q) i)
+    || (same-flip (series_numbers site p) (series_numbers other_joined q) i || same-flip (series_numbers joined p) (series_numbers other_joined q) i))
     ∙ crossed (is_same (series_numbers other q) (series_numbers site p)) (is_same (series_numbers other_joined q) (series_numbers site p))
     (is_same (series_numbers other q) (series_numbers joined p)) (is_same (series_numbers other_joined q) (series_numbers joined p))
 

@@ -22,7 +22,7 @@ use Rattle.aq_staging.specs.Staged.{StagedLoad, IsStagedOn}
 use Rattle.aq_staging.specs.Touched.{AreTouched}
 use Rattle.aq_staging.proofs.ChangeLemmas.{found-with_changes, or_else, unless}
 use Rattle.aq_staging.proofs.KeyLemmas.{one_office_key}
-use Rattle.aq_staging.proofs.RowLemmas.{none-behind, one_list, rises_rest}
+use Rattle.aq_rules.proofs.Lookups.{none-behind, one_list, rises-rest}
 
 -- ---- keys at which nothing changes make no difference
 
@@ -62,7 +62,7 @@ module _ {K C : Type 0} (rank : K → List ℕ) (change : K → Option C) where
 
   kept-rises : (keys : List K) → rises rank keys ≡ true → rises rank (filter keeps keys) ≡ true
   kept-rises [] rising = refl
-  kept-rises (key ∷ keys) rising = by_test (keeps key) (kept-from key keys rising) (kept-rises keys (rises_rest rank key keys rising))
+  kept-rises (key ∷ keys) rising = by_test (keeps key) (kept-from key keys rising) (kept-rises keys (rises-rest rank key keys rising))
     where
       by_test : (b : Bool) → rises_from rank key (filter keeps keys) ≡ true → rises rank (filter keeps keys) ≡ true → rises rank (cond b (key ∷ filter keeps keys) (filter keeps keys)) ≡ true
       by_test true behind rest = behind
@@ -70,7 +70,7 @@ module _ {K C : Type 0} (rank : K → List ℕ) (change : K → Option C) where
 
   found-kept : (q : List ℕ) (keys : List K) → rises rank keys ≡ true → row_at rank q (filter keeps keys) ≡ kept_if (row_at rank q keys)
   found-kept q [] rising = refl
-  found-kept q (key ∷ keys) rising = by_tests (keeps key) (is_same (rank key) q) refl refl (found-kept q keys (rises_rest rank key keys rising))
+  found-kept q (key ∷ keys) rising = by_tests (keeps key) (is_same (rank key) q) refl refl (found-kept q keys (rises-rest rank key keys rising))
     where
       by_tests : (b c : Bool) → keeps key ≡ b → is_same (rank key) q ≡ c → row_at rank q (filter keeps keys) ≡ kept_if (row_at rank q keys) → row_at rank q (cond b (key ∷ filter keeps keys) (filter keeps keys)) ≡ kept_if (cond c (Some key) (row_at rank q keys))
       by_tests true true keep same rest =

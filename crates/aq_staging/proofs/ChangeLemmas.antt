@@ -2,16 +2,18 @@
 use Rattle.std.proofs.Common.{◌≡◌, ℕ, ◌+◌, ◌≤◌, Bool, true, false, cond, Option, Some, None, is_some, not, List, [], ◌∷◌, length, refl, ap, sym, ◌∙◌, arith}
 use Rattle.std.specs.Prelude.{option_map, Result, Ok, Err, OnErr, OnOk}
 use Rattle.std.specs.Option.{unwrap_or}
+use Rattle.std.proofs.lemmas.Bool.{false≢true}
 use Rattle.std.proofs.lemmas.Slice.Eq.{bytes_eq-Decides}
 use Rattle.aq_base.specs.declared.observation.ObsKey.{ObsKey}
 use Rattle.aq_base.specs.declared.observation.Observation.{Observation}
 use Rattle.aq_rules.specs.Limits.{MOST_OBSERVATIONS}
 use Rattle.aq_rules.specs.Office.Office.{content_of, is_same, observation_numbers, observation_rank, rises, row_at, with_row, without_row}
 use Rattle.aq_rules.specs.Office.RowOrder.{with_row-rises, without_row-rises}
+use Rattle.aq_rules.proofs.Lookups.{same-is, found-with, found-without, first-found, none-behind, rises-rest, one_list}
+use Rattle.aq_rules.proofs.RisingRows.{length-with_row-more, length-with_row-new, length-with_row-there, length-without_row}
 use Rattle.aq_shelf.specs.Standing.{content_at}
 use Rattle.aq_staging.specs.declared.changes.Changes.{Changes}
 use Rattle.aq_staging.specs.Changes.{with_changes, with_rows, without_rows, AreChanges, AreFoundIn}
-use Rattle.aq_staging.proofs.RowLemmas.{row_at-with_row, row_at-without_row, none-behind, rises_rest, one_list, no_more, length-with_row-more, length-with_row-new, length-with_row-there, length-without_row}
 
 abbrev Row : Type 0
 Row = ObsKey × Observation
@@ -48,7 +50,7 @@ module _ (q : List ℕ) where
   found-without_rows [] rows = refl
   found-without_rows (row ∷ gone) rows =
       found-without_rows gone (without_row observation_rank (observation_rank row) rows)
-      ∙ ap (unless (at gone)) (row_at-without_row observation_rank q (observation_rank row) rows)
+      ∙ ap (unless (at gone)) (found-without observation_rank q (observation_rank row) rows)
       ∙ by_test (is_same (observation_rank row) q)
     where
       by_test : (b : Bool) → unless (at gone) (cond b None (at rows)) ≡ unless (cond b (Some row) (at gone)) (at rows)
@@ -58,8 +60,8 @@ module _ (q : List ℕ) where
   found-with_rows : (left rows : List Row) → rises observation_rank left ≡ true → at (with_rows left rows) ≡ or_else (at left) (at rows)
   found-with_rows [] rows rising = refl
   found-with_rows (row ∷ left) rows rising =
-      found-with_rows left (with_row observation_rank row rows) (rises_rest observation_rank row left rising)
-      ∙ ap (or_else (at left)) (row_at-with_row observation_rank q row rows)
+      found-with_rows left (with_row observation_rank row rows) (rises-rest observation_rank row left rising)
+      ∙ ap (or_else (at left)) (found-with observation_rank q row rows)
       ∙ by_test (is_same (observation_rank row) q) refl
     where
       by_test : (b : Bool) → is_same (observation_rank row) q ≡ b → or_else (at left) (cond b (Some row) (at rows)) ≡ or_else (cond b (Some row) (at left)) (at rows)
@@ -134,6 +136,32 @@ length-drop key before rows rising found =
     let there = some_row (row_at observation_rank (observation_numbers key) rows) before found in
     length-without_row observation_rank (observation_numbers key) there.0 rows rising there.1
 
+-- rows whose keys are all keys of others are no more than these
+module _ {X : Type 0} (rank : X → List ℕ) where
+  no_more : (xs ys : List X) → rises rank xs ≡ true → rises rank ys ≡ true → AreFoundIn rank xs ys → length xs ≤ length ys
+  no_more [] ys p q found = omega arith
+  no_more (x ∷ xs) ys p q found =
+      let there = found_row (row_at rank (rank x) ys) (found (rank x) (ap is_some (first-found rank x xs))) in
+      let less = length-without_row rank (rank x) there.0 ys q there.1 in
+      let rest = no_more xs (without_row rank (rank x) ys) (rises-rest rank x xs p) (without_row-rises rank (rank x) ys q) rest_found in
+      omega (arith, less, rest)
+    where
+      found_row : (o : Option X) → is_some o ≡ true → (row : X) × (o ≡ Some row)
+      found_row None h = absurd (false≢true h)
+      found_row (Some row) h = (row, refl)
+
+      rest_found : AreFoundIn rank xs (without_row rank (rank x) ys)
+      rest_found key some = by_test (is_same (rank x) key) refl
+        where
+          by_test : (b : Bool) → is_same (rank x) key ≡ b → is_some (row_at rank key (without_row rank (rank x) ys)) ≡ true
+          by_test true same =
+              let none = ap (λ l. row_at rank l xs) (sym (same-is (rank x) key same)) ∙ none-behind rank x xs p in
+              absurd (false≢true (sym (ap is_some none) ∙ some))
+          by_test false other =
+              ap is_some (found-without rank key (rank x) ys)
+              ∙ ap (λ b. is_some (cond b None (row_at rank key ys))) other
+              ∙ found key (ap (λ b. is_some (cond b (Some x) (row_at rank key xs))) other ∙ some)
+
 -- rows are no fewer when others are put among them
 pub length-with_rows-more : (left rows : List Row) → length rows ≤ length (with_rows left rows)
 length-with_rows-more [] rows = omega arith
@@ -173,10 +201,10 @@ module _ (key : ObsKey) (before : List Row) (changes : Changes) (are : AreChange
       (λ q.
       let below = unless (row_at observation_rank q changes.dropped) (row_at observation_rank q before) in
       found-with_changes q more before (with_row-rises observation_rank (key, content) changes.left are.left)
-      ∙ ap (λ o. or_else o below) (row_at-with_row observation_rank q (key, content) changes.left)
+      ∙ ap (λ o. or_else o below) (found-with observation_rank q (key, content) changes.left)
       ∙ by_test (row_at observation_rank q changes.left) below (is_same (observation_numbers key) q)
       ∙ ap (cond (is_same (observation_numbers key) q) (Some (key, content))) (sym (found-with_changes q changes before are.left))
-      ∙ sym (row_at-with_row observation_rank q (key, content) so_far))
+      ∙ sym (found-with observation_rank q (key, content) so_far))
     where
       by_test : (o below : Option Row) (b : Bool) → or_else (cond b (Some (key, content)) o) below ≡ cond b (Some (key, content)) (or_else o below)
       by_test o below true = refl
@@ -201,11 +229,11 @@ module _ (key : ObsKey) (before : List Row) (changes : Changes) (are : AreChange
       (λ q.
       let below = unless (row_at observation_rank q changes.dropped) (row_at observation_rank q before) in
       found-with_changes q less before (without_row-rises observation_rank (observation_numbers key) changes.left are.left)
-      ∙ ap (λ o. or_else o (unless (row_at observation_rank q gone) (row_at observation_rank q before))) (row_at-without_row observation_rank q (observation_numbers key) changes.left)
+      ∙ ap (λ o. or_else o (unless (row_at observation_rank q gone) (row_at observation_rank q before))) (found-without observation_rank q (observation_numbers key) changes.left)
       ∙ ap (or_else (cond (is_same (observation_numbers key) q) None (row_at observation_rank q changes.left))) (found q)
       ∙ by_test (row_at observation_rank q changes.left) below (is_same (observation_numbers key) q)
       ∙ ap (cond (is_same (observation_numbers key) q) None) (sym (found-with_changes q changes before are.left))
-      ∙ sym (row_at-without_row observation_rank q (observation_numbers key) so_far))
+      ∙ sym (found-without observation_rank q (observation_numbers key) so_far))
     where
       by_test : (o below : Option Row) (b : Bool) → or_else (cond b None o) (cond b None below) ≡ cond b None (or_else o below)
       by_test o below true = refl
@@ -226,7 +254,7 @@ module _ (key : ObsKey) (before : List Row) (changes : Changes) (are : AreChange
   change-drop kept =
       drop_by (with_row observation_rank (key, kept) changes.dropped)
       (λ q.
-      ap (λ o. unless o (row_at observation_rank q before)) (row_at-with_row observation_rank q (key, kept) changes.dropped)
+      ap (λ o. unless o (row_at observation_rank q before)) (found-with observation_rank q (key, kept) changes.dropped)
       ∙ by_test (row_at observation_rank q changes.dropped) (row_at observation_rank q before) (is_same (observation_numbers key) q))
     where
       by_test : (o below : Option Row) (b : Bool) → unless (cond b (Some (key, kept)) o) below ≡ cond b None (unless o below)
@@ -253,7 +281,7 @@ module _ (key : ObsKey) (before : List Row) (changes : Changes) (are : AreChange
     not_dropped = both.0
 
     stood : AreFoundIn observation_rank (with_row observation_rank (key, kept) changes.dropped) before
-    stood q some = by_test (is_same (observation_numbers key) q) refl (sym (ap is_some (row_at-with_row observation_rank q (key, kept) changes.dropped)) ∙ some)
+    stood q some = by_test (is_same (observation_numbers key) q) refl (sym (ap is_some (found-with observation_rank q (key, kept) changes.dropped)) ∙ some)
       where
         by_test : (b : Bool) → is_same (observation_numbers key) q ≡ b → is_some (cond b (Some (key, kept)) (row_at observation_rank q changes.dropped)) ≡ true → is_some (row_at observation_rank q before) ≡ true
         by_test true same h =

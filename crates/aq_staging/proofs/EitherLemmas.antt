@@ -3,24 +3,16 @@ use Rattle.std.proofs.Common.{◌≡◌, ℕ, true, false, cond, ◌&&◌, Some,
 use Rattle.std.specs.Prelude.{drop, slice_get}
 use Rattle.std.proofs.lemmas.Bool.{and_parts, cases_Bool}
 use Rattle.std.proofs.lemmas.Slice.Eq.{bytes_eq-Decides}
-use Rattle.aq_rules.proofs.Spans.{before-itself}
+use Rattle.aq_rules.proofs.Lookups.{before-back, before-other_way, same-flip, rises-rest}
 use Rattle.aq_rules.specs.Office.Load.{keys_of_either}
 use Rattle.aq_rules.specs.Office.Office.{comes_before, is_same, rises, rises_from, with_row}
 use Rattle.aq_rules.specs.Office.RowOrder.{before-total, before-trans}
-use Rattle.aq_staging.proofs.RowLemmas.{not_same, same_flip, rises_rest}
-
-not_before : (a b : List ℕ) → comes_before a b ≡ true → comes_before b a ≡ false
-not_before a b before =
-    elim (cases_Bool (comes_before b a)) [
-      | inl back ↦ absurd (before-itself a (before-trans a b a before back))
-      | inr behind ↦ behind
-    ]
 
 module _ {K : Type 0} (rank : K → List ℕ) where
   with_row-behind : (x key : K) (keys : List K) → comes_before (rank x) (rank key) ≡ true → with_row rank key (x ∷ keys) ≡ x ∷ with_row rank key keys
   with_row-behind x key keys before =
-      ap (λ b. cond b (key ∷ x ∷ keys) (cond (is_same (rank key) (rank x)) (key ∷ keys) (x ∷ with_row rank key keys))) (not_before (rank x) (rank key) before)
-      ∙ ap (λ b. cond b (key ∷ keys) (x ∷ with_row rank key keys)) (same_flip (rank key) (rank x) ∙ not_same (rank x) (rank key) before)
+      ap (λ b. cond b (key ∷ x ∷ keys) (cond (is_same (rank key) (rank x)) (key ∷ keys) (x ∷ with_row rank key keys))) (before-back (rank x) (rank key) before)
+      ∙ ap (λ b. cond b (key ∷ keys) (x ∷ with_row rank key keys)) (before-other_way (rank x) (rank key) before)
 
   -- a key before all of the second list
   ahead : (x : K) (first second : List K) → rises_from rank x second ≡ true → keys_of_either rank (x ∷ first) second ≡ x ∷ keys_of_either rank first second
@@ -51,12 +43,12 @@ module _ {K : Type 0} (rank : K → List ℕ) where
       let ranks = (bytes_eq-Decides (rank x) (rank y)).0 same in
       let ahead_too : comes_before (rank y) (rank x) ≡ false = ap (λ l. comes_before (rank y) l) ranks ∙ ap (λ l. comes_before l (rank y)) (sym ranks) ∙ behind in
       ap (λ b. keys_of_either rank (cond b (y ∷ x ∷ first) (cond (is_same (rank y) (rank x)) (y ∷ first) (x ∷ with_row rank y first))) second) ahead_too
-      ∙ ap (λ b. keys_of_either rank (cond b (y ∷ first) (x ∷ with_row rank y first)) second) (same_flip (rank y) (rank x) ∙ same)
+      ∙ ap (λ b. keys_of_either rank (cond b (y ∷ first) (x ∷ with_row rank y first)) second) (same-flip (rank y) (rank x) ∙ same)
       ∙ ahead y first second rising
 
   pub none_first : (second : List K) → rises rank second ≡ true → keys_of_either rank [] second ≡ second
   none_first [] rising = refl
-  none_first (y ∷ second) rising = ahead y [] second rising ∙ ap (λ (keys : List K). y ∷ keys) (none_first second (rises_rest rank y second rising))
+  none_first (y ∷ second) rising = ahead y [] second rising ∙ ap (λ (keys : List K). y ∷ keys) (none_first second (rises-rest rank y second rising))
 
 -- ---- the first key, and what is left behind it
 
@@ -83,7 +75,7 @@ module _ {K : Type 0} (rank : K → List ℕ) (first second : List K) where
 
     pub only_second : slice_get first 0 ≡ None → (left : List K) → left ≡ drop 1 second → either first second ≡ y ∷ either first left
     only_second none left skipped =
-        let rest = rises_rest rank y (drop 1 second) rising_on in
+        let rest = rises-rest rank y (drop 1 second) rising_on in
         ap (λ (xs : List K). either xs second) (emptied first none)
         ∙ none_first rank second rising ∙ headed second y is_second
         ∙ ap (λ (ys : List K). y ∷ ys) (sym (none_first rank (drop 1 second) rest))

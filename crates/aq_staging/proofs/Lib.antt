@@ -1,4 +1,3 @@
-pub mod RowLemmas
 pub mod ChangeLemmas
 pub mod OverlayLemmas
 pub mod LoadLaws

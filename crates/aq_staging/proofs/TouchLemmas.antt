@@ -19,7 +19,7 @@ use Rattle.aq_registry.specs.Registry.{office_with}
 use Rattle.aq_registry.specs.declared.changes.Changes.{Changes}
 use Rattle.aq_registry.specs.declared.changes.RecordChange.{RecordChange}
 use Rattle.aq_staging.specs.Touched.{AreTouched, noted, noted_change, noted_row, noted_second}
-use Rattle.aq_staging.proofs.RowLemmas.{row_at-with_row, row_at-without_row}
+use Rattle.aq_rules.proofs.Lookups.{found-with, found-without}
 
 abbrev at : List ℕ → List OfficeRecord → Option OfficeRecord
 at q rows = row_at record_rank q rows
@@ -46,7 +46,7 @@ module _ (q : List ℕ) where
   none-before : (row : Option OfficeRecord) (touched : List OfficeRecord) → at q (noted_row row touched) ≡ None → at q touched ≡ None
   none-before None touched none = none
   none-before (Some row) touched none =
-      (some_or (is_same (record_rank row) q) row (at q touched) (sym (row_at-with_row record_rank q row touched) ∙ none)).1
+      (some_or (is_same (record_rank row) q) row (at q touched) (sym (found-with record_rank q row touched) ∙ none)).1
 
   none-first : (second : Option RecordChange) (touched : List OfficeRecord) → at q (noted_second second touched) ≡ None → at q touched ≡ None
   none-first None touched none = none
@@ -56,7 +56,7 @@ module _ (q : List ℕ) where
   never : (row : OfficeRecord) (touched : List OfficeRecord) → record_rank row ≡ q → at q (with_row record_rank row touched) ≡ None → ⊥
   never row touched is none =
       let there = ap (λ b. cond b (Some row) (at q touched)) ((bytes_eq-Decides (record_rank row) q).1 is) in
-      let no : Some row ≡ None = sym there ∙ sym (row_at-with_row record_rank q row touched) ∙ none in
+      let no : Some row ≡ None = sym there ∙ sym (found-with record_rank q row touched) ∙ none in
       cc
 
   -- where neither the record before nor the one after was noted, there is none
@@ -83,10 +83,10 @@ module _ (q : List ℕ) (rows touched : List OfficeRecord) where
       by_test false other = others other
 
   others_put : (row : OfficeRecord) → is_same (record_rank row) q ≡ false → at q rows ≡ at q (with_row record_rank row rows)
-  others_put row other = sym (row_at-with_row record_rank q row rows ∙ ap (λ b. cond b (Some row) (at q rows)) other)
+  others_put row other = sym (found-with record_rank q row rows ∙ ap (λ b. cond b (Some row) (at q rows)) other)
 
   others_drop : (key : OfficeKey) → is_same (key_numbers key) q ≡ false → at q rows ≡ at q (without_row record_rank (key_numbers key) rows)
-  others_drop key other = sym (row_at-without_row record_rank q (key_numbers key) rows ∙ ap (λ b. cond b None (at q rows)) other)
+  others_drop key other = sym (found-without record_rank q (key_numbers key) rows ∙ ap (λ b. cond b None (at q rows)) other)
 
   drop-noted : (key : OfficeKey) → let after = without_row record_rank (key_numbers key) rows in at q (noted_row (option_or (record_of after key) (record_of rows key)) touched) ≡ None → at q rows ≡ at q after
   drop-noted key none = noted_first (key_numbers key) (without_row record_rank (key_numbers key) rows) (others_drop key) none
@@ -109,7 +109,7 @@ module _ (q : List ℕ) (rows touched : List OfficeRecord) (number : ℕ) where
     where
       found : at q whole ≡ cond (is_same concurrence q) None (at q rows)
       found =
-          row_at-without_row record_rank q concurrence (without_row record_rank event rows)
+          found-without record_rank q concurrence (without_row record_rank event rows)
           ∙ ap (cond (is_same concurrence q) None) (sym (others_drop q rows touched (EventKey number) other))
 
       dropped : (o : Option OfficeRecord) → at q rows ≡ o → at q (noted_second (option_map dropping o) first_noted) ≡ None → at q rows ≡ None

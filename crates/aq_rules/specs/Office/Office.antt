@@ -2,6 +2,7 @@
 use Rattle.std.specs.Prelude.{ℕ, ◌+◌, Bool, true, false, not, ◌&&◌, ◌||◌, ◌==◌, nat_lt, nat_le, if◌then◌else◌, IsTrue, Option, Some, None, is_some, List, [], ◌∷◌, ◌++◌, length, find, filter, count_by, sum_by, bytes_eq, option_map, ℤ, ◌≤◌}
 use Rattle.std.specs.List.{list_all, list_any}
 use Rattle.aq_base.specs.Calendar.{is_year, quarter_of, hour_of_day}
+pub use Rattle.aq_base.specs.OfficeKeys.{key_of}
 use Rattle.aq_base.specs.Quals.{all_distinct}
 use Rattle.aq_base.specs.Rule.{rule_number}
 use Rattle.aq_base.specs.Site.{Site}
@@ -52,17 +53,6 @@ kind_of (EventKey number) = 6
 kind_of (ConcurrenceKey number) = 7
 kind_of (ApprovedKey site day) = 8
 kind_of (CombinedKey site pollutant) = 9
-
-abbrev pub key_of : OfficeRecord → OfficeKey
-key_of (Monitor id duration eligible) = MonitorKey id
-key_of (Primary site pollutant from poc) = PrimaryKey site pollutant from
-key_of (Schedule site pollutant from interval anchor) = ScheduleKey site pollutant from
-key_of (Season site year first last) = SeasonKey site year
-key_of (Makeup site missed makeup) = MakeupKey site missed
-key_of (Event number site pollutant first last code) = EventKey number
-key_of (Concurrence number agreed) = ConcurrenceKey number
-key_of (Approved site day) = ApprovedKey site day
-key_of (Combined site pollutant from joined) = CombinedKey site pollutant
 
 -- A key as whole numbers, from the kind on. The printed key has each of them in a fixed width, so this is the order by kind and then by the bytes of the printed key.
 abbrev pub site_numbers : Site → List ℕ
