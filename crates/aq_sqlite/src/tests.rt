@@ -1,11 +1,10 @@
-//! Rows kept in a database in memory, and in a file.
+//! Rows kept in a file.
 use crate::*;
 use aq_base::Bytes;
 use aq_keeper::{
     Keeper, KeeperFault, LoadRow, ObsRow, OfficeRow, Row, RowChange, RowContent, RowKey,
     are_in_order, do_keys_rise,
 };
-use sqlite::Connection;
 use std::alloc::Global;
 use std::fs;
 use std::process::Abort;
@@ -118,16 +117,6 @@ fn refuse<K: Keeper>(rt: &impl Abort, alloc: Global, keeper: &mut K) -> Result<(
     assert!(rt; read(rt, alloc, keeper) == Err(KeeperFault::Failed));
     assert!(rt; commit(rt, alloc, keeper, &batch) == Err(KeeperFault::Failed));
     Ok(())
-}
-
-#[test]
-fn tables_in_memory_take_batches_once_they_are_made(rt: HostRuntime) -> Result<(), Fail> {
-    let alloc = rt.alloc();
-    let mut keeper = SqliteKeeper::adopt(Connection::open_in_memory(alloc)?);
-    refuse(&rt, alloc, &mut keeper)?;
-    assert!(rt; keeper.prepare().is_ok());
-    assert!(rt; keeper.prepare().is_ok());
-    keep(&rt, alloc, &mut keeper)
 }
 
 const FOLDER: &str = "aq_sqlite_test";
