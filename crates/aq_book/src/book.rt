@@ -55,7 +55,7 @@ impl Book {
     }
 
     /// What becomes of a load with a number from 1 on: a known number with the same digest is a repeat, and
-    /// with another a conflict; for a new one there is no room where `MOST_LOADS` stand. It takes no memory.
+    /// with another a conflict; for a new one there is no room if `MOST_LOADS` stand. It takes no memory.
     pub fn check(&self, number: u32, digest: &[u8; 32]) -> LoadCheck
         ensures { decision_of result ≡ decide self.now number digest.now }
     {

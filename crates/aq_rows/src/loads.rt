@@ -43,7 +43,7 @@ pub fn load_row(
     })
 }
 
-/// The load that a row says, where the row is the row of that load, and the load is one that can stand:
+/// The load that a row says, if the row is the row of that load, and the load is one that can stand:
 /// its number is in its range, its digest of 32 bytes, and its reply one that a load has.
 #[tactic(auto, using(crate::proofs::Loaded::read_in_turn))]
 pub fn load_of(alloc: Global, row: &LoadRow) -> Result<Option<(u32, KeptLoad)>, Memory>

@@ -22,7 +22,7 @@ use aq_reports::{Sheet, conflict_sheet, json_of, load_sheet};
 use aq_serve::error_body;
 use std::alloc::Global;
 
-/// The JSON that a question is answered with, or None where it is answered with 404: no route asks for an
+/// The JSON that a question is answered with, or None if it is answered with 404: no route asks for an
 /// export.
 pub(crate) fn question_text(
     alloc: Global,
