@@ -13,11 +13,11 @@ ghost use Rattle.aq_rules.specs.Office.Office.{load_at, nothing};
 use crate::batch::{RowChanges, batch_of};
 use crate::check::LoadCheck;
 use aq_base::{LoadReply, Memory};
-use aq_staging::{Staged, stage_load};
+use aq_registry::Registry;
 use aq_rows::{Loads, digest_is_32_bytes};
 use aq_rules::office::valid_load::{an_office_of_nothing_is_valid, loads_leave_the_office_valid};
-use aq_registry::Registry;
 use aq_shelf::Shelf;
+use aq_staging::{Staged, stage_load};
 use std::alloc::Global;
 use std::marker::Model;
 

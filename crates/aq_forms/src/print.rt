@@ -10,8 +10,8 @@ ghost use Rattle.aq_forms.specs.OfficeReading.{has_rd_tag};
 use aq_base::{Day, Memory, OfficeKey, OfficeLine, OfficeRecord, Pollutant, SiteId};
 use aq_cal::last_digits;
 use aq_num::write_fixed;
-use aq_rules::lines::canonical::canonical_office_lines_are_read_back;
 use aq_rd::{duration_name, parameter_name, write_code, write_date, write_field, write_start};
+use aq_rules::lines::canonical::canonical_office_lines_are_read_back;
 use std::alloc::Global;
 
 /// Writes the one line by which an office line is written (own): all fields of its form, and of a

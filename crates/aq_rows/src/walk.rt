@@ -13,12 +13,12 @@ ghost use Rattle.aq_rows.specs.OneMoreRow.{has_none, may_follow};
 ghost use Rattle.aq_rows.specs.Standing.{can_stand};
 ghost use Rattle.aq_rows.specs.Walking.{Follows, IsFault, IsRowFault, IsWalk, standing};
 
+use crate::kept_loads::{KeptLoad, Loads};
 use crate::loads::load_of;
 use crate::observations::observation_of;
 use crate::records::{key_of, record_line, record_of};
 use aq_base::{Duration, Hour, Memory, MonitorId, ObsKey, Observation, OfficeKey, OfficeRecord};
 use aq_keeper::{LoadRow, ObsRow, OfficeRow, Row, RowContent};
-use crate::kept_loads::{KeptLoad, Loads};
 use aq_registry::{Registry, RegistryFault};
 use aq_shelf::{Shelf, ShelfFault};
 use std::alloc::Global;

@@ -16,9 +16,9 @@ use crate::posting::Posted;
 use aq_base::{Ask, Memory};
 use aq_book::Book;
 use aq_http::reply_bytes;
+use aq_reports::{Sheet, conflict_sheet, json_of, load_sheet};
 use aq_rows::digest_is_32_bytes;
 use aq_rules::shown::well_formed::{answers_are_well_formed, other_sheets_are_well_formed};
-use aq_reports::{Sheet, conflict_sheet, json_of, load_sheet};
 use aq_serve::error_body;
 use std::alloc::Global;
 
