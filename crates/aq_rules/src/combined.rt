@@ -1,20 +1,23 @@
 //! What a pair of combined sites reads, worked out.
 #![tactic(auto)]
 
-ghost use Rattle.std.specs.Prelude.{◌≡◌, ℕ, true, false, List, [], ◌∷◌, ◌++◌, map, replicate, option_map, is_some, Some, None, pos};
-ghost use Rattle.aq_base.specs.Calendar.{day_number, hour_number, quarter_number};
+ghost use Rattle.std.specs.Prelude.{◌≡◌, ℕ, ◌+◌, ◌≤◌, true, false, List, [], ◌∷◌, ◌++◌, map, replicate, option_map, is_some, Some, None, pos};
+ghost use Rattle.aq_base.specs.Calendar.{day_number, hour_number, quarter_number, year_first};
 ghost use Rattle.aq_base.specs.Site.{Site};
+ghost use Rattle.aq_base.specs.declared.day.TheConstants.{FIRST_YEAR};
 ghost use Rattle.aq_base.specs.declared.monitor.Pollutant.TheVariants.{Ozone, Pm10};
 ghost use Rattle.aq_base.specs.declared.standard.Standard.{Standard};
-ghost use Rattle.aq_base.specs.declared.standard.Standard.TheVariants.{Pm10Of1987};
+ghost use Rattle.aq_base.specs.declared.standard.Standard.TheVariants.{Ozone2015, Pm10Of1987};
 ghost use Rattle.aq_rules.specs.Standards.{pollutant_of};
 ghost use Rattle.aq_rules.specs.Office.Office.{Office};
 ghost use Rattle.aq_rules.specs.Office.Monitors.{is_same_pollutant};
 ghost use Rattle.aq_rules.specs.Office.OfficeExamples.{east, smoke, west};
-ghost use Rattle.aq_rules.specs.Office.Questions.{combined};
+ghost use Rattle.aq_rules.specs.Office.Questions.{Joined, combined};
+ghost use Rattle.aq_rules.specs.Ozone.SiteHour.{site_hour};
 ghost use Rattle.aq_rules.specs.Ozone.EightHour.{WindowRow};
 ghost use Rattle.aq_rules.specs.Ozone.OzoneDay.{windows};
 ghost use Rattle.aq_rules.specs.Particles.QuarterCounts.{gives_credit};
+ghost use Rattle.aq_rules.specs.DesignValues.{design_value};
 ghost use Rattle.aq_rules.specs.Combined.Pair.{is_pair_approved, is_pair_scheduled, pair_counts, pair_credits, pair_day, pair_hour, pair_value, pair_windows};
 ghost use Rattle.aq_rules.specs.Combined.PairExamples.{joined_hours, joining_day, last_day, made_up, makes_up, moved, moved_to_clean_air, not_missed, summer_pair, winter, winter_pair};
 
@@ -75,4 +78,16 @@ pub fn pairs_are_where_sites_are_combined()
     ensures values { (standard : Standard) (office : Office) (site : Site) (year : ℕ) → is_same_pollutant (pollutant_of standard) Pm10 ≡ false
         → is_some (pair_value standard office site year) ≡ is_some (combined office.records site (pollutant_of standard)) }
     ensures pm10 { (office : Office) (site : Site) (year : ℕ) → pair_value Pm10Of1987 office site year ≡ None }
+{}
+
+/// Without a value of the joined site, and joined only after the last of the three years, the pair's
+/// design value is the site's.
+pub fn a_joined_site_without_values_changes_nothing()
+    ensures averages { (office : Office) (site : Site) (day : ℕ) (joined : Joined)
+        → combined office.records site Ozone ≡ Some joined → ((hour : ℕ) → site_hour office joined.site hour ≡ None)
+        → pair_windows office site day ≡ Some (windows office site day) }
+    ensures ozone { (office : Office) (site : Site) (year : ℕ) (joined : Joined)
+        → combined office.records site Ozone ≡ Some joined → ((hour : ℕ) → site_hour office joined.site hour ≡ None)
+        → FIRST_YEAR + 2 ≤ year → year_first (year + 1) ≤ joined.from
+        → pair_value Ozone2015 office site year ≡ Some (design_value Ozone2015 office site year) }
 {}
