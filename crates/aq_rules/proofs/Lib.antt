@@ -60,6 +60,7 @@ pub mod ValidRecords
 pub mod ValidAfter
 pub mod Held
 pub mod PmHeld
+mod PairAlone
 pub mod Pm10Held
 pub mod SheetCells
 pub mod WellFormed

@@ -10,5 +10,6 @@ pub mod Particles
 pub mod Kept
 pub mod DesignValues
 pub mod WhatIf
+pub mod Combined
 pub mod Areas
 pub mod Shown

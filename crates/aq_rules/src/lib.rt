@@ -3,6 +3,7 @@
 #![tactic(auto)]
 
 pub mod areas;
+pub mod combined;
 pub mod kept;
 pub mod lines;
 pub mod lists;

@@ -30,9 +30,13 @@ average_of values = average (length values) (total values)
 unfoldable pub eight_hours : ℕ → List ℕ
 eight_hours start = filter (λ hour. nat_le hour LAST_HOUR) (range_with_len start 8)
 
+-- what the hours of a site, or of a pair of combined sites, have in these eight
+abbrev pub cells_by : (ℕ → Option Cell) → ℕ → List Cell
+cells_by hour_at start = filter_map hour_at (eight_hours start)
+
 -- what the site has in these hours
 abbrev pub cells_from : Office → Site → ℕ → List Cell
-cells_from office site start = filter_map (site_hour office site) (eight_hours start)
+cells_from office site start = cells_by (site_hour office site) start
 
 -- all values, and those that are not excluded
 abbrev pub full_values : List Cell → List ℤ
@@ -57,5 +61,8 @@ row_of cells = record {
 }
 
 -- the average that starts at an hour
+abbrev pub window_by : (ℕ → Option Cell) → ℕ → WindowRow
+window_by hour_at start = row_of (cells_by hour_at start)
+
 unfoldable pub window : Office → Site → ℕ → WindowRow
-window office site start = row_of (cells_from office site start)
+window office site start = window_by (site_hour office site) start

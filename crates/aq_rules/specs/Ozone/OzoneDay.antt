@@ -13,8 +13,11 @@ use Rattle.aq_rules.specs.Ozone.EightHour.{WindowRow, window}
 unfoldable pub starts_of : ℕ → List ℕ
 starts_of day = range_with_len (hour_number day 7) 17
 
+abbrev pub windows_by : (ℕ → WindowRow) → ℕ → List WindowRow
+windows_by window_at day = map window_at (starts_of day)
+
 unfoldable pub windows : Office → Site → ℕ → List WindowRow
-windows office site day = map (window office site) (starts_of day)
+windows office site day = windows_by (window office site) day
 
 -- the full averages that exist, and the net ones
 abbrev pub full_averages : List WindowRow → List ℤ

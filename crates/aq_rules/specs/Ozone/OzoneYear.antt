@@ -39,10 +39,15 @@ is_season_day office site year day = is_in_season (season_of office.records site
 abbrev pub counts_as_valid : Office → Site → ℕ → Bool
 counts_as_valid office site day = (ozone_day office site day).valid || is_approved office.records site day
 
-unfoldable pub ozone_year : Office → Site → ℕ → OzoneYear
-ozone_year office site year = record {
-  season_days = count_by (is_season_day office site year) (days_of year);
-  season_valid = count_by (λ day. is_season_day office site year day && counts_as_valid office site day) (days_of year);
-  ranked = length (ranked_maxima (ozone_days office site year));
-  fourth = fourth_of (ranked_maxima (ozone_days office site year));
+-- of the days of a year: which are of the season, which count as valid, and what all of them have
+abbrev pub year_by : (ℕ → Bool) → (ℕ → Bool) → List OzoneDay → ℕ → OzoneYear
+year_by is_season counts days year = record {
+  season_days = count_by is_season (days_of year);
+  season_valid = count_by (λ day. is_season day && counts day) (days_of year);
+  ranked = length (ranked_maxima days);
+  fourth = fourth_of (ranked_maxima days);
 }
+
+unfoldable pub ozone_year : Office → Site → ℕ → OzoneYear
+ozone_year office site year =
+    year_by (is_season_day office site year) (counts_as_valid office site) (ozone_days office site year) year

@@ -40,17 +40,23 @@ makeup_by site quarter (MakeupRecord other missed makeup) =
 makeup_by site quarter _ = None
 
 -- before the next scheduled day, or exactly a week later
-abbrev pub is_in_time : Office → Site → Makeup → Bool
-is_in_time office site m =
-    not (list_any (is_scheduled office.records site Pm25) (range_with_len (m.missed + 1) (m.makeup - m.missed)))
+abbrev pub in_time_by : (ℕ → Bool) → Makeup → Bool
+in_time_by scheduled m =
+    not (list_any scheduled (range_with_len (m.missed + 1) (m.makeup - m.missed)))
     || (m.makeup == m.missed + 7)
 
--- a sample on an unscheduled day makes up for a scheduled day without one
+abbrev pub is_in_time : Office → Site → Makeup → Bool
+is_in_time office site m = in_time_by (is_scheduled office.records site Pm25) m
+
+-- a sample on an unscheduled day makes up for a scheduled day without one: by what is scheduled and what is sampled, of a site or of a pair of combined sites
+abbrev pub credit_by : (ℕ → Bool) → (ℕ → Bool) → Makeup → Bool
+credit_by scheduled sampled m =
+    scheduled m.missed && not (sampled m.missed)
+    && not (scheduled m.makeup) && sampled m.makeup
+    && in_time_by scheduled m
+
 abbrev pub gives_credit : Office → Site → Makeup → Bool
-gives_credit office site m =
-    is_scheduled office.records site Pm25 m.missed && not (is_sampled office site Pm25 m.missed)
-    && not (is_scheduled office.records site Pm25 m.makeup) && is_sampled office site Pm25 m.makeup
-    && is_in_time office site m
+gives_credit office site m = credit_by (is_scheduled office.records site Pm25) (is_sampled office site Pm25) m
 
 unfoldable pub credits : Office → Site → ℕ → List Makeup
 credits office site quarter = filter (gives_credit office site) (filter_map (makeup_by site quarter) office.records)
@@ -63,12 +69,17 @@ pub record QuarterCounts : Type 0 where
   pub creditable : ℕ
   pub counted : ℕ
 
-unfoldable pub quarter_counts : Office → Site → ℕ → QuarterCounts
-quarter_counts office site quarter = record {
-  scheduled = length (scheduled_days office site Pm25 quarter);
-  creditable = count_by (is_sampled office site Pm25) (scheduled_days office site Pm25 quarter) + length (credits office site quarter);
-  counted = count_by (is_kept office site Pm25) (scheduled_days office site Pm25 quarter) + count_by (λ (m : Makeup). is_kept office site Pm25 m.makeup) (credits office site quarter);
+-- of the scheduled days of a quarter and its make-ups with credit: by which days are sampled, and which are kept
+abbrev pub counts_by : (ℕ → Bool) → (ℕ → Bool) → List ℕ → List Makeup → QuarterCounts
+counts_by sampled kept days made_up = record {
+  scheduled = length days;
+  creditable = count_by sampled days + length made_up;
+  counted = count_by kept days + count_by (λ (m : Makeup). kept m.makeup) made_up;
 }
+
+unfoldable pub quarter_counts : Office → Site → ℕ → QuarterCounts
+quarter_counts office site quarter =
+    counts_by (is_sampled office site Pm25) (is_kept office site Pm25) (scheduled_days office site Pm25 quarter) (credits office site quarter)
 
 -- the quarter's data capture rate (Appendix N, 1.0(c)): creditable samples in percent of the scheduled days, to the nearest whole one; 0 where nothing is scheduled (own)
 abbrev pub capture : QuarterCounts → ℕ
