@@ -1,7 +1,4 @@
 //! A case that is tried.
-ghost use Rattle.std.specs.Prelude.{◌≡◌, true, map};
-ghost use Rattle.aq_rules.specs.Kept.RowChanges.{row_key, keys_rise};
-
 use crate::calls::try_calls;
 use crate::case::{Case, Extent, Failing, Given, Run, Subject, Wanted};
 use crate::compare::difference;
