@@ -48,7 +48,7 @@ fn main(rt: HostRuntime) -> ExitCode {
     )
 }
 
-/// Runs the command of the words, where there was memory to read them.
+/// Runs the command of the words, if there was memory to read them.
 fn obey<K: Keeper, D: Door, S: Source, O: Sink, E: Sink>(
     alloc: Global,
     words: Result<Vec<String>, Memory>,
@@ -76,7 +76,7 @@ fn obey<K: Keeper, D: Door, S: Source, O: Sink, E: Sink>(
     }
 }
 
-/// The words behind the program's name: none, which is no command, where one of them is no text.
+/// The words after the program's name: none, which is no command, if one of them is no text.
 fn words_of(rt: &HostRuntime) -> Result<Vec<String>, Memory> {
     match env::args(rt) {
         Ok(words) => Ok(words.skip(1).collect(rt.alloc())?),

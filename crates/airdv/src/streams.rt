@@ -55,7 +55,7 @@ impl<R: Read> Source for Reading<R> {
     }
 }
 
-/// One read, made again where a signal interrupts it.
+/// One read, made again if a signal interrupts it.
 pub(crate) fn read_from<R: Read>(reader: &mut R, buffer: &mut [u8]) -> Result<usize, Failed>
     ensures within { IfOk result (λ n. n ≤ length buffer.new) }
     ensures passed { ReadConsumes (R.remaining reader.old) (R.remaining reader.new) result buffer.new }
@@ -114,7 +114,7 @@ impl<W: Write> Sink for Writing<W> {
     }
 }
 
-/// One write, made again where a signal interrupts it.
+/// One write, made again if a signal interrupts it.
 pub(crate) fn write_to<W: Write>(writer: &mut W, piece: &[u8]) -> Result<usize, Failed>
     ensures within { IfOk result (λ n. n ≤ length piece.now) }
     ensures passed { WriteAppends (W.contents writer.old) (W.contents writer.new) result piece.now }

@@ -11,10 +11,10 @@ use std::time::Duration;
 /// A read or a write that waits for its peer so many seconds is a fault.
 const PATIENCE: u64 = 30;
 
-/// A peer that sends nothing for so many milliseconds behind the last reply has nothing more to send.
+/// A peer that sends nothing for so many milliseconds after the last reply has nothing more to send.
 const SILENCE: u64 = 250;
 
-/// So many pieces are read behind the last reply, at most, and so long is each.
+/// So many pieces are read after the last reply, at most, and so long is each.
 const MOST_PIECES: u32 = 1_024;
 
 const PIECE: usize = 16_384;
@@ -183,7 +183,7 @@ fn prepare<S: OpenStream>(stream: &S) -> io::Result<()> {
     stream.set_write_timeout(patience)
 }
 
-/// Says that no further reply comes, and takes what the peer still sends: where that is left unread, the
+/// Says that no further reply comes, and takes what the peer still sends: if that is left unread, the
 /// system breaks the connection off, and the last reply can be lost on its way.
 fn part<S: Read + OpenStream>(stream: &mut S) {
     let silence = Some(Duration::from_millis(SILENCE));

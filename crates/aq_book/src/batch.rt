@@ -7,8 +7,8 @@ ghost use Rattle.aq_rules.specs.Office.Load.{load_change};
 
 use aq_base::{Items, LoadReply, Memory};
 use aq_keeper::{Row, RowChange};
-use aq_staging::{OfficeChange, OfficeChanges};
 use aq_rows::{load_row, observation_key, observation_row, office_key, office_row};
+use aq_staging::{OfficeChange, OfficeChanges};
 use std::alloc::Global;
 
 /// Changes of rows, in the order of tables and keys.

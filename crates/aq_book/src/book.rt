@@ -13,11 +13,11 @@ ghost use Rattle.aq_rules.specs.Office.Office.{load_at, nothing};
 use crate::batch::{RowChanges, batch_of};
 use crate::check::LoadCheck;
 use aq_base::{LoadReply, Memory};
-use aq_staging::{Staged, stage_load};
+use aq_registry::Registry;
 use aq_rows::{Loads, digest_is_32_bytes};
 use aq_rules::office::valid_load::{an_office_of_nothing_is_valid, loads_leave_the_office_valid};
-use aq_registry::Registry;
 use aq_shelf::Shelf;
+use aq_staging::{Staged, stage_load};
 use std::alloc::Global;
 use std::marker::Model;
 
@@ -55,7 +55,7 @@ impl Book {
     }
 
     /// What becomes of a load with a number from 1 on: a known number with the same digest is a repeat, and
-    /// with another a conflict; for a new one there is no room where `MOST_LOADS` stand. It takes no memory.
+    /// with another a conflict; for a new one there is no room if `MOST_LOADS` stand. It takes no memory.
     pub fn check(&self, number: u32, digest: &[u8; 32]) -> LoadCheck
         ensures { decision_of result ≡ decide self.now number digest.now }
     {

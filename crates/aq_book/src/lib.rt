@@ -14,8 +14,8 @@ mod particles;
 mod question;
 mod report;
 
-pub use aq_staging::Staged;
 pub use aq_rows::{OpenFault, Place};
+pub use aq_staging::Staged;
 pub use batch::RowChanges;
 pub use book::Book;
 pub use check::LoadCheck;

@@ -9,7 +9,7 @@ use aq_keeper::{Row, Rows};
 use aq_rows::{OpenFault, open};
 use std::alloc::Global;
 
-/// The book of the office whose rows these are. Where they are no office's, the first damaged row is named
+/// The book of the office whose rows these are. If they are no office's, the first damaged row is named
 /// by its table and its place among that table's rows: the rows before it are an office's.
 pub fn book_of(alloc: Global, rows: &[Row]) -> Result<Book, OpenFault>
     ensures book { IfOk result (λ opened. kept.office_of_rows rows.now ≡ Some opened) }

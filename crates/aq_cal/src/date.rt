@@ -19,7 +19,7 @@ pub struct Civil {
     pub day: u8,
 }
 
-/// The day that these parts name. There is none where the calendar has no such date, or where it is
+/// The day that these parts name. There is none if the calendar has no such date, or if it is
 /// not from 1990-01-01 to 2059-12-31.
 pub fn day_of(year: u16, month: u8, day: u8) -> Option<Day>
     ensures { result ≡ day_of_date year month day }

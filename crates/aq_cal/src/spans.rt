@@ -43,7 +43,7 @@ pub fn year_span(year: u16) -> (Day, u16)
     (first, last.number() - first.number() + 1)
 }
 
-/// A day lies in a quarter exactly where it is one of those from the quarter's first on, as many as the
+/// A day lies in a quarter exactly if it is one of those from the quarter's first on, as many as the
 /// quarter has.
 pub fn a_quarter_holds_the_days_of_its_span()
     ensures { (quarter day : ℕ) → day ≤ LAST_DAY → (calendar.quarter_of day ≡ quarter) ↔ ((calendar.quarter_first quarter ≤ day) × (day < calendar.quarter_first quarter + calendar.days_in_quarter quarter)) }

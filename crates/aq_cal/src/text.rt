@@ -33,7 +33,7 @@ pub fn day_text(day: Day) -> [u8; 10]
     ]
 }
 
-/// Appends a day as `YYYY-MM-DD`. It is refused only where `out` has no room for that and memory
+/// Appends a day as `YYYY-MM-DD`. It is refused only if `out` has no room for that and memory
 /// cannot be had, and `out` is then as before.
 pub fn write_day(out: &mut Vec<u8>, day: Day) -> Result<(), Memory>
     ensures written { OnOk result (out.new.items ≡ out.old.items ++ day_text day) }

@@ -20,7 +20,7 @@ excess body =
     then too_many_lines (line_count body)
     else too_many_bytes
 
--- a piece of n bytes went from the front of what was left behind the body; none is the end
+-- a piece of n bytes went from the front of what was left after the body; none is the end
 pub record Extends (before after : Option (List ℕ)) (body longer : List ℕ) (n : ℕ) : Type 0 where
   pub more : length longer ≡ length body + n
   pub moved : option_map (λ left. body ++ left) before ≡ option_map (λ left. longer ++ left) after
@@ -39,7 +39,7 @@ pub record IsTooLong (lines : ℕ) (body : List ℕ) : Type 0 where
 abbrev pub HasTooManyLines : Option (List ℕ) → ℕ → Type 0
 HasTooManyLines left lines = Over left (IsTooLong lines)
 
--- why a body is not read: the source's count rose, or, where it did not, there are too many bytes or lines; want of memory has no cause that is told
+-- why a body is not read: the source's count rose, or, if it did not, there are too many bytes or lines; want of memory has no cause that is told
 abbrev pub IsBodyFault : ℕ → ℕ → Type 0 → (ℕ → Type 0) → BodyFault → Type 0
 IsBodyFault before after bytes lines InputFailed = HasRisen before after
 IsBodyFault before after bytes lines Memory = after ≡ before

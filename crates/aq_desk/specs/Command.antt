@@ -50,13 +50,13 @@ IsKept status = IsWhole status ⊎ (status ≡ 4)
 abbrev pub IsUndone : ℕ → Type 0
 IsUndone status = (status ≡ 3) ⊎ (status ≡ 5)
 
--- the tables after a run, where they are told: what they were, or those of the command, the one or the other by the status unless memory ran out
+-- the tables after a run, if they are told: what they were, or those of the command, the one or the other by the status unless memory ran out
 pub record Keeps (rows : List Row) (status : ℕ) (before after : Option (List Row)) : Type 0 where
   pub kept : IsKept status → after ≡ option_map (λ _. rows) before
   pub undone : IsUndone status → after ≡ before
   pub either : (after ≡ before) ⊎ (after ≡ option_map (λ _. rows) before)
 
--- a run does all of the command, or, where a count rose or memory ran out, a front of its output; the output fails only where there is something to write
+-- a run does all of the command, or, if a count rose or memory ran out, a front of its output; the output fails only if there is something to write
 pub record Follows (outcome : Outcome) (status : ℕ) (before after : Option (List ℕ)) (tables_before tables_after : Option (List Row)) : Type 0 where
   pub answered : IsWhole status → status ≡ outcome.ending.status
   pub whole : IsWhole status → after ≡ option_map (λ bytes. bytes ++ outcome.output) before
@@ -73,12 +73,12 @@ message_for outcome status =
     else (if status == 7 then no_memory.message
     else (if status == 8 then door_failed.message else outcome.ending.message))))
 
--- a message goes behind what was written, all of it or, where the stream's count of faults rose, a front
+-- a message goes after what was written, all of it or, if the stream's count of faults rose, a front
 pub record Tells (message : List ℕ) (count_before count_after : ℕ) (before after : Option (List ℕ)) : Type 0 where
   pub front : WritesFront before after message
   pub whole : HasRisen count_before count_after ⊎ (after ≡ option_map (λ bytes. bytes ++ message) before)
 
--- a count of faults rose where a run has this status, and with any other it is as before
+-- a count of faults rose if a run has this status, and with any other it is as before
 pub record RisesAt (wanted status : ℕ) (before after : ℕ) : Type 0 where
   pub rises : status ≡ wanted → HasRisen before after
   pub stays : (status ≡ wanted → ⊥) → after ≡ before
@@ -87,7 +87,7 @@ pub record RisesAt (wanted status : ℕ) (before after : ℕ) : Type 0 where
 abbrev pub IsStatus : ℕ → Type 0
 IsStatus status = IsWhole status ⊎ (status ≡ 3) ⊎ (status ≡ 4) ⊎ (status ≡ 5) ⊎ (status ≡ 7) ⊎ (status ≡ 8)
 
--- the statuses of a run that read its input to the end, within the limits, where its command reads it
+-- the statuses of a run that read its input to the end, within the limits, if its command reads it
 abbrev pub ReadsWhole : ℕ → Type 0
 ReadsWhole status = (status ≡ 0) ⊎ (status ≡ 4) ⊎ (status ≡ 5) ⊎ (status ≡ 6) ⊎ (status ≡ 9) ⊎ (status ≡ 11) ⊎ (status ≡ 12)
 

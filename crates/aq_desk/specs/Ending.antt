@@ -29,7 +29,7 @@ commands =
 abbrev pub usage : List ℕ
 usage = flat_map (λ command. codes "usage: airdv " ++ command ++ codes "\n") commands
 
--- with the usage text behind its line
+-- with the usage text after its line
 abbrev pub no_command : Ending
 no_command = let ending = ends 2 (codes "no command") in record { status = ending.status; message = ending.message ++ usage }
 

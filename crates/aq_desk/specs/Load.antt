@@ -17,7 +17,7 @@ use Rattle.aq_desk.specs.declared.stop.Stop.TheVariants as stops
 use Rattle.aq_service.specs.declared.posting.Posted as answers
 use Rattle.aq_service.specs.declared.posting.Posted.TheVariants.{Done, Lines, Conflict, Full, Failed}
 
--- a known number with the same body gives the kept reply; the rows change only where the load is taken
+-- a known number with the same body gives the kept reply; the rows change only if the load is taken
 abbrev pub posted_outcome : ℕ → List Row → List ℕ → Posted → Outcome
 posted_outcome number rows body TooManyLines = leaving rows (unwritten (too_many_lines (line_count body)))
 posted_outcome number rows body (Repeated kept) = leaving rows (printed (text_of (load_sheet kept)))
@@ -39,7 +39,7 @@ load_outcome number rows body =
 
 -- ---- a load that was posted
 
--- its number is kept, where the answer speaks of what is kept; a body within the limits has no more lines than may be
+-- its number is kept, if the answer speaks of what is kept; a body within the limits has no more lines than may be
 abbrev pub IsAnswered : answers.Posted → Option StoredLoad → Type 0
 IsAnswered Done kept = IsSome kept
 IsAnswered (Conflict sent) kept = IsSome kept

@@ -24,7 +24,7 @@ pub record IsOpened (rows : List Row) (office : Office) : Type 0 where
   pub are_rows : rows_of office ≡ rows
   pub valid : IsOffice office
 
--- why an office is not opened: the keeper's count rose, or, where it did not, a row is damaged; want of memory has no cause that is told
+-- why an office is not opened: the keeper's count rose, or, if it did not, a row is damaged; want of memory has no cause that is told
 abbrev pub IsUnopened : Option (List Row) → ℕ → ℕ → Stop → Type 0
 IsUnopened tables before after KeeperFailed = HasRisen before after
 IsUnopened tables before after Memory = after ≡ before

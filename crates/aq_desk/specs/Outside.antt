@@ -7,7 +7,7 @@ use Rattle.aq_base.specs.Faults.{HasRisen, next}
 abbrev pub IsAll : {A : Type 0} → Option (List A) → List A → Type 0
 IsAll told all = IfSome told (λ items. items ≡ all)
 
--- a fact about all that an object tells, where it tells it, and else about some
+-- a fact about all that an object tells, if it tells it, and else about some
 pub record Over {A : Type 0} (told : Option (List A)) (Says : List A → Type 0) : Type 0 where
   pub all : List A
   pub is_all : IsAll told all
@@ -18,7 +18,7 @@ abbrev pub HasCause : {A E : Type 0} → ℕ → ℕ → Result A E → Type 0
 HasCause before after (Ok answer) = after ≡ before
 HasCause before after (Err fault) = HasRisen before after
 
--- how many faults are counted after a call: one more where it answers with a fault, and else as many as before
+-- how many faults are counted after a call: one more if it answers with a fault, and else as many as before
 abbrev pub faults_after : {A E : Type 0} → ℕ → Result A E → ℕ
 faults_after before (Ok answer) = before
 faults_after before (Err fault) = next before
@@ -29,7 +29,7 @@ pub record Moves (before after : Option (List ℕ)) (buffer : List ℕ) (n : ℕ
   pub moved : before ≡ option_map (λ rest. take n buffer ++ rest) after
   pub end : n ≡ 0 → 0 < length buffer → IfSome before (λ left. left ≡ [])
 
--- the first n bytes of a piece went behind what was written; of a piece with bytes at least one
+-- the first n bytes of a piece went after what was written; of a piece with bytes at least one
 pub record Takes (before after : Option (List ℕ)) (piece : List ℕ) (n : ℕ) : Type 0 where
   pub within : n ≤ length piece
   pub written : after ≡ option_map (λ bytes. bytes ++ take n piece) before

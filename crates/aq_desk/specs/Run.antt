@@ -13,7 +13,7 @@ use Rattle.aq_desk.specs.Scan.{scan_outcome}
 use Rattle.aq_desk.specs.Serve.{serve_outcome}
 use Rattle.aq_desk.specs.Simulate.{simulate_outcome}
 
--- what a command gives over the tables' rows and an input; what `serve` does at the door is told apart
+-- what a command gives over the tables' rows and an input; what `serve` does at the door is said separately
 abbrev pub outcome_of : Command → List Row → List ℕ → Outcome
 outcome_of (Scan site day) rows body = leaving rows (scan_outcome site day body)
 outcome_of (Load number) rows body = load_outcome number rows body
@@ -66,7 +66,7 @@ abbrev pub connections_for : Option Command → Option ℕ
 connections_for None = None
 connections_for (Some command) = connections_in command
 
--- the keeper's count rose where a run ends with 5; it is as before where one ends otherwise, unless connections were served
+-- the keeper's count rose if a run ends with 5; it is as before if one ends otherwise, unless connections were served
 pub record KeeperRises (connections : Option ℕ) (status before after : ℕ) : Type 0 where
   pub rises : status ≡ 5 → HasRisen before after
   pub stays : IsNone connections → (status ≡ 5 → ⊥) → after ≡ before

@@ -10,7 +10,7 @@ use Rattle.aq_desk.specs.Body.{excess, is_within}
 use Rattle.aq_desk.specs.Command.{Printout, after_text, printed, unwritten}
 use Rattle.aq_desk.specs.Ending.{no_site}
 
--- the text of the sheet where there is one, and else the site is not registered
+-- the text of the sheet if there is one, and else the site is not registered
 abbrev pub sheet_or_no_site : Site → Answer → Printout
 sheet_or_no_site site (OfSheet sheet) = printed (text_of sheet)
 sheet_or_no_site site _ = unwritten (no_site site)

@@ -55,7 +55,7 @@ stop_of_book book.Memory = Memory
 abbrev pub EndsAs : {A : Type 0} → Outcome → Result A Stop → Type 0
 EndsAs outcome answer = IsWhole (status_of answer) → ending_of answer ≡ outcome.ending
 
--- it does all of its printout, or, where it was cut short, a front of the output; the output fails only where there is something to write
+-- it does all of its printout, or, if it was cut short, a front of the output; the output fails only if there is something to write
 pub record Obeys (printout : Printout) (answer : Result Unit Stop) (before after : Option (List ℕ)) : Type 0 where
   pub ending : IsWhole (status_of answer) → ending_of answer ≡ printout.ending
   pub whole : IsWhole (status_of answer) → after ≡ option_map (λ bytes. bytes ++ printout.output) before

@@ -3,13 +3,13 @@ use Rattle.std.specs.Prelude.{◌≡◌, ℕ, ◌<◌, ◌≤◌, List, ◌++◌
 use Rattle.std.specs.Option.{option_map}
 use Rattle.aq_desk.specs.Outside.{HasCause}
 
--- a front of the text, all of it among them, went behind what was written
+-- a front of the text, all of it among them, went after what was written
 pub record WritesFront (before after : Option (List ℕ)) (text : List ℕ) : Type 0 where
   pub count : ℕ
   pub within : count ≤ length text
   pub written : after ≡ option_map (λ bytes. bytes ++ take count text) before
 
--- all of the text did, or, where the count of faults rose, a front of a text with bytes
+-- all of the text did, or, if the count of faults rose, a front of a text with bytes
 pub record Writes {A E : Type 0} (text : List ℕ) (before after : Option (List ℕ)) (count_before count_after : ℕ) (answer : Result A E) : Type 0 where
   pub whole : OnOk answer (after ≡ option_map (λ bytes. bytes ++ text) before)
   pub front : WritesFront before after text

@@ -65,7 +65,7 @@ fn text_of_answer(alloc: Global, book: &Book, ask: &Ask) -> Result<Bytes, Stop>
     }
 }
 
-/// The same, where there is an answer.
+/// The same, if there is an answer.
 fn text_in(alloc: Global, book: &Book, ask: &Ask) -> Result<Bytes, Unanswered>
     requires { IsTrue (is_question ask.now) }
     ensures text { IfOk result (λ text. answered ask.now (questions.answer book.now ask.now) ≡ printed text) }

@@ -43,7 +43,7 @@ impl From<AllocError> for BodyFault {
     }
 }
 
-// Reads one piece behind the body.
+// Reads one piece after the body.
 fn read_piece<S: Source>(
     input: &mut S,
     buffer: &mut [u8],
@@ -60,7 +60,7 @@ fn read_piece<S: Source>(
     Ok(n)
 }
 
-// Reads to the end behind an empty body, or as far as one byte beyond what a body may have.
+// Reads to the end after an empty body, or as far as one byte beyond what a body may have.
 fn fill<S: Source>(input: &mut S, buffer: &mut [u8], body: &mut Vec<u8>) -> Result<(), BodyFault>
     requires room { 0 < length buffer.old }
     requires empty { body.old.items ≡ [] }

@@ -22,7 +22,7 @@ use aq_serve::Door;
 use aq_words::{Command, read_words};
 use std::alloc::Global;
 
-/// What is told of words that name no command: the usage text behind it has a line for each command.
+/// What is said of words that name no command: the usage text after it has a line for each command.
 const NO_COMMAND: &[u8] = b"airdv: 2 no command\n\
 usage: airdv scan SITE DAY\n\
 usage: airdv load NUMBER\n\
@@ -46,13 +46,13 @@ pub fn run<K: Keeper, D: Door, S: Source, O: Sink, E: Sink>(
     requires none_open { (D.seen door.old).is_open ≡ false }
 
     // The headline of the commands that print: what is answered and written, and the tables after it, are
-    // what the command's definition gives for the words, the tables and the input, all of it or, where a
+    // what the command's definition gives for the words, the tables and the input, all of it or, if a
     // count rose or memory ran out, a front of its output.
     ensures headline { IsNone (connections_for (command_of (map string_bytes words.now))) → Over (K.tables keeper.old) (λ rows. Over (S.left input.old) (λ body. Follows (outcome_for (command_of (map string_bytes words.now)) rows body) result (O.written output.old) (O.written output.new) (K.tables keeper.old) (K.tables keeper.new))) }
 
     // The headline of the command that serves: each connection's replies are those of its session over the
     // office that the connections before left, from the office of the tables on, and the tables after it are
-    // those of the last office; a connection is cut only where a count of the door rose.
+    // those of the last office; a connection is cut only if a count of the door rose.
     ensures served { IfSome (connections_for (command_of (map string_bytes words.now))) (λ connections. Over (K.tables keeper.old) (λ rows. HasServed connections rows result (record { door = D.seen door.old; tables = K.tables keeper.old; faults = K.faults keeper.old }) (record { door = D.seen door.new; tables = K.tables keeper.new; faults = K.faults keeper.new }))) }
 
     // The message is that of the status: of a status that the definition gives, the definition's.
@@ -129,7 +129,7 @@ fn perform<K: Keeper, D: Door, S: Source, O: Sink>(
     }
 }
 
-/// Ends a program that had no memory to read its words: tells so, and answers the status.
+/// Ends a program that had no memory to read its words: says so, and answers the status.
 pub fn end_without_memory<E: Sink>(errors: &mut E) -> u8
     ensures status { result ≡ 7 }
     ensures messages { let ending = no_memory in Tells ending.message (E.faults errors.old) (E.faults errors.new) (E.written errors.old) (E.written errors.new) }
@@ -137,7 +137,7 @@ pub fn end_without_memory<E: Sink>(errors: &mut E) -> u8
     tell(&Stop::Memory, errors)
 }
 
-/// Tells what stopped a command, and answers the status.
+/// Says what stopped a command, and answers the status.
 fn tell<E: Sink>(stop: &Stop, errors: &mut E) -> u8
     ensures status { let ending = ending_at stop.now in result ≡ ending.status }
     ensures message { let ending = ending_at stop.now in Tells ending.message (E.faults errors.old) (E.faults errors.new) (E.written errors.old) (E.written errors.new) }

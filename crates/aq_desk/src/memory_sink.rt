@@ -6,7 +6,7 @@ use std::alloc::Global;
 use std::marker::Model;
 
 /// A sink in memory with room for so many bytes, which fails at the calls that it is told to, and
-/// where a piece with bytes finds no room. Contracts see its state.
+/// if a piece with bytes finds no room. Contracts see its state.
 #[derive(Drop)]
 pub struct MemorySink {
     bytes: Vec<u8>,
@@ -68,7 +68,7 @@ impl Sink for MemorySink {
         ensures failed { OnErr result (self.new.written ≡ self.old.written) }
         ensures cause { HasCause self.old.faults self.new.faults result }
 
-        // It fails exactly at the listed calls, and where a piece with bytes finds no room.
+        // It fails exactly at the listed calls, and if a piece with bytes finds no room.
         ensures listed { IsErr result ↔ IsTrue (is_listed self.old.failing (next self.old.calls) || finds_no_room self.old piece.now) }
         ensures faults { self.new.faults ≡ faults_after self.old.faults result }
         ensures calls { self.new.calls ≡ next self.old.calls }

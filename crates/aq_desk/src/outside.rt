@@ -8,7 +8,7 @@ use aq_base::Failed;
 
 /// Bytes to be read.
 pub trait Source {
-    /// The bytes that are left, where the source tells them.
+    /// The bytes that are left, if the source tells them.
     ghost left: { Self → Option (List ℕ) };
 
     /// How often it has failed.
@@ -24,13 +24,13 @@ pub trait Source {
 
 /// Bytes that are written.
 pub trait Sink {
-    /// The bytes that were written, where the sink tells them.
+    /// The bytes that were written, if the sink tells them.
     ghost written: { Self → Option (List ℕ) };
 
     /// How often it has failed.
     ghost faults: { Self → ℕ };
 
-    /// Puts the front of a piece behind what was written, and answers how many bytes. One that takes
+    /// Puts the front of a piece after what was written, and answers how many bytes. One that takes
     /// nothing of a piece with bytes is a fault. After `Failed` the bytes are as before.
     fn write(&mut self, piece: &[u8]) -> Result<usize, Failed>
         ensures taken { IfOk result (λ n. Takes (written self.old) (written self.new) piece.now n) }

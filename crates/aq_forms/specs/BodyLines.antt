@@ -6,7 +6,7 @@ use Rattle.aq_forms.specs.declared.lines.BodyLine.{BodyLine}
 abbrev pub line_of : BodyLine → NumberedLine
 line_of line = record { number = line.number; text = line.text.now }
 
--- the lines of what is left of a body, skipped ones left out, where so many lines stand before it
+-- the lines of what is left of a body, skipped ones left out, if so many lines stand before it
 abbrev pub lines_behind : ℕ → List ℕ → List NumberedLine
 lines_behind before rest =
     filter (λ line. not (is_skipped line.text)) (numbered (before + 1) (map without_return (cut_at_ends rest)))

@@ -9,7 +9,7 @@ use aq_base::{Day, Hour, MOST_EVENT_HOURS, SiteId};
 use aq_cal::{civil_of, quarter_of};
 use aq_rd::{Fields, MOST_FIELDS, Tag};
 
-/// Whether a line has too few fields, or a text behind those of its form.
+/// Whether a line has too few fields, or a text after those of its form.
 pub(crate) fn has_wrong_count(tag: Tag, texts: &Fields<'_>) -> bool
     ensures { result ≡ has_wrong_count (tag_value tag) (is_deletion texts.now) texts.now }
 {

@@ -84,7 +84,7 @@ pub fn lines_of(body: &[u8]) -> Lines<'_>
     }
 }
 
-/// The number of a load's lines, skipped ones among them: its LF bytes, and one more where bytes
+/// The number of a load's lines, skipped ones among them: its LF bytes, and one more if bytes
 /// follow the last.
 #[tactic(auto, using(crate::proofs::Cuts::lines_are_counted))]
 pub fn count_lines(body: &[u8]) -> u32
@@ -127,7 +127,7 @@ fn ends_in(piece: &[u8]) -> u8
     ends
 }
 
-// What stands behind the byte order mark, if the body begins with it.
+// What stands after the byte order mark, if the body begins with it.
 fn without_mark(body: &[u8]) -> &[u8]
     ensures value { result.now ≡ book.without_mark body.now }
     ensures few { length result.now ≤ length body.now }

@@ -10,8 +10,8 @@ ghost use Rattle.aq_forms.specs.OfficeReading.{has_rd_tag};
 use aq_base::{Day, Memory, OfficeKey, OfficeLine, OfficeRecord, Pollutant, SiteId};
 use aq_cal::last_digits;
 use aq_num::write_fixed;
-use aq_rules::lines::canonical::canonical_office_lines_are_read_back;
 use aq_rd::{duration_name, parameter_name, write_code, write_date, write_field, write_start};
+use aq_rules::lines::canonical::canonical_office_lines_are_read_back;
 use std::alloc::Global;
 
 /// Writes the one line by which an office line is written (own): all fields of its form, and of a
@@ -123,7 +123,7 @@ fn key_tag(key: &OfficeKey) -> &'static [u8]
     }
 }
 
-// The fields of a deletion, behind its action.
+// The fields of a deletion, after its action.
 fn write_deletion(out: &mut Vec<u8>, key: &OfficeKey) -> Result<(), Memory>
     ensures { OnOk result (out.new.items ≡ out.old.items ++ joined (deletion_texts key.now)) }
 {
@@ -157,7 +157,7 @@ fn write_deletion(out: &mut Vec<u8>, key: &OfficeKey) -> Result<(), Memory>
     }
 }
 
-// What a record's line has behind the fields of its key.
+// What a record's line has after the fields of its key.
 fn write_content(out: &mut Vec<u8>, entry: &OfficeRecord) -> Result<(), Memory>
     ensures { OnOk result (out.new.items ≡ out.old.items ++ behind_bars (content_texts entry.now)) }
 {
@@ -269,7 +269,7 @@ fn write_site_day(out: &mut Vec<u8>, site: &SiteId, day: Day) -> Result<(), Memo
     Ok(())
 }
 
-// A number without leading zeros, behind a bar.
+// A number without leading zeros, after a bar.
 fn write_number(out: &mut Vec<u8>, number: u32) -> Result<(), Memory>
     ensures { OnOk result (out.new.items ≡ out.old.items ++ 124 ∷ decimal number) }
 {

@@ -41,6 +41,6 @@ wanted_at_midnight site pollutant day = wanted site pollutant (hour_number day 0
 abbrev pub is_due : ℕ → ℕ → ℕ → Bool
 is_due interval start day = (day - start) % interval == 0
 
--- the text of a load, once these samples are written behind what is written already
+-- the text of a load, once these samples are written after what is written already
 abbrev pub completed : Samples → List Wanted → List ℕ
 completed samples more = samples.text.items ++ samples_from samples.draws.state more

@@ -28,7 +28,7 @@ pub data Front : Type 0 where
   NoHead : Front
   OpenHead : Front
 
--- The last two are both true in two places, and there either may be found: inside a request target that no bytes make whole, and behind 64 whole headers and the first byte of another, before the empty line that ends the head.
+-- The last two are both true in two places, and there either may be found: inside a request target that no bytes make whole, and after 64 whole headers and the first byte of another, before the empty line that ends the head.
 abbrev pub IsFront : List ℕ → Front → Type 0
 IsFront bytes (WholeHead h) = ((rest : List ℕ) × ReadsRequest bytes h rest) × (length h.fields ≤ MOST_HEADERS)
 IsFront bytes NoHead = RequestOverflows MOST_HEADERS bytes
@@ -44,7 +44,7 @@ abbrev pub verb_of : List ℕ → Verb
 verb_of method =
     if bytes_eq method (codes "GET") then Get else (if bytes_eq method (codes "POST") then Post else Other)
 
--- the connection ends behind the reply: version 1.0, or a Connection header that lists `close`, in any case of letters (RFC 9112, section 9.3)
+-- the connection ends after the reply: version 1.0, or a Connection header that lists `close`, in any case of letters (RFC 9112, section 9.3)
 abbrev pub is_last : ℕ → List Header → Bool
 is_last minor headers = (minor == 0) || has_option (codes "close") (elements_named (codes "connection") headers)
 

@@ -66,7 +66,7 @@ is_slash byte = byte == slash
 abbrev pub path_of : List ℕ → List ℕ
 path_of target = before_first is_question_mark target
 
--- the part behind so many slashes, up to the next: nothing is percent-decoded
+-- the part after so many slashes, up to the next: nothing is percent-decoded
 abbrev pub part : ℕ → List ℕ → List ℕ
 part zero path = before_first is_slash path
 part (suc n) path = part n (after_first is_slash path)
@@ -157,7 +157,7 @@ abbrev pub found_on : Verb → Option Route → List ℕ → Found
 found_on verb None path = Status 404
 found_on verb (Some route) path = found_at verb route path
 
--- what a request asks: 404 where no route matches, 405 where the route has another method, 400 where a part is not spelled as it should be, and 404 for a standard that there is none of
+-- what a request asks: 404 if no route matches, 405 if the route has another method, 400 if a part is not spelled as it should be, and 404 for a standard that there is none of
 unfoldable pub found : Verb → List ℕ → Found
 found verb target = found_on verb (route_of (path_of target)) (path_of target)
 

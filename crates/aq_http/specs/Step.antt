@@ -6,7 +6,7 @@ use Rattle.aq_http.specs.declared.verb.Verb.{Verb}
 use Rattle.aq_http.specs.declared.step.Step.{Step as Read}
 use Rattle.aq_http.specs.declared.step.Step.TheVariants as read
 
--- a whole request: how many bytes it has, and whether the connection ends behind its reply
+-- a whole request: how many bytes it has, and whether the connection ends after its reply
 pub record Request : Type 0 where
   pub used : ℕ
   pub verb : Verb

@@ -62,7 +62,7 @@ impl Model for Head {
 pub enum HeadStep {
     /// More bytes are wanted.
     More,
-    /// The request is refused with this status, and the connection ends behind the reply.
+    /// The request is refused with this status, and the connection ends after the reply.
     Refuse(u16),
     /// The head is whole.
     Whole(Head),
@@ -115,7 +115,7 @@ fn whole_head(window: &[u8], headers: &[HeaderSpan; MOST_HEADERS], spans: Reques
     }
 }
 
-/// Whether the connection ends behind the reply: version 1.0, or a Connection header that lists `close`.
+/// Whether the connection ends after the reply: version 1.0, or a Connection header that lists `close`.
 fn is_last(minor: u8, known: &KnownFields) -> bool
     ensures { result ≡ ((minor == 0) || known.now.close) }
 {
@@ -138,7 +138,7 @@ impl Head {
         self.len + self.body
     }
 
-    /// The request of this head in the bytes that it was read from, with what has come behind them since.
+    /// The request of this head in the bytes that it was read from, with what has come after them since.
     /// The head is not read again. It takes no memory.
     pub fn request<'a>(&self, input: &'a [u8]) -> Step<'a>
         ensures value { step_of result ≡ with_body input.now (head_in input.now self.now) }

@@ -10,7 +10,7 @@ ghost use Rattle.aq_http.specs.Routes.{found};
 ghost use Rattle.aq_http.specs.Reply.{is_reply_status};
 ghost use Rattle.aq_http.specs.Step.{IsStep, More, Refuse, Request, Step, Whole};
 
-/// A refusal and a whole request stay, whatever bytes come behind, and where a whole request stands
+/// A refusal and a whole request stay, whatever bytes come after, and if a whole request stands
 /// there is no other step.
 pub fn steps_stay()
     ensures head { (input more : List ℕ) (step : HeadStep) → step ≢ MoreOfHead

@@ -95,7 +95,7 @@ fn with_value<'a>(before: Stated<'a>, value: &'a [u8]) -> Stated<'a>
     }
 }
 
-/// The digits of a number without its leading zeros, where the text is one or more digits.
+/// The digits of a number without its leading zeros, if the text is one or more digits.
 fn digits_of(text: &[u8]) -> Option<&[u8]>
     ensures value { option_map (λ digits. digits.now) result ≡ digits_of text.now }
     ensures digits { IfSome result (λ digits. IsStated digits.now) }
@@ -127,7 +127,7 @@ fn without_zeros(mut text: &[u8]) -> &[u8]
     text
 }
 
-/// The number of the digits, where a body may have so many bytes.
+/// The number of the digits, if a body may have so many bytes.
 fn number_in(digits: &[u8]) -> Result<usize, u16>
     requires { IsStated digits.now }
     ensures value { result ≡ number_in digits.now }

@@ -10,7 +10,7 @@ use std::alloc::Global;
 const HEAD_ROOM: usize = 160;
 
 /// The bytes of a reply: its status line, the headers and the JSON body (RFC 9112, sections 4 to 6).
-/// `allow` is written for 405 alone, and `close` says that the connection ends behind the reply.
+/// `allow` is written for 405 alone, and `close` says that the connection ends after the reply.
 #[tactic(auto, unfolding(crate::specs::Reply::reply_text))]
 pub fn reply_bytes(
     alloc: Global,

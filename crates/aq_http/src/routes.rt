@@ -42,7 +42,7 @@ pub enum Found {
     Load(u32),
     /// The reply has this status, 400 or 404.
     Status(u16),
-    /// The route has another method (405): GET, and POST too where `post` is true.
+    /// The route has another method (405): GET, and POST too if `post` is true.
     NotAllowed { post: bool },
 }
 
@@ -270,7 +270,7 @@ fn first_named(standards: &[Standard], name: &[u8]) -> Option<Standard>
     None
 }
 
-/// The part of a path behind so many slashes, up to the next.
+/// The part of a path after so many slashes, up to the next.
 fn part(slashes: usize, path: &[u8]) -> &[u8]
     ensures { result.now ≡ part slashes path.now }
 {
@@ -283,7 +283,7 @@ fn part(slashes: usize, path: &[u8]) -> &[u8]
     before(b'/', rest)
 }
 
-/// What stands before the first such byte, or all where there is none.
+/// What stands before the first such byte, or all if there is none.
 fn before(byte: u8, text: &[u8]) -> &[u8]
     ensures { result.now ≡ before_first (λ b. b == byte) text.now }
 {
@@ -293,7 +293,7 @@ fn before(byte: u8, text: &[u8]) -> &[u8]
     }
 }
 
-/// What stands behind the first such byte, or nothing where there is none.
+/// What stands after the first such byte, or nothing if there is none.
 fn behind(byte: u8, text: &[u8]) -> &[u8]
     ensures { result.now ≡ after_first (λ b. b == byte) text.now }
 {

@@ -10,16 +10,16 @@ use crate::verb::Verb;
 pub enum Step<'a> {
     /// More bytes are wanted.
     More,
-    /// The reply has this status, and the connection ends behind it.
+    /// The reply has this status, and the connection ends after it.
     Refuse(u16),
     /// A whole request, of so many bytes. The body has at most `MOST_BYTES`, and the target is as it
-    /// came, with what stands behind a `?`.
+    /// came, with what stands after a `?`.
     Whole {
         used: usize,
         verb: Verb,
         target: &'a [u8],
         body: &'a [u8],
-        /// The connection ends behind the reply.
+        /// The connection ends after the reply.
         close: bool,
     },
 }

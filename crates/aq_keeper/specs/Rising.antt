@@ -8,7 +8,7 @@ use Rattle.aq_rules.specs.Kept.RowChanges.{RowKey, RowChange, row_key, changed_k
 abbrev pub AreBefore : RowKey → List Row → Type 0
 AreBefore key rows = AllByRecursion (λ row. key_before (row_key row) key ≡ true) rows
 
--- all keys come behind a key
+-- all keys come after a key
 abbrev pub AreBehind : RowKey → List RowKey → Type 0
 AreBehind key keys = AllByRecursion (λ other. key_before key other ≡ true) keys
 
@@ -35,7 +35,7 @@ abbrev pub AreBeforeFirst : List Row → List RowChange → Type 0
 AreBeforeFirst rows [] = Unit {0}
 AreBeforeFirst rows (change ∷ changes) = AreBefore (changed_key change) rows
 
--- the rows without the first, where it has this key
+-- the rows without the first, if it has this key
 abbrev pub without_first : RowKey → List Row → List Row
 without_first key [] = []
 without_first key (row ∷ rows) = if is_same_row_key (row_key row) key then rows else row ∷ rows

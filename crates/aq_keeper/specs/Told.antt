@@ -10,7 +10,7 @@ HasCause before after (Ok answer) = after ≡ before
 HasCause before after (Err Failed) = HasRisen before after
 HasCause before after (Err Memory) = after ≡ before
 
--- how many faults are counted after a call: one more where it failed, and else as many as before
+-- how many faults are counted after a call: one more if it failed, and else as many as before
 abbrev pub faults_after : {A : Type 0} → ℕ → Result A KeeperFault → ℕ
 faults_after before (Ok answer) = before
 faults_after before (Err Failed) = next before

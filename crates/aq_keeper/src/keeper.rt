@@ -47,7 +47,7 @@ impl Error for KeeperFault {}
 
 /// Keeps the rows of the three tables.
 pub trait Keeper {
-    /// The rows of its tables in the order of tables and keys, where the keeper tells them.
+    /// The rows of its tables in the order of tables and keys, if the keeper tells them.
     ghost tables: { Self → Option (List book.Row) };
 
     /// How often it has failed.

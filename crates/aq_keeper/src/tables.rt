@@ -135,7 +135,7 @@ fn place_of(rows: &[Row], key: KeyView<'_>) -> usize
     low
 }
 
-/// Makes changes of rows that come behind those before the first change.
+/// Makes changes of rows that come after those before the first change.
 fn make_all(rows: &mut Vec<Row>, later: Vec<Row>, changes: Vec<RowChange>)
     requires room { vec_len rows.old + vec_len later + vec_len changes ≤ vec_capacity rows.old }
     requires rows { Rise (keys_of_rows (rows.old.items ++ later.items)) }

@@ -6,7 +6,7 @@ use Rattle.aq_rules.specs.Lines.Reading.{is_plain}
 use Rattle.aq_rd.specs.FieldPlaces.{has_text}
 use Rattle.aq_rd.specs.declared.fields.TheConstants.{MOST_FIELDS}
 
--- none where a byte is not printed, or where a text stands behind the fields of every form
+-- none if a byte is not printed, or if a text stands after the fields of every form
 abbrev pub field_count : List ℕ → ℕ
 field_count line =
     if is_plain line && not (has_text (drop MOST_FIELDS (fields line))) then length (fields line) else 0

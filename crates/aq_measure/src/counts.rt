@@ -36,8 +36,8 @@ pub fn fields_in(body: &[u8]) -> FieldCounts
     FieldCounts { lines, fields }
 }
 
-// How many fields a line has: none where a byte is outside 20 to 7E (hexadecimal), or where a text
-// stands behind the fields of every form. That is asked so that the places of the fields are kept,
+// How many fields a line has: none if a byte is outside 20 to 7E (hexadecimal), or if a text
+// stands after the fields of every form. That is asked so that the places of the fields are kept,
 // which the compiler would else leave out.
 fn field_count(line: &[u8]) -> u64
     ensures { result ≡ field_count line.now }

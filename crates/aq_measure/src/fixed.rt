@@ -32,7 +32,7 @@ pub fn serve<N: Net>(net: &N, port: u16, connections: u32, reply: &[u8]) -> io::
     Ok(())
 }
 
-/// Answers each request of a connection, as soon as the empty line behind its head is read. A request
+/// Answers each request of a connection, as soon as the empty line after its head is read. A request
 /// has no body.
 fn answer<S: Read + Write>(stream: &mut S, reply: &[u8]) -> io::Result<()> {
     let mut piece = [0; PIECE];

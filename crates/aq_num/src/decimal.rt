@@ -69,8 +69,8 @@ fn split_sign(text: &[u8]) -> (bool, &[u8])
     }
 }
 
-/// The magnitude of a decimal text without its sign, or one past the largest where it is above
-/// that. None where the text has another form.
+/// The magnitude of a decimal text without its sign, or one past the largest if it is above
+/// that. None if the text has another form.
 fn read_magnitude(digits: &[u8], places: u8) -> Option<u64>
     requires { places ≤ 6 }
     ensures { result ≡ magnitude_in digits.now places }
@@ -101,7 +101,7 @@ fn read_magnitude(digits: &[u8], places: u8) -> Option<u64>
     }
 }
 
-/// A magnitude with one more digit behind it. Past the largest it stays there.
+/// A magnitude with one more digit after it. Past the largest it stays there.
 fn with_digit(magnitude: u64, digit: u8) -> u64
     requires small { magnitude ≤ PAST_LARGEST }
     requires from { 48 ≤ digit }

@@ -4,8 +4,8 @@ ghost use Rattle.aq_base.specs.Decimal.{fixed, last_digits};
 
 use aq_base::Memory;
 
-/// Appends the text of `value / 10^places`: a minus where the value is negative, the whole part
-/// without leading zeros, and behind a point exactly `places` digits. After `Memory` `out` is as
+/// Appends the text of `value / 10^places`: a minus if the value is negative, the whole part
+/// without leading zeros, and after a point exactly `places` digits. After `Memory` `out` is as
 /// before.
 pub fn write_fixed(out: &mut Vec<u8>, value: i64, places: u8) -> Result<(), Memory>
     requires { places ≤ 6 }

@@ -47,7 +47,7 @@ impl DaySpan {
         }
     }
 
-    /// Reads the eight days from a day on where it is the one behind these.
+    /// Reads the eight days from a day on if it is the one after these.
     pub(crate) fn reach<L: Ledger>(
         &mut self,
         shelf: &Shelf,

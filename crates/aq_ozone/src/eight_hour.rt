@@ -62,9 +62,9 @@ impl DayWindows {
     }
 }
 
-/// The average of so many hours with this sum, truncated to 0.001 ppm: over their number where there
-/// are six or more; else over eight, zero for the missing ones, where what is left is above the level,
-/// and none where it is not.
+/// The average of so many hours with this sum, truncated to 0.001 ppm: over their number if there
+/// are six or more; else over eight, zero for the missing ones, if what is left is above the level,
+/// and none if it is not.
 pub fn average(count: u8, sum: i32) -> Option<i32>
     requires count { count ≤ 8 }
     requires sum { unsigned_abs sum ≤ 9999 * count }

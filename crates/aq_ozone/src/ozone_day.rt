@@ -32,7 +32,7 @@ impl Model for OzoneDay {
     ghost inverse = { λ day. record { averages = day.averages; valid = day.valid; maximum = day.maximum } };
 }
 
-/// The day of these averages. It is valid with thirteen full averages or more, and also where the
+/// The day of these averages. It is valid with thirteen full averages or more, and also if the
 /// greatest one is above the level; what is excluded counts for that, and not for the maximum.
 pub fn day_of_windows(windows: &DayWindows) -> OzoneDay
     ensures { result ≡ book.day_of_windows windows.now }
@@ -52,7 +52,7 @@ pub fn day_of_windows(windows: &DayWindows) -> OzoneDay
     }
 }
 
-/// The greater of two values, where there are any.
+/// The greater of two values, if there are any.
 fn greater(one: Option<i32>, other: Option<i32>) -> Option<i32>
     ensures { result ≡ fold lists.greater one (option_to_list other) }
 {

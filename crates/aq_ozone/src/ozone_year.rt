@@ -16,9 +16,9 @@ use crate::ozone_day::{OzoneDay, day_of_windows};
 use crate::top_four::TopFour;
 use aq_base::{Day, FIRST_YEAR, LAST_YEAR, Pollutant, SiteId, Steps};
 use aq_cal::year_span;
+use aq_registry::Registry;
 use aq_rules::kept::summaries::ozone_years_keep_their_facts;
 use aq_rules::lists::ranking_forgets_the_order;
-use aq_registry::Registry;
 use aq_shelf::Shelf;
 use aq_verdict::OzoneYear;
 use std::sync::ledger::Ledger;
@@ -26,7 +26,7 @@ use std::sync::ledger::Ledger;
 /// The ozone year of a site: the days of its season, those of them that are valid or approved, the number
 /// of ranked maxima, and the fourth highest of these in thousandths of a ppm (40 CFR Part 50, Appendix U,
 /// 3(e) and 4(b)). The maxima of all valid days of the year are ranked, in season or not. The call reads
-/// each calendar day of the year and the day behind it once, eight days together: at most 200 steps a day.
+/// each calendar day of the year and the day after it once, eight days together: at most 200 steps a day.
 /// The year is 1990 to 2059.
 pub fn year<L: Ledger>(
     shelf: &Shelf,
@@ -69,7 +69,7 @@ struct DayOfYear {
     maximum: Option<i32>,
 }
 
-/// A day in a season's year, by its averages. An approval is looked up where the day is not valid by its
+/// A day in a season's year, by its averages. An approval is looked up if the day is not valid by its
 /// hours.
 #[tactic(auto, unfolding(aq_rules::specs::Ozone::OzoneDay::ozone_day))]
 fn day_of_year(

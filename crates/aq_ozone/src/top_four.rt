@@ -2,7 +2,7 @@
 ghost use Rattle.std.specs.Prelude.{◌≡◌, false, not, int_lt};
 ghost use Rattle.std.specs.Option.{option_map_or};
 
-/// The four greatest of some values, downwards, equal ones each; none where there are fewer.
+/// The four greatest of some values, downwards, equal ones each; none if there are fewer.
 #[derive(Clone, Copy)]
 pub(crate) struct TopFour {
     first: Option<i32>,

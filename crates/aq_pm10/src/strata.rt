@@ -128,7 +128,7 @@ impl Strata {
         }
     }
 
-    /// With one more day. A stratum starts at a scheduled day, and six days after the last start where none
+    /// With one more day. A stratum starts at a scheduled day, and six days after the last start if none
     /// came sooner.
     pub(crate) fn with(self, day: u16, scheduled: bool, sample: Option<i32>) -> Strata
         requires few { samples_in self ≤ 91 }

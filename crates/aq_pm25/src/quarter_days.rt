@@ -109,7 +109,7 @@ fn is_makeup_day(registry: &Registry, site: &SiteId, missed: Day, makeup: Day) -
             || !is_scheduled_between(registry, site, missed, makeup))
 }
 
-/// Whether a day behind the missed one is scheduled, to the make-up day at the latest.
+/// Whether a day after the missed one is scheduled, to the make-up day at the latest.
 fn is_scheduled_between(registry: &Registry, site: &SiteId, missed: Day, makeup: Day) -> bool
     ensures { result ≡ list_any (is_scheduled registry.now site.now Pm25) (range_with_len (missed + 1) (makeup - missed)) }
 {

@@ -2,7 +2,7 @@
 ghost use Rattle.std.specs.Prelude.{◌≡◌, Some};
 ghost use Rattle.aq_pm25.specs.Pushed.{higher_first, pushed};
 
-/// The eight greatest of some values, downwards, equal ones each, and empty places behind them.
+/// The eight greatest of some values, downwards, equal ones each, and empty places after them.
 #[derive(Clone, Copy)]
 pub(crate) struct TopEight {
     places: [Option<i32>; 8],
@@ -21,7 +21,7 @@ impl TopEight {
         TopEight { places: [None; 8] }
     }
 
-    /// With one more value: it stands before the first one that is not above it, and those behind it
+    /// With one more value: it stands before the first one that is not above it, and those after it
     /// move on.
     pub(crate) fn with(self, value: i32) -> TopEight
         ensures { result.places ≡ pushed (Some value) self.places }
@@ -51,7 +51,7 @@ fn push(places: &mut [Option<i32>; 8], value: i32)
     }
 }
 
-/// The higher of two values, and the other; where they are the same, the second is the first. A missing
+/// The higher of two values, and the other; if they are the same, the second is the first. A missing
 /// value is the lowest.
 fn ordered(place: Option<i32>, moving: Option<i32>) -> (Option<i32>, Option<i32>)
     ensures { result ≡ higher_first place moving }

@@ -20,7 +20,7 @@ are_between least text = list_all (λ byte. nat_le least byte && nat_le byte 0x7
 abbrev pub HasSpaces : Bool → List ℕ → Type 0
 HasSpaces has_spaces text = has_spaces ≡ false → are_between 0x21 text ≡ true
 
--- the fields are counted, and the first ones, and the one behind them, start at these places
+-- the fields are counted, and the first ones, and the one after them, start at these places
 pub record HoldsFields (line : List ℕ) (starts : List ℕ) (count : ℕ) : Type 0 where
   pub within : (k : ℕ) → k ≤ MOST_FIELDS → slice_index_or starts k 0 ≤ length line
   pub rising : (number : ℕ) → 1 ≤ number → number ≤ MOST_FIELDS → number < count → slice_index_or starts (number - 1) 0 < slice_index_or starts number 0

@@ -3,7 +3,7 @@ use Rattle.std.specs.Prelude.{ℕ, List, [], ◌∷◌, ◌++◌, Option, Some, 
 use Rattle.aq_base.specs.declared.code.Code.{Code}
 use Rattle.aq_rules.specs.Lines.Canonical.{code_text}
 
--- the texts, each behind a bar
+-- the texts, each after a bar
 abbrev pub behind_bars : List (List ℕ) → List ℕ
 behind_bars [] = []
 behind_bars (text ∷ texts) = 124 ∷ text ++ behind_bars texts

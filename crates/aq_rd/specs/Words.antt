@@ -6,7 +6,7 @@ use Rattle.aq_base.specs.Decimal.{are_digits}
 use Rattle.aq_base.specs.Site.{Site}
 use Rattle.aq_rules.specs.Lines.Spellings.{◌>>=◌, digits_in, site_in}
 
--- what stands behind a hyphen
+-- what stands after a hyphen
 abbrev pub behind_hyphen : List ℕ → Option (List ℕ)
 behind_hyphen text = if bytes_eq (take 1 text) (codes "-") then Some (drop 1 text) else None
 

@@ -6,7 +6,7 @@ ghost use Rattle.aq_rd.specs.FieldPlaces.{HasSpaces, are_between};
 
 use aq_base::Rule;
 
-/// Whether a line may have spaces. `BadBytes` exactly where a byte is outside 20 to 7E
+/// Whether a line may have spaces. `BadBytes` exactly if a byte is outside 20 to 7E
 /// (hexadecimal).
 pub(crate) fn has_spaces(line: &[u8]) -> Result<bool, Rule>
     ensures spaces { IfOk result (λ has_spaces. HasSpaces has_spaces line.now) }

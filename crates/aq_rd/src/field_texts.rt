@@ -6,7 +6,7 @@ ghost use Rattle.aq_rd.specs.Printing.{behind_bars};
 use aq_base::{Code, Day, Duration, Hour, Memory, Pollutant};
 use aq_cal::{civil_of, last_digits};
 
-/// Appends a field behind a bar.
+/// Appends a field after a bar.
 pub fn write_field(out: &mut Vec<u8>, text: &[u8]) -> Result<(), Memory>
     ensures { OnOk result (out.new.items ≡ out.old.items ++ 124 ∷ text.now) }
 {
@@ -15,7 +15,7 @@ pub fn write_field(out: &mut Vec<u8>, text: &[u8]) -> Result<(), Memory>
     Ok(())
 }
 
-/// Appends the date and the time of an hour, each behind a bar.
+/// Appends the date and the time of an hour, each after a bar.
 pub fn write_start(out: &mut Vec<u8>, hour: Hour) -> Result<(), Memory>
     ensures { OnOk result (out.new.items ≡ out.old.items ++ behind_bars (start_texts hour)) }
 {
@@ -26,7 +26,7 @@ pub fn write_start(out: &mut Vec<u8>, hour: Hour) -> Result<(), Memory>
     Ok(())
 }
 
-/// Appends a date as `YYYYMMDD`, behind a bar.
+/// Appends a date as `YYYYMMDD`, after a bar.
 pub fn write_date(out: &mut Vec<u8>, day: Day) -> Result<(), Memory>
     ensures { OnOk result (out.new.items ≡ out.old.items ++ 124 ∷ date_text day) }
 {

@@ -19,7 +19,7 @@ const MOST_STARTS: usize = MOST_FIELDS + 1;
 #[derive(Drop)]
 pub struct Fields<'a> {
     line: &'a [u8],
-    // Where the first fields start, and the one behind them. One that the line has not starts at its
+    // Where the first fields start, and the one after them. One that the line has not starts at its
     // end.
     starts: [usize; MOST_STARTS],
     count: usize,
@@ -45,7 +45,7 @@ impl<'a> Fields<'a> {
     ghost use Rattle.aq_rules.specs.Lines.Reading.{is_plain};
     ghost use Rattle.aq_rd.specs.FieldPlaces.{has_text, HasSpaces};
 
-    /// The fields of a line. `BadBytes` exactly where a byte is outside 20 to 7E (hexadecimal).
+    /// The fields of a line. `BadBytes` exactly if a byte is outside 20 to 7E (hexadecimal).
     pub fn new(line: &'a [u8]) -> Result<Fields<'a>, Rule>
         ensures fields { IfOk result (λ texts. texts ≡ fields line.now) }
         ensures plain { OnOk result (is_plain line.now ≡ true) }
@@ -88,7 +88,7 @@ impl<'a> Fields<'a> {
         self.count
     }
 
-    /// Whether a field behind the first so many is not empty.
+    /// Whether a field after the first so many is not empty.
     pub fn has_text_behind(&self, number: usize) -> bool
         requires { number ≤ MOST_FIELDS }
         ensures { result ≡ has_text (drop number self.now) }
@@ -96,7 +96,7 @@ impl<'a> Fields<'a> {
         self.count > number && has_other_byte(&self.line[self.starts[number]..])
     }
 
-    /// A field by its number from 1, empty where the line has none.
+    /// A field by its number from 1, empty if the line has none.
     pub fn field(&self, number: usize) -> &'a [u8]
         requires from { 1 ≤ number }
         requires to { number ≤ MOST_FIELDS }

@@ -3,7 +3,7 @@ use aq_base::{Duration, Hour, MonitorId, Observation};
 /// What an RD line asks for.
 #[derive(Clone, Copy, Debug, PartialEq, Eq)]
 pub enum RdLine {
-    /// An observation to be inserted, or updated where `update` is true. The method is 0 to 999.
+    /// An observation to be inserted, or updated if `update` is true. The method is 0 to 999.
     Put {
         update: bool,
         monitor: MonitorId,

@@ -139,7 +139,7 @@ fn unit_name(pollutant: Pollutant) -> &'static [u8]
     }
 }
 
-// The places behind the point with which values are written.
+// The places after the point with which values are written.
 fn places(pollutant: Pollutant) -> u8
     ensures { result ≡ value_places pollutant }
 {

@@ -67,7 +67,7 @@ pub fn duration_in(pollutant: Pollutant, text: &[u8]) -> Option<Duration>
     }
 }
 
-/// The places behind the point at which a pollutant's values in a unit are cut.
+/// The places after the point at which a pollutant's values in a unit are cut.
 pub(crate) fn unit_in(pollutant: Pollutant, text: &[u8]) -> Option<u8>
     ensures value { result ≡ unit_in pollutant text.now }
     ensures most { IfSome result (λ places. places ≤ 3) }
@@ -150,7 +150,7 @@ pub fn truth_in(text: &[u8]) -> Option<bool>
     }
 }
 
-/// The first so many bytes of a text, or all, and those behind them.
+/// The first so many bytes of a text, or all, and those after them.
 pub(crate) fn front(count: usize, text: &[u8]) -> (&[u8], &[u8])
     ensures front { result.0.now ≡ take count text.now }
     ensures behind { result.1.now ≡ drop count text.now }
@@ -158,8 +158,8 @@ pub(crate) fn front(count: usize, text: &[u8]) -> (&[u8], &[u8])
     text.split_at(text.len().min(count))
 }
 
-/// A sample value, cut at so many places. `BadValue` where the text is no decimal number, else
-/// `ValueOutOfRange` where the cut value is out of the pollutant's range.
+/// A sample value, cut at so many places. `BadValue` if the text is no decimal number, else
+/// `ValueOutOfRange` if the cut value is out of the pollutant's range.
 #[tactic(auto, unfolding(aq_rules::specs::Lines::Spellings::value_in, crate::specs::RdReading::value_reading))]
 pub(crate) fn value(pollutant: Pollutant, places: u8, text: &[u8]) -> Result<i32, Rule>
     requires { places ≤ 6 }

@@ -36,8 +36,8 @@ pub enum Tag {
     Xb,
 }
 
-/// The form of a line. `BadBytes` exactly where a byte is outside 20 to 7E (hexadecimal), else
-/// `BadTag` exactly where the first field is no tag.
+/// The form of a line. `BadBytes` exactly if a byte is outside 20 to 7E (hexadecimal), else
+/// `BadTag` exactly if the first field is no tag.
 pub fn tag_of(line: &[u8]) -> Result<Tag, Rule>
     ensures ok { IfOk result (λ tag. reading.tag_of line.now ≡ Some (tag_value tag)) }
     ensures plain { OnOk result (is_plain line.now ≡ true) }

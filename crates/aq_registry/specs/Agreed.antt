@@ -47,7 +47,7 @@ starts_before a b = comes_before (numbers_of a) (numbers_of b)
 abbrev pub covers : Start → Span → Bool
 covers at span = is_same_series span.start at && nat_le span.start.hour at.hour && nat_le at.hour span.last
 
--- the events with one more, before the first that starts behind it
+-- the events with one more, before the first that starts after it
 abbrev pub with_span : Span → List Span → List Span
 with_span span [] = span ∷ []
 with_span span (first ∷ spans) =
@@ -83,12 +83,12 @@ reach_behind (Some before) span =
 abbrev pub entry_behind : Option Entry → Span → Entry
 entry_behind before span = record { span = span; reach = reach_behind before span }
 
--- each entry's reach is that of its event behind the entry before it
+-- each entry's reach is that of its event after the entry before it
 abbrev pub AreReached : Option Entry → List Entry → Type 0
 AreReached before [] = ⊤
 AreReached before (entry ∷ entries) = (entry ≡ entry_behind before entry.span) × AreReached (Some entry) entries
 
--- each entry behind the first follows from the one before it
+-- each entry after the first follows from the one before it
 abbrev pub AreChained : List Entry → Type 0
 AreChained [] = ⊤
 AreChained (entry ∷ entries) = AreReached (Some entry) entries
@@ -110,7 +110,7 @@ does_reach at (Some entry) = is_same_series entry.span.start at && nat_le at.hou
 
 -- ---- the agreed events among the office's records
 
--- the span of an event whose code asks for an exclusion, where a concurrence in its number agrees
+-- the span of an event whose code asks for an exclusion, if a concurrence in its number agrees
 abbrev pub span_by : (ℕ → Bool) → OfficeRecord → Option Span
 span_by agrees (Event number site pollutant first last code) =
     if asks_exclusion code && agrees number

@@ -30,7 +30,7 @@ of_event kind number = record { kind = kind; state = 0; county = 0; number = 0; 
 abbrev pub of_kind : ℕ → Place
 of_kind kind = of_event kind 0
 
--- the first place of a kind behind all those of a site
+-- the first place of a kind after all those of a site
 abbrev pub behind_site : ℕ → Site → Place
 behind_site kind site = record {
   kind = kind;
@@ -41,7 +41,7 @@ behind_site kind site = record {
   part = 0;
 }
 
--- the first place behind all monitors of a site, or the first of all monitors
+-- the first place after all monitors of a site, or the first of all monitors
 abbrev pub behind_sites : Option Site → Place
 behind_sites None = of_kind 1
 behind_sites (Some site) = behind_site 1 site
@@ -67,7 +67,7 @@ place_cmp a b =
     (ordering_then (nat_cmp a.number b.number)
     (ordering_then (nat_cmp a.parameter b.parameter) (nat_cmp a.part b.part)))))
 
--- the places behind that of a key, or all
+-- the places after that of a key, or all
 abbrev pub behind : Option OfficeKey → Bound Place
 behind None = Unbounded
 behind (Some key) = Excluded (place_of key)

@@ -17,15 +17,15 @@ use Rattle.aq_rules.specs.Lines.Reading.{OfOffice}
 use Rattle.aq_rules.specs.Office.Office.{Office, key_of, site_numbers, sites_of, is_same, group_of, group_size, most_in_group, has_monitor, has_its_monitor, duration_at, monitor_duration}
 use Rattle.aq_rules.specs.Office.Refusal.{key_stands, is_taken, is_combined, is_new_site, is_other_duration}
 
--- the rule of a full list, where as many stand as may
+-- the rule of a full list, if as many stand as may
 abbrev pub rule_where_full : ℕ → ℕ → Rule → Option Rule
 rule_where_full count most rule = if nat_le most count then Some rule else None
 
--- the rule, where as many records stand beside this one as may
+-- the rule, if as many records stand beside this one as may
 abbrev pub rule_if_full : Office → OfficeRecord → Rule → Option Rule
 rule_if_full office r rule = rule_where_full (group_size office r) (most_in_group r) rule
 
--- the rule of the list that a new record joins, where it is full
+-- the rule of the list that a new record joins, if it is full
 abbrev pub full_rule : Office → OfficeRecord → Option Rule
 full_rule office (Monitor id duration eligible) = rule_if_full office (Monitor id duration eligible) MonitorsFull
 full_rule office (Primary site pollutant from poc) = rule_if_full office (Primary site pollutant from poc) ListFull
@@ -36,7 +36,7 @@ full_rule office (Event number site pollutant first last code) =
     rule_if_full office (Event number site pollutant first last code) EventsFull
 full_rule office r = None
 
--- a monitor of a new site where as many sites are registered as may
+-- a monitor of a new site if as many sites are registered as may
 abbrev pub lacks_site_room : Office → OfficeRecord → Bool
 lacks_site_room office r = is_new_site office (OfOffice (Put r)) && nat_le MOST_SITES (length (sites_of office.records))
 

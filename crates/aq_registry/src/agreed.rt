@@ -31,8 +31,8 @@ pub(crate) struct Span {
 }
 
 /// An agreed event, with its reach: the greatest last hour among those of its site, pollutant and code up to
-/// this one in their order. An hour that does not come before its start lies in one of them exactly where it
-/// does not come behind the reach.
+/// this one in their order. An hour that does not come before its start lies in one of them exactly if it
+/// does not come after the reach.
 #[derive(Clone, Copy, Debug, PartialEq, Eq)]
 pub(crate) struct Entry {
     span: Span,
@@ -108,7 +108,7 @@ impl Span {
 }
 
 impl Entry {
-    /// The entry of an event behind another entry.
+    /// The entry of an event after another entry.
     fn behind(before: &Option<Entry>, span: Span) -> Entry
         ensures { result ≡ entry_behind before.now span }
     {
@@ -150,7 +150,7 @@ impl Agreed {
         does_reach(&last_of(&self.entries, count), at)
     }
 
-    /// Takes memory for one more event, where there is none left.
+    /// Takes memory for one more event, if there is none left.
     pub(crate) fn reserve(&mut self) -> Result<(), Memory>
         ensures same { self.new.spans ≡ self.old.spans }
         ensures room { OnOk result (0 < self.new.room) }
@@ -160,8 +160,8 @@ impl Agreed {
     }
 
     /// Puts the event of a number in place of the one that has it, or takes that away; `stands` says whether
-    /// there may be one. It takes no memory. It costs a walk over the events where there may be one, and else
-    /// a search, a shift of those that start behind it, and a look at those whose reach changes.
+    /// there may be one. It takes no memory. It costs a walk over the events if there may be one, and else
+    /// a search, a shift of those that start after it, and a look at those whose reach changes.
     pub(crate) fn renew(&mut self, number: u32, stands: bool, span: Option<Span>)
         requires room { IsSome span → 0 < self.old.room }
         requires stands { stands ≡ false → has_number number self.old.spans ≡ false }
@@ -174,7 +174,7 @@ impl Agreed {
     }
 }
 
-/// Takes the entries of a number away, where there may be one.
+/// Takes the entries of a number away, if there may be one.
 fn forget(entries: &mut Vec<Entry>, number: u32, stands: bool)
     requires agreed { AreAgreed entries.old.items }
     requires stands { stands ≡ false → has_number number (spans_of entries.old.items) ≡ false }
@@ -198,7 +198,7 @@ fn take_away(entries: &mut Vec<Entry>, number: u32)
     entries.retain(|entry| entry.span.number != number);
 }
 
-/// Puts an event in its place, before those that start behind it.
+/// Puts an event in its place, before those that start after it.
 fn put(entries: &mut Vec<Entry>, span: Span)
     requires agreed { AreAgreed entries.old.items }
     requires room { vec_len entries.old < vec_capacity entries.old }
@@ -209,7 +209,7 @@ fn put(entries: &mut Vec<Entry>, span: Span)
     reach_behind(entries, place + 1);
 }
 
-/// Puts an event in its place with its reach, and tells the place. The reaches behind it are those of before.
+/// Puts an event in its place with its reach, and says the place. The reaches after it are those of before.
 fn insert(entries: &mut Vec<Entry>, span: Span) -> usize
     requires agreed { AreAgreed entries.old.items }
     requires room { vec_len entries.old < vec_capacity entries.old }
@@ -226,7 +226,7 @@ fn insert(entries: &mut Vec<Entry>, span: Span) -> usize
     }
     place
 }
-/// How many entries do not start behind an hour of a site, pollutant and code, by one binary search.
+/// How many entries do not start after an hour of a site, pollutant and code, by one binary search.
 fn count_up_to(entries: &[Entry], at: &Start) -> usize
     requires { AreInOrder (spans_of entries.now) }
     ensures few { result ≤ length entries.now }
@@ -259,7 +259,7 @@ fn does_reach(entry: &Option<Entry>, at: &Start) -> bool
 }
 
 /// Sets the reaches from a place on, as far as they change: an entry that is as it should be has only such
-/// behind it.
+/// after it.
 fn reach_behind(entries: &mut Vec<Entry>, place: usize)
     requires inside { place ≤ vec_len entries.old }
     requires reached { AreReached None (take place entries.old.items) }

@@ -139,7 +139,7 @@ pub(crate) fn coverage(of: &Option<OfficeRecord>, hour: Hour) -> Option<bool>
     }
 }
 
-/// The POC of a designation, which names none where it is 0.
+/// The POC of a designation, which names none if it is 0.
 pub(crate) fn designated(of: &Option<OfficeRecord>) -> Option<u8>
     ensures { result ≡ option_and_then designated_poc (option_and_then designation_in of.now) }
 {

@@ -55,7 +55,7 @@ impl Place {
         Place::of_event(kind, 0)
     }
 
-    /// The first place of a kind behind all those of a site.
+    /// The first place of a kind after all those of a site.
     pub(crate) fn behind_site(kind: u8, site: &SiteId) -> Place
         ensures { result ≡ behind_site kind site.now }
     {

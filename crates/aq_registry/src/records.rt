@@ -174,7 +174,7 @@ impl Records {
     }
 }
 
-/// The places behind that of a key, or all.
+/// The places after that of a key, or all.
 fn behind(after: &Option<OfficeKey>) -> Bound<Place>
     ensures { result ≡ behind after.now }
 {

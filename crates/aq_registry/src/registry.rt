@@ -151,7 +151,7 @@ impl Registry {
 
     /// The primary monitor's POC of a site and pollutant on a day: that of the standing designation with
     /// the greatest start date not after the day (40 CFR Part 50, Appendix U, 2(b), and Appendix N, 3.0),
-    /// and `None` where it names none. By one search of the map.
+    /// and `None` if it names none. By one search of the map.
     #[tactic(auto, using(crate::proofs::LatestLemmas::primary_found))]
     pub fn primary_on(&self, site: SiteId, pollutant: Pollutant, day: Day) -> Option<u8>
         ensures { result ≡ designations.primary_on self.now site pollutant day }
@@ -165,7 +165,7 @@ impl Registry {
     }
 
     /// Whether a day is scheduled: by the standing schedule with the greatest start date not after it, and
-    /// not where there is none (40 CFR 58.12). By one search of the map.
+    /// not if there is none (40 CFR 58.12). By one search of the map.
     #[tactic(auto, using(crate::proofs::ScheduleLemmas::schedule_found, crate::proofs::ScheduleLemmas::last_is_record))]
     pub fn is_scheduled(&self, site: SiteId, pollutant: Pollutant, day: Day) -> bool
         ensures { result ≡ schedules.is_scheduled self.now site pollutant day }
@@ -223,7 +223,7 @@ impl Registry {
         first_missed(self.records.between(start, end), makeup)
     }
 
-    /// The site that is joined to a site for a pollutant, and the day from which it is; `None` where the
+    /// The site that is joined to a site for a pollutant, and the day from which it is; `None` if the
     /// site is not the first one of a combination of the pollutant (own). By one search of the map.
     #[tactic(auto, using(crate::proofs::QuestionLemmas::combined_found))]
     pub fn combined(&self, site: SiteId, pollutant: Pollutant) -> Option<(SiteId, Day)>
@@ -232,7 +232,7 @@ impl Registry {
         facts::joined(&self.records.get(&OfficeKey::Combined { site, pollutant }))
     }
 
-    /// Whether an event holds an hour in its span, and `None` where no event has the number, by one search
+    /// Whether an event holds an hour in its span, and `None` if no event has the number, by one search
     /// of the map.
     #[tactic(auto, using(crate::proofs::QuestionLemmas::event_found))]
     pub fn covers(&self, number: u32, hour: Hour) -> Option<bool>
@@ -262,7 +262,7 @@ fn whole_year(year: u16) -> (Day, Day)
     (first, Day::new(first.number() + days - 1))
 }
 
-/// The first place behind all monitors of a site, or the first of all monitors.
+/// The first place after all monitors of a site, or the first of all monitors.
 fn behind_sites(after: &Option<SiteId>) -> Place
     ensures { result ≡ behind_sites after.now }
 {

@@ -24,7 +24,7 @@ abbrev pub with_heads : List Head → Members → Members
 with_heads [] members = members
 with_heads (head ∷ heads) members = with_heads heads (put head.name (data_of head.cell) members)
 
--- members with those of a table, where there are columns
+-- members with those of a table, if there are columns
 abbrev pub with_table : List (List ℕ) → List (List SheetCell) → Members → Members
 with_table [] rows members = members
 with_table (column ∷ columns) rows members =

@@ -60,7 +60,7 @@ impl SheetCell {
         }
     }
 
-    /// A value in units of `10^-places`, where there is one.
+    /// A value in units of `10^-places`, if there is one.
     fn optional(value: Option<i32>, places: u8) -> SheetCell
         requires { places ≤ 6 }
         ensures { result ≡ book.fixed_cell places value }
@@ -71,28 +71,28 @@ impl SheetCell {
         }
     }
 
-    /// Thousandths of a ppm as ppm, where there are any.
+    /// Thousandths of a ppm as ppm, if there are any.
     pub fn ppm(value: Option<i32>) -> SheetCell
         ensures { result ≡ book.ppm_cell value }
     {
         SheetCell::optional(value, 3)
     }
 
-    /// Tenths as whole ones, where there are any.
+    /// Tenths as whole ones, if there are any.
     pub fn tenths(value: Option<i32>) -> SheetCell
         ensures { result ≡ book.tenths_cell value }
     {
         SheetCell::optional(value, 1)
     }
 
-    /// Hundredths as whole ones, where there are any.
+    /// Hundredths as whole ones, if there are any.
     pub fn hundredths(value: Option<i32>) -> SheetCell
         ensures { result ≡ book.fixed_cell 2 value }
     {
         SheetCell::optional(value, 2)
     }
 
-    /// A whole number, where there is one.
+    /// A whole number, if there is one.
     pub fn whole(value: Option<i32>) -> SheetCell
         ensures { result ≡ book.whole_cell value }
     {

@@ -145,7 +145,7 @@ fn hour_text(hour: Hour) -> [u8; 2]
     last_digits::<2>((hour.number() % 24) as u16)
 }
 
-/// Ozone with three places, PM with one; nothing where there is no value.
+/// Ozone with three places, PM with one; nothing if there is no value.
 fn value_text(alloc: Global, pollutant: Pollutant, value: Option<i32>) -> Result<Vec<u8>, Memory>
     ensures { IfOk result (λ text. text.items ≡ line.value_text pollutant value) }
 {

@@ -1,4 +1,4 @@
-//! Sheets as JSON: one object with a member for each head and, where there are columns, with their
+//! Sheets as JSON: one object with a member for each head and, if there are columns, with their
 //! names and the rows (RFC 8259; the choice of members is (own)). A member stands by its name and
 //! lends what the sheet has there; the text is written straight from that.
 ghost use Rattle.std.specs.Prelude.{◌≡◌, ◌≤◌, IfOk, OnOk, map};
@@ -76,7 +76,7 @@ fn put_heads<'a>(parts: &mut Parts<'a>, heads: &'a [Head]) -> Result<(), Memory>
     Ok(())
 }
 
-/// The members of a table, where there are columns.
+/// The members of a table, if there are columns.
 fn put_table<'a>(
     parts: &mut Parts<'a>,
     columns: &'a [Bytes],

@@ -1,4 +1,4 @@
-//! Sheets as text: a line for each head, and where there are columns a line of their names and one for
+//! Sheets as text: a line for each head, and if there are columns a line of their names and one for
 //! each row.
 ghost use Rattle.std.specs.Prelude.{◌≡◌, ◌++◌, IfOk, OnOk, flat_map};
 ghost use Rattle.aq_base.specs.Text.{site_text};
@@ -35,7 +35,7 @@ fn write_heads(out: &mut Vec<u8>, heads: &[Head]) -> Result<(), Memory>
     Ok(())
 }
 
-/// The column names and the rows, where there are columns.
+/// The column names and the rows, if there are columns.
 fn write_table(out: &mut Vec<u8>, columns: &[Bytes], rows: &[Cells]) -> Result<(), Memory>
     ensures { OnOk result (out.new.items ≡ out.old.items ++ book.table_text columns.now rows.now) }
 {

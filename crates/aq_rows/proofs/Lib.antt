@@ -1,5 +1,6 @@
 -- Lemmas on rows.
 pub mod Written
+pub mod Hours
 pub mod LoadMap
 pub mod Words
 pub mod Gathered

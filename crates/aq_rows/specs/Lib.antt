@@ -6,7 +6,7 @@ pub mod Ranges
 pub mod Observed
 pub mod Loaded
 pub mod Fitting
--- the rows of an office, one more row behind them, what is known of a walk over rows, and when an office is not opened
+-- the rows of an office, one more row after them, what is known of a walk over rows, and when an office is not opened
 pub mod OfficeRows
 pub mod OneMoreRow
 pub mod Opening

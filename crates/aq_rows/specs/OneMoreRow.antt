@@ -1,4 +1,4 @@
--- One more row behind the rows of an office.
+-- One more row after the rows of an office.
 use Rattle.std.specs.Prelude.{◌≡◌, ℕ, Bool, true, false, ◌&&◌, List, [], ◌∷◌, ◌++◌, filter_map}
 use Rattle.aq_rules.specs.Office.Office.{Office, comes_before, rises}
 use Rattle.aq_rules.specs.Kept.Rows.{Row, OfOfficeRow, OfObsRow, OfLoadRow, record_in_row, observation_in_row, load_in_row, says_something, is_valid}
@@ -21,7 +21,7 @@ with_last office row = record {
   loads = office.loads ++ filter_map load_in_row (row ∷ []);
 }
 
--- whether the rows of an office with this row behind them are an office's
+-- whether the rows of an office with this row after them are an office's
 abbrev pub may_follow : Office → Row → Bool
 may_follow office row = says_something row && is_in_turn office row && is_valid (with_last office row)
 

@@ -10,7 +10,7 @@ is_between first last n = nat_le first n && nat_le n last
 abbrev pub between : ℕ → ℕ → ℤ → Option ℕ
 between first last number = whole number >>= only_if (is_between first last)
 
--- what some words say behind what others said, where all of it fits at each word
+-- what some words say after what others said, if all of it fits at each word
 abbrev pub gathered : {X : Type 0} → (List ℕ → Option X) → (List X → Bool) → List X → List (List ℕ) → Option (List X)
 gathered read fits xs [] = Some xs
 gathered read fits xs (word ∷ words) =

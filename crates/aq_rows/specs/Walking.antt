@@ -46,17 +46,17 @@ pub record Follows (before : Walk) (row : Row) (now : Walk) : Type 0 where
   pub office : standing now ≡ with_last (standing before) row
   pub walk : IsWalk now
 
--- a row is damaged where it may not follow; of want of memory nothing is told
+-- a row is damaged if it may not follow; of want of memory nothing is said
 abbrev pub IsRowFault : Bool → RowFault → Type 0
 IsRowFault may Damaged = may ≡ false
 IsRowFault may Memory = Unit
 
--- the same where it is something else that would let it follow
+-- the same if it is something else that would let it follow
 abbrev pub IsFault : Type 0 → RowFault → Type 0
 IsFault Holds Damaged = Holds → ⊥
 IsFault Holds Memory = Unit
 
--- the rows before are taken, and the first damaged row of all, if there is one, is that of the rest behind them
+-- the rows before are taken, and the first damaged row of all, if there is one, is that of the rest after them
 pub record HasTaken (before behind : List Row) (walk : Walk) (found : Option Place) : Type 0 where
   pub good : are_office_rows before ≡ true
   pub office : standing walk ≡ office_in before

@@ -14,8 +14,7 @@ use crate::keys::{pollutant_number, site_number};
 use crate::ranges::between;
 use crate::texts::{words_of, write_codes, write_null};
 use aq_base::{
-    Bytes, Code, MOST_QUALIFIERS, Memory, MonitorId, ObsKey, Observation,
-    Pollutant, Quals, SiteId,
+    Bytes, Code, MOST_QUALIFIERS, Memory, MonitorId, ObsKey, Observation, Pollutant, Quals, SiteId,
 };
 use aq_keeper::ObsRow;
 use aq_rd::null_in;
@@ -50,7 +49,7 @@ fn wide_value(value: Option<i32>) -> Option<i64>
     }
 }
 
-/// The observation that a row says, where the row is the row of that observation, and the observation
+/// The observation that a row says, if the row is the row of that observation, and the observation
 /// is one that can stand: its site, POC and hour are in their ranges, and it has a value in range or a
 /// null code, and at most ten distinct qualifiers. It takes no memory.
 #[tactic(auto, using(crate::proofs::Observed::read_in_turn))]
@@ -60,7 +59,7 @@ pub fn observation_of(row: &ObsRow) -> Option<(ObsKey, Observation)>
     observation_in(row)
 }
 
-/// An observation that fits an office can stand, where the office's records fit: a row that says one
+/// An observation that fits an office can stand, if the office's records fit: a row that says one
 /// which cannot is no row of an office.
 #[tactic(auto, using(crate::specs::Fitting::fitting_can_stand))]
 pub fn fitting_observations_can_stand()
@@ -83,13 +82,7 @@ fn observation_in(row: &ObsRow) -> Option<(ObsKey, Observation)>
         pollutant,
         poc: poc as u8,
     };
-    Some((
-        ObsKey {
-            monitor,
-            hour,
-        },
-        content,
-    ))
+    Some((ObsKey { monitor, hour }, content))
 }
 
 /// The site that a number of at most nine digits names: two of the state, three of the county and four
@@ -116,7 +109,7 @@ fn pollutant_in(number: i64) -> Option<Pollutant>
     }
 }
 
-/// The null code of a row, or none where the text is empty.
+/// The null code of a row, or none if the text is empty.
 fn null_of(text: &[u8]) -> Option<Option<Code>>
     ensures { result ≡ book.null_of text.now }
 {

@@ -3,9 +3,9 @@ ghost use Rattle.std.specs.Prelude.{◌≡◌, Some, IfErr, IfOk};
 ghost use Rattle.aq_rules.specs.Kept.Rows as book;
 ghost use Rattle.aq_rows.specs.Opening.{IsOpenFault};
 
+use crate::kept_loads::Loads;
 use crate::walk::{RowFault, Walk};
 use aq_keeper::{Row, RowContent};
-use crate::kept_loads::Loads;
 use aq_registry::Registry;
 use aq_shelf::Shelf;
 use std::alloc::Global;
@@ -72,7 +72,7 @@ impl Error for OpenFault {}
 
 /// Opens the office whose rows these are, or names the first damaged row. It reads the rows once, in
 /// order, and keeps what each one says: for each record it searches the records a few times, and for each
-/// observation the last stretch of the shelf. Where a row is damaged, the rows of its table before it are
+/// observation the last stretch of the shelf. If a row is damaged, the rows of its table before it are
 /// counted.
 pub fn open(alloc: Global, rows: &[Row]) -> Result<Opened, OpenFault>
     ensures office { IfOk result (λ opened. book.office_of_rows rows.now ≡ Some opened) }
@@ -96,7 +96,7 @@ pub fn open(alloc: Global, rows: &[Row]) -> Result<Opened, OpenFault>
     })
 }
 
-/// The place of a row behind others.
+/// The place of a row after others.
 fn place_of(before: &[Row], row: &Row) -> Place
     ensures { result ≡ book.place_of before.now row.now }
 {

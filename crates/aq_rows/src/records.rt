@@ -26,7 +26,7 @@ pub fn office_row(alloc: Global, entry: &OfficeRecord) -> Result<OfficeRow, Memo
     })
 }
 
-/// The record that a row says, where the row is the row of that record.
+/// The record that a row says, if the row is the row of that record.
 #[tactic(auto, unfolding(aq_rules::specs::Kept::Rows::record_of_row))]
 pub fn record_of(alloc: Global, row: &OfficeRow) -> Result<Option<OfficeRecord>, Memory>
     ensures value { IfOk result (λ found. found ≡ book.record_of_row row.now) }

@@ -56,7 +56,7 @@ pub(crate) fn words_of(text: &[u8]) -> Words<'_>
     }
 }
 
-/// The first word of a text, and what stands behind the space after it, where there is one.
+/// The first word of a text, and what stands after the space after it, if there is one.
 #[tactic(auto, using(crate::proofs::Words::one_word, crate::proofs::Words::more_words))]
 fn first_word(text: &[u8]) -> (&[u8], Option<&[u8]>)
     ensures { slice_split is_space text.now ≡ result.0.now ∷ words_left result.1 }
@@ -67,7 +67,7 @@ fn first_word(text: &[u8]) -> (&[u8], Option<&[u8]>)
     }
 }
 
-/// What stands before the first of a byte and what stands behind it, where the text has it.
+/// What stands before the first of a byte and what stands after it, if the text has it.
 pub(crate) fn cut_at(byte: u8, text: &[u8]) -> Option<(&[u8], &[u8])>
     ensures { MatchOption result (position_or_len (is_byte byte) text.now ≡ length text.now)
         (λ parts. (position_or_len (is_byte byte) text.now < length text.now)

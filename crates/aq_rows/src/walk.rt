@@ -13,12 +13,12 @@ ghost use Rattle.aq_rows.specs.OneMoreRow.{has_none, may_follow};
 ghost use Rattle.aq_rows.specs.Standing.{can_stand};
 ghost use Rattle.aq_rows.specs.Walking.{Follows, IsFault, IsRowFault, IsWalk, standing};
 
+use crate::kept_loads::{KeptLoad, Loads};
 use crate::loads::load_of;
 use crate::observations::observation_of;
 use crate::records::{key_of, record_line, record_of};
 use aq_base::{Duration, Hour, Memory, MonitorId, ObsKey, Observation, OfficeKey, OfficeRecord};
 use aq_keeper::{LoadRow, ObsRow, OfficeRow, Row, RowContent};
-use crate::kept_loads::{KeptLoad, Loads};
 use aq_registry::{Registry, RegistryFault};
 use aq_shelf::{Shelf, ShelfFault};
 use std::alloc::Global;
@@ -142,7 +142,7 @@ impl Walk {
         Ok(())
     }
 
-    /// Whether an observation with a key may come behind the last row: no load came, and the key is behind
+    /// Whether an observation with a key may come after the last row: no load came, and the key is after
     /// those of the observations.
     fn is_next_observation(&self, key: &ObsKey) -> bool
         requires { IsWalk self.now }
@@ -155,7 +155,7 @@ impl Walk {
         }
     }
 
-    /// Whether a load with a number may come behind the last row.
+    /// Whether a load with a number may come after the last row.
     fn is_next_load(&self, number: u32) -> bool
         requires { IsWalk self.now }
         ensures { (kept : KeptLoad) → result ≡ rises load_rank (self.now.loads ++ stored_entry (number, kept) ∷ []) }
@@ -207,7 +207,7 @@ fn is_kept_hour(duration: Duration, hour: Hour) -> bool
     }
 }
 
-/// Puts a record behind the others of an office, or says that with it they are no office's.
+/// Puts a record after the others of an office, or says that with it they are no office's.
 fn put_record(registry: &mut Registry, entry: &OfficeRecord) -> Result<(), RowFault>
     requires spelled { IsTrue (is_office_line (record_line entry.now)) }
     requires valid { IsOffice (registries.office_with registry.old) }
@@ -225,7 +225,7 @@ fn put_record(registry: &mut Registry, entry: &OfficeRecord) -> Result<(), RowFa
     }
 }
 
-/// Whether a record is behind all that stand, by two searches of them.
+/// Whether a record is after all that stand, by two searches of them.
 fn comes_last(registry: &Registry, entry: &OfficeRecord) -> bool
     requires { IsTrue (rises record_rank registry.now) }
     ensures { result ≡ rises record_rank (registry.now ++ entry.now ∷ []) }
@@ -233,7 +233,7 @@ fn comes_last(registry: &Registry, entry: &OfficeRecord) -> bool
     registry.following(Some(key_of(entry))).is_none() && registry.get(key_of(entry)).is_none()
 }
 
-/// Puts an observation behind the others, unless as many stand as may.
+/// Puts an observation after the others, unless as many stand as may.
 fn put_observation(shelf: &mut Shelf, key: &ObsKey, content: &Observation) -> Result<(), RowFault>
     requires stands { IsTrue (can_stand (key.now, content.now)) }
     requires rising { IsTrue (rises observation_rank (shelf.old ++ (key.now, content.now) ∷ [])) }
@@ -249,7 +249,7 @@ fn put_observation(shelf: &mut Shelf, key: &ObsKey, content: &Observation) -> Re
     }
 }
 
-/// Puts a load behind the others, unless as many stand as may.
+/// Puts a load after the others, unless as many stand as may.
 fn put_load(loads: &mut Loads, number: u32, kept: KeptLoad) -> Result<(), RowFault>
     requires rising { IsTrue (rises load_rank (loads.old ++ stored_entry (number, kept) ∷ [])) }
     ensures ok { OnOk result (loads.new ≡ loads.old ++ stored_entry (number, kept) ∷ []) }

@@ -71,7 +71,7 @@ pocs_of records site pollutant = pocs_after records site pollutant 0
 abbrev pub cells_on : Office → Site → Pollutant → ℕ → List ℕ → List Cell
 cells_on office site pollutant day pocs = filter_map (λ poc. monitor_day office (monitor_at site pollutant poc) day) pocs
 
--- the mean of cells, truncated, and excluded where one of them is
+-- the mean of cells, truncated, and excluded if one of them is
 abbrev pub mean_of : List Cell → Option Cell
 mean_of [] = None
 mean_of (first ∷ others) =
@@ -82,12 +82,12 @@ mean_of (first ∷ others) =
 
 -- ---- steps
 
--- a monitor's day takes a step for each of its 24 hours, or one where its samples last a day
+-- a monitor's day takes a step for each of its 24 hours, or one if its samples last a day
 abbrev pub steps_by : Duration → ℕ
 steps_by Hour = 24
 steps_by Day = 1
 
--- and none where it is not registered
+-- and none if it is not registered
 abbrev pub monitor_steps : List OfficeRecord → MonitorId → ℕ
 monitor_steps records monitor = option_map_or steps_by (duration_at (office_with records) monitor) 0
 

@@ -28,7 +28,7 @@ site_hours office site day = map (hour_at office site) (range_with_len (24 * day
 abbrev pub primary_in : List OfficeRecord → Site → ℕ → Option ℕ
 primary_in records site day = if nat_le day LAST_DAY then primary_on records site Ozone day else None
 
--- a monitor's key for an hour behind the first one of a day
+-- a monitor's key for an hour after the first one of a day
 abbrev pub standing_at : MonitorId → ℕ → ℕ → ObsKey
 standing_at monitor day k = record { monitor = monitor; hour = 24 * day + k }
 

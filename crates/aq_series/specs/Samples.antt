@@ -19,7 +19,7 @@ use Rattle.aq_series.specs.declared.tally.Tally.{Tally}
 abbrev pub IsOzone : ℤ → Type 0
 IsOzone value = (least_value ≤ℤ value) × (value ≤ℤ greatest_value Ozone)
 
--- their values, where hours have some, are ozone's
+-- their values, if hours have some, are ozone's
 abbrev pub AreOzone : List (Option Cell) → Type 0
 AreOzone hours = AllByRecursion (λ hour. IfSome hour (λ (cell : Cell). IsOzone cell.value)) hours
 

@@ -136,7 +136,7 @@ fn excluded_by_codes(registry: &Registry, monitor: &MonitorId, hour: Hour, quals
     registry.excluded(key, &quals)
 }
 
-/// What a monitor has for so many days from the first one on, where its samples last so long and its
+/// What a monitor has for so many days from the first one on, if its samples last so long and its
 /// values count.
 pub(crate) fn monitor_days<L: Ledger>(
     shelf: &Shelf,

@@ -8,7 +8,7 @@ use aq_base::Pollutant;
 /// So many hours make a day.
 const ENOUGH_HOURS: u8 = 18;
 
-/// With fewer hours there is a PM2.5 day only where this is their least sum: 24 hours of 35.5 µg/m3, the
+/// With fewer hours there is a PM2.5 day only if this is their least sum: 24 hours of 35.5 µg/m3, the
 /// least mean that is above the level of 35 once it is rounded.
 const LEAST_HIGH_SUM: i32 = 24 * 355;
 
@@ -93,8 +93,8 @@ impl DayTally {
         })
     }
 
-    /// The day that these hours of a monitor make: their mean, truncated, where there are 18 or more;
-    /// for PM2.5 also their sum over 24 where that is 35.5 µg/m3 or more.
+    /// The day that these hours of a monitor make: their mean, truncated, if there are 18 or more;
+    /// for PM2.5 also their sum over 24 if that is 35.5 µg/m3 or more.
     pub(crate) fn day(self, pollutant: Pollutant) -> Option<Cell>
         requires values { IsOfParticles self }
         requires particles { IsParticulate pollutant }

@@ -20,8 +20,8 @@ use std::sync::ledger::Ledger;
 
 /// The value of a PM2.5 or PM10 monitor for a day, in tenths of a µg/m3 (40 CFR Part 50, Appendix N, 3.0,
 /// and Appendix K, 1.0 and 2.1). A monitor of days has its sample. One of hours has the truncated mean of
-/// 18 hours or more, and for PM2.5 the sum of fewer over 24 where that is 35.5 µg/m3 or more. The day is
-/// excluded where one of these samples is. A monitor whose values do not count has none. The call makes a
+/// 18 hours or more, and for PM2.5 the sum of fewer over 24 if that is 35.5 µg/m3 or more. The day is
+/// excluded if one of these samples is. A monitor whose values do not count has none. The call makes a
 /// step for each of the day's 24 hours, or one for a sample of a day.
 pub fn monitor_day<L: Ledger>(
     shelf: &Shelf,
@@ -75,9 +75,9 @@ fn measured_day<L: Ledger>(
 }
 
 /// The PM2.5 or PM10 value of a site for a day, in tenths of a µg/m3. For PM2.5 it is the primary
-/// monitor's where that has one, else the mean of what the other eligible monitors have, truncated to
-/// 0.1 µg/m3, and excluded where one of them is (40 CFR Part 50, Appendix N, 3.0; the truncation is this
-/// project's own). For PM10 the primary alone counts, and where none is designated the eligible monitor
+/// monitor's if that has one, else the mean of what the other eligible monitors have, truncated to
+/// 0.1 µg/m3, and excluded if one of them is (40 CFR Part 50, Appendix N, 3.0; the truncation is this
+/// project's own). For PM10 the primary alone counts, and if none is designated the eligible monitor
 /// with the lowest POC (own). The call makes the steps of each of the site's monitors at most once.
 pub fn site_day<L: Ledger>(
     shelf: &Shelf,

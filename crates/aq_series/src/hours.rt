@@ -35,9 +35,9 @@ impl Model for Cell {
     ghost inverse = { λ cell. record { value = cell.value; excluded = cell.excluded } };
 }
 
-/// The ozone value of a site for an hour: the primary monitor's where it has one, else the mean of what
+/// The ozone value of a site for an hour: the primary monitor's if it has one, else the mean of what
 /// its other eligible monitors have, truncated to 0.001 ppm (40 CFR Part 50, Appendix U, 2(b)). The mean
-/// is excluded where one of them is. The call makes a step for each eligible monitor, at most 8.
+/// is excluded if one of them is. The call makes a step for each eligible monitor, at most 8.
 pub fn site_hour<L: Ledger>(
     shelf: &Shelf,
     registry: &Registry,

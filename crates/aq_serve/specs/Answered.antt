@@ -1,4 +1,4 @@
--- What a whole request is answered with over an office: the status and body of the reply, and the office behind it (own).
+-- What a whole request is answered with over an office: the status and body of the reply, and the office after it (own).
 use Rattle.std.specs.Prelude.{ℕ, ◌==◌, Bool, true, false, if◌then◌else◌, List, [], codes}
 use Rattle.sha2.specs.Sha256.{sha256}
 use Rattle.aq_rules.specs.Office.Office.{Office}
@@ -45,7 +45,7 @@ refused status office = record { status = status; allow = []; body = error_body 
 abbrev pub not_allowed : List ℕ → Office → Answered
 not_allowed allow office = record { status = 405; allow = allow; body = error_body 405; office = office }
 
--- a sheet, with a status and the office behind it
+-- a sheet, with a status and the office after it
 abbrev pub shown : ℕ → Sheet → Office → Answered
 shown status sheet office = record { status = status; allow = []; body = json_of sheet; office = office }
 
@@ -56,7 +56,7 @@ to_question office (OfExport text) = refused 404 office
 to_question office NoSite = refused 404 office
 to_question office NoLoad = refused 404 office
 
--- a load with this number. Where it would be taken and the keeper fails, nothing changes.
+-- a load with this number. If it would be taken and the keeper fails, nothing changes.
 abbrev pub to_load : ℕ → Office → Bool → Posted → Answered
 to_load number office fails TooManyLines = refused 413 office
 to_load number office fails (Repeated kept) = shown 200 (load_sheet kept) office

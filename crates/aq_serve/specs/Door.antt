@@ -7,7 +7,7 @@ pub record Line : Type 0 where
   pub left : List ℕ
   pub written : List ℕ
 
--- the bytes of each connection still to come, the accepted connection, and those that are finished; where none is accepted, `line` means nothing
+-- the bytes of each connection still to come, the accepted connection, and those that are finished; if none is accepted, `line` means nothing
 pub record Wire : Type 0 where
   pub coming : List (List ℕ)
   pub line : Line
@@ -55,14 +55,14 @@ abbrev pub IsAccepted : Bool → DoorView → DoorView → Type 0
 IsAccepted true before after = IsAcceptedNow before after
 IsAccepted false before after = IsIdle before after
 
--- these bytes were taken from the front of what is left, and those went behind what was written
+-- these bytes were taken from the front of what is left, and those went after what was written
 pub record Passes (got sent : List ℕ) (before after : Wire) : Type 0 where
   pub left : before.line.left ≡ got ++ after.line.left
   pub written : after.line.written ≡ before.line.written ++ sent
   pub coming : after.coming ≡ before.coming
   pub past : after.past ≡ before.past
 
--- the connection is put behind those that are finished
+-- the connection is put after those that are finished
 pub record Ends (before after : Wire) : Type 0 where
   pub coming : after.coming ≡ before.coming
   pub past : after.past ≡ before.past ++ before.line ∷ []
@@ -70,7 +70,7 @@ pub record Ends (before after : Wire) : Type 0 where
 abbrev pub Exchange : List ℕ → List ℕ → Option Wire → Option Wire → Type 0
 Exchange got sent before after = Both (Passes got sent) before after
 
--- no byte is left, where they are told
+-- no byte is left, if they are told
 abbrev pub IsDry : Option Wire → Type 0
 IsDry wire = IfSome wire (λ (w : Wire). w.line.left ≡ [])
 
@@ -80,7 +80,7 @@ pub record Reads (before after : DoorView) (buffer : List ℕ) (n : ℕ) : Type 
   pub moved : Exchange (take n buffer) [] before.wire after.wire
   pub end : n ≡ 0 → 0 < length buffer → IsDry before.wire
 
--- the first n bytes of a piece went behind what was written; of a piece with bytes at least one
+-- the first n bytes of a piece went after what was written; of a piece with bytes at least one
 pub record Writes (before after : DoorView) (piece : List ℕ) (n : ℕ) : Type 0 where
   pub within : n ≤ length piece
   pub moved : Exchange [] (take n piece) before.wire after.wire
@@ -104,7 +104,7 @@ abbrev pub HasCause : {A E : Type 0} → ℕ → ℕ → Result A E → Type 0
 HasCause before after (Ok answer) = after ≡ before
 HasCause before after (Err fault) = HasRisen before after
 
--- how many faults are counted after a call: one more where it answers with a fault, and else as many as before
+-- how many faults are counted after a call: one more if it answers with a fault, and else as many as before
 abbrev pub faults_after : {A E : Type 0} → ℕ → Result A E → ℕ
 faults_after before (Ok answer) = before
 faults_after before (Err fault) = next before

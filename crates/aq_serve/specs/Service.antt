@@ -7,13 +7,13 @@ use Rattle.aq_rules.specs.Office.Office.{Office}
 use Rattle.aq_http.specs.declared.verb.Verb.{Verb}
 use Rattle.aq_serve.specs.Answered.{answered, reply_of}
 
--- the office, the rows of the keeper's tables where it tells them, and its count of faults
+-- the office, the rows of the keeper's tables if it tells them, and its count of faults
 pub record ServiceView : Type 0 where
   pub office : Office
   pub tables : Option (List Row)
   pub faults : ℕ
 
--- the tables, where they are told, are those of the office
+-- the tables, if they are told, are those of the office
 abbrev pub AreOfOffice : ServiceView → Type 0
 AreOfOffice service = IfSome service.tables (λ told. told ≡ rows_of service.office)
 
@@ -25,12 +25,12 @@ Become before office after = after.tables ≡ option_map (λ _. rows_of office) 
 abbrev pub Keeps : ServiceView → ServiceView → Type 0
 Keeps before after = AreOfOffice before → Become before after.office after
 
--- the count rose where the keeper failed, and is the same otherwise
+-- the count rose if the keeper failed, and is the same otherwise
 abbrev pub Counts : Bool → ℕ → ℕ → Type 0
 Counts true before after = HasRisen before after
 Counts false before after = after ≡ before
 
--- a reply answers the request over the office, and the office and the tables are those behind it; the keeper fails exactly where the status is 503
+-- a reply answers the request over the office, and the office and the tables are those after it; the keeper fails exactly if the status is 503
 pub record Answers (verb : Verb) (target body : List ℕ) (close : Bool) (bytes : List ℕ) (before after : ServiceView) : Type 0 where
   pub fails : Bool
   pub reply : bytes ≡ reply_of (answered before.office verb target body fails) close

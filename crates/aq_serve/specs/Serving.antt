@@ -89,7 +89,7 @@ pub record HavePassed (visits : List Visit) (before after : Wire) : Type 0 where
   pub coming : before.coming ≡ map bytes_of visits ++ after.coming
   pub past : after.past ≡ before.past ++ map line_of visits
 
--- there is no further connection, where they are told
+-- there is no further connection, if they are told
 abbrev pub NobodyComes : Option Wire → Type 0
 NobodyComes wire = IfSome wire (λ (w : Wire). w.coming ≡ [])
 
@@ -100,7 +100,7 @@ pub record World : Type 0 where
   pub door : DoorView
   pub service : ServiceView
 
--- the tables are those behind these turns, or behind one more of the session
+-- the tables are those after these turns, or after one more of the session
 pub record StandsBehind (office : Office) (input : List ℕ) (turns : List Turn) (before after : ServiceView) : Type 0 where
   pub more : List Turn
   pub one : length more ≤ 1
@@ -140,7 +140,7 @@ EndsBy (Ok nothing) n visits lost before after = IsDone n visits lost before aft
 EndsBy (Err DoorFailed) n visits lost before after = HasDoorFailed visits lost before after
 EndsBy (Err Memory) n visits lost before after = LacksMemory visits lost before after
 
--- Connections were served, n at most. The tables are those of the office throughout, where they are told as such before. Want of memory ends the serving, so that it takes one connection at most.
+-- Connections were served, n at most. The tables are those of the office throughout, if they are told as such before. Want of memory ends the serving, so that it takes one connection at most.
 pub record Serves (n : ℕ) (before after : World) (ending : Result Unit ServeFault) : Type 0 where
   pub visits : List Visit
   pub lost : List Visit

@@ -5,7 +5,7 @@ use Rattle.aq_http.specs.Step.{IsStep, Step, More, Refuse, Request, Whole}
 use Rattle.aq_serve.specs.Answered.{Answered, answered, refused, reply_of}
 use Rattle.aq_serve.specs.declared.limits.TheConstants.{MOST_REQUESTS}
 
--- one request, and what became of it: the bytes of the reply and its status, the office behind it, how many bytes the request had, and whether the connection ends behind the reply
+-- one request, and what became of it: the bytes of the reply and its status, the office after it, how many bytes the request had, and whether the connection ends after the reply
 pub record Turn : Type 0 where
   pub reply : List ℕ
   pub status : ℕ
@@ -22,11 +22,11 @@ turn_of used closes answer = record {
   closes = closes;
 }
 
--- whether the connection ends behind this reply, so many having been served on it before
+-- whether the connection ends after this reply, so many having been served on it before
 abbrev pub ends_behind : ℕ → Request → Bool
 ends_behind served request = request.close || (served + 1 == MOST_REQUESTS)
 
--- a refused head ends the connection, and changes nothing; a whole request is answered over the office, and where the keeper fails the load is not taken
+-- a refused head ends the connection, and changes nothing; a whole request is answered over the office, and if the keeper fails the load is not taken
 abbrev pub IsReplyTo : Step → ℕ → Office → Turn → Type 0
 IsReplyTo More served office turn = ⊥
 IsReplyTo (Refuse status) served office turn = turn ≡ turn_of 0 true (refused status office)
@@ -40,19 +40,19 @@ pub record IsTurn (served : ℕ) (office : Office) (input : List ℕ) (turn : Tu
   pub stands : IsStep input step
   pub replies : IsReplyTo step served office turn
 
--- behind a turn that closes there is no other
+-- after a turn that closes there is no other
 abbrev pub GoesOn : Bool → List Turn → Type 0 → Type 0
 GoesOn true turns behind = turns ≡ []
 GoesOn false turns behind = behind
 
--- each turn is that of the next request, over the office that the turn before it left; what is behind the last turn, where it does not close, ends the session so
+-- each turn is that of the next request, over the office that the turn before it left; what is after the last turn, if it does not close, ends the session so
 abbrev pub AreTurns : (List ℕ → Type 0) → ℕ → Office → List ℕ → List Turn → Type 0
 AreTurns EndsAt served office input [] = EndsAt input
 AreTurns EndsAt served office input (turn ∷ turns) =
     IsTurn served office input turn
     × GoesOn turn.closes turns (AreTurns EndsAt (served + 1) turn.office (drop turn.used input) turns)
 
--- all requests are served: more bytes are wanted behind them, or the last reply closes
+-- all requests are served: more bytes are wanted after them, or the last reply closes
 abbrev pub IsSession : Office → List ℕ → List Turn → Type 0
 IsSession office input turns = AreTurns (λ rest. IsStep rest More) 0 office input turns
 
@@ -63,7 +63,7 @@ IsFront office input turns = AreTurns (λ rest. ⊤) 0 office input turns
 abbrev pub replies : List Turn → List ℕ
 replies turns = flat_map (λ (turn : Turn). turn.reply) turns
 
--- the office behind the turns
+-- the office after the turns
 abbrev pub office_behind : Office → List Turn → Office
 office_behind office [] = office
 office_behind office (turn ∷ turns) = office_behind turn.office turns

@@ -28,7 +28,7 @@ pub record Gets (got : List ℕ) (before after : DoorView) : Type 0 where
   pub door : IsSameDoor before after
   pub writes : after.writes ≡ before.writes
 
--- they stand behind those that were read before
+-- they stand after those that were read before
 pub record Took (before after : DoorView) (pending now : List ℕ) : Type 0 where
   pub got : List ℕ
   pub gets : Gets got before after
@@ -55,7 +55,7 @@ Fetches P before after pending now (Ok answer) = FetchedSo (P answer) before aft
 Fetches P before after pending now (Err fault.ReadFailed) = FetchFailed before after pending now
 Fetches P before after pending now (Err fault.Memory) = FetchLost before after
 
--- one piece: so many bytes, none of them only where no byte is left, where they are told
+-- one piece: so many bytes, none of them only if no byte is left, if they are told
 pub record IsPiece (after : DoorView) (pending now : List ℕ) (n : ℕ) : Type 0 where
   pub grows : length now ≡ length pending + n
   pub same : n ≡ 0 → now ≡ pending
@@ -116,7 +116,7 @@ Sends text before after (Err fault) = SentPart text before after
 
 -- ---- answering
 
--- a reply to the first request of these bytes, whatever bytes come behind; so many of them are answered
+-- a reply to the first request of these bytes, whatever bytes come after; so many of them are answered
 pub record Replies (served : ℕ) (input : List ℕ) (bytes : List ℕ) (used : ℕ) (closes : Bool) (before after : ServiceView) : Type 0 where
   pub turn : Turn
   pub is : (more : List ℕ) → IsTurn served before.office (input ++ more) turn
@@ -129,7 +129,7 @@ pub record Replies (served : ℕ) (input : List ℕ) (bytes : List ℕ) (used : 
   pub tables : Keeps before after
   pub faults : Rises before.faults after.faults (failed_commits (turn ∷ []))
 
--- memory was not to be had for it: the tables are as before, or those behind the request
+-- memory was not to be had for it: the tables are as before, or those after the request
 pub record RepliesNot (served : ℕ) (input : List ℕ) (before after : ServiceView) : Type 0 where
   pub turn : Turn
   pub is : IsTurn served before.office input turn
@@ -197,7 +197,7 @@ pub record TalksToWrite (served : ℕ) (before after : World) (input sent : List
   pub office : after.service.office ≡ office_behind before.service.office turns
   pub tables : Keeps before.service after.service
 
--- the tables are those behind these turns, or behind one more
+-- the tables are those after these turns, or after one more
 pub record Stores (served : ℕ) (office : Office) (input : List ℕ) (turns : List Turn) (before after : ServiceView) : Type 0 where
   pub more : List Turn
   pub one : length more ≤ 1

@@ -19,7 +19,7 @@ pub trait Door {
         ensures cause { HasCause (seen self.old).accepts (seen self.new).accepts result }
         ensures transfers { HasSameTransfers (seen self.old) (seen self.new) };
 
-    /// Takes the next connection, and answers false exactly where there is none. After `Failed` none is
+    /// Takes the next connection, and answers false exactly if there is none. After `Failed` none is
     /// taken.
     fn accept(&mut self) -> Result<bool, Failed>
         requires listens { (seen self.old).listens ≡ true }
@@ -42,7 +42,7 @@ pub trait Door {
         ensures door { IsSameDoor (seen self.old) (seen self.new) }
         ensures writes { (seen self.new).writes ≡ (seen self.old).writes };
 
-    /// Puts the front of a piece behind what was written on the accepted connection, and answers how
+    /// Puts the front of a piece after what was written on the accepted connection, and answers how
     /// many bytes. One that takes nothing of a piece with bytes is a fault. After `Failed` the bytes are
     /// as before.
     fn write(&mut self, piece: &[u8]) -> Result<usize, Failed>

@@ -16,7 +16,7 @@ pub(crate) enum FetchFault {
     Memory,
 }
 
-/// Reads one piece behind the bytes that are not answered, and answers how many bytes it has.
+/// Reads one piece after the bytes that are not answered, and answers how many bytes it has.
 fn read_piece<D: Door>(
     alloc: Global,
     door: &mut D,
@@ -38,7 +38,7 @@ fn read_piece<D: Door>(
     }
 }
 
-/// Reads until the head of the next request is whole or refused. More bytes are wanted only where the
+/// Reads until the head of the next request is whole or refused. More bytes are wanted only if the
 /// connection ends before.
 fn fetch_head<D: Door>(
     alloc: Global,
@@ -66,7 +66,7 @@ fn fetch_head<D: Door>(
     }
 }
 
-/// Reads until the body behind a head is whole. The head is not read again.
+/// Reads until the body after a head is whole. The head is not read again.
 fn fetch_body<D: Door>(
     alloc: Global,
     door: &mut D,
@@ -92,7 +92,7 @@ fn fetch_body<D: Door>(
     Ok(HeadStep::Whole(*head))
 }
 
-/// Reads until the next request is whole or refused. More bytes are wanted only where the connection
+/// Reads until the next request is whole or refused. More bytes are wanted only if the connection
 /// ends before.
 pub(crate) fn fetch<D: Door>(
     alloc: Global,

@@ -6,7 +6,7 @@ use aq_base::{Failed, Memory};
 use std::alloc::Global;
 use std::marker::Model;
 
-/// A door in memory, which fails at the calls that it is told to, and where a piece with bytes finds no
+/// A door in memory, which fails at the calls that it is told to, and if a piece with bytes finds no
 /// room. Contracts see its state.
 #[derive(Drop)]
 pub struct MemoryDoor {
@@ -92,7 +92,7 @@ impl MemoryDoor {
         })
     }
 
-    /// The bytes that were written on a connection, counted from 0, where there is one.
+    /// The bytes that were written on a connection, counted from 0, if there is one.
     pub fn written(&self, connection: usize) -> Option<&[u8]>
         ensures { option_map (λ bytes. bytes.now) result ≡ option_map (λ (line : LineState). line.written) (slice_get self.now.lines connection) }
     {
@@ -217,7 +217,7 @@ impl Door for MemoryDoor {
         ensures door { IsSameDoor (view_of self.old) (view_of self.new) }
         ensures reads { self.new.reads ≡ self.old.reads }
 
-        // It fails exactly at the listed calls, and where a piece with bytes finds no room.
+        // It fails exactly at the listed calls, and if a piece with bytes finds no room.
         ensures listed { IsErr result ↔ IsTrue (fails_to_transfer self.old || finds_no_room (current self.old) piece.now) }
     {
         let fails = self.fails_to_transfer();

@@ -76,7 +76,7 @@ impl MemoryLine {
         piece.len().min(self.room - self.written.len())
     }
 
-    /// Puts the first bytes of a piece, for which there is room, behind what was written.
+    /// Puts the first bytes of a piece, for which there is room, after what was written.
     pub(crate) fn write(&mut self, piece: &[u8])
         requires { length self.old.written + length piece.now ≤ self.old.room }
         ensures { self.new ≡ record self.old { written = self.old.written ++ piece.now } }

@@ -12,7 +12,7 @@ pub trait Service<K> {
     /// The office, and what the keeper tells.
     ghost seen: { Self → K → ServiceView };
 
-    /// The bytes of the reply to a whole request. `close` says that the connection ends behind it. A
+    /// The bytes of the reply to a whole request. `close` says that the connection ends after it. A
     /// load that is taken stands in the keeper's tables before this answers. After `Memory` the service
     /// is fit only to be dropped.
     fn answer(

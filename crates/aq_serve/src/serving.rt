@@ -10,7 +10,7 @@ use crate::service::Service;
 use aq_base::{Failed, Memory};
 use std::alloc::Global;
 
-/// Serves the next connection, and answers false where there is none.
+/// Serves the next connection, and answers false if there is none.
 fn serve_next<K, V: Service<K>, D: Door>(
     alloc: Global,
     service: &mut V,
@@ -35,8 +35,8 @@ fn serve_next<K, V: Service<K>, D: Door>(
 }
 
 /// Serves so many connections, one after the other, or as many as there are. Each reply is sent before
-/// the next request is answered and before the connection is read again. A connection ends where its
-/// bytes end, where its last reply closes it, or where a read or a write failed; the next one is then
+/// the next request is answered and before the connection is read again. A connection ends when its
+/// bytes end, when its last reply closes it, or when a read or a write failed; the next one is then
 /// accepted.
 pub fn serve<K, V: Service<K>, D: Door>(
     alloc: Global,

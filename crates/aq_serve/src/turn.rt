@@ -17,7 +17,7 @@ use aq_base::{Failed, Memory};
 use aq_http::{Head, HeadStep, Step, steps_are_bounded, steps_stay};
 use std::alloc::Global;
 
-/// A reply, how many bytes the request has, and whether the connection ends behind it.
+/// A reply, how many bytes the request has, and whether the connection ends after it.
 #[derive(Drop)]
 struct Reply {
     bytes: Vec<u8>,
@@ -25,7 +25,7 @@ struct Reply {
     closes: bool,
 }
 
-/// Whether the connection ends behind a reply, so many having been served on it before.
+/// Whether the connection ends after a reply, so many having been served on it before.
 fn ends_behind(close: bool, served: u32) -> bool
     requires { served < MOST_REQUESTS }
     ensures value { result ≡ (close || (served + 1 == MOST_REQUESTS)) }

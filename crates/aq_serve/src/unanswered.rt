@@ -49,7 +49,7 @@ impl Unanswered {
         self.start += count;
     }
 
-    /// Puts a piece behind the bytes. What was answered goes first, so that the bytes of earlier
+    /// Puts a piece after the bytes. What was answered goes first, so that the bytes of earlier
     /// requests take no memory.
     pub(crate) fn add(&mut self, alloc: Global, piece: &[u8]) -> Result<(), Memory>
         ensures { OnOk result (self.new ≡ self.old ++ piece.now) }
@@ -70,7 +70,7 @@ impl Unanswered {
     }
 }
 
-// Puts a piece behind the bytes from a start on.
+// Puts a piece after the bytes from a start on.
 fn push_behind(bytes: &mut Vec<u8>, start: usize, piece: &[u8]) -> Result<(), Memory>
     requires { start ≤ length bytes.old.items }
     ensures rest { OnOk result (drop start bytes.new.items ≡ drop start bytes.old.items ++ piece.now) }

@@ -9,7 +9,7 @@ use Rattle.aq_serve.specs.Service.{AreOfOffice, Become, Counts, Keeps, ServiceVi
 use Rattle.aq_service.specs.declared.posting.Posted.{Posted}
 use Rattle.aq_service.specs.declared.posting.Posted.TheVariants.{Done, Lines, Conflict, Full, Failed}
 
--- bytes that answer, the keeper failing or not, and the office and the tables behind them
+-- bytes that answer, the keeper failing or not, and the office and the tables after them
 pub record AnswersBy (answered : Bool → Answered) (close : Bool) (bytes : List ℕ) (before after : ServiceView) : Type 0 where
   pub fails : Bool
   pub reply : bytes ≡ reply_of (answered fails) close
@@ -22,7 +22,7 @@ pub record LosesBy (answered : Bool → Answered) (before after : ServiceView) :
   pub cause : (after.faults ≡ before.faults) ⊎ HasRisen before.faults after.faults
   pub tables : AreOfOffice before → Become before before.office after ⊎ Become before (answered false).office after
 
--- a load that was posted stands, where its reply speaks of it
+-- a load that was posted stands, if its reply speaks of it
 abbrev pub Stands : Posted → Option StoredLoad → Type 0
 Stands Done kept = IsSome kept
 Stands (Conflict sent) kept = IsSome kept
@@ -30,7 +30,7 @@ Stands (Lines count) kept = ⊤
 Stands Full kept = ⊤
 Stands Failed kept = ⊤
 
--- the bytes of the reply to a load, over the office that stands behind it
+-- the bytes of the reply to a load, over the office that stands after it
 abbrev pub IsLoadReply : Posted → ℕ → Office → Bool → List ℕ → Type 0
 IsLoadReply Done number office close bytes =
     IfSome (load_at office number) (λ kept. bytes ≡ reply_of (shown 200 (load_sheet kept.reply) office) close)

@@ -16,13 +16,13 @@ use crate::posting::Posted;
 use aq_base::{Ask, Memory};
 use aq_book::Book;
 use aq_http::reply_bytes;
+use aq_reports::{Sheet, conflict_sheet, json_of, load_sheet};
 use aq_rows::digest_is_32_bytes;
 use aq_rules::shown::well_formed::{answers_are_well_formed, other_sheets_are_well_formed};
-use aq_reports::{Sheet, conflict_sheet, json_of, load_sheet};
 use aq_serve::error_body;
 use std::alloc::Global;
 
-/// The JSON that a question is answered with, or None where it is answered with 404: no route asks for an
+/// The JSON that a question is answered with, or None if it is answered with 404: no route asks for an
 /// export.
 pub(crate) fn question_text(
     alloc: Global,

@@ -133,7 +133,7 @@ impl OfficeService {
         }
     }
 
-    /// Posts a load, and answers it. Nothing that was kept stands behind it.
+    /// Posts a load, and answers it. Nothing that was kept stands after it.
     fn answer_load<K: Keeper>(
         &mut self,
         alloc: Global,

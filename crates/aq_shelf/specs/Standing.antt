@@ -50,7 +50,7 @@ IsInsertFault AlreadyThere key rows = IsSome (content_at key rows)
 IsInsertFault Full key rows = (content_at key rows ≡ None) × (length rows ≡ MOST_OBSERVATIONS)
 IsInsertFault Memory key rows = (content_at key rows ≡ None) × (length rows < MOST_OBSERVATIONS)
 
--- the same where `found` is what stands at the key, and the shelf is full or not
+-- the same if `found` is what stands at the key, and the shelf is full or not
 abbrev pub IsPutFault : ShelfFault → Bool → Option Observation → Type 0
 IsPutFault AlreadyThere full found = IsSome found
 IsPutFault Full full found = (found ≡ None) × (full ≡ true)

@@ -44,8 +44,8 @@ impl Hours {
         }
     }
 
-    /// Puts an observation at a key of the monitor. It is refused where one stands there, and else
-    /// where the shelf is full.
+    /// Puts an observation at a key of the monitor. It is refused if one stands there, and else
+    /// if the shelf is full.
     pub(crate) fn insert(
         &mut self,
         key: &ObsKey,
@@ -156,7 +156,7 @@ fn search(items: &[(Hour, Observation)], hour: Hour) -> Result<usize, usize>
     }
 }
 
-/// How many of rising hours are before an hour. One comparison finds an hour behind all of them.
+/// How many of rising hours are before an hour. One comparison finds an hour after all of them.
 fn place(items: &[(Hour, Observation)], hour: u32) -> usize
     requires { IsStrictlySortedBy nat_cmp (keys_of items.now) }
     ensures place { result ≡ place_of hour items.now }

@@ -16,7 +16,7 @@ pub struct Rows<'a> {
     /// The monitor of the stretch that is gone through, and what is left of it.
     monitor: Option<MonitorId>,
     hours: &'a [(Hour, Observation)],
-    /// The stretches behind it, latest first.
+    /// The stretches after it, latest first.
     behind: Iter<'a, Reverse<Stretch>, Hours>,
 }
 

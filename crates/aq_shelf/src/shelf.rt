@@ -71,7 +71,7 @@ impl Shelf {
         self.count
     }
 
-    /// Puts an observation at a key. It is refused where one stands there, and else where
+    /// Puts an observation at a key. It is refused if one stands there, and else if
     /// `MOST_OBSERVATIONS` stand; after a refusal or want of memory the shelf is as before. A value is
     /// in its pollutant's range.
     pub fn insert(&mut self, key: ObsKey, content: Observation) -> Result<(), ShelfFault>
@@ -92,7 +92,7 @@ impl Shelf {
     }
 
     /// Gives the observation at a key another content, and answers the one before. It takes no
-    /// memory. It is refused where none stands there, and the shelf is then as before. A value is in
+    /// memory. It is refused if none stands there, and the shelf is then as before. A value is in
     /// its pollutant's range.
     pub fn update(&mut self, key: ObsKey, content: Observation) -> Result<Observation, NotThere>
         requires { HasValueInRange key.monitor.pollutant content }
@@ -112,7 +112,7 @@ impl Shelf {
         Ok(before)
     }
 
-    /// Takes the observation at a key away, and answers it. It takes no memory. It is refused where
+    /// Takes the observation at a key away, and answers it. It takes no memory. It is refused if
     /// none stands there, and the shelf is then as before.
     pub fn remove(&mut self, key: ObsKey) -> Result<Observation, NotThere>
         ensures before { IfOk result (λ before. content_at key self.old ≡ Some before) }
@@ -189,7 +189,7 @@ impl Shelf {
     }
 }
 
-/// Puts an observation at a key. It is refused where one stands there, and else where the shelf is
+/// Puts an observation at a key. It is refused if one stands there, and else if the shelf is
 /// full.
 fn put(
     stretches: &mut BTreeMap<Reverse<Stretch>, Hours>,

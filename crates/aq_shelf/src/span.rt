@@ -15,7 +15,7 @@ use std::marker::Model;
 pub struct Span<'a> {
     /// What is left of a stretch.
     hours: &'a [(Hour, Observation)],
-    /// The stretches behind it, latest first.
+    /// The stretches after it, latest first.
     behind: Range<'a, Reverse<Stretch>, Hours>,
     from: u32,
     end: u32,

@@ -13,7 +13,7 @@ use std::alloc::Global;
 const YEAR_BEFORE: u16 = 2020;
 
 /// The summary of an office of 1 to 32 sites and 3 to 10 years, whose loads are drawn from a start number:
-/// how many loads were taken, how many lines they had and how many observations stand. Behind it the report
+/// how many loads were taken, how many lines they had and how many observations stand. After it the report
 /// of each standard for the last year.
 pub fn simulation(alloc: Global, start: u64, sites: u8, years: u8) -> Result<Vec<u8>, Memory>
     requires some_sites { 1 ≤ sites }

@@ -18,7 +18,7 @@ pub struct FileKeeper<'a> {
     faults: u64,
 }
 
-/// The log is copied into the file, which can then be copied by itself. Where that is refused the log
+/// The log is copied into the file, which can then be copied by itself. If that is refused the log
 /// beside the file still has what was committed.
 impl<'a> Drop for FileKeeper<'a> {
     fn drop(self) {
@@ -38,7 +38,7 @@ impl<'a> FileKeeper<'a> {
     ghost use Rattle.std.specs.Prelude.{◌≡◌};
     ghost use Rattle.aq_keeper.specs.Told.{HasCause};
 
-    /// The keeper of the file with this path, which is made at the first call where it is missing.
+    /// The keeper of the file with this path, which is made at the first call if it is missing.
     pub fn at_path(rt: &'a HostRuntime, path: String) -> FileKeeper<'a>
         ensures { result.faults ≡ 0 }
     {

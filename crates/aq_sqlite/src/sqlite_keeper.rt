@@ -41,7 +41,7 @@ impl<S: Alter + Drop> SqliteKeeper<S> {
 }
 
 impl SqliteKeeper<FileStore<File>> {
-    /// Copies the log into the file, which then stands for itself, and closes both. Where that is
+    /// Copies the log into the file, which then stands for itself, and closes both. If that is
     /// refused the log keeps what was committed, and the next open finds it.
     pub(crate) fn close(self) -> Result<(), Error> {
         let SqliteKeeper {
@@ -70,7 +70,7 @@ impl<S: Alter + Drop> Keeper for SqliteKeeper<S> {
     }
 }
 
-/// An answer with its refusal, which is counted where it is a fault.
+/// An answer with its refusal, which is counted if it is a fault.
 fn counted<T>(faults: &mut u64, answer: Result<T, Error>) -> Result<T, KeeperFault>
     ensures { HasCause faults.old faults.new result }
 {

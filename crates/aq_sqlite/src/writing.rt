@@ -18,7 +18,7 @@ pub(crate) fn make_tables<S: Alter>(connection: &mut Connection<S>) -> Result<()
     transaction.commit()
 }
 
-/// Makes the changes of a batch, in one transaction. It is rolled back where one is refused.
+/// Makes the changes of a batch, in one transaction. It is rolled back if one is refused.
 pub(crate) fn make_changes<S: Alter>(
     connection: &mut Connection<S>,
     batch: &[RowChange],
@@ -30,7 +30,7 @@ pub(crate) fn make_changes<S: Alter>(
     transaction.commit()
 }
 
-/// Begins a transaction, where none is open.
+/// Begins a transaction, if none is open.
 fn begin<S: Alter>(connection: &mut Connection<S>) -> Result<Transaction<'_, S>, Error> {
     if !connection.is_autocommit() {
         return Err(Error::SqliteFailure(ErrorCode::TransactionState));

@@ -9,7 +9,7 @@ use Rattle.aq_base.specs.declared.rule.Rule.{Rule}
 abbrev pub CountsByNumber : List ListedLine → List ℕ → Type 0
 CountsByNumber refused counts = (number : ℕ) → number < 256 → slice_index counts number ≡ count_by (λ listed. rule_number listed.rule == number) refused
 
--- so many lines under a rule as its number has, where there are any
+-- so many lines under a rule as its number has, if there are any
 abbrev pub counted : Rule → ℕ → Option RestRule
 counted rule count = if count == 0 then None else Some (record { rule = rule; count = count })
 

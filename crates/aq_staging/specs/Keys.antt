@@ -9,7 +9,7 @@ use Rattle.aq_rules.specs.Office.Office.{observation_key, observation_numbers}
 abbrev pub keys_in : List (ObsKey × Observation) → List ObsKey
 keys_in rows = map observation_key rows
 
--- a key that was read ahead, and those behind it
+-- a key that was read ahead, and those after it
 abbrev pub keys_left : Option ObsKey → List (ObsKey × Observation) → List ObsKey
 keys_left next rows = cons_option next (keys_in rows)
 

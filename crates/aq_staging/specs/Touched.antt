@@ -26,7 +26,7 @@ noted changes touched = noted_second changes.second (noted_change changes.first 
 
 -- ---- what holds of the touched records of every load
 
--- they are in order; and where none of them has a key, its record is the one before the load
+-- they are in order; and if none of them has a key, its record is the one before the load
 pub record AreTouched (before after touched : List OfficeRecord) : Type 0 where
   pub rising : rises record_rank touched ≡ true
   pub others : (key : List ℕ) → row_at record_rank key touched ≡ None → row_at record_rank key before ≡ row_at record_rank key after

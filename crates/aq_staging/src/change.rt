@@ -19,7 +19,7 @@ pub enum OfficeChange {
     DropObservation(ObsKey),
 }
 
-/// What becomes of the record of a key: nothing where it is the same before and now.
+/// What becomes of the record of a key: nothing if it is the same before and now.
 pub(crate) fn record_change(
     key: &OfficeKey,
     before: &Option<OfficeRecord>,
@@ -41,7 +41,7 @@ pub(crate) fn record_change(
     }
 }
 
-/// What becomes of the observation at a key: nothing where it is the same before and now.
+/// What becomes of the observation at a key: nothing if it is the same before and now.
 pub(crate) fn observation_change(
     key: &ObsKey,
     before: &Option<Observation>,

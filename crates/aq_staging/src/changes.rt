@@ -11,7 +11,7 @@ use aq_shelf::{Shelf, ShelfFault};
 use std::alloc::Global;
 
 /// What a load leaves of the observations: those that it put or changed, and those of the shelf below
-/// that it took away, as they were. Where a key is among both, what was put stands.
+/// that it took away, as they were. If a key is among both, what was put stands.
 #[derive(Drop)]
 pub(crate) struct Changes {
     pub(crate) left: Shelf,
@@ -30,7 +30,7 @@ impl Changes {
         }
     }
 
-    /// The observation of a shelf at a key, where one stands there that the load did not take away.
+    /// The observation of a shelf at a key, if one stands there that the load did not take away.
     pub(crate) fn kept(&self, shelf: &Shelf, key: &ObsKey) -> Option<Observation>
         ensures content { result ≡ content_at key.now (without_rows self.now.dropped shelf.now) }
         ensures range { IfSome result (HasValueInRange key.now.monitor.pollutant) }
@@ -130,7 +130,7 @@ fn put_row(shelf: &mut Shelf, key: &ObsKey, content: &Observation) -> Result<(),
     }
 }
 
-/// Puts a row on a shelf where none stands at its key, and where there is room for it.
+/// Puts a row on a shelf if none stands at its key, and if there is room for it.
 pub(crate) fn put_new(shelf: &mut Shelf, key: &ObsKey, content: &Observation) -> Result<(), Memory>
     requires range { HasValueInRange key.now.monitor.pollutant content.now }
     requires absent { content_at key.now shelf.old ≡ None }

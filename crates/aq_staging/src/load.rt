@@ -51,7 +51,7 @@ pub fn stage_load(
     })
 }
 
-/// Takes one line, and puts it behind the refused ones where it is refused.
+/// Takes one line, and puts it after the refused ones if it is refused.
 fn take_line(
     staging: &mut Staging<'_>,
     refused: &mut Vec<ListedLine>,

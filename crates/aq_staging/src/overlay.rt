@@ -72,7 +72,7 @@ impl<'a> Overlay<'a> {
         self.changes.at(self.shelf, key)
     }
 
-    /// Puts an observation at a key. It is refused where one stands there, and else where
+    /// Puts an observation at a key. It is refused if one stands there, and else if
     /// `MOST_OBSERVATIONS` stand; after a refusal or want of memory nothing is changed. A value is in its
     /// pollutant's range.
     pub(crate) fn insert(&mut self, key: ObsKey, content: Observation) -> Result<(), ShelfFault>
@@ -98,7 +98,7 @@ impl<'a> Overlay<'a> {
         Ok(())
     }
 
-    /// Gives the observation at a key another content, and answers the one before. It is refused where
+    /// Gives the observation at a key another content, and answers the one before. It is refused if
     /// none stands there; after a refusal or want of memory nothing is changed. A value is in its
     /// pollutant's range.
     pub(crate) fn update(
@@ -124,7 +124,7 @@ impl<'a> Overlay<'a> {
         Ok(before)
     }
 
-    /// Takes the observation at a key away, and answers it. It is refused where none stands there; after
+    /// Takes the observation at a key away, and answers it. It is refused if none stands there; after
     /// a refusal or want of memory nothing is changed.
     pub(crate) fn remove(&mut self, key: ObsKey) -> Result<Observation, OverlayFault>
         ensures ok { OnOk result (self.new ≡ without_content key self.old) }

@@ -52,7 +52,7 @@ pub record FillsUp (q : PmQuarter) (copies : Copies) : Type 0 where
   pub fills : Fills q copies
   pub scheduled : q.counted + copies.number ≤ q.scheduled
 
--- three lists as one, where each is there
+-- three lists as one, if each is there
 abbrev pub joined_three : {X : Type 0} → Option (List X) → Option (List X) → Option (List X) → Option (List X)
 joined_three (Some a) (Some b) (Some c) = Some (a ++ (b ++ c))
 joined_three _ _ _ = None

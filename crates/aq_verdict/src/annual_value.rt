@@ -105,7 +105,7 @@ fn annual_test(
     }
 }
 
-// Where a year is not valid, the test has to bear the value out.
+// If a year is not valid, the test has to bear the value out.
 fn annual_verdict(level: i32, value: Option<i32>, valid: &[bool; 3], test: Option<i32>) -> Verdict
     ensures { result ≡ annual_verdict level value valid.now test }
 {
@@ -129,7 +129,7 @@ fn annual_verdict(level: i32, value: Option<i32>, valid: &[bool; 3], test: Optio
     }
 }
 
-// The design value with the copies of a test; none where they are not to be had for a quarter.
+// The design value with the copies of a test; none if they are not to be had for a quarter.
 fn filled_value(years: &[PmYear; 3], test: Test) -> Option<i32>
     ensures { result ≡ filled_value of_summaries (copies_in_test test) years.now }
 {

@@ -11,7 +11,7 @@ use crate::pm_quarter::PmQuarter;
 use crate::pm_year::PmYear;
 use crate::rounded::rounded;
 
-/// The creditable samples in percent of the scheduled days, to the nearest whole one; 0 where nothing
+/// The creditable samples in percent of the scheduled days, to the nearest whole one; 0 if nothing
 /// is scheduled (40 CFR Part 50, Appendix N, 1.0(c)).
 pub fn capture(quarter: &PmQuarter) -> u32
     ensures { result ≡ capture (counts_of quarter.now) }

@@ -20,7 +20,7 @@ use crate::substitution::{Copies, maximum_for};
 use aq_base::{Standard, Verdict};
 use std::marker::Model;
 
-/// The 24-hour PM2.5 design value in µg/m3, the value of the maximum test where it was asked for and
+/// The 24-hour PM2.5 design value in µg/m3, the value of the maximum test if it was asked for and
 /// its needs are met, whether each year is valid, and the verdict.
 #[derive(Clone, Copy, Debug, PartialEq, Eq)]
 pub struct DailyDv {
@@ -103,7 +103,7 @@ fn whole(value: Option<i32>) -> Option<i32>
     Some(rounded(i128::from(value?), 10))
 }
 
-// The maximum test is asked for where a year is not valid.
+// The maximum test is asked for if a year is not valid.
 fn daily_test(years: &[PmYear; 3], value: Option<i32>, valid: &[bool; 3]) -> Option<i32>
     ensures { result ≡ daily_test value valid.now (value_of_three (map (filled_percentile of_summaries years.now) years.now)) }
 {
@@ -151,7 +151,7 @@ fn daily_verdict(value: Option<i32>, valid: &[bool; 3], test: Option<i32>) -> Ve
     }
 }
 
-// The percentile of the year's list with its copies; none where they are not to be had for a quarter.
+// The percentile of the year's list with its copies; none if they are not to be had for a quarter.
 fn filled_percentile(years: &[PmYear; 3], year: &PmYear) -> Option<i32>
     ensures { result ≡ filled_percentile of_summaries years.now year.now }
 {

@@ -12,7 +12,7 @@ use aq_num::sum_of_ratios;
 /// A quarterly mean: the sum of the quarter's values, in tenths of a µg/m3, and their number.
 pub(crate) type Mean = (i32, u8);
 
-/// The mean of the four quarterly means of a year, in tenths of a µg/m3; none where a quarter has no
+/// The mean of the four quarterly means of a year, in tenths of a µg/m3; none if a quarter has no
 /// day.
 pub(crate) fn mean_of_year(means: &[Mean; 4]) -> Option<i32>
     requires { All IsMean means.now }
@@ -33,7 +33,7 @@ fn padded(means: &[Mean; 4]) -> [Mean; 12]
     [a, b, c, d, none, none, none, none, none, none, none, none]
 }
 
-/// The mean of the twelve quarterly means of three years, in tenths of a µg/m3; none where a quarter
+/// The mean of the twelve quarterly means of three years, in tenths of a µg/m3; none if a quarter
 /// has no day.
 pub(crate) fn mean_of_three_years(means: &[Mean; 12]) -> Option<i32>
     requires { All IsMean means.now }

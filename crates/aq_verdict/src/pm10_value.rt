@@ -43,7 +43,7 @@ pub fn pm10(years: &[Pm10Year; 3]) -> Pm10Dv
     }
 }
 
-/// The estimate of a year, in tenths; none where a quarter has no sample (40 CFR Part 50, Appendix K, 2.3).
+/// The estimate of a year, in tenths; none if a quarter has no sample (40 CFR Part 50, Appendix K, 2.3).
 pub fn year_estimate(year: &Pm10Year) -> Option<i32>
     ensures { result ≡ year_of_quarters quarter_estimate year.now }
 {
@@ -82,7 +82,7 @@ pub fn quarter_estimate(quarter: &Pm10Quarter) -> Option<i32>
 }
 
 /// The lower estimate of a quarter, in hundredths: its days times the part of its scheduled days that
-/// exceed; 0 where nothing is scheduled (own).
+/// exceed; 0 if nothing is scheduled (own).
 pub fn quarter_lower(quarter: &Pm10Quarter) -> Option<i32>
     ensures { result ≡ quarter_lower quarter.now }
 {

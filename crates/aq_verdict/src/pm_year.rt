@@ -28,7 +28,7 @@ impl Model for PmYear {
 }
 
 impl PmYear {
-    /// The year of these quarters and greatest values; the places behind the last value are empty.
+    /// The year of these quarters and greatest values; the places after the last value are empty.
     pub fn new(quarters: [PmQuarter; 4], top: [Option<i32>; 8]) -> PmYear
         requires falls { IsTrue (descends top) }
         requires facts { KeepsPmYear (record { quarters = quarters; top = given top }) }
@@ -48,7 +48,7 @@ impl PmYear {
         &self.quarters
     }
 
-    /// The eight greatest values, downwards, and empty places behind them.
+    /// The eight greatest values, downwards, and empty places after them.
     pub fn top(&self) -> &[Option<i32>; 8]
         ensures value { result.now ≡ placed 8 self.now.top }
         ensures given { given result.now ≡ self.now.top }

@@ -10,7 +10,7 @@ use crate::pm_quarter::PmQuarter;
 use crate::pm_year::PmYear;
 use crate::substitution::Copies;
 
-/// The annual mean, in tenths of a µg/m3; none where a quarter has no day.
+/// The annual mean, in tenths of a µg/m3; none if a quarter has no day.
 pub fn annual_mean(year: &PmYear) -> Option<i32>
     ensures { result ≡ mean_of of_summaries year.now.quarters }
 {

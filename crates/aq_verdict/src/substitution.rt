@@ -34,7 +34,7 @@ pub(crate) struct ThreeQuarters {
     greatest: Option<i32>,
 }
 
-/// The copies for a quarter, which is the given part of its year, in a test; none where the test is
+/// The copies for a quarter, which is the given part of its year, in a test; none if the test is
 /// not to be had.
 pub(crate) fn copies_in_test(
     years: &[PmYear; 3],

@@ -83,7 +83,7 @@ export_of _ = None
 
 -- ---- `serve --port P --connections N`
 
--- an option's value, and the words behind it
+-- an option's value, and the words after it
 pub record Taken : Type 0 where
   pub value : List ℕ
   pub rest : List (List ℕ)
@@ -93,11 +93,11 @@ abbrev pub taken_next : List (List ℕ) → Option Taken
 taken_next [] = None
 taken_next (value ∷ rest) = Some (record { value = value; rest = rest })
 
--- what stands behind the front of a text
+-- what stands after the front of a text
 abbrev pub behind : List ℕ → List ℕ → Option (List ℕ)
 behind front text = if bytes_eq (take (length front) text) front then Some (drop (length front) text) else None
 
--- the value behind an equals sign
+-- the value after an equals sign
 unfoldable pub taken_here : List ℕ → List ℕ → List (List ℕ) → Option Taken
 taken_here name word rest = do
   sign ← behind name word

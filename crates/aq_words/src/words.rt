@@ -125,7 +125,7 @@ fn served_by(port: &[u8], connections: &[u8]) -> Option<Command>
     })
 }
 
-/// The values of two options in this order, behind which no word stands.
+/// The values of two options in this order, after which no word stands.
 #[tactic(auto, unfolding(crate::specs::Words::pair_of))]
 fn pair_of<'a>(first: &[u8], second: &[u8], words: &'a [String]) -> Option<(&'a [u8], &'a [u8])>
     ensures { option_map (λ pair. record { first = pair.0.now; second = pair.1.now }) result ≡ pair_of first.now second.now (map string_bytes words.now) }
@@ -139,7 +139,7 @@ fn pair_of<'a>(first: &[u8], second: &[u8], words: &'a [String]) -> Option<(&'a 
     }
 }
 
-/// An option's value and the words behind it: the value is a word of its own, or stands behind an equals
+/// An option's value and the words after it: the value is a word of its own, or stands after an equals
 /// sign.
 #[tactic(auto, unfolding(crate::specs::Words::option_of, crate::specs::Words::taken_here))]
 fn option_of<'a>(name: &[u8], words: &'a [String]) -> Option<(&'a [u8], &'a [String])>

@@ -54,7 +54,7 @@ impl OpenListener for Losing {
     }
 }
 
-/// Whether the door accepts a connection behind a lost one.
+/// Whether the door accepts a connection after a lost one.
 fn accepts_behind(rt: &HostRuntime, kind: ErrorKind) -> Result<bool, Fail> {
     let losing = Losing {
         listener: listener(rt)?,

@@ -149,7 +149,7 @@ impl Registry {
         }
     }
 
-    /// Whether the designated monitor stands, or, where POC 0 designates none, one of the pollutant.
+    /// Whether the designated monitor stands, or, if POC 0 designates none, one of the pollutant.
     fn has_designated(&self, site: &SiteId, pollutant: Pollutant, poc: u8) -> bool
         ensures { result ≡ rules.has_designated (office_with self.now) site.now pollutant poc }
     {
@@ -217,7 +217,7 @@ impl Registry {
         }
     }
 
-    /// The rule of the list that a new record joins, where as many stand as may.
+    /// The rule of the list that a new record joins, if as many stand as may.
     fn full_rule(&self, row: &OfficeRecord) -> Option<Rule>
         ensures { result ≡ rules.full_rule (office_with self.now) row.now }
     {
@@ -294,7 +294,7 @@ fn any_combines(
     false
 }
 
-/// The rule of a full list, where as many stand as may.
+/// The rule of a full list, if as many stand as may.
 fn rule_where_full(count: usize, most: usize, rule: Rule) -> Option<Rule>
     ensures { result ≡ rules.rule_where_full count most rule }
 {
