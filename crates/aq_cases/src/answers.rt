@@ -1,6 +1,6 @@
 //! Functions that a case may call, by their names, and their answers as text. Each takes words with spaces
 //! between them; bytes are spelled as in a block.
-ghost use Rattle.std.specs.Prelude.{◌≤◌};
+ghost use Rattle.std.specs.Prelude.{◌≤◌, IfOk};
 
 use crate::dates::{day_in, day_name};
 use crate::spelling::{spelling_of, write_line};
@@ -173,46 +173,61 @@ fn body(alloc: Global, arguments: &str) -> Result<String, Trouble> {
     Ok(all)
 }
 
-/// The first number of a text and what stands behind it.
-fn cut(text: &str) -> Result<(i128, &str), Trouble> {
-    let (word, rest) = match text.split_once(' ') {
+/// The first word of a text and what stands behind it.
+fn cut(text: &str) -> (&str, &str) {
+    match text.split_once(' ') {
         Some(parts) => parts,
         None => (text, ""),
-    };
-    match word.parse() {
-        Ok(number) => Ok((number, rest)),
-        Err(_) => Err(Trouble::Wrong("no number")),
     }
 }
 
-/// Two numbers.
-fn two(text: &str) -> Result<(i128, i128), Trouble> {
-    let (first, rest) = cut(text)?;
-    let (second, _) = cut(rest)?;
-    Ok((first, second))
+/// A number of 0 or more.
+fn count(word: &str) -> Result<u64, Trouble> {
+    match word.parse() {
+        Ok(number) => Ok(number),
+        Err(_) => Err(NOT_SO),
+    }
+}
+
+/// A number with or without a sign.
+fn number(word: &str) -> Result<i64, Trouble> {
+    match word.parse() {
+        Ok(number) => Ok(number),
+        Err(_) => Err(NOT_SO),
+    }
+}
+
+/// How many places a number has: 0 to 6.
+fn places(word: &str) -> Result<u8, Trouble>
+    ensures { IfOk result (λ places. places ≤ 6) }
+{
+    let places = count(word)?;
+    if places > 6 {
+        return Err(NOT_SO);
+    }
+    Ok(places as u8)
 }
 
 /// `START SITES YEARS LOAD LINE`: a line of a generated load, by its number from 0, or `none`.
 fn generated(alloc: Global, arguments: &str) -> Result<String, Trouble> {
-    let (start, rest) = cut(arguments)?;
-    let (sites, rest) = cut(rest)?;
-    let (years, rest) = cut(rest)?;
-    let (load, place) = two(rest)?;
-    let (Ok(start), Ok(load)) = (u64::try_from(start), u32::try_from(load)) else {
-        return Err(NOT_SO);
-    };
-    if sites < 1 || sites > 32 || years < 3 || years > 10 {
+    let (start, rest) = cut(arguments);
+    let (sites, rest) = cut(rest);
+    let (years, rest) = cut(rest);
+    let (load, place) = cut(rest);
+    let (start, place) = (count(start)?, count(place)?);
+    let (sites, years, load) = (count(sites)?, count(years)?, count(load)?);
+    if sites < 1 || sites > 32 || years < 3 || years > 10 || load > 1_000 {
         return Err(NOT_SO);
     }
-    match generate(alloc, start, sites as u8, years as u8, load)? {
+    match generate(alloc, start, sites as u8, years as u8, load as u32)? {
         Some(body) => line_at(alloc, &body, place),
         None => text(alloc, "none"),
     }
 }
 
 /// A line of a text by its number.
-fn line_at(alloc: Global, body: &[u8], place: i128) -> Result<String, Trouble> {
-    let mut number = 0i128;
+fn line_at(alloc: Global, body: &[u8], place: u64) -> Result<String, Trouble> {
+    let mut number = 0u64;
     for line in body.split(|byte| *byte == b'\n') {
         if number == place {
             return shown(alloc, line);
@@ -224,14 +239,10 @@ fn line_at(alloc: Global, body: &[u8], place: i128) -> Result<String, Trouble> {
 
 /// `TEXT PLACES`: the number that a decimal text is cut to.
 fn decimal(alloc: Global, arguments: &str) -> Result<String, Trouble> {
-    let Some((digits, places)) = arguments.rsplit_once(' ') else {
+    let Some((digits, word)) = arguments.rsplit_once(' ') else {
         return Err(NOT_SO);
     };
-    let (places, _) = cut(places)?;
-    if places < 0 || places > 6 {
-        return Err(NOT_SO);
-    }
-    match read_decimal(digits.as_bytes(), places as u8) {
+    match read_decimal(digits.as_bytes(), places(word)?) {
         Ok(number) => Ok(format!(in alloc; "{number}")?),
         Err(fault) => Ok(format!(in alloc; "{fault}")?),
     }
@@ -239,24 +250,16 @@ fn decimal(alloc: Global, arguments: &str) -> Result<String, Trouble> {
 
 /// `VALUE PLACES`: the value in units of the last place, as it is written.
 fn fixed(alloc: Global, arguments: &str) -> Result<String, Trouble> {
-    let (value, places) = two(arguments)?;
-    let Ok(value) = i64::try_from(value) else {
-        return Err(NOT_SO);
-    };
-    if places < 0 || places > 6 {
-        return Err(NOT_SO);
-    }
+    let (value, word) = cut(arguments);
     let mut out = Vec::new(alloc);
-    write_fixed(&mut out, value, places as u8)?;
+    write_fixed(&mut out, number(value)?, places(word)?)?;
     shown(alloc, &out)
 }
 
 /// `A B`: the quotient, cut toward zero.
 fn truncated(alloc: Global, arguments: &str) -> Result<String, Trouble> {
-    let (a, b) = two(arguments)?;
-    let (Ok(a), Ok(b)) = (i64::try_from(a), i64::try_from(b)) else {
-        return Err(NOT_SO);
-    };
+    let (a, b) = cut(arguments);
+    let (a, b) = (number(a)?, number(b)?);
     if b <= 0 {
         return Err(NOT_SO);
     }
@@ -265,20 +268,17 @@ fn truncated(alloc: Global, arguments: &str) -> Result<String, Trouble> {
 
 /// `A B`: the quotient, halves rounded up.
 fn half_up(alloc: Global, arguments: &str) -> Result<String, Trouble> {
-    let (a, b) = two(arguments)?;
-    let (Ok(a), Ok(b)) = (i32::try_from(a), i32::try_from(b)) else {
-        return Err(NOT_SO);
-    };
+    let (a, b) = cut(arguments);
+    let (a, b) = (i128::from(number(a)?), i128::from(number(b)?));
     if b <= 0 {
         return Err(NOT_SO);
     }
-    let quotient = round_half_up(i128::from(a), i128::from(b));
-    Ok(format!(in alloc; "{quotient}")?)
+    Ok(format!(in alloc; "{}", round_half_up(a, b))?)
 }
 
 /// `COUNTED`: the rank of the percentile.
 fn rank(alloc: Global, arguments: &str) -> Result<String, Trouble> {
-    let (counted, _) = cut(arguments)?;
+    let counted = count(arguments)?;
     if counted < 1 || counted > 366 {
         return Err(NOT_SO);
     }
@@ -321,13 +321,10 @@ fn year(alloc: Global, arguments: &str) -> Result<String, Trouble> {
 
 /// `A B`: whether the keys of the loads with these numbers rise.
 fn keys_rise(alloc: Global, arguments: &str) -> Result<String, Trouble> {
-    let (a, b) = two(arguments)?;
-    let (Ok(a), Ok(b)) = (i64::try_from(a), i64::try_from(b)) else {
-        return Err(NOT_SO);
-    };
+    let (a, b) = cut(arguments);
     let batch = [
-        RowChange::drop(RowKey::load(a)),
-        RowChange::drop(RowKey::load(b)),
+        RowChange::drop(RowKey::load(number(a)?)),
+        RowChange::drop(RowKey::load(number(b)?)),
     ];
     let rise = do_keys_rise(&batch);
     Ok(format!(in alloc; "{rise}")?)

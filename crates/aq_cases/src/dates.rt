@@ -1,6 +1,4 @@
 //! Dates and times of the expansions.
-ghost use Rattle.std.specs.Prelude.{◌≤◌, IfSome};
-
 use aq_base::{Day, Hour, LAST_DAY, LAST_HOUR};
 use aq_cal::{civil_of, day_of, hour_of};
 use std::alloc::{AllocError, Global};

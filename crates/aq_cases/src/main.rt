@@ -2,8 +2,8 @@
 //! doors and keepers in memory, and prints a line for each. A case says which words and lines go in, and
 //! what has to come out. `format` says how a case is written.
 //!
-//! The files are those that its words name, or else those that `data/index.txt` lists. It ends with 1 where
-//! a case differs.
+//! The files are those that its words name, or else those that `index.txt` lists. `rt try -- data/scan.txt`
+//! runs the cases of one, and proves nothing. It ends with 1 where a case differs.
 #![tactic(auto)]
 
 mod answers;

@@ -1,9 +1,6 @@
 //! A case that is tried.
-ghost use Rattle.std.specs.Prelude.{◌≡◌, true, map};
-ghost use Rattle.aq_rules.specs.Kept.RowChanges.{row_key, keys_rise};
-
 use crate::calls::try_calls;
-use crate::case::{Case, Failing, Given, Run, Subject, Wanted};
+use crate::case::{Case, Extent, Failing, Given, Run, Subject, Wanted};
 use crate::compare::difference;
 use crate::rows::{read_rows, rows_text};
 use crate::trouble::Trouble;
@@ -16,9 +13,9 @@ use std::alloc::Global;
 #[derive(Drop)]
 struct Outcome {
     status: u8,
-    output: MemorySink,
-    errors: MemorySink,
-    door: MemoryDoor,
+    output: Vec<u8>,
+    errors: Vec<u8>,
+    replies: Vec<Vec<u8>>,
 }
 
 /// The first difference of a case, told in words, if there is one.
@@ -40,15 +37,16 @@ pub fn try_case(alloc: Global, case: Case) -> Result<Option<String>, Memory> {
     if let Some(found) = try_calls(alloc, calls.as_str())? {
         return Ok(Some(found));
     }
-    match read_rows(alloc, &rows) {
-        Ok(rows) if are_in_order(&rows) => {
-            let mut keeper = MemoryKeeper::new(rows, failing_keeper);
-            try_runs(alloc, runs, &mut keeper)
-        }
-        Ok(_) => said(alloc, "the rows are not in order"),
-        Err(Trouble::Memory) => Err(Memory),
-        Err(Trouble::Wrong(why)) => said(alloc, why),
+    let rows = match read_rows(alloc, &rows) {
+        Ok(rows) => rows,
+        Err(Trouble::Memory) => return Err(Memory),
+        Err(Trouble::Wrong(why)) => return said(alloc, why),
+    };
+    if !are_in_order(&rows) {
+        return said(alloc, "the rows are not in order");
     }
+    let mut keeper = MemoryKeeper::new(rows, failing_keeper);
+    try_runs(alloc, runs, &mut keeper)
 }
 
 fn said(alloc: Global, text: &str) -> Result<Option<String>, Memory> {
@@ -85,7 +83,7 @@ fn try_run(alloc: Global, run: Run, keeper: &mut MemoryKeeper) -> Result<Option<
     let outcome = perform(alloc, &words, given, keeper)?;
     if outcome.status != status {
         let found = outcome.status;
-        let told = String::from_utf8_lossy(alloc, outcome.errors.written())?;
+        let told = String::from_utf8_lossy(alloc, &outcome.errors)?;
         return Ok(Some(format!(in alloc; "status {found}, wanted {status}: {told}")?));
     }
     for one in &wanted {
@@ -116,6 +114,7 @@ fn perform(
         accepts,
         transfers,
     } = failing;
+    let count = connections.len();
     let mut input = MemorySource::new(input, failing_reads);
     let mut output = MemorySink::new(alloc, room.output, failing_writes)?;
     let mut errors = MemorySink::new(alloc, room.errors, failing_errors)?;
@@ -131,10 +130,20 @@ fn perform(
     );
     Ok(Outcome {
         status,
-        output,
-        errors,
-        door,
+        output: output.written().to_vec(alloc)?,
+        errors: errors.written().to_vec(alloc)?,
+        replies: replies_of(alloc, &door, count)?,
     })
+}
+
+/// What was written on each of so many connections.
+fn replies_of(alloc: Global, door: &MemoryDoor, count: usize) -> Result<Vec<Vec<u8>>, Memory> {
+    let mut replies = Vec::new(alloc);
+    for connection in 0..count {
+        let written = door.written(connection).unwrap_or(b"");
+        replies.push(written.to_vec(alloc)?)?;
+    }
+    Ok(replies)
 }
 
 /// The first difference from one thing that is wanted.
@@ -146,32 +155,38 @@ fn compare(
 ) -> Result<Option<String>, Memory> {
     let (extent, text) = (wanted.extent, wanted.text.as_slice());
     match wanted.subject {
-        Subject::Output => told(
-            alloc,
-            "output",
-            difference(alloc, extent, text, outcome.output.written())?,
-        ),
-        Subject::Errors => told(
-            alloc,
-            "errors",
-            difference(alloc, extent, text, outcome.errors.written())?,
-        ),
-        Subject::Replies(place) => {
-            let written = outcome.door.written(place).unwrap_or(b"");
-            told(alloc, "replies", difference(alloc, extent, text, written)?)
+        Subject::Output => {
+            let found = difference(alloc, extent, text, &outcome.output)?;
+            told(alloc, "output", found)
         }
-        Subject::Tables => {
-            let rows = match keeper.read_all(alloc) {
-                Ok(rows) => rows_text(alloc, rows.as_slice())?,
-                Err(_) => return said(alloc, "the tables cannot be read"),
-            };
-            told(
-                alloc,
-                "tables",
-                difference(alloc, extent, text, rows.as_bytes())?,
-            )
+        Subject::Errors => {
+            let found = difference(alloc, extent, text, &outcome.errors)?;
+            told(alloc, "errors", found)
         }
+        Subject::Replies(place) => match outcome.replies.get(place) {
+            Some(written) => {
+                let found = difference(alloc, extent, text, written)?;
+                told(alloc, "replies", found)
+            }
+            None => said(alloc, "there is no such connection"),
+        },
+        Subject::Tables => compare_tables(alloc, extent, text, keeper),
     }
+}
+
+/// The first difference of a keeper's rows.
+fn compare_tables(
+    alloc: Global,
+    extent: Extent,
+    wanted: &[u8],
+    keeper: &mut MemoryKeeper,
+) -> Result<Option<String>, Memory> {
+    let rows = match keeper.read_all(alloc) {
+        Ok(rows) => rows_text(alloc, rows.as_slice())?,
+        Err(_) => return said(alloc, "the tables cannot be read"),
+    };
+    let found = difference(alloc, extent, wanted, rows.as_bytes())?;
+    told(alloc, "tables", found)
 }
 
 /// A difference, with the name of what differs.
