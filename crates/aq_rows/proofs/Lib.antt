@@ -1,6 +1,5 @@
 -- Lemmas on rows.
 pub mod Written
-pub mod Hours
 pub mod LoadMap
 pub mod Words
 pub mod Gathered

@@ -8,7 +8,7 @@ ghost use Rattle.aq_rows.specs.Ranges.{is_between};
 use aq_base::{HOURS_BEFORE_2000, Hour, LAST_HOUR};
 
 /// An hour as rows have it: below zero for one before 2000.
-#[tactic(auto, using(crate::proofs::Hours::one_start))]
+#[tactic(auto, using(aq_rules::proofs::StoredHours::hours_before_2000_is))]
 pub(crate) fn stored_hour(hour: Hour) -> i64
     ensures { result ≡ stored_hour hour }
 {
@@ -16,7 +16,7 @@ pub(crate) fn stored_hour(hour: Hour) -> i64
 }
 
 /// The hour that a row has, if it is one of the profile.
-#[tactic(auto, using(crate::proofs::Hours::one_start))]
+#[tactic(auto, using(aq_rules::proofs::StoredHours::hours_before_2000_is))]
 pub(crate) fn hour_in(stored: i64) -> Option<Hour>
     ensures { result ≡ (hour_of_stored stored >>- only_if (is_between 0 LAST_HOUR)) }
 {
