@@ -12,11 +12,11 @@ use crate::spellings::{
 };
 use aq_base::{Hour, MonitorId, OfficeKey, OfficeLine, OfficeRecord, Pollutant, Rule, SiteId};
 use aq_cal::hour_of;
-use aq_rules::lines::canonical::what_a_line_spells_is_in_range;
 use aq_rd::{
     Fields, Tag, date_in, duration_in, parameter_in, poc_in, site_in, tag_in, time_in, truth_in,
     year_in,
 };
+use aq_rules::lines::canonical::what_a_line_spells_is_in_range;
 
 /// Reads a line of one of the office's forms, or one whose first field is no tag (own). It is
 /// refused under the reading rule with the smallest number that it breaks. It takes no memory.

@@ -1,7 +1,7 @@
 ghost use Rattle.std.specs.Prelude.{◌≤◌, length};
 
 use super::*;
-use aq_base::{MonitorId, OfficeKey, OfficeLine, Pollutant, Rule, SiteId};
+use aq_base::{MOST_BYTES, MonitorId, OfficeKey, OfficeLine, Pollutant, Rule, SiteId};
 use aq_rd::has_office_tag;
 use std::alloc::Global;
 use std::test::Fail;
