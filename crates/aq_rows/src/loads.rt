@@ -9,6 +9,7 @@ ghost use Rattle.aq_rules.specs.Kept.Rows as book;
 ghost use Rattle.aq_rows.specs.KeptLoads.{stored_as, stored_entry};
 ghost use Rattle.aq_rows.specs.Loaded.{count_of, digest_in, fits_reply, listed_words, load_in, rest_words};
 
+use crate::kept_loads::{KeptLoad, digest_is_32_bytes};
 use crate::pairs::{listed_word, rest_word};
 use crate::ranges::between;
 use crate::texts::{words_of, write_listed, write_rest};
@@ -17,7 +18,6 @@ use aq_base::{
     RestRule,
 };
 use aq_keeper::LoadRow;
-use crate::kept_loads::{KeptLoad, digest_is_32_bytes};
 use std::alloc::Global;
 
 /// The row of a load.

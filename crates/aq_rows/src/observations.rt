@@ -14,8 +14,7 @@ use crate::keys::{pollutant_number, site_number};
 use crate::ranges::between;
 use crate::texts::{words_of, write_codes, write_null};
 use aq_base::{
-    Bytes, Code, MOST_QUALIFIERS, Memory, MonitorId, ObsKey, Observation,
-    Pollutant, Quals, SiteId,
+    Bytes, Code, MOST_QUALIFIERS, Memory, MonitorId, ObsKey, Observation, Pollutant, Quals, SiteId,
 };
 use aq_keeper::ObsRow;
 use aq_rd::null_in;
@@ -83,13 +82,7 @@ fn observation_in(row: &ObsRow) -> Option<(ObsKey, Observation)>
         pollutant,
         poc: poc as u8,
     };
-    Some((
-        ObsKey {
-            monitor,
-            hour,
-        },
-        content,
-    ))
+    Some((ObsKey { monitor, hour }, content))
 }
 
 /// The site that a number of at most nine digits names: two of the state, three of the county and four

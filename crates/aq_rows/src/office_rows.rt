@@ -4,12 +4,12 @@ ghost use Rattle.aq_rules.specs.Kept.Rows as book;
 ghost use Rattle.aq_rows.specs.OfficeRows.{load_row, observation_row, record_row};
 ghost use Rattle.aq_rows.specs.Walking.{office_with};
 
+use crate::kept_loads::Loads;
 use crate::loads::load_row;
 use crate::observations::observation_row;
 use crate::records::office_row;
 use aq_base::Memory;
 use aq_keeper::{Row, Rows};
-use crate::kept_loads::Loads;
 use aq_registry::Registry;
 use aq_shelf::Shelf;
 use std::alloc::Global;

@@ -3,9 +3,9 @@ ghost use Rattle.std.specs.Prelude.{◌≡◌, Some, IfErr, IfOk};
 ghost use Rattle.aq_rules.specs.Kept.Rows as book;
 ghost use Rattle.aq_rows.specs.Opening.{IsOpenFault};
 
+use crate::kept_loads::Loads;
 use crate::walk::{RowFault, Walk};
 use aq_keeper::{Row, RowContent};
-use crate::kept_loads::Loads;
 use aq_registry::Registry;
 use aq_shelf::Shelf;
 use std::alloc::Global;

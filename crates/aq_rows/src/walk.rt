@@ -13,12 +13,12 @@ ghost use Rattle.aq_rows.specs.OneMoreRow.{has_none, may_follow};
 ghost use Rattle.aq_rows.specs.Standing.{can_stand};
 ghost use Rattle.aq_rows.specs.Walking.{Follows, IsFault, IsRowFault, IsWalk, standing};
 
+use crate::kept_loads::{KeptLoad, Loads};
 use crate::loads::load_of;
 use crate::observations::observation_of;
-use crate::records::{key_of, record_line, record_of};
+use crate::records::{record_line, record_of};
 use aq_base::{Duration, Hour, Memory, MonitorId, ObsKey, Observation, OfficeKey, OfficeRecord};
 use aq_keeper::{LoadRow, ObsRow, OfficeRow, Row, RowContent};
-use crate::kept_loads::{KeptLoad, Loads};
 use aq_registry::{Registry, RegistryFault};
 use aq_shelf::{Shelf, ShelfFault};
 use std::alloc::Global;
@@ -230,7 +230,7 @@ fn comes_last(registry: &Registry, entry: &OfficeRecord) -> bool
     requires { IsTrue (rises record_rank registry.now) }
     ensures { result ≡ rises record_rank (registry.now ++ entry.now ∷ []) }
 {
-    registry.following(Some(key_of(entry))).is_none() && registry.get(key_of(entry)).is_none()
+    registry.following(Some(entry.key())).is_none() && registry.get(entry.key()).is_none()
 }
 
 /// Puts an observation behind the others, unless as many stand as may.
