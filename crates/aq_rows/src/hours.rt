@@ -8,7 +8,7 @@ ghost use Rattle.aq_rows.specs.Ranges.{is_between};
 use aq_base::{HOURS_BEFORE_2000, Hour, LAST_HOUR};
 
 /// An hour as rows have it: below zero for one before 2000.
-#[tactic(auto, using(aq_rules::proofs::StoredHours::hours_before_2000-is))]
+#[tactic(auto, using(aq_rules::proofs::StoredHours::hours_before_2000_is))]
 pub(crate) fn stored_hour(hour: Hour) -> i64
     ensures { result ≡ stored_hour hour }
 {

@@ -10,9 +10,9 @@ use Rattle.aq_rules.specs.Kept.Rows.{hours_before_2000, stored_hour, hour_of_sto
 use Rattle.aq_rules.proofs.Tests.{one_answer}
 
 -- as a program counts them
-pub hours_before_2000-is : hours_before_2000 ≡ 87648
+pub hours_before_2000_is : hours_before_2000 ≡ 87648
 unfolding hours_before_2000 days_of_years days_of_months
-hours_before_2000-is = refl
+hours_before_2000_is = refl
 
 pub stored-back : (hour : ℕ) → hour_of_stored (stored_hour hour) ≡ Some hour
 stored-back hour =

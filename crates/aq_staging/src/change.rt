@@ -31,13 +31,20 @@ pub(crate) fn record_change(
         (None, Some(now)) => Some(OfficeChange::PutRecord(*now)),
         (Some(_), None) => Some(OfficeChange::DropRecord(*key)),
         (Some(before), Some(now)) => {
-            if before == now {
+            if is_same_record(before, now) {
                 None
             } else {
                 Some(OfficeChange::PutRecord(*now))
             }
         }
     }
+}
+
+/// Whether two records are equal.
+fn is_same_record(a: &OfficeRecord, b: &OfficeRecord) -> bool
+    ensures { result ≡ book.is_same_record a.now b.now }
+{
+    a == b
 }
 
 /// What becomes of the observation at a key: nothing where it is the same before and now.

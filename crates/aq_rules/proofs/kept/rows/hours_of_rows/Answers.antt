@@ -7,11 +7,11 @@ use Rattle.aq_rules.specs.Lines.Spellings.{site_in, parameter_of}
 use Rattle.aq_rules.specs.Lines.RdForm.{monitor_in}
 use Rattle.aq_rules.specs.Lines.OfficeForms.{xm_record}
 use Rattle.aq_rules.specs.Kept.Rows.{hours_before_2000, record_of_row, observation_of_row, are_office_rows}
-use Rattle.aq_rules.proofs.StoredHours.{hours_before_2000-is, stored-back}
+use Rattle.aq_rules.proofs.StoredHours.{hours_before_2000_is, stored-back}
 use Rattle.aq_rules.proofs.kept.rows.hours_of_rows.Goals as goal
 
 pub returns-clause-hours : goal.returns-clause-hours
-returns-clause-hours c = hours_before_2000-is
+returns-clause-hours c = hours_before_2000_is
 
 pub returns-clause-summer : goal.returns-clause-summer
 unfolding days_of_years days_of_months hours_before_2000
