@@ -7,6 +7,6 @@ mod print;
 mod read;
 mod spellings;
 
-pub use lines::{BodyLine, Lines, MOST_BYTES, count_lines, lines_of};
+pub use lines::{BodyLine, Lines, count_lines, lines_of};
 pub use print::{print_key, print_office};
 pub use read::read_office;

@@ -2,11 +2,9 @@ ghost use Rattle.std.specs.Prelude.{◌≡◌, ◌≤◌, ◌<◌, [], ◌∷◌
 ghost use Rattle.aq_rules.specs.Lines.Lines as book;
 ghost use Rattle.aq_rules.specs.Lines.Lines.{body_lines, line_count, cut_at_ends, without_mark};
 
+use aq_base::MOST_BYTES;
 use memchr::memchr;
 use std::marker::Model;
-
-/// A load's body has at most this many bytes.
-pub const MOST_BYTES: usize = 8_388_608;
 
 // So many bytes, a multiple of 16, are counted at once.
 const PIECE: usize = 240;
@@ -34,7 +32,7 @@ impl<'a> Model for Lines<'a> {
     ghost use Rattle.std.specs.Prelude.{◌+◌, ◌≤◌, List, length};
     ghost use Rattle.aq_rules.specs.Lines.Lines.{NumberedLine};
     ghost use Rattle.aq_forms.specs.BodyLines.{lines_behind};
-    ghost use Rattle.aq_forms.specs.declared.lines.TheConstants.{MOST_BYTES};
+    ghost use Rattle.aq_base.specs.declared.limits.TheConstants.{MOST_BYTES};
 
     ghost Value = { List NumberedLine };
 

@@ -1,7 +1,6 @@
 //! Writing office lines and the keys of their records.
 ghost use Rattle.std.specs.Prelude.{◌≡◌, false, ◌++◌, ◌∷◌, [], decimal, IfOk, IsTrue, OnOk, Some};
 ghost use Rattle.aq_base.specs.Decimal.{last_digits};
-ghost use Rattle.aq_rules.specs.Office.Office.{key_of};
 ghost use Rattle.aq_rules.specs.Lines.Reading.{line_value, OfOffice};
 ghost use Rattle.aq_rules.specs.Lines.Canonical.{canonical_office, is_office_line, printed_key, joined, office_texts_of, key_tag, deletion_texts, content_texts, list_texts, site_texts, parameter_text, date_text, truth_text};
 ghost use Rattle.aq_rd.specs.Printing.{behind_bars};
@@ -52,47 +51,9 @@ fn write_line(out: &mut Vec<u8>, line: &OfficeLine) -> Result<(), Memory>
 fn write_record(out: &mut Vec<u8>, action: &[u8], entry: &OfficeRecord) -> Result<(), Memory>
     ensures { OnOk result (out.new.items ≡ out.old.items ++ joined (office_texts_of action.now entry.now)) }
 {
-    write_front(out, action, &key_of(entry))?;
+    write_front(out, action, &entry.key())?;
     write_content(out, entry)?;
     Ok(())
-}
-
-fn key_of(entry: &OfficeRecord) -> OfficeKey
-    ensures { result ≡ key_of entry.now }
-{
-    match *entry {
-        OfficeRecord::Monitor { id, .. } => OfficeKey::Monitor { id },
-        OfficeRecord::Primary {
-            site,
-            pollutant,
-            from,
-            ..
-        } => OfficeKey::Primary {
-            site,
-            pollutant,
-            from,
-        },
-        OfficeRecord::Schedule {
-            site,
-            pollutant,
-            from,
-            ..
-        } => OfficeKey::Schedule {
-            site,
-            pollutant,
-            from,
-        },
-        OfficeRecord::Season { site, year, .. } => OfficeKey::Season { site, year },
-        OfficeRecord::Makeup { site, missed, .. } => OfficeKey::Makeup { site, missed },
-        OfficeRecord::Event { number, .. } => OfficeKey::Event { number },
-        OfficeRecord::Concurrence { number, .. } => OfficeKey::Concurrence { number },
-        OfficeRecord::Approved { site, day } => OfficeKey::Approved { site, day },
-        OfficeRecord::Combined {
-            site,
-            pollutant,
-            ..
-        } => OfficeKey::Combined { site, pollutant },
-    }
 }
 
 // The tag, an action and the fields of a deletion.

@@ -3,7 +3,8 @@ ghost use Rattle.std.specs.Prelude.{◌≡◌, ◌≤◌, ◌==◌, length, map,
 ghost use Rattle.aq_rules.specs.Lines.Lines.{body_lines};
 ghost use Rattle.aq_measure.specs.Counts.{field_count, field_count_in};
 
-use aq_forms::{MOST_BYTES, lines_of};
+use aq_base::MOST_BYTES;
+use aq_forms::lines_of;
 use aq_rd::{Fields, MOST_FIELDS};
 
 /// The lines of a body that are not skipped, and their fields. The fields of so many lines fit,

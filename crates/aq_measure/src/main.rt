@@ -16,7 +16,7 @@ mod fixed;
 mod made_up;
 mod particles;
 
-use aq_forms::MOST_BYTES;
+use aq_base::MOST_BYTES;
 use commits::commit_times;
 use counts::{bars_in, fields_in};
 use designs::ozone_designs;

@@ -1,9 +1,9 @@
 //! Where a record stands among the others.
 ghost use Rattle.std.specs.Prelude.{◌≡◌};
-ghost use Rattle.aq_rules.specs.Office.Office.{key_of, parameter_number};
+ghost use Rattle.aq_rules.specs.Office.Office.{parameter_number};
 ghost use Rattle.aq_registry.specs.Places.{behind_site, of_event, of_kind, of_site, place_of};
 
-use aq_base::{OfficeKey, OfficeRecord, Pollutant, SiteId};
+use aq_base::{OfficeKey, Pollutant, SiteId};
 
 /// A record's place in the order of rows: by kind, site, parameter, and last by POC, day, year or event
 /// number. What a kind does not have is 0.
@@ -111,56 +111,5 @@ pub(crate) fn parameter(pollutant: Pollutant) -> u32
         Pollutant::Ozone => 44201,
         Pollutant::Pm25 => 88101,
         Pollutant::Pm10 => 81102,
-    }
-}
-
-/// The key of a record.
-pub(crate) fn key(of: &OfficeRecord) -> OfficeKey
-    ensures { result ≡ key_of of.now }
-{
-    match of {
-        OfficeRecord::Monitor { id, .. } => OfficeKey::Monitor { id: *id },
-        OfficeRecord::Primary {
-            site,
-            pollutant,
-            from,
-            ..
-        } => OfficeKey::Primary {
-            site: *site,
-            pollutant: *pollutant,
-            from: *from,
-        },
-        OfficeRecord::Schedule {
-            site,
-            pollutant,
-            from,
-            ..
-        } => OfficeKey::Schedule {
-            site: *site,
-            pollutant: *pollutant,
-            from: *from,
-        },
-        OfficeRecord::Season { site, year, .. } => OfficeKey::Season {
-            site: *site,
-            year: *year,
-        },
-        OfficeRecord::Makeup { site, missed, .. } => OfficeKey::Makeup {
-            site: *site,
-            missed: *missed,
-        },
-        OfficeRecord::Event { number, .. } => OfficeKey::Event { number: *number },
-        OfficeRecord::Concurrence { number, .. } => OfficeKey::Concurrence { number: *number },
-        OfficeRecord::Approved { site, day } => OfficeKey::Approved {
-            site: *site,
-            day: *day,
-        },
-        OfficeRecord::Combined {
-            site,
-            pollutant,
-            ..
-        } => OfficeKey::Combined {
-            site: *site,
-            pollutant: *pollutant,
-        },
     }
 }

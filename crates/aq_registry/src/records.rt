@@ -9,7 +9,7 @@ ghost use Rattle.aq_rules.specs.Office.Questions.{record_of, following};
 ghost use Rattle.aq_registry.specs.Places.{behind, is_of_between, is_of_from, lies_between, place_cmp, places_of, IsSpan};
 
 use crate::facts;
-use crate::place::{Place, key};
+use crate::place::Place;
 use crate::rows::Rows;
 use aq_base::{Memory, OfficeKey, OfficeRecord, SiteId};
 use std::alloc::Global;
@@ -161,7 +161,7 @@ impl Records {
         ensures ok { OnOk result (self.new ≡ with_row record_rank row self.old) }
         ensures unchanged { OnErr result (self.new ≡ self.old) }
     {
-        let place = Place::of(&key(&row));
+        let place = Place::of(&row.key());
         self.by_place.insert(place, row)?;
         Ok(())
     }

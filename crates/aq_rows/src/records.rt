@@ -3,11 +3,10 @@ ghost use Rattle.std.specs.Prelude.{◌≡◌, IfOk, IfSome, IsTrue};
 ghost use Rattle.aq_rules.specs.Lines.Canonical.{is_office_line, record_line};
 ghost use Rattle.aq_rules.specs.Lines.Spellings.{◌>>=◌ as ◌>>-◌};
 ghost use Rattle.aq_rules.specs.Lines.Reading.{line_value, OfOffice};
-ghost use Rattle.aq_rules.specs.Office.Office.{key_of};
 ghost use Rattle.aq_rules.specs.Kept.Rows as book;
 
 use crate::keys::kind_of;
-use aq_base::{Bytes, Memory, OfficeKey, OfficeLine, OfficeRecord};
+use aq_base::{Bytes, Memory, OfficeLine, OfficeRecord};
 use aq_forms::{print_key, print_office, read_office};
 use aq_keeper::OfficeRow;
 use aq_rd::has_office_tag;
@@ -17,7 +16,7 @@ use std::alloc::Global;
 pub fn office_row(alloc: Global, entry: &OfficeRecord) -> Result<OfficeRow, Memory>
     ensures { IfOk result (λ row. row ≡ book.office_row entry.now) }
 {
-    let key = key_of(entry);
+    let key = entry.key();
     let line = record_line(entry);
     Ok(OfficeRow {
         kind: kind_of(&key),
@@ -89,42 +88,4 @@ fn is_same(a: &OfficeRow, b: &OfficeRow) -> bool
     a.kind == b.kind
         && a.key.as_slice() == b.key.as_slice()
         && a.line.as_slice() == b.line.as_slice()
-}
-
-pub(crate) fn key_of(entry: &OfficeRecord) -> OfficeKey
-    ensures { result ≡ key_of entry.now }
-{
-    match *entry {
-        OfficeRecord::Monitor { id, .. } => OfficeKey::Monitor { id },
-        OfficeRecord::Primary {
-            site,
-            pollutant,
-            from,
-            ..
-        } => OfficeKey::Primary {
-            site,
-            pollutant,
-            from,
-        },
-        OfficeRecord::Schedule {
-            site,
-            pollutant,
-            from,
-            ..
-        } => OfficeKey::Schedule {
-            site,
-            pollutant,
-            from,
-        },
-        OfficeRecord::Season { site, year, .. } => OfficeKey::Season { site, year },
-        OfficeRecord::Makeup { site, missed, .. } => OfficeKey::Makeup { site, missed },
-        OfficeRecord::Event { number, .. } => OfficeKey::Event { number },
-        OfficeRecord::Concurrence { number, .. } => OfficeKey::Concurrence { number },
-        OfficeRecord::Approved { site, day } => OfficeKey::Approved { site, day },
-        OfficeRecord::Combined {
-            site,
-            pollutant,
-            ..
-        } => OfficeKey::Combined { site, pollutant },
-    }
 }

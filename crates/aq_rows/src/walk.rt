@@ -16,7 +16,7 @@ ghost use Rattle.aq_rows.specs.Walking.{Follows, IsFault, IsRowFault, IsWalk, st
 use crate::kept_loads::{KeptLoad, Loads};
 use crate::loads::load_of;
 use crate::observations::observation_of;
-use crate::records::{key_of, record_line, record_of};
+use crate::records::{record_line, record_of};
 use aq_base::{Duration, Hour, Memory, MonitorId, ObsKey, Observation, OfficeKey, OfficeRecord};
 use aq_keeper::{LoadRow, ObsRow, OfficeRow, Row, RowContent};
 use aq_registry::{Registry, RegistryFault};
@@ -230,7 +230,7 @@ fn comes_last(registry: &Registry, entry: &OfficeRecord) -> bool
     requires { IsTrue (rises record_rank registry.now) }
     ensures { result ≡ rises record_rank (registry.now ++ entry.now ∷ []) }
 {
-    registry.following(Some(key_of(entry))).is_none() && registry.get(key_of(entry)).is_none()
+    registry.following(Some(entry.key())).is_none() && registry.get(entry.key()).is_none()
 }
 
 /// Puts an observation after the others, unless as many stand as may.

@@ -8,7 +8,7 @@ ghost use Rattle.aq_staging.specs.Keys.{either_keys, keys_in};
 ghost use Rattle.aq_staging.specs.Staged.{IsStagedOn};
 ghost use Rattle.aq_rules.specs.Office.Office.{key_of, record_rank, rises};
 
-use crate::change::{OfficeChange, key_of, observation_change, record_change};
+use crate::change::{OfficeChange, observation_change, record_change};
 use crate::changes::Changes;
 use crate::keys::EitherKeys;
 use crate::list::OfficeChanges;
@@ -50,7 +50,7 @@ fn add_records(
     ensures { OnOk result (changes.new ≡ changes.old ++ filter_map (record_change_at before.now now.now) (map key_of touched.now)) }
 {
     for row in touched.rows() {
-        add_record(changes, &key_of(&row), before, now)?;
+        add_record(changes, &row.key(), before, now)?;
     }
     Ok(())
 }

@@ -2,7 +2,6 @@
 ghost use Rattle.std.specs.Prelude.{◌≡◌, option_map};
 ghost use Rattle.aq_staging.specs.Batch.{change_in};
 ghost use Rattle.aq_rules.specs.Office.Load as book;
-ghost use Rattle.aq_rules.specs.Office.Office.{key_of};
 
 use aq_base::{ObsKey, Observation, OfficeKey, OfficeRecord};
 
@@ -75,55 +74,4 @@ fn is_same_content(a: &Observation, b: &Observation) -> bool
     ensures { result ≡ book.is_same_content a.now b.now }
 {
     a.value == b.value && a.null == b.null && a.quals.codes() == b.quals.codes()
-}
-
-/// The key of a record.
-pub(crate) fn key_of(row: &OfficeRecord) -> OfficeKey
-    ensures { result ≡ key_of row.now }
-{
-    match row {
-        OfficeRecord::Monitor { id, .. } => OfficeKey::Monitor { id: *id },
-        OfficeRecord::Primary {
-            site,
-            pollutant,
-            from,
-            ..
-        } => OfficeKey::Primary {
-            site: *site,
-            pollutant: *pollutant,
-            from: *from,
-        },
-        OfficeRecord::Schedule {
-            site,
-            pollutant,
-            from,
-            ..
-        } => OfficeKey::Schedule {
-            site: *site,
-            pollutant: *pollutant,
-            from: *from,
-        },
-        OfficeRecord::Season { site, year, .. } => OfficeKey::Season {
-            site: *site,
-            year: *year,
-        },
-        OfficeRecord::Makeup { site, missed, .. } => OfficeKey::Makeup {
-            site: *site,
-            missed: *missed,
-        },
-        OfficeRecord::Event { number, .. } => OfficeKey::Event { number: *number },
-        OfficeRecord::Concurrence { number, .. } => OfficeKey::Concurrence { number: *number },
-        OfficeRecord::Approved { site, day } => OfficeKey::Approved {
-            site: *site,
-            day: *day,
-        },
-        OfficeRecord::Combined {
-            site,
-            pollutant,
-            ..
-        } => OfficeKey::Combined {
-            site: *site,
-            pollutant: *pollutant,
-        },
-    }
 }

@@ -12,7 +12,6 @@ ghost use Rattle.aq_registry.specs.Registry.{adds_event, drops_event, events_in,
 use super::Registry;
 use crate::changes::{Changes, RecordChange, RegistryFault};
 use crate::exclusion::{is_agreed, note_drop, note_put};
-use crate::place::key;
 use crate::records::Records;
 use aq_base::{Memory, OfficeKey, OfficeLine, OfficeRecord};
 use aq_rules::office::valid_load::lines_leave_the_office_valid;
@@ -53,15 +52,15 @@ impl Registry {
         ensures changes { IfOk result (λ changes. changes ≡ putting self.old row) }
         ensures unchanged { OnErr result (self.new ≡ self.old) }
     {
-        let old = self.records.get(&key(&row));
+        let old = self.records.get(&row.key());
         let sites = self.sites_with(&row);
         let events = self.events_with(&row);
-        let was = is_agreed(&self.records, &key(&row));
+        let was = is_agreed(&self.records, &row.key());
         self.agreed.reserve()?;
         self.records.put(row)?;
         self.sites = sites;
         self.events = events;
-        note_put(&mut self.agreed, &self.records, &key(&row), was);
+        note_put(&mut self.agreed, &self.records, &row.key(), was);
         let new = Some(row);
         Ok(Changes {
             first: RecordChange { old, new },

@@ -13,7 +13,7 @@ ghost use Rattle.aq_registry.specs.Rules as rules;
 
 use super::Registry;
 use crate::facts;
-use crate::place::{Place, key, parameter};
+use crate::place::{Place, parameter};
 use aq_base::{
     Day, Duration, MOST_EVENTS, MOST_IN_LIST, MOST_MAKEUPS, MOST_MONITORS, MOST_SITES, MonitorId,
     OfficeKey, OfficeLine, OfficeRecord, Pollutant, Rule, SiteId,
@@ -45,7 +45,7 @@ impl Registry {
         if !self.has_its_monitor(row) {
             return Some(Rule::UnknownMonitor);
         }
-        if self.stands(&key(row)) || self.is_taken(row) {
+        if self.stands(&row.key()) || self.is_taken(row) {
             return Some(Rule::AlreadyThere);
         }
         if self.lacks_site_room(row) {

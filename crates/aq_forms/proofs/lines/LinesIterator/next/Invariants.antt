@@ -1,6 +1,6 @@
 use Rattle.std.proofs.Common.{◌≡◌, ◌≤◌, ◌+◌, length}
 use Rattle.aq_forms.specs.BodyLines.{lines_behind}
-use Rattle.aq_forms.specs.declared.lines.TheConstants.{MOST_BYTES}
+use Rattle.aq_base.specs.declared.limits.TheConstants.{MOST_BYTES}
 use Rattle.aq_forms.proofs.lines.LinesIterator.next.Given as goal
 
 -- only skipped lines were passed over
