@@ -24,7 +24,7 @@ map-agree f g same (x ∷ xs) =
     let here : f x ≡ g x = same x in
     cc
 
-filter_map-agree : {X Y : Type 0} (f g : X → Option Y) → ((x : X) → f x ≡ g x) → (xs : List X) → filter_map f xs ≡ filter_map g xs
+pub filter_map-agree : {X Y : Type 0} (f g : X → Option Y) → ((x : X) → f x ≡ g x) → (xs : List X) → filter_map f xs ≡ filter_map g xs
 filter_map-agree f g same [] = refl
 filter_map-agree f g same (x ∷ xs) =
     let rest : filter_map f xs ≡ filter_map g xs = filter_map-agree f g same xs in
@@ -44,7 +44,7 @@ count-range f g a (suc n) same =
     in
     one f ∙ (λ i. cond (here i) 1 0 + rest i) ∙ sym (one g)
 
-either : {X : Type 0} (b : Bool) (own joined : Option X) → joined ≡ None → cond b own (option_or joined own) ≡ own
+pub either : {X : Type 0} (b : Bool) (own joined : Option X) → joined ≡ None → cond b own (option_or joined own) ≡ own
 either true own joined none = refl
 either false own joined none = rw none refl
 
@@ -89,7 +89,7 @@ module _ (office : Office) (pair : Pair) (no_hour : (hour : ℕ) → site_hour o
 
 -- ---- the years one after the other
 
-abbrev year_end : ℕ → ℕ
+abbrev pub year_end : ℕ → ℕ
 year_end year = year_first year + days_in_year year
 
 year-follows : (year : ℕ) → FIRST_YEAR ≤ year → year_end year ≡ year_first (year + 1)

@@ -5,17 +5,18 @@ ghost use Rattle.std.specs.Prelude.{◌≡◌, ℕ, ◌+◌, ◌≤◌, true, fa
 ghost use Rattle.aq_base.specs.Calendar.{day_number, hour_number, quarter_number, year_first};
 ghost use Rattle.aq_base.specs.Site.{Site};
 ghost use Rattle.aq_base.specs.declared.day.TheConstants.{FIRST_YEAR};
-ghost use Rattle.aq_base.specs.declared.monitor.Pollutant.TheVariants.{Ozone, Pm10};
+ghost use Rattle.aq_base.specs.declared.monitor.Pollutant.TheVariants.{Ozone, Pm10, Pm25};
 ghost use Rattle.aq_base.specs.declared.standard.Standard.{Standard};
 ghost use Rattle.aq_base.specs.declared.standard.Standard.TheVariants.{Ozone2015, Pm10Of1987};
 ghost use Rattle.aq_rules.specs.Standards.{pollutant_of};
-ghost use Rattle.aq_rules.specs.Office.Office.{Office};
+ghost use Rattle.aq_rules.specs.Office.Office.{IsOffice, Office};
 ghost use Rattle.aq_rules.specs.Office.Monitors.{is_same_pollutant};
 ghost use Rattle.aq_rules.specs.Office.OfficeExamples.{east, smoke, west};
 ghost use Rattle.aq_rules.specs.Office.Questions.{Joined, combined};
 ghost use Rattle.aq_rules.specs.Ozone.SiteHour.{site_hour};
 ghost use Rattle.aq_rules.specs.Ozone.EightHour.{WindowRow};
 ghost use Rattle.aq_rules.specs.Ozone.OzoneDay.{windows};
+ghost use Rattle.aq_rules.specs.Particles.ParticleDay.{site_day};
 ghost use Rattle.aq_rules.specs.Particles.QuarterCounts.{gives_credit};
 ghost use Rattle.aq_rules.specs.DesignValues.{design_value};
 ghost use Rattle.aq_rules.specs.Combined.Pair.{is_pair_approved, is_pair_scheduled, pair_counts, pair_credits, pair_day, pair_hour, pair_value, pair_windows};
@@ -81,7 +82,8 @@ pub fn pairs_are_where_sites_are_combined()
 {}
 
 /// Without a value of the joined site, and joined only after the last of the three years, the pair's
-/// design value is the site's.
+/// design value is the site's. For PM2.5 this needs a valid office, in which a make-up day lies in the
+/// quarter of its missed day.
 pub fn a_joined_site_without_values_changes_nothing()
     ensures averages { (office : Office) (site : Site) (day : ℕ) (joined : Joined)
         → combined office.records site Ozone ≡ Some joined → ((hour : ℕ) → site_hour office joined.site hour ≡ None)
@@ -90,4 +92,9 @@ pub fn a_joined_site_without_values_changes_nothing()
         → combined office.records site Ozone ≡ Some joined → ((hour : ℕ) → site_hour office joined.site hour ≡ None)
         → FIRST_YEAR + 2 ≤ year → year_first (year + 1) ≤ joined.from
         → pair_value Ozone2015 office site year ≡ Some (design_value Ozone2015 office site year) }
+    ensures pm25 { (standard : Standard) (office : Office) (site : Site) (year : ℕ) (joined : Joined)
+        → is_same_pollutant (pollutant_of standard) Pm25 ≡ true → IsOffice office
+        → combined office.records site Pm25 ≡ Some joined → ((day : ℕ) → site_day office joined.site Pm25 day ≡ None)
+        → FIRST_YEAR + 2 ≤ year → year_first (year + 1) ≤ joined.from
+        → pair_value standard office site year ≡ Some (design_value standard office site year) }
 {}
