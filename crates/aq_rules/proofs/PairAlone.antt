@@ -4,18 +4,16 @@ use Rattle.std.proofs.lemmas.Bool.{lt-ltb}
 use Rattle.std.proofs.lemmas.List.Sums.{sum_by-cons}
 use Rattle.std.specs.List.{filter_map, range_with_len}
 use Rattle.std.specs.Option.{option_or}
-use Rattle.std.specs.Prelude.{Option, Some, None, nat_lt, count_by}
+use Rattle.std.specs.Prelude.{Option, None, nat_lt, count_by}
 use Rattle.aq_base.specs.Calendar.{day_of_hour, year_first, days_in_year, days_of_years}
 use Rattle.aq_base.specs.declared.day.TheConstants.{FIRST_YEAR}
-use Rattle.aq_base.specs.Site.{Site}
 use Rattle.aq_rules.specs.Office.Office.{Office}
-use Rattle.aq_rules.specs.Office.Approval.{is_approved}
-use Rattle.aq_rules.specs.Ozone.SiteHour.{Cell, site_hour}
+use Rattle.aq_rules.specs.Ozone.SiteHour.{site_hour}
 use Rattle.aq_rules.specs.Ozone.EightHour.{row_of, eight_hours, window, window_by}
-use Rattle.aq_rules.specs.Ozone.OzoneDay.{OzoneDay, day_of_windows, ozone_day, starts_of, windows, windows_by}
-use Rattle.aq_rules.specs.Ozone.OzoneYear.{OzoneYear, days_of, is_season_day, counts_as_valid, ozone_days, ozone_year, fourth_of, ranked_maxima}
-use Rattle.aq_rules.specs.Combined.Pair.{Pair, pair_hour, pair_ozone_day, pair_ozone_year, pair_windows_on, site_in_force, is_pair_approved}
-use Rattle.aq_rules.proofs.Days.{years_next, years_rise}
+use Rattle.aq_rules.specs.Ozone.OzoneDay.{day_of_windows, ozone_day, starts_of, windows}
+use Rattle.aq_rules.specs.Ozone.OzoneYear.{days_of, is_season_day, counts_as_valid, ozone_days, ozone_year}
+use Rattle.aq_rules.specs.Combined.Pair.{Pair, pair_hour, pair_ozone_day, pair_ozone_year, pair_windows_on, is_pair_approved}
+use Rattle.aq_rules.proofs.Days.{years_next}
 
 map-agree : {X Y : Type 0} (f g : X → Y) → ((x : X) → f x ≡ g x) → (xs : List X) → map f xs ≡ map g xs
 map-agree f g same [] = refl

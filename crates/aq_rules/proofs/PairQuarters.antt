@@ -1,19 +1,19 @@
 -- The same of PM2.5: the quarters and years of a pair of which the joined site has no days, and to which it is joined only after the year, are those of the site.
-use Rattle.std.proofs.Common.{◌≡◌, ℕ, zero, suc, ◌+◌, ◌-◌, ◌*◌, ◌/◌, ◌%◌, ◌<◌, ◌≤◌, Bool, true, false, cond, not, ◌&&◌, ◌||◌, List, [], ◌∷◌, ◌++◌, map, length, refl, sym, ap, ◌∙◌, arith}
+use Rattle.std.proofs.Common.{◌≡◌, ℕ, zero, suc, ◌+◌, ◌-◌, ◌*◌, ◌%◌, ◌<◌, ◌≤◌, Bool, true, false, cond, not, ◌&&◌, ◌||◌, List, [], ◌∷◌, ◌++◌, refl, sym, ap, ◌∙◌, arith}
 use Rattle.std.proofs.lemmas.Bool.{lt-ltb, leb-true}
 use Rattle.std.proofs.lemmas.List.{append-nil}
 use Rattle.std.proofs.lemmas.List.Sums.{sum_by-cons}
 use Rattle.std.specs.List.{filter, filter_map, list_any, range_with_len}
-use Rattle.std.specs.Prelude.{Option, Some, None, is_some, nat_lt, nat_le, ◌==◌, count_by, option_and_then}
-use Rattle.aq_base.specs.Calendar.{year_first, days_in_year, quarter_first, days_in_quarter, quarter_number, quarter_year}
+use Rattle.std.specs.Prelude.{None, is_some, nat_lt, nat_le, ◌==◌, count_by, option_and_then}
+use Rattle.aq_base.specs.Calendar.{quarter_first, days_in_quarter, quarter_number, quarter_year}
 use Rattle.aq_base.specs.Site.{Site}
 use Rattle.aq_base.specs.declared.day.TheConstants.{FIRST_YEAR}
 use Rattle.aq_base.specs.declared.monitor.Pollutant.TheVariants.{Pm25}
 use Rattle.aq_rules.specs.Office.Office.{Office, IsOffice}
 use Rattle.aq_rules.specs.Office.Schedule.{is_scheduled}
 use Rattle.aq_rules.specs.Particles.ParticleDay.{site_day, net_day, unless_excluded}
-use Rattle.aq_rules.specs.Particles.QuarterCounts.{Makeup, QuarterCounts, QuarterDays, days_of_quarter, scheduled_days, is_sampled, is_kept, makeup_by, in_time_by, is_in_time, gives_credit, credits, quarter_counts, quarter_values, pm25_quarter, pm25_year}
-use Rattle.aq_rules.specs.Combined.Pair.{Pair, pair_day, is_pair_scheduled, is_pair_sampled, pair_net_day, would_give_credit, makeups_before, makeups_after, credits_before, credits_after, has_makeup_day, pair_credits, pair_counts, pair_quarter, pair_pm25_year}
+use Rattle.aq_rules.specs.Particles.QuarterCounts.{Makeup, days_of_quarter, scheduled_days, is_sampled, is_kept, makeup_by, in_time_by, is_in_time, gives_credit, credits, quarter_counts, quarter_values, pm25_quarter, pm25_year}
+use Rattle.aq_rules.specs.Combined.Pair.{Pair, pair_day, is_pair_scheduled, is_pair_sampled, pair_net_day, would_give_credit, makeups_after, credits_before, has_makeup_day, pair_credits, pair_counts, pair_quarter, pair_pm25_year}
 use Rattle.aq_rules.proofs.Days.{twelve_months}
 use Rattle.aq_rules.proofs.Elements.{Every}
 use Rattle.aq_rules.proofs.KeyOrder.{months_in_order}

@@ -1,5 +1,5 @@
-use Rattle.std.proofs.Common.{◌≡◌, ℕ, ◌+◌, ◌-◌, ◌≤◌, List, [], ◌∷◌, map, refl, ap, arith}
-use Rattle.std.specs.Prelude.{Option, Some, None, option_map, ℤ}
+use Rattle.std.proofs.Common.{◌≡◌, ℕ, ◌+◌, ◌-◌, ◌≤◌, [], ◌∷◌, map, refl, ap, arith}
+use Rattle.std.specs.Prelude.{Some, None, ℤ}
 use Rattle.aq_base.specs.Calendar.{year_first}
 use Rattle.aq_base.specs.Site.{Site}
 use Rattle.aq_base.specs.declared.day.TheConstants.{FIRST_YEAR}
@@ -15,10 +15,10 @@ use Rattle.aq_rules.specs.Particles.DailyVerdict.{daily_design}
 use Rattle.aq_rules.specs.Kept.Summaries.{pm25_summary}
 use Rattle.aq_rules.proofs.PairQuarters.{pm25-year-alone}
 use Rattle.aq_rules.specs.Ozone.OzoneDay.{windows}
-use Rattle.aq_rules.specs.Ozone.OzoneYear.{OzoneYear, ozone_year}
+use Rattle.aq_rules.specs.Ozone.OzoneYear.{ozone_year}
 use Rattle.aq_rules.specs.Ozone.OzoneVerdict.{three_years}
-use Rattle.aq_rules.specs.DesignValues.{DesignValue, OfAnnual, OfDaily, design_value, pm25_years}
-use Rattle.aq_rules.specs.Combined.Pair.{Pair, pair_windows, pair_windows_on, pair_value, pair_ozone_year, pair_ozone_years, pair_pm25_years, ozone_value_of, annual_value_of, daily_value_of}
+use Rattle.aq_rules.specs.DesignValues.{OfAnnual, OfDaily, design_value, pm25_years}
+use Rattle.aq_rules.specs.Combined.Pair.{Pair, pair_windows, pair_windows_on, pair_value, pair_ozone_year, pair_pm25_years, annual_value_of, daily_value_of}
 use Rattle.aq_rules.proofs.PairAlone.{windows-alone, year-alone, three-end}
 use Rattle.aq_rules.proofs.combined.a_joined_site_without_values_changes_nothing.Goals as goal
 
