@@ -61,6 +61,7 @@ pub mod ValidAfter
 pub mod Held
 pub mod PmHeld
 mod PairAlone
+mod PairQuarters
 pub mod Pm10Held
 pub mod SheetCells
 pub mod WellFormed

@@ -4,18 +4,16 @@ use Rattle.std.proofs.lemmas.Bool.{lt-ltb}
 use Rattle.std.proofs.lemmas.List.Sums.{sum_by-cons}
 use Rattle.std.specs.List.{filter_map, range_with_len}
 use Rattle.std.specs.Option.{option_or}
-use Rattle.std.specs.Prelude.{Option, Some, None, nat_lt, count_by}
+use Rattle.std.specs.Prelude.{Option, None, nat_lt, count_by}
 use Rattle.aq_base.specs.Calendar.{day_of_hour, year_first, days_in_year, days_of_years}
 use Rattle.aq_base.specs.declared.day.TheConstants.{FIRST_YEAR}
-use Rattle.aq_base.specs.Site.{Site}
 use Rattle.aq_rules.specs.Office.Office.{Office}
-use Rattle.aq_rules.specs.Office.Approval.{is_approved}
-use Rattle.aq_rules.specs.Ozone.SiteHour.{Cell, site_hour}
+use Rattle.aq_rules.specs.Ozone.SiteHour.{site_hour}
 use Rattle.aq_rules.specs.Ozone.EightHour.{row_of, eight_hours, window, window_by}
-use Rattle.aq_rules.specs.Ozone.OzoneDay.{OzoneDay, day_of_windows, ozone_day, starts_of, windows, windows_by}
-use Rattle.aq_rules.specs.Ozone.OzoneYear.{OzoneYear, days_of, is_season_day, counts_as_valid, ozone_days, ozone_year, fourth_of, ranked_maxima}
-use Rattle.aq_rules.specs.Combined.Pair.{Pair, pair_hour, pair_ozone_day, pair_ozone_year, pair_windows_on, site_in_force, is_pair_approved}
-use Rattle.aq_rules.proofs.Days.{years_next, years_rise}
+use Rattle.aq_rules.specs.Ozone.OzoneDay.{day_of_windows, ozone_day, starts_of, windows}
+use Rattle.aq_rules.specs.Ozone.OzoneYear.{days_of, is_season_day, counts_as_valid, ozone_days, ozone_year}
+use Rattle.aq_rules.specs.Combined.Pair.{Pair, pair_hour, pair_ozone_day, pair_ozone_year, pair_windows_on, is_pair_approved}
+use Rattle.aq_rules.proofs.Days.{years_next}
 
 map-agree : {X Y : Type 0} (f g : X → Y) → ((x : X) → f x ≡ g x) → (xs : List X) → map f xs ≡ map g xs
 map-agree f g same [] = refl
@@ -24,7 +22,7 @@ map-agree f g same (x ∷ xs) =
     let here : f x ≡ g x = same x in
     cc
 
-filter_map-agree : {X Y : Type 0} (f g : X → Option Y) → ((x : X) → f x ≡ g x) → (xs : List X) → filter_map f xs ≡ filter_map g xs
+pub filter_map-agree : {X Y : Type 0} (f g : X → Option Y) → ((x : X) → f x ≡ g x) → (xs : List X) → filter_map f xs ≡ filter_map g xs
 filter_map-agree f g same [] = refl
 filter_map-agree f g same (x ∷ xs) =
     let rest : filter_map f xs ≡ filter_map g xs = filter_map-agree f g same xs in
@@ -44,7 +42,7 @@ count-range f g a (suc n) same =
     in
     one f ∙ (λ i. cond (here i) 1 0 + rest i) ∙ sym (one g)
 
-either : {X : Type 0} (b : Bool) (own joined : Option X) → joined ≡ None → cond b own (option_or joined own) ≡ own
+pub either : {X : Type 0} (b : Bool) (own joined : Option X) → joined ≡ None → cond b own (option_or joined own) ≡ own
 either true own joined none = refl
 either false own joined none = rw none refl
 
@@ -89,7 +87,7 @@ module _ (office : Office) (pair : Pair) (no_hour : (hour : ℕ) → site_hour o
 
 -- ---- the years one after the other
 
-abbrev year_end : ℕ → ℕ
+abbrev pub year_end : ℕ → ℕ
 year_end year = year_first year + days_in_year year
 
 year-follows : (year : ℕ) → FIRST_YEAR ≤ year → year_end year ≡ year_first (year + 1)

@@ -56,7 +56,7 @@ count-of_filter p f (x ∷ xs) =
 -- ---- make-up records of a quarter
 
 -- both of its days are in the quarter
-abbrev InQuarter : ℕ → Makeup → Type 0
+abbrev pub InQuarter : ℕ → Makeup → Type 0
 InQuarter quarter m = (m.missed ≤ LAST_DAY) × (quarter_of m.missed ≡ quarter) × (m.makeup ≤ LAST_DAY) × (quarter_of m.makeup ≡ quarter)
 
 abbrev IfMade : (Makeup → Type 0) → Option Makeup → Type 0
@@ -98,7 +98,7 @@ module _ (site : Site) (quarter : ℕ) where
       let b = and_parts _ (has_its_event office r) c.0 in
       (and_parts (is_record r) (has_its_monitor office r) b.0).0
 
-  makeups-in_quarter : (office : Office) (records : List OfficeRecord) → list_all (fits_records office) records ≡ true → Every (InQuarter quarter) (filter_map (makeup_by site quarter) records)
+  pub makeups-in_quarter : (office : Office) (records : List OfficeRecord) → list_all (fits_records office) records ≡ true → Every (InQuarter quarter) (filter_map (makeup_by site quarter) records)
   makeups-in_quarter office [] fits = tt
   makeups-in_quarter office (r ∷ records) fits =
       let parts = and_parts (fits_records office r) (list_all (fits_records office) records) fits in

@@ -7,18 +7,18 @@ use Rattle.aq_rules.proofs.KeyOrder.{months_in_order}
 use Rattle.aq_rules.proofs.Pm25Counts.{HoldsDays}
 use Rattle.aq_rules.proofs.OzoneFacts.{HoldsYear}
 
-first-is : (q y p : ℕ) → quarter_year q ≡ y → q % 4 ≡ p → quarter_first q ≡ days_of_years (y - FIRST_YEAR) + days_of_months y (3 * p)
+pub first-is : (q y p : ℕ) → quarter_year q ≡ y → q % 4 ≡ p → quarter_first q ≡ days_of_years (y - FIRST_YEAR) + days_of_months y (3 * p)
 first-is q y p year part =
     let back : 3 * p + 1 - 1 ≡ 3 * p = omega arith in
     rw (year, part, back) (omega arith)
 
-days-are : (q y p : ℕ) → quarter_year q ≡ y → q % 4 ≡ p → days_in_quarter q ≡ days_in_month y (3 * p + 1) + days_in_month y (3 * p + 2) + days_in_month y (3 * p + 3)
+pub days-are : (q y p : ℕ) → quarter_year q ≡ y → q % 4 ≡ p → days_in_quarter q ≡ days_in_month y (3 * p + 1) + days_in_month y (3 * p + 2) + days_in_month y (3 * p + 3)
 days-are q y p year part =
     let second : 3 * p + 1 + 1 ≡ 3 * p + 2 = omega arith in
     let third : 3 * p + 1 + 1 + 1 ≡ 3 * p + 3 = omega arith in
     rw (year, part, third, second) (omega arith)
 
-three_months : (y p : ℕ) → days_of_months y (3 * p + 3) ≡ days_of_months y (3 * p) + (days_in_month y (3 * p + 1) + days_in_month y (3 * p + 2) + days_in_month y (3 * p + 3))
+pub three_months : (y p : ℕ) → days_of_months y (3 * p + 3) ≡ days_of_months y (3 * p) + (days_in_month y (3 * p + 1) + days_in_month y (3 * p + 2) + days_in_month y (3 * p + 3))
 three_months y p =
     let second : 3 * p + 1 + 1 ≡ 3 * p + 2 = omega arith in
     let third : 3 * p + 2 + 1 ≡ 3 * p + 3 = omega arith in

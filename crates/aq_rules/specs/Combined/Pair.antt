@@ -22,7 +22,7 @@ use Rattle.aq_rules.specs.Particles.ParticleDay.{site_day, unless_excluded}
 use Rattle.aq_rules.specs.Particles.QuarterCounts.{Makeup, QuarterCounts, QuarterDays, days_of_quarter, quarters_of, makeup_by, credit_by, counts_by}
 use Rattle.aq_rules.specs.Particles.AnnualVerdict.{annual_dv}
 use Rattle.aq_rules.specs.Particles.DailyVerdict.{daily_dv}
-use Rattle.aq_rules.specs.Kept.Summaries.{PmYear, summary_of_year}
+use Rattle.aq_rules.specs.Kept.Summaries.{summary_of_year}
 use Rattle.aq_rules.specs.DesignValues.{DesignValue, OfOzone, OfAnnual, OfDaily}
 
 -- the joined site takes the place of the site from this day on

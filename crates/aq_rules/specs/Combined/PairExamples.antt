@@ -7,7 +7,7 @@ use Rattle.aq_base.specs.declared.monitor.Duration.TheVariants.{Hour, Day}
 use Rattle.aq_base.specs.declared.monitor.Pollutant.TheVariants.{Ozone, Pm25}
 use Rattle.aq_base.specs.declared.observation.ObsKey.{ObsKey}
 use Rattle.aq_base.specs.declared.observation.Observation.{Observation}
-use Rattle.aq_base.specs.declared.office.OfficeRecord.TheVariants.{Monitor, Schedule, Makeup as MakeupRecord, Event, Concurrence, Approved, Combined}
+use Rattle.aq_base.specs.declared.office.OfficeRecord.TheVariants.{Monitor, Schedule, Season, Makeup as MakeupRecord, Event, Concurrence, Approved, Combined}
 use Rattle.aq_rules.specs.Office.Office.{Office}
 use Rattle.aq_rules.specs.Office.OfficeExamples.{west, east, smoke, monitor_at, measured, sampled}
 use Rattle.aq_rules.specs.Ozone.OzoneExamples.{office_of}
@@ -30,6 +30,7 @@ abbrev pub moved : List (ObsKey × Observation) → Office
 moved joined =
     office_of
     (Monitor (monitor_at west Ozone 1) Hour true ∷ Monitor (monitor_at east Ozone 1) Hour true
+    ∷ Season west 2024 (day_number 2024 6 1) (day_number 2024 7 31) ∷ Season east 2024 (day_number 2024 4 1) (day_number 2024 6 30)
     ∷ Event 1 east Ozone (hour_number joining_day 0) (hour_number joining_day 2) smoke ∷ Concurrence 1 true
     ∷ Approved west last_day ∷ Approved west joining_day ∷ Approved east (day_number 2024 6 30) ∷ Approved east (day_number 2024 7 3)
     ∷ Combined west Ozone joining_day east ∷ [])
@@ -43,13 +44,13 @@ joined_hours value codes first count = map (measured east Ozone 1 value codes) (
 abbrev pub moved_to_clean_air : Office
 moved_to_clean_air = moved (joined_hours 60 [] (hour_number joining_day 0) 7)
 
--- ---- PM2.5: joined from 19 January 2024. The site is scheduled each sixth day and the joined site each third one, from 1 January on
+-- ---- PM2.5: joined from 15 January 2024. The site is scheduled each sixth day and the joined site each third one, from 1 January on
 
 abbrev pub winter : ℕ → ℕ
 winter day = day_number 2024 1 day
 
 abbrev pub winter_pair : Pair
-winter_pair = record { site = west; joined = east; from = winter 19 }
+winter_pair = record { site = west; joined = east; from = winter 15 }
 
 -- the site's and the joined site's samples; the sample of 20 January makes up for the 13th at the site, and for the 19th at the joined site. Of the other two make-ups none is of the site in force on its missed day
 abbrev pub moved_sampler : List (ObsKey × Observation) → Office
@@ -59,7 +60,7 @@ moved_sampler observations =
     ∷ Schedule west Pm25 (winter 1) 6 (winter 1) ∷ Schedule east Pm25 (winter 1) 3 (winter 1)
     ∷ MakeupRecord west (winter 13) (winter 20) ∷ MakeupRecord west (winter 25) (winter 26)
     ∷ MakeupRecord east (winter 7) (winter 8) ∷ MakeupRecord east (winter 19) (winter 20)
-    ∷ Combined west Pm25 (winter 19) east ∷ [])
+    ∷ Combined west Pm25 (winter 15) east ∷ [])
     observations
 
 abbrev pub makes_up : ℕ → ℕ → Makeup

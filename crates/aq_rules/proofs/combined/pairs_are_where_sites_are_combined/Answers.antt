@@ -1,12 +1,10 @@
 use Rattle.std.proofs.Common.{◌≡◌, refl}
 use Rattle.std.specs.Prelude.{Option, Some, None, option_map, is_some}
 use Rattle.aq_base.specs.Site.{Site}
-use Rattle.aq_base.specs.declared.monitor.Pollutant.{Pollutant}
 use Rattle.aq_base.specs.declared.monitor.Pollutant.TheVariants.{Ozone, Pm25}
 use Rattle.aq_base.specs.declared.standard.Standard.TheVariants.{Ozone2015, Annual2012, AnnualSecondary, Annual2024, Daily2006, Pm10Of1987}
-use Rattle.aq_rules.specs.Office.Office.{Office}
 use Rattle.aq_rules.specs.Office.Questions.{Joined, combined}
-use Rattle.aq_rules.specs.Combined.Pair.{Pair, pair_of, pair_windows, pair_value}
+use Rattle.aq_rules.specs.Combined.Pair.{Pair, pair_windows, pair_value}
 use Rattle.aq_rules.proofs.combined.pairs_are_where_sites_are_combined.Goals as goal
 
 some-pair : {B : Type 0} (f : Pair → B) (site : Site) (o : Option Joined)

@@ -52,3 +52,11 @@ returns-clause-counts c = refl
 pub returns-clause-counts_not_missed : goal.returns-clause-counts_not_missed
 unfolding days_of_years days_of_months year_of month_of excluded primary_on is_eligible eligible_pocs monitor_day site_day is_scheduled days_of_quarter pair_day pair_credits pair_counts
 returns-clause-counts_not_missed c = refl
+
+pub returns-clause-credit_by_the_sites_schedule : goal.returns-clause-credit_by_the_sites_schedule
+unfolding days_of_years days_of_months excluded primary_on is_eligible eligible_pocs monitor_day site_day is_scheduled
+returns-clause-credit_by_the_sites_schedule c = refl
+
+pub returns-clause-no_credit_by_the_pairs : goal.returns-clause-no_credit_by_the_pairs
+unfolding days_of_years days_of_months excluded primary_on is_eligible eligible_pocs monitor_day site_day is_scheduled pair_day
+returns-clause-no_credit_by_the_pairs c = refl
