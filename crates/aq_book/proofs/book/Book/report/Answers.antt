@@ -30,7 +30,7 @@ returns-in_err-push-clause-steps g c ozone =
     let site = c.in-Some.site in
     let behind = with_monitor office pollutant (sites_above office.records (Some site)) in
     let next = ap (λ (o : Office). next_site o.records c.loop-site.after) (sym c.self.view_is) ∙ sym c.next_site.ensures ∙ c.in-Some.is in
-    let there = c.measures.ensures ∙ ap (has_monitor office site) c.pollutant_of.ensures in
+    let there = c.measures.ensures ∙ ap (has_monitor office site) c.pollutant.ensures in
     let here =
     ap length
     (with_next office pollutant c.loop-site.after site (subst IsOffice c.self.view_is c.self.invariant) next c.measures.result there
@@ -53,7 +53,7 @@ loop-site-preserved g c =
     let judge = judged c.args.standard office c.args.year in
     let behind = with_monitor office pollutant (sites_above office.records (Some site)) in
     let next = ap (λ (o : Office). next_site o.records c.loop-site.after) (sym c.self.view_is) ∙ sym c.next_site.ensures ∙ c.in-Some.is in
-    let there = c.measures.ensures ∙ ap (has_monitor office site) c.pollutant_of.ensures in
+    let there = c.measures.ensures ∙ ap (has_monitor office site) c.pollutant.ensures in
     let walk = with_next office pollutant c.loop-site.after site (subst IsOffice c.self.view_is c.self.invariant) next c.measures.result there in
     elim c.if-measures.branch [
       | then-measures+in_ok-push w ↦
