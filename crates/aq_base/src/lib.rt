@@ -5,9 +5,9 @@
 //! open types (`MonitorId`, `Observation`, the office records, keys and lines, `Ask`, `Area`, `Assumed`,
 //! `DecisiveEvent`) keep the ranges of their parts alone. They do not keep that a POC is 1 to 99 (0 in a
 //! designation of no monitor), an interval 1, 2, 3 or 6, a year one of the profile, an event's number 1
-//! to 999,999, a season in its year, an area's state and county of two and three digits, or that an
-//! observation has exactly one of a value and a null code: readers of lines, rows and words give such
-//! values alone, and calls that need it say so.
+//! to 999,999, a season in its year, an area's state and county of two and three digits, a method 0 to 999,
+//! or that an observation has exactly one of a value and a null code: readers of lines, rows and words
+//! give such values alone, and calls that need it say so.
 #![tactic(auto)]
 
 mod area;
@@ -42,7 +42,7 @@ pub use limits::{
     MOST_SITES,
 };
 pub use monitor::{Duration, MonitorId, Pollutant};
-pub use observation::{ObsKey, Observation};
+pub use observation::{LAST_METHOD, ObsKey, Observation};
 pub use office::{OfficeKey, OfficeLine, OfficeRecord};
 pub use quals::{MOST_QUALIFIERS, Quals};
 pub use refusal::{Failed, Memory};

@@ -19,8 +19,8 @@ with_loads loads office = record office { loads = loads }
 
 module _ (loads : List StoredLoad) (office : Office) where
   broken_loads : (value : LineValue) → broken (with_loads loads office) value ≡ broken office value
-  broken_loads (OfRd (PutSample true monitor duration method hour content)) = refl
-  broken_loads (OfRd (PutSample false monitor duration method hour content)) = refl
+  broken_loads (OfRd (PutSample true monitor duration hour content)) = refl
+  broken_loads (OfRd (PutSample false monitor duration hour content)) = refl
   broken_loads (OfRd (DeleteSample monitor hour)) = refl
   broken_loads (OfOffice (Put (Monitor id duration eligible))) = refl
   broken_loads (OfOffice (Put (Primary site pollutant from poc))) = refl
@@ -40,7 +40,7 @@ module _ (loads : List StoredLoad) (office : Office) where
   broken_loads (OfOffice (Drop key)) = refl
 
   changed_loads : (value : LineValue) → changed (with_loads loads office) value ≡ with_loads loads (changed office value)
-  changed_loads (OfRd (PutSample update monitor duration method hour content)) = refl
+  changed_loads (OfRd (PutSample update monitor duration hour content)) = refl
   changed_loads (OfRd (DeleteSample monitor hour)) = refl
   changed_loads (OfOffice (Put r)) = refl
   changed_loads (OfOffice (Change r)) = refl

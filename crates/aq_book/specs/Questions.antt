@@ -3,11 +3,11 @@ use Rattle.std.specs.Prelude.{◌≡◌, ℕ, Bool, true, false, List, codes}
 use Rattle.aq_base.specs.Site.{Site}
 use Rattle.aq_base.specs.declared.ask.Shown.{Shown}
 use Rattle.aq_base.specs.declared.monitor.MonitorId.{MonitorId}
-use Rattle.aq_base.specs.declared.observation.ObsKey.{ObsKey}
 use Rattle.aq_base.specs.declared.observation.Observation.{Observation}
 use Rattle.aq_base.specs.declared.office.OfficeRecord.{OfficeRecord}
 use Rattle.aq_rules.specs.Office.Exclusion.{excluded}
 use Rattle.aq_rules.specs.Shown.OtherSheets.{Judged, judged_by}
+use Rattle.aq_series.specs.DayCells.{key_at}
 use Rattle.aq_verdict.specs.Designs.{design_of}
 use Rattle.aq_verdict.specs.declared.design_value.DesignValue.{DesignValue}
 use Rattle.aq_book.specs.declared.fault.AskFault.{AskFault}
@@ -24,10 +24,6 @@ ask_fault_text Memory = codes "memory"
 abbrev pub IsAskFault : AskFault → Bool → Type 0
 IsAskFault UnknownSite registered = registered ≡ false
 IsAskFault Memory registered = registered ≡ true
-
--- where an observation of a monitor stands
-abbrev pub key_at : MonitorId → ℕ → ObsKey
-key_at monitor hour = record { monitor = monitor; hour = hour }
 
 -- an observation of a monitor, beside its hour, as an export shows it
 abbrev pub shown_at : List OfficeRecord → MonitorId → ℕ × Observation → Shown

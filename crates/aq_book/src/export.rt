@@ -2,19 +2,18 @@
 ghost use Rattle.std.specs.Prelude.{◌≡◌, ◌*◌, ◌<◌, ◌≤◌, ◌++◌, IfOk, IsTrue, OnOk, map};
 ghost use Rattle.std.specs.List.{list_all};
 ghost use Rattle.aq_base.specs.declared.day.TheConstants.{FIRST_YEAR, LAST_YEAR};
-ghost use Rattle.aq_rules.specs.Office.Exclusion.{excluded};
 ghost use Rattle.aq_rules.specs.Office.Office.{fits_monitors};
 ghost use Rattle.aq_rules.specs.Shown.Export as exports;
-ghost use Rattle.aq_book.specs.Questions.{key_at, shown_at};
+ghost use Rattle.aq_book.specs.Questions.{shown_at};
 ghost use Rattle.aq_series.specs.OfficeView.{office_of};
 ghost use Rattle.aq_shelf.specs.Standing.{observations_in};
 
 use aq_base::{
-    Day, Hour, Items, Memory, MonitorId, ObsKey, Observation, Pollutant, Quals, Shown, SiteId,
-    Steps,
+    Day, Hour, Items, Memory, MonitorId, ObsKey, Observation, Pollutant, Shown, SiteId, Steps,
 };
 use aq_cal::year_span;
 use aq_registry::Registry;
+use aq_series::is_excluded;
 use aq_shelf::Shelf;
 use std::alloc::Global;
 use std::marker::Brand;
@@ -128,15 +127,4 @@ fn shown(registry: &Registry, monitor: &MonitorId, hour: Hour, content: &Observa
         content: *content,
         excluded: is_excluded(registry, monitor, hour, &content.quals),
     }
-}
-
-/// Whether an observation with these codes is excluded.
-fn is_excluded(registry: &Registry, monitor: &MonitorId, hour: Hour, quals: &Quals) -> bool
-    ensures { result ≡ excluded registry.now (key_at monitor.now hour) quals.now }
-{
-    let key = ObsKey {
-        monitor: *monitor,
-        hour,
-    };
-    registry.excluded(key, quals)
 }

@@ -9,7 +9,7 @@ use Rattle.aq_rules.specs.Shown.Sheet.{site_text}
 use Rattle.aq_desk.proofs.Outcomes.{bytes_behind, front_behind, front_of_more, join, more_bytes}
 use Rattle.aq_desk.specs.Command.{Tells}
 use Rattle.aq_rules.specs.Kept.RowChanges.{table_name}
-use Rattle.aq_rules.specs.Shown.OtherSheets.{digest_text, hex_digit}
+use Rattle.aq_rules.specs.Shown.OtherSheets.{digest_text}
 use Rattle.aq_desk.specs.Ending.{conflict, damaged, door_failed, input_failed, keeper_failed, loads_full, no_command, no_memory, no_site, output_failed, too_many_bytes, too_many_lines}
 use Rattle.aq_base.specs.Faults.{HasRisen}
 use Rattle.aq_desk.specs.Stop.{ending_at}
@@ -143,11 +143,8 @@ conflict_message number kept sent =
     (sym (append_assoc front one (between ++ (two ++ end))) ∙ sym (append_assoc (front ++ one) between (two ++ end)) ∙ sym (append_assoc ((front ++ one) ++ between) two end))
 
 -- a byte's two digits, and then those of the others
-pub digest_split : (bytes rest : List ℕ) (first tens ones : ℕ) → bytes ≡ first ∷ rest → tens ≡ hex_digit (first / 16) → ones ≡ hex_digit (first % 16) → (tens ∷ ones ∷ []) ++ digest_text rest ≡ digest_text bytes
-digest_split bytes rest first tens ones split is_tens is_ones =
-    ap (λ (n : ℕ). (n ∷ ones ∷ []) ++ digest_text rest) is_tens
-    ∙ ap (λ (n : ℕ). (hex_digit (first / 16) ∷ n ∷ []) ++ digest_text rest) is_ones
-    ∙ ap digest_text (sym split)
+pub digest_split : (bytes rest two : List ℕ) (first : ℕ) → bytes ≡ first ∷ rest → two ≡ digest_text (first ∷ []) → two ++ digest_text rest ≡ digest_text bytes
+digest_split bytes rest two first split is = ap (λ (l : List ℕ). l ++ digest_text rest) is ∙ ap digest_text (sym split)
 
 pub memory_message : codes "airdv: 7 memory\n" ≡ no_memory.message
 memory_message = rw seven refl

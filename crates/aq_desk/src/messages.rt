@@ -1,7 +1,7 @@
 //! The messages on the errors stream that have a number or a name in them. They take no memory.
 ghost use Rattle.std.specs.Prelude.{◌≡◌, ◌<◌, ◌++◌, codes, decimal};
 ghost use Rattle.aq_rules.specs.Kept.RowChanges.{table_name};
-ghost use Rattle.aq_rules.specs.Shown.OtherSheets.{digest_text, hex_digit};
+ghost use Rattle.aq_rules.specs.Shown.OtherSheets.{digest_text};
 ghost use Rattle.aq_desk.specs.Ending.{conflict, damaged, no_site, too_many_lines};
 ghost use Rattle.aq_desk.specs.Writing.{Writes};
 
@@ -9,7 +9,7 @@ use crate::outside::Sink;
 use crate::writing::write_all;
 use aq_base::{Failed, SiteId};
 use aq_book::Place;
-use aq_reports::site_text;
+use aq_reports::{hex_digits, site_text};
 
 /// Writes the place of the first damaged row, by its table's number and its index there.
 pub(crate) fn write_damaged<E: Sink>(table: u8, index: u64, errors: &mut E) -> Result<(), Failed>
@@ -108,18 +108,6 @@ fn write_digest<E: Sink>(bytes: &[u8], errors: &mut E) -> Result<(), Failed>
     let Some((first, rest)) = bytes.split_first() else {
         return Ok(());
     };
-    write_all(errors, &[hex_digit(*first / 16), hex_digit(*first % 16)])?;
+    write_all(errors, &hex_digits(*first))?;
     write_digest(rest, errors)
-}
-
-/// A hexadecimal digit in lower case.
-fn hex_digit(number: u8) -> u8
-    requires { number < 16 }
-    ensures { result ≡ hex_digit number }
-{
-    if number < 10 {
-        b'0' + number
-    } else {
-        b'a' + (number - 10)
-    }
 }

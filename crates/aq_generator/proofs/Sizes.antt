@@ -197,7 +197,7 @@ sample_of s p d hour base span =
     record { monitor = record { site = s; pollutant = p; poc = 1 }; duration = d; hour = hour; base = base; span = span }
 
 null_line : (s : Site) (p : Pollutant) (d : Duration) (hour base span : ℕ)
-    → HasLines 1 (sample_text (sample_of s p d hour base span) (record { value = None; null = Some null_an; quals = [] }))
+    → HasLines 1 (sample_text (sample_of s p d hour base span) (record { value = None; null = Some null_an; quals = []; method = Some 0 }))
 unfolding rd_texts
 null_line s p d hour base span =
     a_line (codes "RD") (front s p d hour ([] ∷ codes "AN" ∷ []))
@@ -205,7 +205,7 @@ null_line s p d hour base span =
     (omega (arith, room-front s p d hour ([] ∷ codes "AN" ∷ [])))
 
 value_line : (s : Site) (p : Pollutant) (d : Duration) (hour base span v : ℕ) → v ≤ 1599
-    → HasLines 1 (sample_text (sample_of s p d hour base span) (record { value = Some (pos v); null = None; quals = [] }))
+    → HasLines 1 (sample_text (sample_of s p d hour base span) (record { value = Some (pos v); null = None; quals = []; method = Some 0 }))
 unfolding rd_texts
 value_line s p d hour base span v h =
     let text = value_text p (Some (pos v)) in

@@ -25,7 +25,7 @@ use Rattle.aq_generator.proofs.Walks.{range-first, range-none}
 pub sample-written : (w : Wanted) (x least count state : ℕ) (duration : Duration) (content : Observation) (old line added ended : List ℕ)
     → least ≡ w.base → count ≡ w.span → duration ≡ w.duration
     → content ≡ (observed least count (next_state x)).content → state ≡ (observed least count (next_state x)).state
-    → line ≡ canonical_rd (PutSample false w.monitor duration 0 w.hour content)
+    → line ≡ canonical_rd (PutSample false w.monitor duration w.hour content)
     → added ≡ old ++ line → ended ≡ added ++ 10 ∷ []
     → (more : List Wanted) → ended ++ samples_from state more ≡ old ++ samples_from x (w ∷ more)
 unfolding samples_from

@@ -50,6 +50,7 @@ impl Draws {
             value,
             null,
             quals: Quals::new(),
+            method: Some(0),
         }
     }
 }

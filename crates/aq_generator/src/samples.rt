@@ -111,7 +111,6 @@ impl Samples {
                 poc: 1,
             },
             duration: duration_of(pollutant),
-            method: 0,
             hour,
             content: self.draws.observation(least, count),
         };

@@ -12,7 +12,7 @@ use Rattle.std.proofs.lemmas.Cmp.{int_cmp_total, on_total, lists_total}
 use lib.Pointwise.{pointwise}
 use Rattle.aq_keeper.specs.contracts.key.KeyViewOrd.TheImpl as derived
 use Rattle.aq_keeper.specs.declared.key.KeyView.{KeyView}
-use Rattle.aq_keeper.specs.declared.key.KeyView.TheVariants.{Office, Observation, Load}
+use Rattle.aq_keeper.specs.declared.key.KeyView.TheVariants.{Office, Observation, Load, Second}
 use Rattle.aq_keeper.specs.KeyView.{key_seen, key_order}
 use Rattle.aq_rules.specs.Kept.RowChanges.{RowKey, columns, columns_before, key_before, is_same_row_key}
 
@@ -68,6 +68,8 @@ derived-order (Office kind key) (Office other text) = ap (ordering_then (int_cmp
 derived-order (Observation site pollutant poc hour) (Observation s p c h) =
     ap (λ o. ordering_then (int_cmp site s) (ordering_then (int_cmp pollutant p) (ordering_then (int_cmp poc c) o))) (last (int_cmp hour h))
 derived-order (Load number) (Load other) = last (int_cmp number other)
+derived-order (Second site pollutant poc hour) (Second s p c h) =
+    ap (λ o. ordering_then (int_cmp site s) (ordering_then (int_cmp pollutant p) (ordering_then (int_cmp poc c) o))) (last (int_cmp hour h))
 derived-order a b = refl
 
 -- ---- what the order gives

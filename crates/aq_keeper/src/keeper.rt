@@ -45,7 +45,7 @@ impl fmt::Display for KeeperFault {
 
 impl Error for KeeperFault {}
 
-/// Keeps the rows of the three tables.
+/// Keeps the rows of the four tables.
 pub trait Keeper {
     /// The rows of its tables in the order of tables and keys, if the keeper tells them.
     ghost tables: { Self → Option (List book.Row) };

@@ -25,6 +25,12 @@ pub enum KeyContent {
     Load {
         number: i64,
     },
+    Second {
+        site: i64,
+        pollutant: i64,
+        poc: i64,
+        hour: i64,
+    },
 }
 
 /// The key of a row in its table. Contracts see the book's key.
@@ -60,6 +66,12 @@ pub(crate) enum KeyView<'a> {
     Load {
         number: i64,
     },
+    Second {
+        site: i64,
+        pollutant: i64,
+        poc: i64,
+        hour: i64,
+    },
 }
 
 impl RowKey {
@@ -76,7 +88,7 @@ impl RowKey {
         }
     }
 
-    /// The key of an observation.
+    /// The key of an observation of version 1.
     pub fn observation(site: i64, pollutant: i64, poc: i64, hour: i64) -> RowKey
         ensures { result ≡ book.ObsRowKey site pollutant poc hour }
     {
@@ -99,6 +111,20 @@ impl RowKey {
         }
     }
 
+    /// The key of an observation.
+    pub fn second(site: i64, pollutant: i64, poc: i64, hour: i64) -> RowKey
+        ensures { result ≡ book.SecondRowKey site pollutant poc hour }
+    {
+        RowKey {
+            content: KeyContent::Second {
+                site,
+                pollutant,
+                poc,
+                hour,
+            },
+        }
+    }
+
     /// The same key once more.
     pub fn copy(&self, alloc: Global) -> Result<RowKey, Memory>
         ensures { IfOk result (λ copy. copy ≡ self.now) }
@@ -112,6 +138,12 @@ impl RowKey {
                 hour,
             } => RowKey::observation(*site, *pollutant, *poc, *hour),
             KeyContent::Load { number } => RowKey::load(*number),
+            KeyContent::Second {
+                site,
+                pollutant,
+                poc,
+                hour,
+            } => RowKey::second(*site, *pollutant, *poc, *hour),
         })
     }
 
@@ -135,6 +167,17 @@ impl RowKey {
                 hour: *hour,
             },
             KeyContent::Load { number } => KeyView::Load { number: *number },
+            KeyContent::Second {
+                site,
+                pollutant,
+                poc,
+                hour,
+            } => KeyView::Second {
+                site: *site,
+                pollutant: *pollutant,
+                poc: *poc,
+                hour: *hour,
+            },
         }
     }
 }

@@ -1,4 +1,4 @@
-//! Where an office's rows are kept: the rows of its three tables, their keys and changes, what a
+//! Where an office's rows are kept: the rows of its four tables, their keys and changes, what a
 //! keeper promises, and keepers in memory.
 #![tactic(auto)]
 
@@ -16,5 +16,5 @@ pub use keeper::{Keeper, KeeperFault};
 pub use key::{KeyContent, RowKey};
 pub use memory_keeper::MemoryKeeper;
 pub use order::{are_in_order, do_keys_rise};
-pub use row::{LoadRow, ObsRow, OfficeRow, Row, RowContent, Rows};
+pub use row::{LoadRow, ObsRow, ObsRow2, OfficeRow, Row, RowContent, Rows};
 pub use steady_keeper::SteadyKeeper;

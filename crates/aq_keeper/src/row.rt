@@ -1,4 +1,4 @@
-//! Rows of the three tables: any that a table can hold, whether an office has them or not.
+//! Rows of the four tables: any that a table can hold, whether an office has them or not.
 ghost use Rattle.std.specs.Prelude.{◌≡◌, IfOk};
 
 use crate::key::KeyView;
@@ -23,7 +23,7 @@ impl Model for OfficeRow {
     ghost view = { λ row. record { kind = row.kind; key = row.key; line = row.line } };
 }
 
-/// A row of the table `observations`: a value in thousandths of a ppm or tenths of a µg/m3, or a null
+/// A row of the table `observations`, which version 1 kept: a value in thousandths of a ppm or tenths of a µg/m3, or a null
 /// code, and the qualifiers with spaces between them, by site, pollutant, POC and hour. Contracts see
 /// the book's row.
 #[derive(Debug, Drop)]
@@ -46,6 +46,31 @@ impl Model for ObsRow {
     ghost Value = { book.ObsRow };
 
     ghost view = { λ row. record { site = row.site; pollutant = row.pollutant; poc = row.poc; hour = row.hour; value = row.value; null = row.null; quals = row.quals } };
+}
+
+/// A row of the table `observations2`: an observation with its method. Contracts see the book's row.
+#[derive(Debug, Drop)]
+pub struct ObsRow2 {
+    /// State, county and site number as one number: `state * 10000000 + county * 10000 + number`.
+    pub site: i64,
+    /// Ozone 1, PM2.5 2, PM10 3.
+    pub pollutant: i64,
+    pub poc: i64,
+    pub hour: i64,
+    pub value: Option<i64>,
+    /// 0 to 999, or none.
+    pub method: Option<i64>,
+    /// Empty, or the code.
+    pub null: Bytes,
+    pub quals: Bytes,
+}
+
+impl Model for ObsRow2 {
+    ghost use Rattle.aq_rules.specs.Kept.Rows as book;
+
+    ghost Value = { book.ObsRow2 };
+
+    ghost view = { λ row. record { site = row.site; pollutant = row.pollutant; poc = row.poc; hour = row.hour; value = row.value; method = row.method; null = row.null; quals = row.quals } };
 }
 
 /// A row of the table `loads`: a load by its number, with its digest and what became of its lines.
@@ -75,6 +100,7 @@ pub enum RowContent {
     Office(OfficeRow),
     Observation(ObsRow),
     Load(LoadRow),
+    Second(ObsRow2),
 }
 
 /// A row of one of the tables. Contracts see the book's row.
@@ -152,6 +178,25 @@ impl LoadRow {
     }
 }
 
+impl ObsRow2 {
+    ghost use Rattle.std.specs.Prelude.{◌≡◌, IfOk};
+
+    fn copy(&self, alloc: Global) -> Result<ObsRow2, Memory>
+        ensures { IfOk result (λ copy. copy ≡ self.now) }
+    {
+        Ok(ObsRow2 {
+            site: self.site,
+            pollutant: self.pollutant,
+            poc: self.poc,
+            hour: self.hour,
+            value: self.value,
+            method: self.method,
+            null: copy_of(alloc, &self.null)?,
+            quals: copy_of(alloc, &self.quals)?,
+        })
+    }
+}
+
 impl Row {
     ghost use Rattle.std.specs.Prelude.{◌≡◌, IfOk};
     ghost use Rattle.aq_rules.specs.Kept.Rows as book;
@@ -185,6 +230,15 @@ impl Row {
         }
     }
 
+    /// A row of the table `observations2`.
+    pub fn second(row: ObsRow2) -> Row
+        ensures { result ≡ book.OfSecondRow row }
+    {
+        Row {
+            content: RowContent::Second(row),
+        }
+    }
+
     /// The same row once more.
     pub fn copy(&self, alloc: Global) -> Result<Row, Memory>
         ensures { IfOk result (λ copy. copy ≡ self.now) }
@@ -193,6 +247,7 @@ impl Row {
             RowContent::Office(row) => Row::office(row.copy(alloc)?),
             RowContent::Observation(row) => Row::observation(row.copy(alloc)?),
             RowContent::Load(row) => Row::load(row.copy(alloc)?),
+            RowContent::Second(row) => Row::second(row.copy(alloc)?),
         })
     }
 
@@ -211,6 +266,12 @@ impl Row {
                 hour: row.hour,
             },
             RowContent::Load(row) => KeyView::Load { number: row.number },
+            RowContent::Second(row) => KeyView::Second {
+                site: row.site,
+                pollutant: row.pollutant,
+                poc: row.poc,
+                hour: row.hour,
+            },
         }
     }
 }

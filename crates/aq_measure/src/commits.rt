@@ -1,6 +1,6 @@
 //! The commit of a year of hours to a file.
 use aq_base::{Bytes, Memory};
-use aq_keeper::{Keeper, KeeperFault, LoadRow, ObsRow, OfficeRow, Row, RowChange, do_keys_rise};
+use aq_keeper::{Keeper, KeeperFault, LoadRow, ObsRow2, OfficeRow, Row, RowChange, do_keys_rise};
 use aq_sqlite::FileKeeper;
 use std::alloc::Global;
 use std::io::{self, ErrorKind};
@@ -88,12 +88,13 @@ fn monitor(alloc: Global) -> Result<Row, Memory> {
 }
 
 fn hour(alloc: Global, number: u16) -> Row {
-    Row::observation(ObsRow {
+    Row::second(ObsRow2 {
         site: SITE,
         pollutant: 1,
         poc: 1,
         hour: FIRST_HOUR + i64::from(number),
         value: Some(20 + i64::from(number % 60)),
+        method: Some(87),
         null: Bytes::new(alloc),
         quals: Bytes::new(alloc),
     })

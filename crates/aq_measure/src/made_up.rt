@@ -126,5 +126,6 @@ fn content_at(pollutant: Pollutant, poc: u8, hour: u32) -> Observation
         value: Some(value as i32),
         null: None,
         quals: Quals::new(),
+        method: None,
     }
 }

@@ -29,11 +29,11 @@ listed (Some v) = refl
 values_more : (days : List DayOfQuarter) (day : DayOfQuarter) → values_of (days ++ day ∷ []) ≡ values_of days ++ option_to_list day.value
 values_more days day = filter_map-append (λ (d : DayOfQuarter). d.value) days (day ∷ []) ∙ ap (λ l. values_of days ++ l) (listed day.value)
 
-pub tally-more : (places : List (Option ℤ)) (days : List DayOfQuarter) (day : DayOfQuarter) (tally : QuarterTally) (a b c : ℕ) (values : QuarterValues) → IsTallyOf places days tally
+pub tally-more : (before : List ℤ) (days : List DayOfQuarter) (day : DayOfQuarter) (tally : QuarterTally) (a b c : ℕ) (values : QuarterValues) → IsTallyOf before days tally
     → a ≡ bool_byte day.scheduled → b ≡ bool_byte day.creditable → c ≡ bool_byte day.counted
-    → ((before : List ℤ) → AreOf places before tally.values → AreOf places (before ++ option_to_list day.value) values)
-    → IsTallyOf places (days ++ day ∷ []) (record { scheduled = tally.scheduled + a; creditable = tally.creditable + b; counted = tally.counted + c; values = values })
-tally-more places days day tally a b c values is ai bi ci more = record {
+    → ((vs : List ℤ) → AreOf before vs tally.values → AreOf before (vs ++ option_to_list day.value) values)
+    → IsTallyOf before (days ++ day ∷ []) (record { scheduled = tally.scheduled + a; creditable = tally.creditable + b; counted = tally.counted + c; values = values })
+tally-more before days day tally a b c values is ai bi ci more = record {
   scheduled = count_more (λ (d : DayOfQuarter). d.scheduled) days day tally.scheduled (tally.scheduled + a) a is.scheduled refl ai;
   creditable = count_more (λ (d : DayOfQuarter). d.creditable) days day tally.creditable (tally.creditable + b) b is.creditable refl bi;
   counted = count_more (λ (d : DayOfQuarter). d.counted) days day tally.counted (tally.counted + c) c is.counted refl ci;
@@ -57,8 +57,8 @@ pub record AreFew (count : ℕ) (tally : QuarterTally) : Type 0 where
   pub counted : tally.counted ≤ count
   pub values : tally.values.count ≤ count
 
-pub few : (day : ℕ → DayOfQuarter) (places : List (Option ℤ)) (first count : ℕ) (tally : QuarterTally) → IsTallyOf places (map day (range_with_len first count)) tally → AreFew count tally
-few day places first count tally is =
+pub few : (day : ℕ → DayOfQuarter) (before : List ℤ) (first count : ℕ) (tally : QuarterTally) → IsTallyOf before (map day (range_with_len first count)) tally → AreFew count tally
+few day before first count tally is =
     let days = map day (range_with_len first count) in
     let many : length days ≡ count = length-map (range_with_len first count) day ∙ length-range_with_len first count in
     record {

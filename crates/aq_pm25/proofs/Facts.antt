@@ -117,8 +117,8 @@ module _ (records : List OfficeRecord) (rows : List (ObsKey × Observation)) (si
   values_are [] = refl
   values_are (d ∷ ds) = ap (cons_option (net_day office site Pm25 d)) (values_are ds)
 
-  module _ (places : List (Option ℤ)) (tally : QuarterTally) (is : IsTallyOf places (map (day_in office site) (days_of_quarter quarter)) tally) where
-    of_days : IsTallyOf places (map (day_in office site) days) tally
+  module _ (before : List ℤ) (tally : QuarterTally) (is : IsTallyOf before (map (day_in office site) (days_of_quarter quarter)) tally) where
+    of_days : IsTallyOf before (map (day_in office site) days) tally
     unfolding days_of_quarter
     of_days = is
 

@@ -1,5 +1,5 @@
--- Lemmas on the days of a quarter, and on the places of the greatest values.
-pub mod Places
+-- Lemmas on the days of a quarter, and on the greatest values.
+pub mod Greatest
 pub mod Makeups
 pub mod Counts
 pub mod Values

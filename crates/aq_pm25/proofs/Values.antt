@@ -1,16 +1,14 @@
 -- One more value of a quarter.
-use Rattle.std.proofs.Common.{◌≡◌, ◌+◌, ◌<◌, List, [], ◌∷◌, ◌++◌, sym, ap, ◌∙◌, arith, FitsSigned, w32, of_z, to_z}
+use Rattle.std.proofs.Common.{◌≡◌, ◌+◌, ◌<◌, List, [], ◌∷◌, ◌++◌, take, sym, ap, ◌∙◌, arith, FitsSigned, w32, of_z, to_z}
 use Rattle.std.specs.Prelude.{ℤ, pos, neg_ℤ, ◌+ℤ◌, ◌≤ℤ◌, Option, Some, None, unsigned_abs}
 use Rattle.std.specs.Option.{option_to_list}
 use Rattle.std.proofs.lemmas.Int.{ints, fits_signed_from_abs, to_z-of_z}
 use Rattle.std.proofs.lemmas.List.{length-append}
 use Rattle.std.proofs.lemmas.List.Sums.{fold-append}
-use Rattle.aq_rules.specs.Lists.{greater, lesser}
+use Rattle.aq_rules.specs.Lists.{greater, lesser, ranked_in}
 use Rattle.aq_series.specs.DayCells.{IsParticle}
-use Rattle.aq_pm25.specs.Pushed.{pushed}
 use Rattle.aq_pm25.specs.QuarterValues.{AreOf, AreParticles, IsSumInRange}
 use Rattle.aq_pm25.specs.declared.quarter_values.QuarterValues.{QuarterValues}
-use Rattle.aq_pm25.specs.declared.top_eight.TopEight.{TopEight}
 
 pub value-fits : (v : ℤ) → IsParticle v → FitsSigned w32 v
 value-fits v range = fits_signed_from_abs w32 v (let small : unsigned_abs v < 2147483648 = omega (arith, ints, range.0, range.1) in small)
@@ -39,26 +37,26 @@ module _ (kept : QuarterValues) (v : ℤ) (few : kept.count < 92) (held : IsSumI
   particles_more [] all = (range, tt)
   particles_more (w ∷ values) all = (all.0, particles_more values all.1)
 
-  pub one-more : (places : List (Option ℤ)) (values : List ℤ) (sum : ℤ) (low high : Option ℤ) (top : TopEight) → AreOf places values kept
-      → sum ≡ kept.sum +ℤ v → low ≡ lesser kept.least v → high ≡ greater kept.greatest v → top.places ≡ pushed (Some v) kept.top.places
-      → AreOf places (values ++ v ∷ []) (record { count = kept.count + 1; sum = sum; least = low; greatest = high; top = top })
-  one-more places values sum low high top are summed least_of greatest_of pushed_to = record {
+  pub one-more : (before values : List ℤ) (sum : ℤ) (low high : Option ℤ) (top : List ℤ) → AreOf before values kept
+      → sum ≡ kept.sum +ℤ v → low ≡ lesser kept.least v → high ≡ greater kept.greatest v → top ≡ take 8 (ranked_in v kept.top)
+      → AreOf before (values ++ v ∷ []) (record { count = kept.count + 1; sum = sum; least = low; greatest = high; top = top })
+  one-more before values sum low high top are summed least_of greatest_of joined_to = record {
     count = ap (λ n. n + 1) are.count ∙ sym (length-append values (v ∷ []));
     sum = summed ∙ ap (λ z. z +ℤ v) are.sum ∙ sym (fold-append (λ a b. a +ℤ b) (pos 0) values (v ∷ []));
     least_is = least_of ∙ ap (λ o. lesser o v) are.least_is ∙ sym (fold-append lesser None values (v ∷ []));
     greatest_is = greatest_of ∙ ap (λ o. greater o v) are.greatest_is ∙ sym (fold-append greater None values (v ∷ []));
-    top = pushed_to ∙ ap (pushed (Some v)) are.top ∙ sym (fold-append (λ now value. pushed (Some value) now) places values (v ∷ []));
+    top = joined_to ∙ ap (λ now. take 8 (ranked_in v now)) are.top ∙ sym (fold-append (λ now value. take 8 (ranked_in value now)) before values (v ∷ []));
     range = particles_more values are.range;
   }
 
   -- the same of a value that is given
-  pub one-given : (places : List (Option ℤ)) (values : List ℤ) (given : Option ℤ) (sum : ℤ) (low high : Option ℤ) (top : TopEight) → given ≡ Some v → AreOf places values kept
-      → sum ≡ kept.sum +ℤ v → low ≡ lesser kept.least v → high ≡ greater kept.greatest v → top.places ≡ pushed (Some v) kept.top.places
-      → AreOf places (values ++ option_to_list given) (record { count = kept.count + 1; sum = sum; least = low; greatest = high; top = top })
-  one-given places values given sum low high top is are summed least_of greatest_of pushed_to =
-      rw is (one-more places values sum low high top are summed least_of greatest_of pushed_to)
+  pub one-given : (before values : List ℤ) (given : Option ℤ) (sum : ℤ) (low high : Option ℤ) (top : List ℤ) → given ≡ Some v → AreOf before values kept
+      → sum ≡ kept.sum +ℤ v → low ≡ lesser kept.least v → high ≡ greater kept.greatest v → top ≡ take 8 (ranked_in v kept.top)
+      → AreOf before (values ++ option_to_list given) (record { count = kept.count + 1; sum = sum; least = low; greatest = high; top = top })
+  one-given before values given sum low high top is are summed least_of greatest_of joined_to =
+      rw is (one-more before values sum low high top are summed least_of greatest_of joined_to)
 
-  pub sum-held : (sum : ℤ) (low high : Option ℤ) (top : TopEight) → sum ≡ kept.sum +ℤ v → IsSumInRange (record { count = kept.count + 1; sum = sum; least = low; greatest = high; top = top })
+  pub sum-held : (sum : ℤ) (low high : Option ℤ) (top : List ℤ) → sum ≡ kept.sum +ℤ v → IsSumInRange (record { count = kept.count + 1; sum = sum; least = low; greatest = high; top = top })
   sum-held sum low high top summed = record {
     low = omega (arith, ints, held.low, range.0, summed);
     high = omega (arith, ints, held.high, range.1, summed);

@@ -1,6 +1,6 @@
 -- What is kept of a year is its four quarters and the greatest of their values, and it keeps its facts.
 use Rattle.std.proofs.Common.{◌≡◌, ℕ, zero, suc, ◌+◌, ◌*◌, ◌%◌, ◌<◌, ◌≤◌, Bool, true, false, cond, List, [], ◌∷◌, ◌++◌, map, refl, ap, sym, subst, ◌∙◌, arith, append_assoc}
-use Rattle.std.specs.Prelude.{ℤ, Option, IsTrue, ◌==◌, nat_le, sum}
+use Rattle.std.specs.Prelude.{ℤ, ◌==◌, nat_le, sum}
 use Rattle.std.specs.List.{list_all, range_with_len}
 use Rattle.std.proofs.lemmas.List.{append-nil}
 use Rattle.std.proofs.lemmas.List.Elements.{All-cons, All-nil}
@@ -13,16 +13,14 @@ use Rattle.aq_rules.specs.Lists.{ranked}
 use Rattle.aq_rules.specs.Office.Office.{Office}
 use Rattle.aq_rules.specs.Office.Schedule.{is_scheduled}
 use Rattle.aq_rules.specs.Particles.QuarterCounts.{days_of_quarter, pm25_quarter, pm25_year, quarter_counts, quarter_values, quarters_of, values_in}
-use Rattle.aq_rules.proofs.Descent.{ranked-descends}
 use Rattle.aq_rules.proofs.Elements.{Every, every-append}
 use Rattle.aq_rules.proofs.Pm10Facts.{length-days, length-filter-le}
 use Rattle.aq_rules.proofs.Pm25Facts.{top-count, top-falls, top-greatest}
 use Rattle.aq_rules.proofs.Pm25Range.{every-take}
 use Rattle.aq_rules.proofs.ValueRange.{InRangeTo, every-ranked, to_test}
-use Rattle.aq_verdict.specs.Top.{descends, given, placed}
-use Rattle.aq_pm25.specs.QuarterValues.{places_after, AreParticles}
+use Rattle.aq_pm25.specs.QuarterValues.{top_after, AreParticles}
 use Rattle.aq_pm25.proofs.Facts.{every_of}
-use Rattle.aq_pm25.proofs.Places.{after-ranked, given-placed, placed-descends}
+use Rattle.aq_pm25.proofs.Greatest.{all-join}
 
 -- ---- the days of a year's quarters
 
@@ -74,25 +72,22 @@ module _ (office : Office) (site : Site) (year : ℕ) where
   abbrev values_by : ℕ → List ℤ
   values_by quarter = quarter_values office site Pm25 quarter
 
-  -- the places after the four quarters
-  pub places-are : (p q r s : ℕ) (top a b c d : List (Option ℤ)) → p ≡ quarter_number year 0 → q ≡ quarter_number year 1 → r ≡ quarter_number year 2 → s ≡ quarter_number year 3
-      → top ≡ placed 8 [] → a ≡ places_after top (values_by p) → b ≡ places_after a (values_by q) → c ≡ places_after b (values_by r) → d ≡ places_after c (values_by s)
-      → d ≡ placed 8 (ranked (values_in (pm25_year office site year)))
+  -- the greatest values after the four quarters
+  pub top-is : (p q r s : ℕ) (top a b c d : List ℤ) → p ≡ quarter_number year 0 → q ≡ quarter_number year 1 → r ≡ quarter_number year 2 → s ≡ quarter_number year 3
+      → top ≡ [] → a ≡ top_after top (values_by p) → b ≡ top_after a (values_by q) → c ≡ top_after b (values_by r) → d ≡ top_after c (values_by s)
+      → d ≡ eight_greatest (values_in (pm25_year office site year))
   unfolding pm25_year ranked
-  places-are p q r s top a b c d pi qi ri si ti ai bi ci di =
-      let first : a ≡ placed 8 (ranked (values_at 0)) = ai ∙ (λ i. places_after (ti i) (values_by (pi i))) ∙ after-ranked 8 [] (values_at 0) in
-      let second : b ≡ placed 8 (ranked (values_at 0 ++ values_at 1)) = bi ∙ (λ i. places_after (first i) (values_by (qi i))) ∙ after-ranked 8 (values_at 0) (values_at 1) in
-      let third : c ≡ placed 8 (ranked ((values_at 0 ++ values_at 1) ++ values_at 2)) = ci ∙ (λ i. places_after (second i) (values_by (ri i))) ∙ after-ranked 8 (values_at 0 ++ values_at 1) (values_at 2) in
-      di ∙ (λ i. places_after (third i) (values_by (si i))) ∙ after-ranked 8 ((values_at 0 ++ values_at 1) ++ values_at 2) (values_at 3)
-      ∙ ap (λ l. placed 8 (ranked l)) (joined (values_at 0) (values_at 1) (values_at 2) (values_at 3))
+  top-is p q r s top a b c d pi qi ri si ti ai bi ci di =
+      let first : a ≡ eight_greatest (values_at 0) = ai ∙ (λ i. top_after (ti i) (values_by (pi i))) ∙ all-join [] (values_at 0) in
+      let second : b ≡ eight_greatest (values_at 0 ++ values_at 1) = bi ∙ (λ i. top_after (first i) (values_by (qi i))) ∙ all-join (values_at 0) (values_at 1) in
+      let third : c ≡ eight_greatest ((values_at 0 ++ values_at 1) ++ values_at 2) = ci ∙ (λ i. top_after (second i) (values_by (ri i))) ∙ all-join (values_at 0 ++ values_at 1) (values_at 2) in
+      di ∙ (λ i. top_after (third i) (values_by (si i))) ∙ all-join ((values_at 0 ++ values_at 1) ++ values_at 2) (values_at 3)
+      ∙ ap eight_greatest (joined (values_at 0) (values_at 1) (values_at 2) (values_at 3))
 
-  pub year-descends : (d : List (Option ℤ)) → d ≡ placed 8 (ranked (values_in (pm25_year office site year))) → IsTrue (descends d)
-  year-descends d is = rw is (placed-descends 8 (ranked (values_in (pm25_year office site year))) (ranked-descends (values_in (pm25_year office site year))))
-
-  pub year-is : (quarters : List PmQuarter) (d : List (Option ℤ)) → quarters ≡ summary_at 0 ∷ summary_at 1 ∷ summary_at 2 ∷ summary_at 3 ∷ [] → d ≡ placed 8 (ranked (values_in (pm25_year office site year)))
-      → (let y : PmYear = record { quarters = quarters; top = given d } in y) ≡ pm25_summary office site year
+  pub year-is : (quarters : List PmQuarter) (d : List ℤ) → quarters ≡ summary_at 0 ∷ summary_at 1 ∷ summary_at 2 ∷ summary_at 3 ∷ [] → d ≡ eight_greatest (values_in (pm25_year office site year))
+      → (let y : PmYear = record { quarters = quarters; top = d } in y) ≡ pm25_summary office site year
   unfolding pm25_summary pm25_year
-  year-is quarters d qi di = λ i. record { quarters = qi i; top = (ap given di ∙ given-placed 8 (ranked (values_in (pm25_year office site year)))) i }
+  year-is quarters d qi di = λ i. record { quarters = qi i; top = di i }
 
   module _ (facts : (part : ℕ) → part < 4 → KeepsPmQuarter (summary_at part)) (range : (part : ℕ) → part < 4 → AreParticles (values_at part)) where
     every_value : Every (InRangeTo 99999) (values_in (pm25_year office site year))

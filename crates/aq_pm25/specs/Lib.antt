@@ -1,4 +1,3 @@
--- What the days of a quarter give it, and the places of the greatest values.
-pub mod Pushed
+-- What the days of a quarter give it.
 pub mod QuarterValues
 pub mod QuarterDays

@@ -43,12 +43,12 @@ day_in office site day = record {
 abbrev pub values_of : List DayOfQuarter → List ℤ
 values_of days = filter_map (λ (day : DayOfQuarter). day.value) days
 
--- the tally of days, whose values join the places of earlier ones
-pub record IsTallyOf (places : List (Option ℤ)) (days : List DayOfQuarter) (tally : QuarterTally) : Type 0 where
+-- the tally of days, whose values join the greatest of earlier ones
+pub record IsTallyOf (before : List ℤ) (days : List DayOfQuarter) (tally : QuarterTally) : Type 0 where
   pub scheduled : tally.scheduled ≡ count_by (λ (day : DayOfQuarter). day.scheduled) days
   pub creditable : tally.creditable ≡ count_by (λ (day : DayOfQuarter). day.creditable) days
   pub counted : tally.counted ≡ count_by (λ (day : DayOfQuarter). day.counted) days
-  pub values : AreOf places (values_of days) tally.values
+  pub values : AreOf before (values_of days) tally.values
 
 -- what is kept of a tally
 abbrev pub summary_of : QuarterTally → PmQuarter

@@ -1,26 +1,25 @@
 -- Values of a quarter, taken together.
-use Rattle.std.specs.Prelude.{◌≡◌, ◌*◌, List, Option, Some, fold, length, ℤ, pos, neg_ℤ, ◌≤ℤ◌}
+use Rattle.std.specs.Prelude.{◌≡◌, ◌*◌, List, take, fold, length, ℤ, pos, neg_ℤ, ◌≤ℤ◌}
 use Rattle.std.specs.List.{AllByRecursion}
-use Rattle.aq_rules.specs.Lists.{total, least, greatest}
+use Rattle.aq_rules.specs.Lists.{total, least, greatest, ranked_in}
 use Rattle.aq_series.specs.DayCells.{IsParticle}
-use Rattle.aq_pm25.specs.Pushed.{pushed}
 use Rattle.aq_pm25.specs.declared.quarter_values.QuarterValues.{QuarterValues}
 
 -- the values are in the range of PM2.5
 abbrev pub AreParticles : List ℤ → Type 0
 AreParticles values = AllByRecursion (λ value. IsParticle value) values
 
--- the places of the greatest values after these have joined them
-abbrev pub places_after : List (Option ℤ) → List ℤ → List (Option ℤ)
-places_after places values = fold (λ now value. pushed (Some value) now) places values
+-- the eight greatest values after these have joined them
+abbrev pub top_after : List ℤ → List ℤ → List ℤ
+top_after top values = fold (λ now value. take 8 (ranked_in value now)) top values
 
--- what is kept of these values, which join the places of earlier ones
-pub record AreOf (places : List (Option ℤ)) (values : List ℤ) (kept : QuarterValues) : Type 0 where
+-- what is kept of these values, which join the greatest of earlier ones
+pub record AreOf (before values : List ℤ) (kept : QuarterValues) : Type 0 where
   pub count : kept.count ≡ length values
   pub sum : kept.sum ≡ total values
   pub least_is : kept.least ≡ least values
   pub greatest_is : kept.greatest ≡ greatest values
-  pub top : kept.top.places ≡ places_after places values
+  pub top : kept.top ≡ top_after before values
   pub range : AreParticles values
 
 -- the sum is one of so many values in range

@@ -5,8 +5,6 @@
 mod quarter_days;
 mod quarter_values;
 mod quarters;
-mod rank;
-mod top_eight;
 
+pub use aq_verdict::rank_of;
 pub use quarters::{quarter, year};
-pub use rank::rank_of;

@@ -2,7 +2,7 @@
 ghost use Rattle.std.specs.Prelude.{◌≡◌};
 ghost use Rattle.aq_rules.specs.Lists as lists;
 
-use crate::top_eight::TopEight;
+use aq_verdict::TopEight;
 
 /// Values in tenths of a µg/m3: how many, their sum, the least and the greatest one, and the eight
 /// greatest of these and of those of earlier quarters.
@@ -16,14 +16,14 @@ pub(crate) struct QuarterValues {
 }
 
 impl QuarterValues {
-    ghost use Rattle.std.specs.Prelude.{◌≡◌, ◌<◌, ℤ, List, Option, [], ◌++◌, IfSome};
+    ghost use Rattle.std.specs.Prelude.{◌≡◌, ◌<◌, ℤ, List, [], ◌++◌, IfSome};
     ghost use Rattle.std.specs.Option.{option_to_list};
     ghost use Rattle.aq_series.specs.DayCells.{IsParticle};
     ghost use Rattle.aq_pm25.specs.QuarterValues.{AreOf, IsSumInRange};
 
     /// No values beside the greatest of earlier quarters.
     pub(crate) fn new(top: TopEight) -> QuarterValues
-        ensures values { AreOf top.places [] result }
+        ensures values { AreOf top [] result }
         ensures sum { IsSumInRange result }
     {
         QuarterValues {
@@ -40,7 +40,7 @@ impl QuarterValues {
         requires room { self.count < 92 }
         requires range { IfSome value (λ value. IsParticle value) }
         requires sum { IsSumInRange self }
-        ensures values { (places : List (Option ℤ)) (values : List ℤ) → AreOf places values self → AreOf places (values ++ option_to_list value) result }
+        ensures values { (before values : List ℤ) → AreOf before values self → AreOf before (values ++ option_to_list value) result }
         ensures sum { IsSumInRange result }
     {
         match value {
@@ -49,7 +49,7 @@ impl QuarterValues {
                 sum: self.sum + value,
                 least: lesser(self.least, value),
                 greatest: greater(self.greatest, value),
-                top: self.top.with(value),
+                top: self.top.with_value(value),
             },
             None => self,
         }

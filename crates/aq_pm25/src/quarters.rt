@@ -7,17 +7,16 @@ ghost use Rattle.aq_rules.specs.Kept.Summaries.{pm25_summary, summary_of_quarter
 ghost use Rattle.aq_rules.specs.Particles.QuarterCounts.{days_of_quarter, pm25_quarter, quarter_values};
 ghost use Rattle.aq_series.specs.OfficeView.{office_of};
 ghost use Rattle.aq_pm25.specs.QuarterDays.{day_in, summary_of, IsTallyOf};
-ghost use Rattle.aq_pm25.specs.QuarterValues.{places_after, AreParticles};
+ghost use Rattle.aq_pm25.specs.QuarterValues.{top_after, AreParticles};
 
 use crate::quarter_days::{DayOfQuarter, day_of_quarter};
 use crate::quarter_values::QuarterValues;
-use crate::top_eight::TopEight;
 use aq_base::{Day, FIRST_YEAR, Pollutant, Quarter, SiteId, Steps};
 use aq_cal::{a_quarter_holds_the_days_of_its_span, quarter_span};
 use aq_registry::Registry;
 use aq_series::site_days;
 use aq_shelf::Shelf;
-use aq_verdict::{PmQuarter, PmYear};
+use aq_verdict::{PmQuarter, PmYear, TopEight};
 use std::sync::ledger::Ledger;
 
 /// A site's PM2.5 quarter: its scheduled days, its creditable samples and those that are counted (40 CFR
@@ -56,7 +55,7 @@ pub fn year<L: Ledger>(
     let b = kept_quarter(shelf, registry, site, quarter_in(year, 1), a.top, steps);
     let c = kept_quarter(shelf, registry, site, quarter_in(year, 2), b.top, steps);
     let d = kept_quarter(shelf, registry, site, quarter_in(year, 3), c.top, steps);
-    PmYear::new([a.quarter, b.quarter, c.quarter, d.quarter], d.top.places())
+    PmYear::new([a.quarter, b.quarter, c.quarter, d.quarter], d.top)
 }
 
 /// A quarter of a year, from 0 for the first one to 3.
@@ -87,7 +86,7 @@ fn kept_quarter<L: Ledger>(
 ) -> KeptQuarter
     ensures quarter { result.quarter ≡ summary_of_quarter (pm25_quarter (office_of registry.now shelf.now) site.now quarter) }
     ensures facts { KeepsPmQuarter (summary_of_quarter (pm25_quarter (office_of registry.now shelf.now) site.now quarter)) }
-    ensures top { result.top.places ≡ places_after top.places (quarter_values (office_of registry.now shelf.now) site.now Pm25 quarter) }
+    ensures top { result.top ≡ top_after top (quarter_values (office_of registry.now shelf.now) site.now Pm25 quarter) }
     ensures range { AreParticles (quarter_values (office_of registry.now shelf.now) site.now Pm25 quarter) }
 {
     a_quarter_holds_the_days_of_its_span();
@@ -109,7 +108,7 @@ fn tally_of<L: Ledger>(
     top: TopEight,
     steps: &mut Steps<L>,
 ) -> QuarterTally
-    ensures { IsTallyOf top.places (map (day_in (office_of registry.now shelf.now) site.now) (days_of_quarter quarter)) result }
+    ensures { IsTallyOf top (map (day_in (office_of registry.now shelf.now) site.now) (days_of_quarter quarter)) result }
 {
     let (first, days) = quarter_span(quarter);
     let cells = site_days(shelf, registry, *site, first, days, steps);
@@ -132,7 +131,7 @@ struct QuarterTally {
 }
 
 impl QuarterTally {
-    ghost use Rattle.std.specs.Prelude.{◌≡◌, ◌<◌, ◌++◌, [], ◌∷◌, ℤ, List, Option, IfSome};
+    ghost use Rattle.std.specs.Prelude.{◌≡◌, ◌<◌, ◌++◌, [], ◌∷◌, ℤ, List, IfSome};
     ghost use Rattle.aq_rules.specs.Kept.Summaries.{KeepsPmQuarter};
     ghost use Rattle.aq_series.specs.DayCells.{IsParticle};
     ghost use Rattle.aq_pm25.specs.declared.quarter_days.DayOfQuarter.{DayOfQuarter};
@@ -141,7 +140,7 @@ impl QuarterTally {
 
     /// Of no days.
     fn new(top: TopEight) -> QuarterTally
-        ensures tally { IsTallyOf top.places [] result }
+        ensures tally { IsTallyOf top [] result }
         ensures sum { IsSumInRange result.values }
     {
         QuarterTally {
@@ -160,7 +159,7 @@ impl QuarterTally {
         requires values { self.values.count < 92 }
         requires range { IfSome day.value (λ value. IsParticle value) }
         requires sum { IsSumInRange self.values }
-        ensures tally { (places : List (Option ℤ)) (days : List DayOfQuarter) → IsTallyOf places days self → IsTallyOf places (days ++ day ∷ []) result }
+        ensures tally { (before : List ℤ) (days : List DayOfQuarter) → IsTallyOf before days self → IsTallyOf before (days ++ day ∷ []) result }
         ensures sum { IsSumInRange result.values }
     {
         QuarterTally {
@@ -172,9 +171,9 @@ impl QuarterTally {
     }
 
     /// The quarter of these days.
-    fn quarter(self) -> PmQuarter
-        requires { KeepsPmQuarter (summary_of self) }
-        ensures { result ≡ summary_of self }
+    fn quarter(&self) -> PmQuarter
+        requires { KeepsPmQuarter (summary_of self.now) }
+        ensures { result ≡ summary_of self.now }
     {
         PmQuarter::new(
             self.scheduled,

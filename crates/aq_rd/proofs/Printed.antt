@@ -73,6 +73,6 @@ neither false = refl
 -- a written line begins with RD
 pub no_office-line : (line : RdLine) → has_office_tag (canonical_rd (value_of line)) ≡ false
 unfolding rd_texts
-no_office-line (lines.Put update monitor duration method hour content) =
-    neither (is_plain (canonical_rd (Put update monitor duration method hour content)))
+no_office-line (lines.Put update monitor duration hour content) =
+    neither (is_plain (canonical_rd (Put update monitor duration hour content)))
 no_office-line (lines.Delete monitor hour) = neither (is_plain (canonical_rd (Delete monitor hour)))

@@ -110,9 +110,9 @@ put-fields update texts =
     (null-empty (field 14 texts))
     (ap (λ q. (q >>- λ x. Some x) >>- λ p. unit_in p (field 9 texts) >>- λ n. value_in p n (field 13 texts)) is_pollutant
     ∙ ap (λ q. q >>- λ n. value_in pollutant n (field 13 texts)) is_places)
-    (λ code codes. record { value = None; null = Some code; quals = codes })
-    (λ value codes. record { value = Some value; null = None; quals = codes })
-    (λ content. line.Put update (record { site = site; pollutant = pollutant; poc = poc }) duration method (hour_number day hour) content)
+    (λ code codes. record { value = None; null = Some code; quals = codes; method = Some method })
+    (λ value codes. record { value = Some value; null = None; quals = codes; method = Some method })
+    (λ content. line.Put update (record { site = site; pollutant = pollutant; poc = poc }) duration (hour_number day hour) content)
 
 reads-put : (update : Bool) (texts : List (List ℕ))
     → Reads value_of (put_reading update texts) (put_in update texts) (find (λ rule. breaks_in rule Rd false texts) (rules_of Rd false))
@@ -264,8 +264,8 @@ right : (a b : Bool) → (a && b) ≡ true → b ≡ true
 right a b h = (and_parts a b h).1
 
 pub ranged-line : (r : Result RdLine Rule) → IfOk r (λ x. IsTrue (is_rd_value (value_of x))) → IfOk r HasLineRange
-ranged-line (Ok (line.Put update monitor duration method hour content)) h =
+ranged-line (Ok (line.Put update monitor duration hour content)) h =
     let content_in = right _ (is_content monitor.pollutant content) h in
-    ranged-content monitor.pollutant content.value content.null (left _ _ (left _ _ (left _ _ content_in)))
+    ranged-content monitor.pollutant content.value content.null (left _ _ (left _ _ (left _ _ (left _ _ content_in))))
 ranged-line (Ok (line.Delete monitor hour)) h = tt
 ranged-line (Err e) h = tt

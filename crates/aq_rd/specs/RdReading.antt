@@ -17,7 +17,7 @@ use Rattle.aq_rd.specs.declared.line.RdLine.TheVariants.{Put, Delete}
 
 -- the value of the definition
 abbrev pub value_of : RdLine → RdValue
-value_of (Put update monitor duration method hour content) = PutSample update monitor duration method hour content
+value_of (Put update monitor duration hour content) = PutSample update monitor duration hour content
 value_of (Delete monitor hour) = DeleteSample monitor hour
 
 infixl 10 ◌>>=◌
@@ -42,23 +42,23 @@ unfoldable pub value_reading : Pollutant → ℕ → List ℕ → Result ℤ Rul
 value_reading pollutant places text =
     if is_decimal text then ok_or (value_in pollutant places text) ValueOutOfRange else Err BadValue
 
-unfoldable pub valued_reading : Pollutant → ℕ → List (List ℕ) → Result Observation Rule
-valued_reading pollutant places texts = do
+unfoldable pub valued_reading : Pollutant → ℕ → ℕ → List (List ℕ) → Result Observation Rule
+valued_reading pollutant places method texts = do
   value ← value_reading pollutant places (field 13 texts)
   codes ← ok_or (qualifiers_in (qualifier_fields texts)) BadQualifier
-  Ok (record { value = Some value; null = None; quals = codes })
+  Ok (record { value = Some value; null = None; quals = codes; method = Some method })
 
-unfoldable pub null_reading : List (List ℕ) → Result Observation Rule
-null_reading texts = do
+unfoldable pub null_reading : ℕ → List (List ℕ) → Result Observation Rule
+null_reading method texts = do
   code ← ok_or (null_in (field 14 texts)) BadNull
   codes ← ok_or (qualifiers_in (qualifier_fields texts)) BadQualifier
-  Ok (record { value = None; null = Some code; quals = codes })
+  Ok (record { value = None; null = Some code; quals = codes; method = Some method })
 
-unfoldable pub content_reading : Pollutant → ℕ → List (List ℕ) → Result Observation Rule
-content_reading pollutant places texts =
+unfoldable pub content_reading : Pollutant → ℕ → ℕ → List (List ℕ) → Result Observation Rule
+content_reading pollutant places method texts =
     if has_value texts
-    then (if has_null texts then Err ValueAndNull else valued_reading pollutant places texts)
-    else (if has_null texts then null_reading texts else Err NeitherValueNorNull)
+    then (if has_null texts then Err ValueAndNull else valued_reading pollutant places method texts)
+    else (if has_null texts then null_reading method texts else Err NeitherValueNorNull)
 
 unfoldable pub put_reading : Bool → List (List ℕ) → Result RdLine Rule
 put_reading update texts = do
@@ -67,8 +67,8 @@ put_reading update texts = do
   places ← ok_or (unit_in monitor.pollutant (field 9 texts)) BadUnit
   method ← ok_or (method_in (field 10 texts)) BadMethod
   hour ← start_reading texts
-  content ← content_reading monitor.pollutant places texts
-  Ok (Put update monitor duration method hour content)
+  content ← content_reading monitor.pollutant places method texts
+  Ok (Put update monitor duration hour content)
 
 unfoldable pub delete_reading : List (List ℕ) → Result RdLine Rule
 delete_reading texts = do

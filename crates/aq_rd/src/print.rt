@@ -2,7 +2,7 @@
 ghost use Rattle.std.specs.Prelude.{◌≡◌, false, ◌+◌, ◌++◌, ◌∷◌, map, if◌then◌else◌, codes, IfOk, IsTrue, OnOk, Some};
 ghost use Rattle.aq_base.specs.Decimal.{last_digits};
 ghost use Rattle.aq_rules.specs.Lines.Reading.{line_value, OfRd};
-ghost use Rattle.aq_rules.specs.Lines.Canonical.{canonical_rd, is_rd_value, monitor_texts, code_text, value_text, texts_behind, unit_text, value_places};
+ghost use Rattle.aq_rules.specs.Lines.Canonical.{canonical_rd, is_rd_value, method_text, monitor_texts, code_text, value_text, texts_behind, unit_text, value_places};
 ghost use Rattle.aq_rd.specs.Printing.{behind_bars, null_text};
 ghost use Rattle.aq_rd.specs.RdReading.{value_of};
 ghost use Rattle.aq_rd.specs.Tags.{has_office_tag};
@@ -37,7 +37,6 @@ fn write_line(out: &mut Vec<u8>, line: &RdLine) -> Result<(), Memory>
             update,
             monitor,
             duration,
-            method,
             hour,
             content,
         } => {
@@ -46,7 +45,7 @@ fn write_line(out: &mut Vec<u8>, line: &RdLine) -> Result<(), Memory>
             write_monitor(out, monitor)?;
             write_field(out, duration_name(*duration))?;
             write_field(out, unit_name(monitor.pollutant))?;
-            write_field(out, &last_digits::<3>(*method))?;
+            write_method(out, content.method)?;
             write_start(out, *hour)?;
             write_value(out, monitor.pollutant, content.value)?;
             write_codes(out, content)?;
@@ -73,6 +72,16 @@ fn write_monitor(out: &mut Vec<u8>, monitor: &MonitorId) -> Result<(), Memory>
     write_field(out, parameter_name(monitor.pollutant))?;
     out.push(b'|')?;
     write_fixed(out, i64::from(monitor.poc), 0)?;
+    Ok(())
+}
+
+fn write_method(out: &mut Vec<u8>, method: Option<u16>) -> Result<(), Memory>
+    ensures { OnOk result (out.new.items ≡ out.old.items ++ 124 ∷ method_text method) }
+{
+    out.push(b'|')?;
+    if let Some(method) = method {
+        out.extend_from_slice(&last_digits::<3>(method))?;
+    }
     Ok(())
 }
 

@@ -85,12 +85,11 @@ fn read_put(update: bool, texts: &Fields<'_>) -> Result<RdLine, Rule>
     let places = unit_in(pollutant, texts.field(9)).ok_or(Rule::BadUnit)?;
     let method = method_in(texts.field(10)).ok_or(Rule::BadMethod)?;
     let hour = read_start(texts)?;
-    let content = read_content(pollutant, places, texts)?;
+    let content = read_content(pollutant, places, method, texts)?;
     Ok(RdLine::Put {
         update,
         monitor,
         duration,
-        method,
         hour,
         content,
     })
@@ -130,9 +129,14 @@ fn read_start(texts: &Fields<'_>) -> Result<Hour, Rule>
 }
 
 #[tactic(auto, unfolding(crate::specs::RdReading::content_reading))]
-fn read_content(pollutant: Pollutant, places: u8, texts: &Fields<'_>) -> Result<Observation, Rule>
+fn read_content(
+    pollutant: Pollutant,
+    places: u8,
+    method: u16,
+    texts: &Fields<'_>,
+) -> Result<Observation, Rule>
     requires { places ≤ 6 }
-    ensures { result ≡ content_reading pollutant places texts.now }
+    ensures { result ≡ content_reading pollutant places method texts.now }
 {
     let value = texts.field(13);
     let null = texts.field(14);
@@ -141,8 +145,8 @@ fn read_content(pollutant: Pollutant, places: u8, texts: &Fields<'_>) -> Result<
     match (has_value, has_null) {
         (true, true) => Err(Rule::ValueAndNull),
         (false, false) => Err(Rule::NeitherValueNorNull),
-        (true, false) => read_valued(pollutant, places, value, texts),
-        (false, true) => read_null(null, texts),
+        (true, false) => read_valued(pollutant, places, method, value, texts),
+        (false, true) => read_null(method, null, texts),
     }
 }
 
@@ -150,12 +154,13 @@ fn read_content(pollutant: Pollutant, places: u8, texts: &Fields<'_>) -> Result<
 fn read_valued(
     pollutant: Pollutant,
     places: u8,
+    method: u16,
     text: &[u8],
     texts: &Fields<'_>,
 ) -> Result<Observation, Rule>
     requires places { places ≤ 6 }
     requires text { text.now ≡ field 13 texts.now }
-    ensures { result ≡ valued_reading pollutant places texts.now }
+    ensures { result ≡ valued_reading pollutant places method texts.now }
 {
     let value = value(pollutant, places, text)?;
     let quals = qualifiers(texts).ok_or(Rule::BadQualifier)?;
@@ -163,13 +168,14 @@ fn read_valued(
         value: Some(value),
         null: None,
         quals,
+        method: Some(method),
     })
 }
 
 #[tactic(auto, unfolding(crate::specs::RdReading::null_reading))]
-fn read_null(text: &[u8], texts: &Fields<'_>) -> Result<Observation, Rule>
+fn read_null(method: u16, text: &[u8], texts: &Fields<'_>) -> Result<Observation, Rule>
     requires { text.now ≡ field 14 texts.now }
-    ensures { result ≡ null_reading texts.now }
+    ensures { result ≡ null_reading method texts.now }
 {
     let null = null_in(text).ok_or(Rule::BadNull)?;
     let quals = qualifiers(texts).ok_or(Rule::BadQualifier)?;
@@ -177,5 +183,6 @@ fn read_null(text: &[u8], texts: &Fields<'_>) -> Result<Observation, Rule>
         value: None,
         null: Some(null),
         quals,
+        method: Some(method),
     })
 }

@@ -26,7 +26,7 @@ pub use load::load_sheet;
 pub use quarters::{pm10_sheet, pm25_sheet};
 pub use report::report_sheet;
 pub use sheet::{Cells, Head, Heads, Names, Rows, Sheet};
-pub use single::{conflict_sheet, error_sheet, summary_sheet};
+pub use single::{conflict_sheet, error_sheet, hex_digits, summary_sheet};
 pub use text::{site_text, text_of};
 pub use value::value_sheet;
 pub use windows::windows_sheet;

@@ -11,7 +11,7 @@ use crate::text::site_text;
 use aq_base::{Memory, SiteId};
 use aq_verdict::{
     Pm10Quarter, Pm10Year, PmQuarter, PmYear, annual_mean, capture, counted_in, percentile_of,
-    quarter_estimate, quarter_lower, year_estimate,
+    quarter_estimate, quarter_lower, rank_of, year_estimate,
 };
 use std::alloc::Global;
 
@@ -55,15 +55,16 @@ fn pm25_heads(alloc: Global, site: SiteId, year: u16, parts: &PmYear) -> Result<
     Ok(heads)
 }
 
-/// The rank of the percentile, counted from the greatest value: first for 1 to 50 counted samples, second
-/// to 100, and so on; none without a counted sample (40 CFR Part 50, Appendix N, 4.5).
+/// The rank of the percentile, counted from the greatest value; none without a counted sample (40 CFR
+/// Part 50, Appendix N, 4.5).
 fn rank_cell(parts: &PmYear) -> SheetCell
     ensures { result ≡ book.rank_cell (kept_counted parts.now.quarters) }
 {
-    match u32::from(counted_in(parts)) {
-        0 => SheetCell::missing(),
-        counted => SheetCell::count((counted + 49) / 50),
+    let counted = counted_in(parts);
+    if counted == 0 {
+        return SheetCell::missing();
     }
+    SheetCell::count(u32::from(rank_of(counted)))
 }
 
 fn pm25_rows(alloc: Global, quarters: &[PmQuarter; 4]) -> Result<Rows, Memory>

@@ -82,10 +82,16 @@ fn digest_text(alloc: Global, digest: &[u8; 32]) -> Result<Vec<u8>, Memory>
 {
     let mut text = Vec::new(alloc);
     for byte in digest {
-        text.push(hex_digit(byte / 16))?;
-        text.push(hex_digit(byte % 16))?;
+        text.extend_from_slice(&hex_digits(*byte))?;
     }
     Ok(text)
+}
+
+/// A byte as two lower case hexadecimal digits.
+pub fn hex_digits(byte: u8) -> [u8; 2]
+    ensures { result ≡ book.digest_text (byte ∷ []) }
+{
+    [hex_digit(byte / 16), hex_digit(byte % 16)]
 }
 
 /// A lower case hexadecimal digit.

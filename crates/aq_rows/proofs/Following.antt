@@ -10,7 +10,7 @@ use Rattle.aq_base.specs.declared.monitor.Duration.{Duration}
 use Rattle.aq_base.specs.declared.observation.ObsKey.{ObsKey}
 use Rattle.aq_base.specs.declared.observation.Observation.{Observation}
 use Rattle.aq_base.specs.declared.office.OfficeRecord.{OfficeRecord}
-use Rattle.aq_rules.specs.Kept.Rows.{Row, OfficeRow, ObsRow, LoadRow, OfOfficeRow, OfObsRow, OfLoadRow, record_in_row, observation_in_row, load_in_row, record_of_row, observation_of_row, load_of_row, says_something, only_if, is_valid}
+use Rattle.aq_rules.specs.Kept.Rows.{Row, OfficeRow, ObsRow2, LoadRow, OfOfficeRow, OfLoadRow, OfSecondRow, record_in_row, observation_in_row, load_in_row, record_of_row, observation_of_row, load_of_row, says_something, only_if, is_valid}
 use Rattle.aq_rules.specs.Limits.{MOST_OBSERVATIONS, MOST_LOADS}
 use Rattle.aq_rules.specs.Lines.Spellings.{◌>>=◌ as ◌>>-◌}
 use Rattle.aq_rules.specs.Office.Office.{Office, StoredLoad, IsOffice, observation_rank, observation_numbers, load_rank, rises, duration_at, is_kept_hour, is_content, fits_monitors, is_load}
@@ -121,20 +121,20 @@ module _ (walk : Walk) (row : OfficeRow) (entry : OfficeRecord) (told : record_o
 
 -- ---- an observation
 
-module _ (office : Office) (row : ObsRow) where
+module _ (office : Office) (row : ObsRow2) where
   observation-office : (entry : ObsKey × Observation) → observation_of_row row ≡ Some entry
-      → with_last office (OfObsRow row) ≡ office_with office.records (office.observations ++ entry ∷ []) office.loads
+      → with_last office (OfSecondRow row) ≡ office_with office.records (office.observations ++ entry ∷ []) office.loads
   observation-office entry told =
-      let observations = one-said observation_in_row (OfObsRow row) entry told in
+      let observations = one-said observation_in_row (OfSecondRow row) entry told in
       let records = append-nil office.records in
       let loads = append-nil office.loads in
       λ i. record { records = records i; observations = office.observations ++ observations i; loads = loads i }
 
-  pub observation-unsaid : (o : Option (ObsKey × Observation)) → o ≡ (observation_of_row row >>- only_if can_stand) → o ≡ None → may_follow office (OfObsRow row) ≡ false
+  pub observation-unsaid : (o : Option (ObsKey × Observation)) → o ≡ (observation_of_row row >>- only_if can_stand) → o ≡ None → may_follow office (OfSecondRow row) ≡ false
   observation-unsaid o is none =
-      unsaid (observation_of_row row) can_stand (may_follow office (OfObsRow row) ≡ false) (sym none ∙ is)
-      (λ e. says-nothing office (OfObsRow row) (ap is_some e))
-      (λ entry e failed. no-office office (OfObsRow row)
+      unsaid (observation_of_row row) can_stand (may_follow office (OfSecondRow row) ≡ false) (sym none ∙ is)
+      (λ e. says-nothing office (OfSecondRow row) (ap is_some e))
+      (λ entry e failed. no-office office (OfSecondRow row)
       (λ valid. false≢true (sym failed ∙ observation-stands office entry (subst IsOffice (observation-office entry e) valid))))
 
   module _ (o : Option (ObsKey × Observation)) (entry : ObsKey × Observation) (is : o ≡ (observation_of_row row >>- only_if can_stand)) (some : o ≡ Some entry) where
@@ -144,59 +144,53 @@ module _ (office : Office) (row : ObsRow) where
     pub observation-can_stand : can_stand entry ≡ true
     observation-can_stand = told.1
 
-    pub observation-not : ((valid : IsOffice (office_with office.records (office.observations ++ entry ∷ []) office.loads)) → ⊥) → may_follow office (OfObsRow row) ≡ false
-    observation-not never = no-office office (OfObsRow row) (λ valid. never (subst IsOffice (observation-office entry told.0) valid))
+    pub observation-not : ((valid : IsOffice (office_with office.records (office.observations ++ entry ∷ []) office.loads)) → ⊥) → may_follow office (OfSecondRow row) ≡ false
+    observation-not never = no-office office (OfSecondRow row) (λ valid. never (subst IsOffice (observation-office entry told.0) valid))
 
-    pub observation-not-next : false ≡ (has_none office.loads && rises observation_rank (office.observations ++ entry ∷ [])) → may_follow office (OfObsRow row) ≡ false
-    observation-not-next h = choose (has_none office.loads) refl h
-      where
-        choose : (b : Bool) → has_none office.loads ≡ b → false ≡ (b && rises observation_rank (office.observations ++ entry ∷ [])) → may_follow office (OfObsRow row) ≡ false
-        choose true e k = observation-not (λ valid. false≢true (k ∙ observation-rises office entry valid))
-        choose false e k = out-of-turn office (OfObsRow row) e
+    pub observation-not-next : false ≡ rises observation_rank (office.observations ++ entry ∷ []) → may_follow office (OfSecondRow row) ≡ false
+    observation-not-next h = observation-not (λ valid. false≢true (h ∙ observation-rises office entry valid))
 
     kept : IsOffice (office_with office.records (office.observations ++ entry ∷ []) office.loads) → is_kept_hour (duration_at office entry.0.monitor) entry.0.hour ≡ true
     kept valid =
         let parts = and_parts _ (is_content entry.0.monitor.pollutant entry.1) (observation-fits office entry valid) in
         (and_parts _ (is_kept_hour (duration_at office entry.0.monitor) entry.0.hour) parts.0).1
 
-    pub observation-not-kept : (duration : Option Duration) → duration ≡ duration_at office entry.0.monitor → is_kept_hour duration entry.0.hour ≡ false → may_follow office (OfObsRow row) ≡ false
+    pub observation-not-kept : (duration : Option Duration) → duration ≡ duration_at office entry.0.monitor → is_kept_hour duration entry.0.hour ≡ false → may_follow office (OfSecondRow row) ≡ false
     observation-not-kept duration at not =
         observation-not (λ valid. false≢true (sym not ∙ ap (λ d. is_kept_hour d entry.0.hour) at ∙ kept valid))
 
-    pub observation-full : (length office.observations < MOST_OBSERVATIONS → ⊥) → may_follow office (OfObsRow row) ≡ false
+    pub observation-full : (length office.observations < MOST_OBSERVATIONS → ⊥) → may_follow office (OfSecondRow row) ≡ false
     observation-full full = observation-not (λ valid. full (observation-room office entry valid))
 
-    pub observation-refused : (fault : RowFault) → IsFault (length office.observations < MOST_OBSERVATIONS) fault → IsRowFault (may_follow office (OfObsRow row)) fault
+    pub observation-refused : (fault : RowFault) → IsFault (length office.observations < MOST_OBSERVATIONS) fault → IsRowFault (may_follow office (OfSecondRow row)) fault
     observation-refused Damaged full = observation-full full
     observation-refused Memory full = tt
 
-module _ (walk : Walk) (row : ObsRow) (o : Option (ObsKey × Observation)) (key : ObsKey) (content : Observation) (duration : Duration) (now : List (ObsKey × Observation)) where
+module _ (walk : Walk) (row : ObsRow2) (o : Option (ObsKey × Observation)) (key : ObsKey) (content : Observation) (duration : Duration) (now : List (ObsKey × Observation)) where
   pub observation-follows : IsWalk walk → o ≡ (observation_of_row row >>- only_if can_stand) → o ≡ Some (key, content)
-      → true ≡ (has_none walk.loads && rises observation_rank (walk.shelf ++ (key, content) ∷ []))
+      → true ≡ rises observation_rank (walk.shelf ++ (key, content) ∷ [])
       → Some duration ≡ duration_at (standing walk) key.monitor → is_kept_hour (Some duration) key.hour ≡ true
       → length walk.shelf < MOST_OBSERVATIONS → now ≡ walk.shelf ++ (key, content) ∷ []
-      → Follows walk (OfObsRow row) (record { registry = walk.registry; shelf = now; loads = walk.loads; last = Observed key duration })
+      → Follows walk (OfSecondRow row) (record { registry = walk.registry; shelf = now; loads = walk.loads; last = Observed key duration })
   observation-follows is says some next at kept room added =
       let office : Office = standing walk in
       let entry : ObsKey × Observation = (key, content) in
       let words = said (observation_of_row row) can_stand entry (sym some ∙ says) in
-      let order = and_parts (has_none walk.loads) (rises observation_rank (walk.shelf ++ entry ∷ [])) (sym next) in
       let standing = and_parts _ (is_content key.monitor.pollutant content) words.1 in
       let hour = and_parts _ (nat_le key.hour LAST_HOUR) standing.0 in
       let held : is_kept_hour (duration_at office key.monitor) key.hour ≡ true = ap (λ d. is_kept_hour d key.hour) (sym at) ∙ kept in
       let fits : fits_monitors office entry ≡ true = and_from _ _ (and_from _ _ hour.1 held) standing.1 in
-      let valid : IsOffice (office_with walk.registry (walk.shelf ++ entry ∷ []) walk.loads) = observation-taken office entry is.office order.1 fits room in
-      let same : office_with walk.registry now walk.loads ≡ with_last office (OfObsRow row) =
+      let valid : IsOffice (office_with walk.registry (walk.shelf ++ entry ∷ []) walk.loads) = observation-taken office entry is.office (sym next) fits room in
+      let same : office_with walk.registry now walk.loads ≡ with_last office (OfSecondRow row) =
       ap (λ l. office_with walk.registry l walk.loads) added ∙ sym (observation-office office row entry words.0) in
       let whole : IsOffice (office_with walk.registry now walk.loads) = subst (λ l. IsOffice (office_with walk.registry l walk.loads)) (sym added) valid in
       record {
-        may = may office (OfObsRow row) (ap is_some words.0) order.0 (subst IsOffice same whole);
+        may = may office (OfSecondRow row) (ap is_some words.0) refl (subst IsOffice same whole);
         office = same;
         walk = record {
           office = whole;
           last = record {
-            no_loads = is-empty walk.loads order.0;
-            ends = subst (λ l. EndsAt observation_rank (observation_numbers key) l) (sym added) (ends-at observation_rank walk.shelf entry order.1);
+            ends = subst (λ l. EndsAt observation_rank (observation_numbers key) l) (sym added) (ends-at observation_rank walk.shelf entry (sym next));
             known = sym at;
           };
         };
@@ -223,27 +217,38 @@ module _ (office : Office) (row : LoadRow) where
     words : (load_of_row row ≡ Some entry) × (is_load entry ≡ true)
     words = said (load_of_row row) is_load entry some
 
-    pub load-not-next : rises load_rank (office.loads ++ entry ∷ []) ≡ false → may_follow office (OfLoadRow row) ≡ false
-    load-not-next h =
-        no-office office (OfLoadRow row) (λ valid. false≢true (sym h ∙ load-rises office entry (subst IsOffice (load-office entry words.0) valid)))
+    pub load-not-next : (has_none office.observations && rises load_rank (office.loads ++ entry ∷ [])) ≡ false → may_follow office (OfLoadRow row) ≡ false
+    load-not-next h = choose (has_none office.observations) refl h
+      where
+        choose : (b : Bool) → has_none office.observations ≡ b → (b && rises load_rank (office.loads ++ entry ∷ [])) ≡ false → may_follow office (OfLoadRow row) ≡ false
+        choose true e k =
+            no-office office (OfLoadRow row) (λ valid. false≢true (sym k ∙ load-rises office entry (subst IsOffice (load-office entry words.0) valid)))
+        choose false e k = out-of-turn office (OfLoadRow row) e
 
     pub load-full : (fault : RowFault) → IsFault (length office.loads < MOST_LOADS) fault → IsRowFault (may_follow office (OfLoadRow row)) fault
     load-full Damaged full = no-office office (OfLoadRow row) (λ valid. full (load-room office entry (subst IsOffice (load-office entry words.0) valid)))
     load-full Memory full = tt
 
 module _ (walk : Walk) (row : LoadRow) (entry : StoredLoad) (now : List StoredLoad) where
-  pub load-follows : IsWalk walk → Some entry ≡ (load_of_row row >>- only_if is_load) → rises load_rank (walk.loads ++ entry ∷ []) ≡ true
+  pub load-follows : IsWalk walk → Some entry ≡ (load_of_row row >>- only_if is_load) → (has_none walk.shelf && rises load_rank (walk.loads ++ entry ∷ [])) ≡ true
       → length walk.loads < MOST_LOADS → now ≡ walk.loads ++ entry ∷ []
       → Follows walk (OfLoadRow row) (record { registry = walk.registry; shelf = walk.shelf; loads = now; last = Load entry.number })
-  load-follows is some rising room added =
+  load-follows is some next room added =
       let office : Office = standing walk in
+      let order = and_parts (has_none walk.shelf) (rises load_rank (walk.loads ++ entry ∷ [])) next in
       let words = said (load_of_row row) is_load entry some in
-      let valid : IsOffice (office_with walk.registry walk.shelf (walk.loads ++ entry ∷ [])) = load-taken office entry is.office rising words.1 room in
+      let valid : IsOffice (office_with walk.registry walk.shelf (walk.loads ++ entry ∷ [])) = load-taken office entry is.office order.1 words.1 room in
       let same : office_with walk.registry walk.shelf now ≡ with_last office (OfLoadRow row) =
       ap (λ l. office_with walk.registry walk.shelf l) added ∙ sym (load-office office row entry words.0) in
       let whole : IsOffice (office_with walk.registry walk.shelf now) = subst (λ l. IsOffice (office_with walk.registry walk.shelf l)) (sym added) valid in
       record {
-        may = may office (OfLoadRow row) (ap is_some words.0) refl (subst IsOffice same whole);
+        may = may office (OfLoadRow row) (ap is_some words.0) order.0 (subst IsOffice same whole);
         office = same;
-        walk = record { office = whole; last = subst (λ l. EndsAt load_rank (load_rank entry) l) (sym added) (ends-at load_rank walk.loads entry rising) };
+        walk = record {
+          office = whole;
+          last = record {
+            no_observations = is-empty walk.shelf order.0;
+            ends = subst (λ l. EndsAt load_rank (load_rank entry) l) (sym added) (ends-at load_rank walk.loads entry order.1);
+          };
+        };
       }

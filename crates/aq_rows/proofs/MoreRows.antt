@@ -5,7 +5,7 @@ use Rattle.std.specs.List.{list_all}
 use Rattle.std.proofs.lemmas.Bool.{false≢true, and_parts}
 use Rattle.std.proofs.lemmas.Bool.Decides.{nat_tests}
 use Rattle.std.proofs.lemmas.List.Elements.{filter_map-append}
-use Rattle.aq_rules.specs.Kept.Rows.{Row, OfficeRow, ObsRow, LoadRow, OfOfficeRow, OfObsRow, OfLoadRow, record_in_row, observation_in_row, load_in_row, says_something, office_in, table_of, tables_follow, is_valid, are_office_rows}
+use Rattle.aq_rules.specs.Kept.Rows.{Row, OfficeRow, ObsRow2, LoadRow, OfOfficeRow, OfObsRow, OfLoadRow, OfSecondRow, record_in_row, observation_in_row, load_in_row, says_something, office_in, table_of, tables_follow, is_valid, are_office_rows}
 use Rattle.aq_rows.specs.OneMoreRow.{has_none, is_in_turn, with_last, may_follow}
 
 all-last : {X : Type 0} (p : X → Bool) (xs : List X) (x : X) → list_all p (xs ++ x ∷ []) ≡ (list_all p xs && p x)
@@ -59,9 +59,7 @@ turn-record row [] h = refl
 turn-record row (OfOfficeRow a ∷ before) h =
     let parts = and_parts (says_something (OfOfficeRow a)) (list_all says_something before) h in
     turn-record row before parts.1
-turn-record row (OfObsRow a ∷ before) h =
-    let parts = and_parts (says_something (OfObsRow a)) (list_all says_something before) h in
-    sym (ap (λ b. b && has_none (filter_map load_in_row before)) (some_first observation_in_row (OfObsRow a) before parts.0))
+turn-record row (OfObsRow a ∷ before) h = absurd (false≢true h)
 turn-record row (OfLoadRow a ∷ before) h =
     let parts = and_parts (says_something (OfLoadRow a)) (list_all says_something before) h in
     sym (ap (λ b. has_none (filter_map observation_in_row before) && b) (some_first load_in_row (OfLoadRow a) before parts.0) ∙ none_with (has_none (filter_map observation_in_row before)))
@@ -69,31 +67,37 @@ turn-record row (OfLoadRow a ∷ before) h =
     none_with : (b : Bool) → (b && false) ≡ false
     none_with true = refl
     none_with false = refl
+turn-record row (OfSecondRow a ∷ before) h =
+    let parts = and_parts (says_something (OfSecondRow a)) (list_all says_something before) h in
+    sym (ap (λ b. b && has_none (filter_map load_in_row before)) (some_first observation_in_row (OfSecondRow a) before parts.0))
 
-turn-observation : (row : ObsRow) (before : List Row) → list_all says_something before ≡ true → none_later (OfObsRow row) before ≡ is_in_turn (office_in before) (OfObsRow row)
+turn-load : (row : LoadRow) (before : List Row) → list_all says_something before ≡ true → none_later (OfLoadRow row) before ≡ is_in_turn (office_in before) (OfLoadRow row)
 unfolding none_later
-turn-observation row [] h = refl
-turn-observation row (OfOfficeRow a ∷ before) h =
+turn-load row [] h = refl
+turn-load row (OfOfficeRow a ∷ before) h =
     let parts = and_parts (says_something (OfOfficeRow a)) (list_all says_something before) h in
-    turn-observation row before parts.1
-turn-observation row (OfObsRow a ∷ before) h =
-    let parts = and_parts (says_something (OfObsRow a)) (list_all says_something before) h in
-    turn-observation row before parts.1
-turn-observation row (OfLoadRow a ∷ before) h =
+    turn-load row before parts.1
+turn-load row (OfObsRow a ∷ before) h = absurd (false≢true h)
+turn-load row (OfLoadRow a ∷ before) h =
     let parts = and_parts (says_something (OfLoadRow a)) (list_all says_something before) h in
-    sym (some_first load_in_row (OfLoadRow a) before parts.0)
+    turn-load row before parts.1
+turn-load row (OfSecondRow a ∷ before) h =
+    let parts = and_parts (says_something (OfSecondRow a)) (list_all says_something before) h in
+    sym (some_first observation_in_row (OfSecondRow a) before parts.0)
 
-turn-load : (row : LoadRow) (before : List Row) → none_later (OfLoadRow row) before ≡ true
+turn-observation : (row : ObsRow2) (before : List Row) → none_later (OfSecondRow row) before ≡ true
 unfolding none_later
-turn-load row [] = refl
-turn-load row (OfOfficeRow a ∷ before) = turn-load row before
-turn-load row (OfObsRow a ∷ before) = turn-load row before
-turn-load row (OfLoadRow a ∷ before) = turn-load row before
+turn-observation row [] = refl
+turn-observation row (OfOfficeRow a ∷ before) = turn-observation row before
+turn-observation row (OfObsRow a ∷ before) = turn-observation row before
+turn-observation row (OfLoadRow a ∷ before) = turn-observation row before
+turn-observation row (OfSecondRow a ∷ before) = turn-observation row before
 
-turn : (row : Row) (before : List Row) → list_all says_something before ≡ true → none_later row before ≡ is_in_turn (office_in before) row
-turn (OfOfficeRow row) before h = turn-record row before h
-turn (OfObsRow row) before h = turn-observation row before h
-turn (OfLoadRow row) before h = turn-load row before
+turn : (row : Row) (before : List Row) → says_something row ≡ true → list_all says_something before ≡ true → none_later row before ≡ is_in_turn (office_in before) row
+turn (OfOfficeRow row) before says h = turn-record row before h
+turn (OfObsRow row) before says h = absurd (false≢true says)
+turn (OfLoadRow row) before says h = turn-load row before h
+turn (OfSecondRow row) before says h = turn-observation row before
 
 -- ---- the office of the rows
 
@@ -110,6 +114,13 @@ follows before row good =
     let valid = and_parts _ (is_valid (office_in before)) good in
     let parts = and_parts (list_all says_something before) (tables_follow before) valid.0 in
     let says : list_all says_something (before ++ row ∷ []) ≡ says_something row = all-last says_something before row ∙ ap (λ b. b && says_something row) parts.0 in
-    let turns : tables_follow (before ++ row ∷ []) ≡ is_in_turn (office_in before) row = follow-last row before parts.1 ∙ turn row before parts.0 in
     let office : is_valid (office_in (before ++ row ∷ [])) ≡ is_valid (with_last (office_in before) row) = ap is_valid (office-last before row) in
-    λ i. says i && turns i && office i
+    (λ i. says i && tables_follow (before ++ row ∷ []) && office i)
+    ∙ by_test (says_something row) refl
+    (λ s. follow-last row before parts.1 ∙ turn row before s parts.0)
+  where
+    -- what says nothing follows nowhere, whatever its turn is
+    by_test : (b : Bool) → says_something row ≡ b → (says_something row ≡ true → tables_follow (before ++ row ∷ []) ≡ is_in_turn (office_in before) row)
+        → (says_something row && tables_follow (before ++ row ∷ []) && is_valid (with_last (office_in before) row)) ≡ may_follow (office_in before) row
+    by_test true e turns = ap (λ t. says_something row && t && is_valid (with_last (office_in before) row)) (turns e)
+    by_test false e turns = (λ i. e i && tables_follow (before ++ row ∷ []) && is_valid (with_last (office_in before) row)) ∙ sym (λ i. e i && is_in_turn (office_in before) row && is_valid (with_last (office_in before) row))

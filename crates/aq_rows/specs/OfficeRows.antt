@@ -9,7 +9,7 @@ abbrev pub record_row : OfficeRecord → book.Row
 record_row r = book.OfOfficeRow (book.office_row r)
 
 abbrev pub observation_row : ObsKey × Observation → book.Row
-observation_row o = book.OfObsRow (book.obs_row o)
+observation_row o = book.OfSecondRow (book.obs_row o)
 
 abbrev pub load_row : StoredLoad → book.Row
 load_row l = book.OfLoadRow (book.load_row l)

@@ -1,5 +1,5 @@
 -- What is known while the rows of an office are taken one after the other.
-use Rattle.std.specs.Prelude.{◌≡◌, Bool, true, false, List, [], ◌∷◌, Some, Option}
+use Rattle.std.specs.Prelude.{◌≡◌, ℕ, Bool, true, false, List, [], ◌∷◌, Some, Option}
 use Rattle.aq_base.specs.declared.monitor.Duration.{Duration}
 use Rattle.aq_base.specs.declared.observation.ObsKey.{ObsKey}
 use Rattle.aq_base.specs.declared.observation.Observation.{Observation}
@@ -24,16 +24,20 @@ pub record AreRecordsAlone (office : Office) : Type 0 where
   pub no_observations : office.observations ≡ []
   pub no_loads : office.loads ≡ []
 
+-- the last row said the load with the number
+pub record EndsWithLoad (number : ℕ) (office : Office) : Type 0 where
+  pub no_observations : office.observations ≡ []
+  pub ends : EndsAt load_rank (number ∷ []) office.loads
+
 -- the last row said an observation at the key, whose monitor has samples that last so long
 pub record EndsWithObservation (key : ObsKey) (duration : Duration) (office : Office) : Type 0 where
-  pub no_loads : office.loads ≡ []
   pub ends : EndsAt observation_rank (observation_numbers key) office.observations
   pub known : duration_at office key.monitor ≡ Some duration
 
 abbrev pub IsLast : Last → Office → Type 0
 IsLast Record office = AreRecordsAlone office
 IsLast (Observed key duration) office = EndsWithObservation key duration office
-IsLast (Load number) office = EndsAt load_rank (number ∷ []) office.loads
+IsLast (Load number) office = EndsWithLoad number office
 
 -- what stands is a valid office, and the last row is known
 pub record IsWalk (walk : Walk) : Type 0 where

@@ -40,7 +40,7 @@ pub fn observation_key(key: &ObsKey) -> RowKey
     ensures { result ≡ book.obs_row_key key.now }
 {
     let monitor = &key.monitor;
-    RowKey::observation(
+    RowKey::second(
         site_number(&monitor.site),
         pollutant_number(monitor.pollutant),
         i64::from(monitor.poc),

@@ -1,5 +1,5 @@
 //! The row of an observation, and the observation that a row says.
-ghost use Rattle.std.specs.Prelude.{◌≡◌, true, IfOk};
+ghost use Rattle.std.specs.Prelude.{◌≡◌, true, IfOk, option_map, pos};
 ghost use Rattle.std.specs.List.{list_all};
 ghost use Rattle.aq_base.specs.declared.observation.ObsKey as key;
 ghost use Rattle.aq_base.specs.declared.observation.Observation as content;
@@ -7,21 +7,26 @@ ghost use Rattle.aq_rules.specs.Lines.Spellings.{◌>>=◌ as ◌>>-◌, is_code
 ghost use Rattle.aq_rules.specs.Office.Office.{Office, fits_monitors, fits_records, is_measured, is_null_code};
 ghost use Rattle.aq_rules.specs.Kept.Rows as book;
 ghost use Rattle.aq_rows.specs.Standing.{can_stand};
-ghost use Rattle.aq_rows.specs.Observed.{observation_in, site_in, pollutant_in, quals_in, content_in};
+ghost use Rattle.aq_rows.specs.Observed.{observation_in, site_in, pollutant_in, method_in, quals_in, content_in};
 
 use crate::hours::{hour_in, stored_hour};
 use crate::keys::{pollutant_number, site_number};
 use crate::ranges::between;
 use crate::texts::{words_of, write_codes, write_null};
 use aq_base::{
-    Bytes, Code, MOST_QUALIFIERS, Memory, MonitorId, ObsKey, Observation, Pollutant, Quals, SiteId,
+    Bytes, Code, LAST_METHOD, MOST_QUALIFIERS, Memory, MonitorId, ObsKey, Observation, Pollutant,
+    Quals, SiteId,
 };
-use aq_keeper::ObsRow;
+use aq_keeper::ObsRow2;
 use aq_rd::null_in;
 use std::alloc::Global;
 
 /// The row of an observation.
-pub fn observation_row(alloc: Global, key: &ObsKey, content: &Observation) -> Result<ObsRow, Memory>
+pub fn observation_row(
+    alloc: Global,
+    key: &ObsKey,
+    content: &Observation,
+) -> Result<ObsRow2, Memory>
     ensures { IfOk result (λ row. row ≡ book.obs_row (key.now, content.now)) }
 {
     let mut null = Vec::new(alloc);
@@ -29,12 +34,13 @@ pub fn observation_row(alloc: Global, key: &ObsKey, content: &Observation) -> Re
     let mut quals = Vec::new(alloc);
     write_codes(&mut quals, content.quals.codes())?;
     let monitor = &key.monitor;
-    Ok(ObsRow {
+    Ok(ObsRow2 {
         site: site_number(&monitor.site),
         pollutant: pollutant_number(monitor.pollutant),
         poc: i64::from(monitor.poc),
         hour: stored_hour(key.hour),
         value: wide_value(content.value),
+        method: wide_method(content.method),
         null: Bytes::from_vec(null),
         quals: Bytes::from_vec(quals),
     })
@@ -49,11 +55,20 @@ fn wide_value(value: Option<i32>) -> Option<i64>
     }
 }
 
+fn wide_method(method: Option<u16>) -> Option<i64>
+    ensures { result ≡ option_map pos method }
+{
+    match method {
+        Some(method) => Some(i64::from(method)),
+        None => None,
+    }
+}
+
 /// The observation that a row says, if the row is the row of that observation, and the observation
 /// is one that can stand: its site, POC and hour are in their ranges, and it has a value in range or a
-/// null code, and at most ten distinct qualifiers. It takes no memory.
+/// null code, at most ten distinct qualifiers, and a method from 0 to 999 or none. It takes no memory.
 #[tactic(auto, using(crate::proofs::Observed::read_in_turn))]
-pub fn observation_of(row: &ObsRow) -> Option<(ObsKey, Observation)>
+pub fn observation_of(row: &ObsRow2) -> Option<(ObsKey, Observation)>
     ensures { result ≡ (book.observation_of_row row.now >>- book.only_if can_stand) }
 {
     observation_in(row)
@@ -67,16 +82,17 @@ pub fn fitting_observations_can_stand()
 {}
 
 #[tactic(auto, unfolding(crate::specs::Observed::observation_in))]
-fn observation_in(row: &ObsRow) -> Option<(ObsKey, Observation)>
+fn observation_in(row: &ObsRow2) -> Option<(ObsKey, Observation)>
     ensures { result ≡ observation_in row.now }
 {
     let site = site_in(row.site)?;
     let pollutant = pollutant_in(row.pollutant)?;
     let poc = between(1, 99, row.poc)?;
     let hour = hour_in(row.hour)?;
+    let method = method_in(row.method)?;
     let null = null_of(row.null.as_slice())?;
     let quals = quals_in(row.quals.as_slice())?;
-    let content = content_in(pollutant, row.value, null, quals)?;
+    let content = content_in(pollutant, row.value, null, quals, method)?;
     let monitor = MonitorId {
         site,
         pollutant,
@@ -107,6 +123,18 @@ fn pollutant_in(number: i64) -> Option<Pollutant>
         3 => Some(Pollutant::Pm10),
         _ => None,
     }
+}
+
+/// The method of a row, 0 to 999, or none.
+#[tactic(auto, using(crate::proofs::Observed::method_between))]
+fn method_in(number: Option<i64>) -> Option<Option<u16>>
+    ensures { result ≡ method_in number }
+{
+    let Some(number) = number else {
+        return Some(None);
+    };
+    let method = between(0, i64::from(LAST_METHOD), number)?;
+    Some(Some(method as u16))
 }
 
 /// The null code of a row, or none if the text is empty.
@@ -163,19 +191,22 @@ fn content_in(
     value: Option<i64>,
     null: Option<Code>,
     quals: Quals,
+    method: Option<u16>,
 ) -> Option<Observation>
-    ensures { result ≡ content_in pollutant value null quals }
+    ensures { result ≡ content_in pollutant value null quals method }
 {
     match (value, null) {
         (Some(value), None) if is_in_range(pollutant, value) => Some(Observation {
             value: Some(value as i32),
             null: None,
             quals,
+            method,
         }),
         (None, Some(code)) if is_null_code(code) => Some(Observation {
             value: None,
             null: Some(code),
             quals,
+            method,
         }),
         _ => None,
     }

@@ -14,8 +14,8 @@ use aq_registry::Registry;
 use aq_shelf::Shelf;
 use std::alloc::Global;
 
-/// The rows of the office of these records, observations and loads, in the order of tables and keys, by
-/// one walk over each.
+/// The rows of the office of these records, observations and loads, in the order of tables and keys
+/// (observations stand in the last table), by one walk over each.
 #[tactic(auto, unfolding(aq_rules::specs::Kept::Rows::rows_of))]
 pub fn rows_of(
     alloc: Global,
@@ -27,8 +27,8 @@ pub fn rows_of(
 {
     let mut rows = Rows::new(alloc);
     add_records(alloc, &mut rows, registry)?;
-    add_observations(alloc, &mut rows, shelf)?;
     add_loads(alloc, &mut rows, loads)?;
+    add_observations(alloc, &mut rows, shelf)?;
     Ok(rows)
 }
 
@@ -45,7 +45,7 @@ fn add_observations(alloc: Global, rows: &mut Rows, shelf: &Shelf) -> Result<(),
     ensures { OnOk result (rows.new ≡ rows.old ++ map observation_row shelf.now) }
 {
     for (key, content) in shelf.rows() {
-        rows.push(Row::observation(observation_row(alloc, &key, &content)?))?;
+        rows.push(Row::second(observation_row(alloc, &key, &content)?))?;
     }
     Ok(())
 }

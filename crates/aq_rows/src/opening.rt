@@ -32,8 +32,8 @@ impl Model for Opened {
     ghost invariant = { λ opened. IsOffice (office_with opened.registry opened.shelf opened.loads) };
 }
 
-/// A row by its table, records 0, observations 1 and loads 2, and its place among the rows of that table
-/// from 0. Contracts see the book's place.
+/// A row by its table, records 0, observations of version 1 1, loads 2 and observations 3, and its place
+/// among the rows of that table from 0. Contracts see the book's place.
 #[derive(Clone, Copy, Debug, PartialEq, Eq)]
 pub struct Place {
     pub table: u8,
@@ -119,5 +119,6 @@ fn table_of(row: &Row) -> u8
         RowContent::Office(_) => 0,
         RowContent::Observation(_) => 1,
         RowContent::Load(_) => 2,
+        RowContent::Second(_) => 3,
     }
 }

@@ -18,7 +18,7 @@ use crate::loads::load_of;
 use crate::observations::observation_of;
 use crate::records::{record_line, record_of};
 use aq_base::{Duration, Hour, Memory, MonitorId, ObsKey, Observation, OfficeKey, OfficeRecord};
-use aq_keeper::{LoadRow, ObsRow, OfficeRow, Row, RowContent};
+use aq_keeper::{LoadRow, ObsRow2, OfficeRow, Row, RowContent};
 use aq_registry::{Registry, RegistryFault};
 use aq_shelf::{Shelf, ShelfFault};
 use std::alloc::Global;
@@ -47,10 +47,10 @@ impl From<Memory> for RowFault {
 pub(crate) enum Last {
     /// A record; or there was no row.
     Record,
-    /// An observation, at a key whose monitor has samples that last so long.
-    Observation { key: ObsKey, duration: Duration },
     /// The load with a number.
     Load { number: u32 },
+    /// An observation, at a key whose monitor has samples that last so long.
+    Observation { key: ObsKey, duration: Duration },
 }
 
 /// The office of the rows that were taken.
@@ -85,8 +85,10 @@ impl Walk {
     {
         match &row.content {
             RowContent::Office(row) => self.take_record(alloc, row),
-            RowContent::Observation(row) => self.take_observation(row),
+            // it has to be migrated first
+            RowContent::Observation(_) => Err(RowFault::Damaged),
             RowContent::Load(row) => self.take_load(alloc, row),
+            RowContent::Second(row) => self.take_observation(row),
         }
     }
 
@@ -104,10 +106,10 @@ impl Walk {
         }
     }
 
-    fn take_observation(&mut self, row: &ObsRow) -> Result<(), RowFault>
+    fn take_observation(&mut self, row: &ObsRow2) -> Result<(), RowFault>
         requires { IsWalk self.old }
-        ensures taken { OnOk result (Follows self.old (book.OfObsRow row.now) self.new) }
-        ensures refused { IfErr result (IsRowFault (may_follow (standing self.old) (book.OfObsRow row.now))) }
+        ensures taken { OnOk result (Follows self.old (book.OfSecondRow row.now) self.new) }
+        ensures refused { IfErr result (IsRowFault (may_follow (standing self.old) (book.OfSecondRow row.now))) }
     {
         let Some((key, content)) = observation_of(row) else {
             return Err(RowFault::Damaged);
@@ -142,27 +144,27 @@ impl Walk {
         Ok(())
     }
 
-    /// Whether an observation with a key may come after the last row: no load came, and the key is after
-    /// those of the observations.
+    /// Whether an observation with a key may come after the last row.
     fn is_next_observation(&self, key: &ObsKey) -> bool
         requires { IsWalk self.now }
-        ensures { (content : Observation) → result ≡ (has_none self.now.loads && rises observation_rank (self.now.shelf ++ (key.now, content) ∷ [])) }
+        ensures { (content : Observation) → result ≡ rises observation_rank (self.now.shelf ++ (key.now, content) ∷ []) }
     {
         match &self.last {
-            Last::Record => true,
             Last::Observation { key: before, .. } => comes_before(before, key),
-            Last::Load { .. } => false,
+            _ => true,
         }
     }
 
-    /// Whether a load with a number may come after the last row.
+    /// Whether a load with a number may come after the last row: no observation came, and the number is
+    /// after those of the loads.
     fn is_next_load(&self, number: u32) -> bool
         requires { IsWalk self.now }
-        ensures { (kept : KeptLoad) → result ≡ rises load_rank (self.now.loads ++ stored_entry (number, kept) ∷ []) }
+        ensures { (kept : KeptLoad) → result ≡ (has_none self.now.shelf && rises load_rank (self.now.loads ++ stored_entry (number, kept) ∷ [])) }
     {
         match &self.last {
+            Last::Record => true,
             Last::Load { number: before } => *before < number,
-            _ => true,
+            Last::Observation { .. } => false,
         }
     }
 

@@ -97,14 +97,14 @@ agree-rd_put update texts =
     agree (method_in (field 10 texts)) _ _ BadMethod _ refl λ method is_method.
     agree_inside (date_in (field 11 texts)) _ _ _ BadDate _ refl λ day is_day.
     agree_inside (time_in (field 12 texts)) _ _ _ BadTime _ refl λ hour is_hour.
-    kept (content_in pollutant places texts) _
+    kept (content_in pollutant places method texts) _
     ∙ content (is_empty (field 13 texts)) (is_empty (field 14 texts)) (null_in (field 14 texts)) (qualifiers_in (qualifier_fields texts))
     (is_decimal (field 13 texts)) (is_in_range pollutant (cut (field 13 texts) places)) (cut (field 13 texts) places) (reported_value texts)
     (null-empty (field 14 texts))
     (ap (λ q. (q >>= λ x. Some x) >>= λ p. unit_in p (field 9 texts) >>= λ n. value_in p n (field 13 texts)) is_pollutant
     ∙ ap (λ q. q >>= λ n. value_in pollutant n (field 13 texts)) is_places)
-    (λ code codes. Some (record { value = None; null = Some code; quals = codes })) (λ code codes. refl)
-    (λ value codes. Some (record { value = Some value; null = None; quals = codes })) (λ value codes. refl)
+    (λ code codes. Some (record { value = None; null = Some code; quals = codes; method = Some method })) (λ code codes. refl)
+    (λ value codes. Some (record { value = Some value; null = None; quals = codes; method = Some method })) (λ value codes. refl)
 
 pub agree-rd_delete : (texts : List (List ℕ))
     → is_some (delete_in texts) ≡ is_none (rd_delete_rule texts)

@@ -245,7 +245,7 @@ module _ {X : Type 0} (apply : List X → OfficeChange → List X) where
 -- ---- the loads
 
 loads-changed : (office : Office) (value : LineValue) → (changed office value).loads ≡ office.loads
-loads-changed office (OfRd (PutSample update monitor duration method hour content)) = refl
+loads-changed office (OfRd (PutSample update monitor duration hour content)) = refl
 loads-changed office (OfRd (DeleteSample monitor hour)) = refl
 loads-changed office (OfOffice (Put r)) = refl
 loads-changed office (OfOffice (Change r)) = refl

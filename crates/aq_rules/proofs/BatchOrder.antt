@@ -1,7 +1,8 @@
--- The changes of a load stand in the order of tables and keys, none at one key.
+-- The changes of a load stand in the order of a batch, none at one key.
 use Rattle.std.proofs.Common.{append-nil, ◌≡◌, ℕ, ◌<◌, ◌≤◌, Bool, true, false, cond, ◌&&◌, ◌||◌, List, [], ◌∷◌, ◌++◌, map, refl, ◌∙◌, arith, ap, sym}
 use Rattle.std.specs.Prelude.{Option, Some, None, All, filter_map, nat_lt, ◌==◌}
 use Rattle.std.specs.List.{cons_option}
+use Rattle.std.proofs.lemmas.List.{map-append}
 use Rattle.std.proofs.lemmas.Bool.Decides.{nat_tests}
 use Rattle.std.proofs.lemmas.Bool.{and_from, and_parts}
 use Rattle.aq_base.specs.declared.observation.ObsKey.{ObsKey}
@@ -11,21 +12,22 @@ use Rattle.aq_base.specs.declared.office.OfficeKey.{OfficeKey}
 use Rattle.aq_rules.specs.Lines.Lines.{body_lines}
 use Rattle.aq_rules.specs.Office.Office.{Office, StoredLoad, IsOffice, comes_before, key_of, key_numbers, observation_numbers, observation_key, record_rank, observation_rank, rises, rises_from, record_at, observation_at}
 use Rattle.aq_rules.specs.Office.Load.{OfficeChange, PutRecord, DropRecord, PutObservation, DropObservation, PutLoad, is_same_record, is_same_content, record_change, observation_change, record_changes, observation_changes, keys_of_either, load_change, batch, stored, after_all}
-use Rattle.aq_rules.specs.Kept.RowChanges.{key_before, keys_rise, keys_rise_from, changed_key, row_change, row_batch}
+use Rattle.aq_rules.specs.Kept.Rows.{OfLoadRow, load_row}
+use Rattle.aq_rules.specs.Kept.RowChanges.{PutRow, batch_before, batch_rises, batch_rises_from, changed_key, row_change, row_batch}
 use Rattle.aq_rules.proofs.Elements.{Every, every-All, every-append}
 use Rattle.aq_rules.specs.Office.RowOrder.{before-trans}
-use Rattle.aq_rules.proofs.RowOrder.{office-agree, obs-agree, load-agree}
+use Rattle.aq_rules.proofs.RowOrder.{office-agree, obs-agree, lift-before}
 use Rattle.aq_rules.proofs.BatchDone.{HasKey, found-key}
 use Rattle.aq_rules.proofs.Changes.{either-rises, keys-rise}
 use Rattle.aq_rules.proofs.RowBatch.{IfOne, IsSpelledChange, record-key, batch-spelled}
 
--- a change's table and its key as numbers
+-- the place of a change's table in a batch, and its key as numbers
 abbrev table : OfficeChange → ℕ
 table (PutRecord r) = 0
 table (DropRecord key) = 0
-table (PutObservation key content) = 1
-table (DropObservation key) = 1
-table (PutLoad kept) = 2
+table (PutObservation key content) = 3
+table (DropObservation key) = 3
+table (PutLoad kept) = 4
 
 abbrev numbers : OfficeChange → List ℕ
 numbers (PutRecord r) = record_rank r
@@ -151,14 +153,14 @@ record-at key (Some old) (Some new) has = by_test (is_same_record old new)
     by_test true = tt
     by_test false = record { in_table = refl; at_key = has }
 
-observation-at : (key : ObsKey) (old new : Option Observation) → IfOne (At 1 (observation_numbers key)) (observation_change key old new)
+observation-at : (key : ObsKey) (old new : Option Observation) → IfOne (At 3 (observation_numbers key)) (observation_change key old new)
 unfolding IfOne
 observation-at key None None = tt
 observation-at key None (Some new) = record { in_table = refl; at_key = refl }
 observation-at key (Some old) None = record { in_table = refl; at_key = refl }
 observation-at key (Some old) (Some new) = by_test (is_same_content old new)
   where
-    by_test : (b : Bool) → IfOne (At 1 (observation_numbers key)) (cond b None (Some (PutObservation key new)))
+    by_test : (b : Bool) → IfOne (At 3 (observation_numbers key)) (cond b None (Some (PutObservation key new)))
     by_test true = tt
     by_test false = record { in_table = refl; at_key = refl }
 
@@ -166,13 +168,13 @@ load-rises : (zero : Bool) (kept : StoredLoad) → rises rank (cond zero [] (Put
 load-rises true kept = refl
 load-rises false kept = refl
 
-load-in_table : (zero : Bool) (kept : StoredLoad) → Every (λ c. table c ≡ 2) (cond zero [] (PutLoad kept ∷ []))
+load-in_table : (zero : Bool) (kept : StoredLoad) → Every (λ c. table c ≡ 4) (cond zero [] (PutLoad kept ∷ []))
 load-in_table true kept = tt
 load-in_table false kept = (refl, tt)
 
 -- ---- rows
 
-rows-agree : (c d : OfficeChange) → IsSpelledChange c → IsSpelledChange d → key_before (changed_key (row_change c)) (changed_key (row_change d)) ≡ comes_before (rank c) (rank d)
+rows-agree : (c d : OfficeChange) → IsSpelledChange c → IsSpelledChange d → batch_before (changed_key (row_change c)) (changed_key (row_change d)) ≡ comes_before (rank c) (rank d)
 unfolding IsSpelledChange
 rows-agree (PutRecord r) (PutRecord s) p q = (office-agree (key_of r) (key_of s) (record-key r p) (record-key s q)).before
 rows-agree (PutRecord r) (DropRecord l) p q = (office-agree (key_of r) l (record-key r p) q).before
@@ -182,15 +184,15 @@ rows-agree (PutObservation k content) (PutObservation l other) p q = (obs-agree 
 rows-agree (PutObservation k content) (DropObservation l) p q = (obs-agree k l p.site q).before
 rows-agree (DropObservation k) (PutObservation l other) p q = (obs-agree k l p q.site).before
 rows-agree (DropObservation k) (DropObservation l) p q = (obs-agree k l p q).before
-rows-agree (PutLoad kept) (PutLoad other) p q = (load-agree kept.number other.number).before
+rows-agree (PutLoad kept) (PutLoad other) p q = lift-before (4 ∷ kept.number ∷ []) (4 ∷ other.number ∷ [])
 rows-agree c d p q = refl
 
 rows-from : (first : OfficeChange) (changes : List OfficeChange) → IsSpelledChange first → Every IsSpelledChange changes
-    → keys_rise_from (changed_key (row_change first)) (map changed_key (map row_change changes)) ≡ rises_from rank first changes
+    → batch_rises_from (changed_key (row_change first)) (map changed_key (map row_change changes)) ≡ rises_from rank first changes
 rows-from first [] is every = refl
 rows-from first (c ∷ changes) is every = λ i. rows-agree first c is every.0 i && rows-from c changes every.0 every.1 i
 
-rows-rise : (changes : List OfficeChange) → Every IsSpelledChange changes → keys_rise (map changed_key (map row_change changes)) ≡ rises rank changes
+rows-rise : (changes : List OfficeChange) → Every IsSpelledChange changes → batch_rises (map changed_key (map row_change changes)) ≡ rises rank changes
 rows-rise [] every = refl
 rows-rise (c ∷ changes) every = rows-from c changes every.0 every.1
 
@@ -210,14 +212,14 @@ module _ (before now : Office) where
   record-ats : (k : OfficeKey) → IfOne (At 0 (key_numbers k)) (change_of_record k)
   record-ats k = record-at k (record_at before k) (record_at now k) (found-key record_rank (key_numbers k) now.records)
 
-  observation-ats : (k : ObsKey) → IfOne (At 1 (observation_numbers k)) (change_of_observation k)
+  observation-ats : (k : ObsKey) → IfOne (At 3 (observation_numbers k)) (change_of_observation k)
   observation-ats k = observation-at k (observation_at before k) (observation_at now k)
 
   record-tables : Every (λ c. table c ≡ 0) (record_changes before now)
   record-tables = all-in_table key_numbers 0 change_of_record record-ats office_keys
 
-  observation-tables : Every (λ c. table c ≡ 1) (observation_changes before now)
-  observation-tables = all-in_table observation_numbers 1 change_of_observation observation-ats places
+  observation-tables : Every (λ c. table c ≡ 3) (observation_changes before now)
+  observation-tables = all-in_table observation_numbers 3 change_of_observation observation-ats places
 
   records-rise : rises record_rank before.records ≡ true → rises rank (record_changes before now) ≡ true
   records-rise rise =
@@ -226,7 +228,7 @@ module _ (before now : Office) where
 
   observations-rise : rises observation_rank before.observations ≡ true → rises rank (observation_changes before now) ≡ true
   observations-rise rise =
-      changes-rise observation_numbers 1 change_of_observation observation-ats places
+      changes-rise observation_numbers 3 change_of_observation observation-ats places
       (either-rises observation_numbers (map observation_key before.observations) (map observation_key now.observations) (keys-rise observation_key observation_numbers before.observations rise))
 
 module _ (office : Office) (valid : IsOffice office) (number : ℕ) (digest body : List ℕ) where
@@ -241,11 +243,11 @@ module _ (office : Office) (valid : IsOffice office) (number : ℕ) (digest body
       let load_tables = load-in_table (number == 0) (stored office number digest body) in
       rises-append (rs ++ os) ls
       (rises-append rs os (records-rise office now valid.keys_rise.records) (observations-rise office now valid.keys_rise.observations)
-      (all-before 0 1 (omega arith) rs os (record-tables office now) (observation-tables office now)))
+      (all-before 0 3 (omega arith) rs os (record-tables office now) (observation-tables office now)))
       (load-rises (number == 0) (stored office number digest body))
-      (every-append (BeforeAll ls) rs os (all-before 0 2 (omega arith) rs ls (record-tables office now) load_tables) (all-before 1 2 (omega arith) os ls (observation-tables office now) load_tables))
+      (every-append (BeforeAll ls) rs os (all-before 0 4 (omega arith) rs ls (record-tables office now) load_tables) (all-before 3 4 (omega arith) os ls (observation-tables office now) load_tables))
 
-  pub batch-in_order : keys_rise (map changed_key (row_batch office number digest body)) ≡ true
+  pub batch-in_order : batch_rises (map changed_key (row_batch office number digest body)) ≡ true
   unfolding row_batch
   batch-in_order = rows-rise (batch office number digest body) (batch-spelled office valid number digest body) ∙ batch-rises
 
@@ -261,10 +263,17 @@ module _ (office : Office) (digest body : List ℕ) where
       ap (λ b. changed ++ cond b [] (PutLoad (stored office number digest body) ∷ [])) is
       ∙ ap (λ l. l ++ PutLoad (stored office number digest body) ∷ []) (sym (append-nil changed))
 
+  -- the same of rows
+  pub load_row-last : (number : ℕ) → 1 ≤ number → row_batch office number digest body ≡ row_batch office 0 digest body ++ PutRow (OfLoadRow (load_row (stored office number digest body))) ∷ []
+  unfolding row_batch
+  load_row-last number h =
+      ap (map row_change) (load-last number h)
+      ∙ map-append row_change (batch office 0 digest body) (PutLoad (stored office number digest body) ∷ [])
+
   abbrev IsNoLoad : OfficeChange → Type 0
   IsNoLoad change = (load : StoredLoad) → change ≡ PutLoad load → ⊥
 
-  no-load : (t : ℕ) → (t ≡ 2 → ⊥) → (changes : List OfficeChange) → Every (λ c. table c ≡ t) changes → Every IsNoLoad changes
+  no-load : (t : ℕ) → (t ≡ 4 → ⊥) → (changes : List OfficeChange) → Every (λ c. table c ≡ t) changes → Every IsNoLoad changes
   no-load t other [] every = tt
   no-load t other (c ∷ changes) every = ((λ load is. other (sym every.0 ∙ ap table is)), no-load t other changes every.1)
 
@@ -275,5 +284,5 @@ module _ (office : Office) (digest body : List ℕ) where
       (every-append IsNoLoad changed []
       (every-append IsNoLoad (record_changes office later) (observation_changes office later)
       (no-load 0 (λ e. omega (arith, e)) (record_changes office later) (record-tables office later))
-      (no-load 1 (λ e. omega (arith, e)) (observation_changes office later) (observation-tables office later)))
+      (no-load 3 (λ e. omega (arith, e)) (observation_changes office later) (observation-tables office later)))
       tt)

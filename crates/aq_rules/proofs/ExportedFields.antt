@@ -1,8 +1,8 @@
 -- The fields of an export of a valid office have no comma, no quote and no end of a line.
-use Rattle.std.proofs.Common.{◌≡◌, ℕ, zero, suc, ◌/◌, ◌^◌, ◌<◌, ◌≤◌, Bool, true, false, cond, ◌&&◌, ◌||◌, List, [], ◌∷◌, ◌++◌, map, refl, arith, subst}
-use Rattle.std.specs.Prelude.{ℤ, pos, negsuc, int_lt, unsigned_abs, Option, Some, None, nat_lt, nat_le, ◌==◌, codes, decimal, filter, IsTrue}
+use Rattle.std.proofs.Common.{◌≡◌, ℕ, suc, ◌/◌, ◌^◌, ◌<◌, ◌≤◌, Bool, true, false, cond, ◌&&◌, ◌||◌, List, [], ◌∷◌, ◌++◌, map, refl, arith, subst}
+use Rattle.std.specs.Prelude.{ℤ, pos, negsuc, int_lt, unsigned_abs, Option, Some, None, nat_le, ◌==◌, decimal, filter}
 use Rattle.std.specs.Char.{digit_value}
-use Rattle.std.specs.List.{list_all, join_with_byte}
+use Rattle.std.specs.List.{list_all}
 use Rattle.std.specs.Str.Parse.{AllDigits}
 use Rattle.std.proofs.lemmas.Bool.{and_from, and_parts}
 use Rattle.std.proofs.lemmas.Bool.Decides.{nat_tests}
@@ -25,7 +25,7 @@ use Rattle.aq_base.specs.declared.office.OfficeKey.TheVariants.{Monitor as Monit
 use Rattle.aq_rules.specs.Lines.Spellings.{◌>>=◌, is_code_byte}
 use Rattle.aq_rules.specs.Lines.Canonical.{parameter_text, value_text, code_text}
 use Rattle.aq_rules.specs.Office.Exclusion.{excluded}
-use Rattle.aq_rules.specs.Office.Office.{Office, IsOffice, is_same, key_numbers, record_at, monitor_duration, duration_at, is_site, is_poc, is_null_code, is_qualifier, is_measured, is_content, is_kept_hour, fits_monitors}
+use Rattle.aq_rules.specs.Office.Office.{Office, IsOffice, key_numbers, record_at, monitor_duration, duration_at, is_site, is_poc, is_qualifier, is_measured, is_method, is_content, is_kept_hour, fits_monitors}
 use Rattle.aq_rules.specs.Shown.Sheet.{site_text, day_text, truth_text}
 use Rattle.aq_rules.specs.Shown.WellFormed.{is_word_byte, is_word}
 use Rattle.aq_rules.specs.Shown.Export.{is_unquoted_byte, needs_no_quotes, null_text, codes_text, shown_fields, is_of_year, shown_of}
@@ -169,7 +169,8 @@ module _ (office : Office) (valid : IsOffice office) where
       let b = and_parts _ (is_content id.pollutant entry.1) fits in
       let a = and_parts (nat_le entry.0.hour LAST_HOUR) (is_kept_hour (duration_at office id) entry.0.hour) b.0 in
       let poc = monitor-poc id (record_at office (MonitorKey id)) entry.0.hour (found-fits office (key_numbers (MonitorKey id)) office.records valid.records_fit) a.1 in
-      let z = and_parts _ _ b.1 in
+      let m = and_parts _ (is_method entry.1.method) b.1 in
+      let z = and_parts _ _ m.0 in
       let y = and_parts _ _ z.0 in
       let x = and_parts (is_measured id.pollutant entry.1.value entry.1.null) (list_all is_qualifier entry.1.quals) y.0 in
       let truth = truth_text (shown entry).excluded ∷ [] in

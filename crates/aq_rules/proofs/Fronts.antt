@@ -367,34 +367,34 @@ records-front office xs ys is valid =
       few_loads = omega arith;
     }
 
-pub observations-front : (office : Office) (xs ys : List (ObsKey × Observation)) → office.observations ≡ xs ++ ys → IsOffice office → IsOffice (record { records = office.records; observations = xs; loads = [] })
+pub observations-front : (office : Office) (xs ys : List (ObsKey × Observation)) → office.observations ≡ xs ++ ys → IsOffice office → IsOffice (record { records = office.records; observations = xs; loads = office.loads })
 observations-front office xs ys is valid =
     let rising : rises observation_rank (xs ++ ys) ≡ true = ap (rises observation_rank) (sym is) ∙ valid.keys_rise.observations in
     let fit : list_all (fits_monitors office) (xs ++ ys) ≡ true = ap (list_all (fits_monitors office)) (sym is) ∙ valid.observations_fit in
     let few : length office.observations ≤ 4000000 = valid.few_observations in
     record {
-      keys_rise = record { records = valid.keys_rise.records; observations = rises-front observation_rank xs ys rising; loads = refl };
+      keys_rise = record { records = valid.keys_rise.records; observations = rises-front observation_rank xs ys rising; loads = valid.keys_rise.loads };
       records_fit = valid.records_fit;
       records_alone = valid.records_alone;
       few_sites = valid.few_sites;
       observations_fit = all-front (fits_monitors office) xs ys fit;
       few_observations = omega (arith, few, ap length is, length-front xs ys);
-      loads_fit = refl;
-      few_loads = omega arith;
+      loads_fit = valid.loads_fit;
+      few_loads = valid.few_loads;
     }
 
-pub loads-front : (office : Office) (xs ys : List StoredLoad) → office.loads ≡ xs ++ ys → IsOffice office → IsOffice (record { records = office.records; observations = office.observations; loads = xs })
+pub loads-front : (office : Office) (xs ys : List StoredLoad) → office.loads ≡ xs ++ ys → IsOffice office → IsOffice (record { records = office.records; observations = []; loads = xs })
 loads-front office xs ys is valid =
     let rising : rises load_rank (xs ++ ys) ≡ true = ap (rises load_rank) (sym is) ∙ valid.keys_rise.loads in
     let fit : list_all is_load (xs ++ ys) ≡ true = ap (list_all is_load) (sym is) ∙ valid.loads_fit in
     let few : length office.loads ≤ 100000 = valid.few_loads in
     record {
-      keys_rise = record { records = valid.keys_rise.records; observations = valid.keys_rise.observations; loads = rises-front load_rank xs ys rising };
+      keys_rise = record { records = valid.keys_rise.records; observations = refl; loads = rises-front load_rank xs ys rising };
       records_fit = valid.records_fit;
       records_alone = valid.records_alone;
       few_sites = valid.few_sites;
-      observations_fit = valid.observations_fit;
-      few_observations = valid.few_observations;
+      observations_fit = refl;
+      few_observations = omega arith;
       loads_fit = all-front is_load xs ys fit;
       few_loads = omega (arith, few, ap length is, length-front xs ys);
     }

@@ -116,8 +116,8 @@ pub reading_rules-rise : (line : List ℕ) → rises rule_rank (reading_rules li
 reading_rules-rise line = parts_rise (tag_of line) (fields line)
 
 pub office_rules-rise : (value : LineValue) → rises rule_rank (office_rules value) ≡ true
-office_rules-rise (OfRd (PutSample true monitor duration method hour content)) = refl
-office_rules-rise (OfRd (PutSample false monitor duration method hour content)) = refl
+office_rules-rise (OfRd (PutSample true monitor duration hour content)) = refl
+office_rules-rise (OfRd (PutSample false monitor duration hour content)) = refl
 office_rules-rise (OfRd (DeleteSample monitor hour)) = refl
 office_rules-rise (OfOffice (Put (Monitor id duration eligible))) = refl
 office_rules-rise (OfOffice (Put (Primary site pollutant from poc))) = refl

@@ -96,3 +96,6 @@ pub mod AreaHistories
 pub mod GoverningSites
 pub mod WellFormedAreas
 pub mod EventsRise
+mod MethodUnread
+pub mod MigratedRows
+pub mod DropsAndPuts

@@ -128,7 +128,7 @@ KeysRise-with r office rise = record {
 }
 
 pub KeysRise-changed : (office : Office) (value : LineValue) → KeysRise office → KeysRise (changed office value)
-KeysRise-changed office (OfRd (PutSample update monitor duration method hour content)) rise = record {
+KeysRise-changed office (OfRd (PutSample update monitor duration hour content)) rise = record {
   records = rise.records;
   observations = with_row-rises observation_rank (kept_key office monitor hour, content) office.observations rise.observations;
   loads = rise.loads;

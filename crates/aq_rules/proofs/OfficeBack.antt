@@ -1,6 +1,6 @@
 -- The rows of a valid office give the office back.
 use Rattle.std.proofs.Common.{◌≡◌, ℕ, ◌/◌, ◌%◌, Bool, true, false, ◌&&◌, cond, List, [], ◌∷◌, ◌++◌, length, map, refl, sym, ap, subst, ◌∙◌, arith, append_assoc, append-nil}
-use Rattle.std.specs.Prelude.{ℤ, Option, Some, None, is_some, nat_le, find, bytes_eq, ⊤}
+use Rattle.std.specs.Prelude.{ℤ, pos, Option, Some, None, is_some, option_map, nat_le, find, bytes_eq, ⊤}
 use Rattle.std.specs.List.{list_all, filter_map, cons_option}
 use Rattle.std.specs.Option.{option_eq}
 use Rattle.std.specs.Ordering.{int_eq}
@@ -20,9 +20,9 @@ use Rattle.aq_base.specs.declared.office.OfficeRecord.{OfficeRecord}
 use Rattle.aq_base.specs.declared.office.OfficeRecord.TheVariants.{Monitor, Primary, Schedule, Season, Makeup, Event, Concurrence, Approved, Combined}
 use Rattle.aq_base.specs.declared.office.OfficeKey.TheVariants.{Monitor as MonitorKey}
 use Rattle.aq_rules.specs.Lines.Spellings.{◌>>=◌}
-use Rattle.aq_rules.specs.Office.Office.{Office, StoredLoad, IsOffice, is_same, key_numbers, record_rank, record_at, monitor_duration, duration_at, is_site, is_poc, is_record, fits_records, has_its_monitor, has_its_event, group_size, most_in_group, is_qualifier, is_measured, is_content, is_kept_hour, fits_monitors, is_load, pollutant_number}
+use Rattle.aq_rules.specs.Office.Office.{Office, StoredLoad, IsOffice, is_same, key_numbers, record_rank, record_at, monitor_duration, duration_at, is_site, is_poc, is_record, fits_records, has_its_monitor, has_its_event, group_size, most_in_group, is_qualifier, is_measured, is_method, is_content, is_kept_hour, fits_monitors, is_load, pollutant_number}
 use Rattle.aq_rules.specs.Shown.Export.{null_text}
-use Rattle.aq_rules.specs.Kept.Rows.{Row, ObsRow, OfOfficeRow, OfObsRow, OfLoadRow, office_row, obs_row, load_row, rows_of, site_key, site_with, pollutant_with, null_of, only_if, is_obs_row, record_of_row, observation_of_row, load_of_row, record_in_row, observation_in_row, load_in_row, says_something, office_in, table_of, tables_follow, is_valid, are_office_rows, office_of_rows}
+use Rattle.aq_rules.specs.Kept.Rows.{Row, ObsRow2, OfOfficeRow, OfLoadRow, OfSecondRow, office_row, obs_row, load_row, rows_of, site_key, site_with, pollutant_with, null_of, method_of, only_if, is_obs_row, record_of_row, observation_of_row, load_of_row, record_in_row, observation_in_row, load_in_row, says_something, office_in, table_of, tables_follow, is_valid, are_office_rows, office_of_rows}
 use Rattle.aq_rules.proofs.Elements.{Every, all-append, every-to}
 use Rattle.aq_rules.proofs.RowTexts.{null-read, qualifiers-read}
 use Rattle.aq_rules.proofs.RowsBack.{record-back, load-back}
@@ -101,14 +101,19 @@ null-back pollutant value None h = refl
 null-back pollutant None (Some code) h = null-read code h
 null-back pollutant (Some v) (Some code) h = cc
 
+method-back : (method : Option ℕ) → method_of (option_map pos method) ≡ Some method
+method-back None = refl
+method-back (Some method) = refl
+
 value-itself : (value : Option ℤ) → option_eq int_eq value value ≡ true
 value-itself None = refl
 value-itself (Some v) = (Decides-int_eq v v).1 refl
 
-obs_row-itself : (row : ObsRow) → is_obs_row row row ≡ true
+obs_row-itself : (row : ObsRow2) → is_obs_row row row ≡ true
 obs_row-itself row =
     and_from _ (bytes_eq row.quals row.quals)
     (and_from _ (bytes_eq row.null row.null)
+    (and_from _ (option_eq int_eq row.method row.method)
     (and_from _ (option_eq int_eq row.value row.value)
     (and_from _ (int_eq row.hour row.hour)
     (and_from _ (int_eq row.poc row.poc)
@@ -116,6 +121,7 @@ obs_row-itself row =
     ((Decides-int_eq row.poc row.poc).1 refl))
     ((Decides-int_eq row.hour row.hour).1 refl))
     (value-itself row.value))
+    (value-itself row.method))
     ((bytes_eq-Decides row.null row.null).1 refl))
     ((bytes_eq-Decides row.quals row.quals).1 refl)
 
@@ -138,16 +144,18 @@ pub spelled-back : (o : ObsKey × Observation) → IsSpelled o → observation_o
 unfolding observation_of_row
 spelled-back o spelled =
     let id = o.0.monitor in
-    let z = and_parts _ (nat_le (length o.1.quals) 10) spelled.content in
+    let n = and_parts _ (is_method o.1.method) spelled.content in
+    let z = and_parts _ (nat_le (length o.1.quals) 10) n.0 in
     let y = and_parts _ _ z.0 in
     let x = and_parts (is_measured id.pollutant o.1.value o.1.null) (list_all is_qualifier o.1.quals) y.0 in
     let pollutant = pollutant-back id.pollutant in
+    let method = method-back o.1.method in
     let null = null-back id.pollutant o.1.value o.1.null x.0 in
     let quals = qualifiers-read o.1.quals x.1 in
     let site = site-back id.site spelled.site in
-    let with_site : Site → ObsKey × Observation = λ s. (record { monitor = record { site = s; pollutant = id.pollutant; poc = id.poc }; hour = o.0.hour }, record { value = o.1.value; null = o.1.null; quals = o.1.quals }) in
+    let with_site : Site → ObsKey × Observation = λ s. (record { monitor = record { site = s; pollutant = id.pollutant; poc = id.poc }; hour = o.0.hour }, record { value = o.1.value; null = o.1.null; quals = o.1.quals; method = o.1.method }) in
     let whole : with_site (site_with (site_key id.site)) ≡ o = λ i. with_site (site i) in
-    rw pollutant (rw (stored-back o.0.hour) (rw null (rw quals (ap (only_if (λ p. is_obs_row (obs_row p) (obs_row o))) whole ∙ ap (λ t. cond t (Some o) None) (obs_row-itself (obs_row o))))))
+    rw pollutant (rw (stored-back o.0.hour) (rw method (rw null (rw quals (ap (only_if (λ p. is_obs_row (obs_row p) (obs_row o))) whole ∙ ap (λ t. cond t (Some o) None) (obs_row-itself (obs_row o)))))))
 
 pub observation-back : (office : Office) (o : ObsKey × Observation) → IsOffice office → fits_monitors office o ≡ true → observation_of_row (obs_row o) ≡ Some o
 observation-back office o valid fits = spelled-back o (fitting-is_spelled office o valid fits)
@@ -199,7 +207,7 @@ module _ (office : Office) (valid : IsOffice office) where
   R r = OfOfficeRow (office_row r)
 
   abbrev O : ObsKey × Observation → Row
-  O o = OfObsRow (obs_row o)
+  O o = OfSecondRow (obs_row o)
 
   abbrev L : StoredLoad → Row
   L l = OfLoadRow (load_row l)
@@ -214,48 +222,48 @@ module _ (office : Office) (valid : IsOffice office) where
   loads-back = every-from is_load (λ l. load_of_row (load_row l) ≡ Some l) load-back office.loads valid.loads_fit
 
   abbrev three : List Row
-  three = map R office.records ++ map O office.observations ++ map L office.loads
+  three = map R office.records ++ map L office.loads ++ map O office.observations
 
-  in_three : {X : Type 0} (read : Row → Option X) (a b c : List X) → filter_map read (map R office.records) ≡ a → filter_map read (map O office.observations) ≡ b → filter_map read (map L office.loads) ≡ c
+  in_three : {X : Type 0} (read : Row → Option X) (a b c : List X) → filter_map read (map R office.records) ≡ a → filter_map read (map L office.loads) ≡ b → filter_map read (map O office.observations) ≡ c
       → filter_map read three ≡ a ++ b ++ c
   in_three read a b c ra rb rc =
-      filter_map-append read (map R office.records ++ map O office.observations) (map L office.loads)
-      ∙ ap (λ l. l ++ filter_map read (map L office.loads)) (filter_map-append read (map R office.records) (map O office.observations))
+      filter_map-append read (map R office.records ++ map L office.loads) (map O office.observations)
+      ∙ ap (λ l. l ++ filter_map read (map O office.observations)) (filter_map-append read (map R office.records) (map L office.loads))
       ∙ (λ i. ra i ++ rb i ++ rc i)
 
   office-in : office_in three ≡ office
   office-in =
       let records : filter_map record_in_row three ≡ office.records =
-      in_three record_in_row office.records [] [] (given record_in_row R office.records records-back) (none record_in_row O office.observations (λ o. refl)) (none record_in_row L office.loads (λ l. refl))
+      in_three record_in_row office.records [] [] (given record_in_row R office.records records-back) (none record_in_row L office.loads (λ l. refl)) (none record_in_row O office.observations (λ o. refl))
       ∙ append-nil (office.records ++ []) ∙ append-nil office.records
       in
       let observations : filter_map observation_in_row three ≡ office.observations =
-      in_three observation_in_row [] office.observations [] (none observation_in_row R office.records (λ r. refl)) (given observation_in_row O office.observations observations-back) (none observation_in_row L office.loads (λ l. refl))
-      ∙ append-nil office.observations
+      in_three observation_in_row [] [] office.observations (none observation_in_row R office.records (λ r. refl)) (none observation_in_row L office.loads (λ l. refl)) (given observation_in_row O office.observations observations-back)
       in
       let loads : filter_map load_in_row three ≡ office.loads =
-      in_three load_in_row [] [] office.loads (none load_in_row R office.records (λ r. refl)) (none load_in_row O office.observations (λ o. refl)) (given load_in_row L office.loads loads-back)
+      in_three load_in_row [] office.loads [] (none load_in_row R office.records (λ r. refl)) (given load_in_row L office.loads loads-back) (none load_in_row O office.observations (λ o. refl))
+      ∙ append-nil office.loads
       in
       λ i. record { records = records i; observations = observations i; loads = loads i }
 
   said : list_all says_something three ≡ true
   said =
-      all-append says_something (map R office.records ++ map O office.observations) (map L office.loads)
-      (all-append says_something (map R office.records) (map O office.observations)
+      all-append says_something (map R office.records ++ map L office.loads) (map O office.observations)
+      (all-append says_something (map R office.records) (map L office.loads)
       (all-said says_something R office.records (every-to (λ r. record_of_row (office_row r) ≡ Some r) (λ r. is_some (record_of_row (office_row r)) ≡ true) (λ r e. ap is_some e) office.records records-back))
-      (all-said says_something O office.observations (every-to (λ o. observation_of_row (obs_row o) ≡ Some o) (λ o. is_some (observation_of_row (obs_row o)) ≡ true) (λ o e. ap is_some e) office.observations observations-back)))
-      (all-said says_something L office.loads (every-to (λ l. load_of_row (load_row l) ≡ Some l) (λ l. is_some (load_of_row (load_row l)) ≡ true) (λ l e. ap is_some e) office.loads loads-back))
+      (all-said says_something L office.loads (every-to (λ l. load_of_row (load_row l) ≡ Some l) (λ l. is_some (load_of_row (load_row l)) ≡ true) (λ l e. ap is_some e) office.loads loads-back)))
+      (all-said says_something O office.observations (every-to (λ o. observation_of_row (obs_row o) ≡ Some o) (λ o. is_some (observation_of_row (obs_row o)) ≡ true) (λ o e. ap is_some e) office.observations observations-back))
 
   follow : tables_follow three ≡ true
   follow =
-      let loads : tables_follow (map L office.loads ++ []) ≡ true = follow-map 2 L (λ l. refl) refl office.loads [] tt refl in
-      let last : tables_follow (map L office.loads) ≡ true = ap tables_follow (sym (append-nil (map L office.loads))) ∙ loads in
-      let rest : tables_follow (map O office.observations ++ map L office.loads) ≡ true =
-      follow-map 1 O (λ o. refl) refl office.observations (map L office.loads) (from-map 1 2 L (λ l. refl) refl office.loads) last
+      let observations : tables_follow (map O office.observations ++ []) ≡ true = follow-map 3 O (λ o. refl) refl office.observations [] tt refl in
+      let last : tables_follow (map O office.observations) ≡ true = ap tables_follow (sym (append-nil (map O office.observations))) ∙ observations in
+      let rest : tables_follow (map L office.loads ++ map O office.observations) ≡ true =
+      follow-map 2 L (λ l. refl) refl office.loads (map O office.observations) (from-map 2 3 O (λ o. refl) refl office.observations) last
       in
-      ap tables_follow (append_assoc (map R office.records) (map O office.observations) (map L office.loads))
-      ∙ follow-map 0 R (λ r. refl) refl office.records (map O office.observations ++ map L office.loads)
-      (from-append 0 (map O office.observations) (map L office.loads) (from-map 0 1 O (λ o. refl) refl office.observations) (from-map 0 2 L (λ l. refl) refl office.loads)) rest
+      ap tables_follow (append_assoc (map R office.records) (map L office.loads) (map O office.observations))
+      ∙ follow-map 0 R (λ r. refl) refl office.records (map L office.loads ++ map O office.observations)
+      (from-append 0 (map L office.loads) (map O office.observations) (from-map 0 2 L (λ l. refl) refl office.loads) (from-map 0 3 O (λ o. refl) refl office.observations)) rest
 
   pub rows-are : are_office_rows (rows_of office) ≡ true
   unfolding are_office_rows rows_of

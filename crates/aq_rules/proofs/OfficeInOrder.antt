@@ -54,11 +54,11 @@ unfolding rows_of
 office-in_order office valid =
     let spelled = valid-spelled office valid in
     let A = map R office.records in
-    let B = map O office.observations in
-    let C = map L office.loads in
+    let B = map L office.loads in
+    let C = map O office.observations in
     let records = table-rises R record_rank (λ r. is_record r ≡ true) (λ r s p q. (office-agree (key_of r) (key_of s) (record-key r p) (record-key s q)).before) office.records spelled.records ∙ valid.keys_rise.records in
     let observations = table-rises O observation_rank IsSpelled (λ o p h k. (obs-agree o.0 p.0 h.site k.site).before) office.observations spelled.observations ∙ valid.keys_rise.observations in
     let loads = table-rises L load_rank (λ l. l ≡ l) (λ l m p q. (load-agree l.number m.number).before) office.loads (every-load office.loads) ∙ valid.keys_rise.loads in
     append-rises (A ++ B) C
-    (append-rises A B records observations (tables-apart R O (λ r o. refl) office.records office.observations)) loads
-    (every-append (Before C) A B (tables-apart R L (λ r l. refl) office.records office.loads) (tables-apart O L (λ o l. refl) office.observations office.loads))
+    (append-rises A B records loads (tables-apart R L (λ r l. refl) office.records office.loads)) observations
+    (every-append (Before C) A B (tables-apart R O (λ r o. refl) office.records office.observations) (tables-apart L O (λ l o. refl) office.loads office.observations))

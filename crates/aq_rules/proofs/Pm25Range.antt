@@ -20,7 +20,7 @@ use Rattle.aq_base.specs.declared.monitor.Pollutant.TheVariants.{Pm25}
 use Rattle.aq_base.specs.declared.observation.ObsKey.{ObsKey}
 use Rattle.aq_base.specs.declared.observation.Observation.{Observation}
 use Rattle.aq_rules.specs.Lines.Spellings.{is_in_range}
-use Rattle.aq_rules.specs.Office.Office.{Office, IsOffice, duration_at, is_measured, is_content, fits_monitors}
+use Rattle.aq_rules.specs.Office.Office.{Office, IsOffice, duration_at, is_measured, is_method, is_content, fits_monitors}
 use Rattle.aq_rules.specs.Lists.{least, total, greatest, ranked}
 use Rattle.aq_rules.specs.Office.Monitors.{is_same_site, is_same_pollutant, is_same_monitor, is_eligible}
 use Rattle.aq_rules.specs.Office.Exclusion.{excluded}
@@ -99,7 +99,8 @@ of_value out pollutant (Some v) null is h =
 pub measured-of : (office : Office) (entry : ObsKey × Observation) → fits_monitors office entry ≡ true → is_measured entry.0.monitor.pollutant entry.1.value entry.1.null ≡ true
 measured-of office entry fits =
     let content = (and_parts _ (is_content entry.0.monitor.pollutant entry.1) fits).1 in
-    let c = and_parts _ (nat_le (length entry.1.quals) 10) content in
+    let d = and_parts _ (is_method entry.1.method) content in
+    let c = and_parts _ (nat_le (length entry.1.quals) 10) d.0 in
     let b = and_parts _ _ c.0 in
     (and_parts (is_measured entry.0.monitor.pollutant entry.1.value entry.1.null) _ b.0).0
 

@@ -5,7 +5,7 @@ use Rattle.std.specs.Option.{option_eq}
 use Rattle.std.specs.Ordering.{int_eq}
 use Rattle.std.specs.List.{list_all, filter_map, cons_option}
 use Rattle.std.proofs.lemmas.Slice.Eq.{bytes_eq-Decides}
-use Rattle.std.proofs.lemmas.Bool.{and_parts, leb-true}
+use Rattle.std.proofs.lemmas.Bool.{false≢true, and_parts, leb-true}
 use Rattle.aq_base.specs.declared.observation.ObsKey.{ObsKey}
 use Rattle.aq_base.specs.declared.observation.Observation.{Observation}
 use Rattle.aq_base.specs.declared.office.OfficeRecord.{OfficeRecord}
@@ -13,7 +13,7 @@ use Rattle.aq_base.specs.declared.reply.RestRule.{RestRule}
 use Rattle.aq_rules.specs.Lines.Reading.{line_value}
 use Rattle.aq_rules.specs.Lines.Spellings.{◌>>=◌, qualifier_in}
 use Rattle.aq_rules.specs.Office.Office.{StoredLoad, IsOffice}
-use Rattle.aq_rules.specs.Kept.Rows.{whole, hour_of_stored, record_in, site_with, pollutant_with, words, each, null_of, listed_in, rest_in, Row, OfficeRow, ObsRow, LoadRow, OfOfficeRow, OfObsRow, OfLoadRow, office_row, obs_row, load_row, rows_of, only_if, is_office_row, is_obs_row, is_load_row, record_of_row, observation_of_row, load_of_row, record_in_row, observation_in_row, load_in_row, says_something, office_in, table_of, tables_follow, is_valid, are_office_rows, damage}
+use Rattle.aq_rules.specs.Kept.Rows.{whole, hour_of_stored, record_in, site_with, pollutant_with, words, each, null_of, method_of, listed_in, rest_in, Row, OfficeRow, ObsRow2, LoadRow, OfOfficeRow, OfObsRow, OfLoadRow, OfSecondRow, office_row, obs_row, load_row, rows_of, only_if, is_office_row, is_obs_row, is_load_row, record_of_row, observation_of_row, load_of_row, record_in_row, observation_in_row, load_in_row, says_something, office_in, table_of, tables_follow, is_valid, are_office_rows, damage}
 use Rattle.aq_rules.proofs.Tests.{int_is}
 use Rattle.aq_rules.proofs.Elements.{Every}
 use Rattle.aq_rules.proofs.ValidOffice.{valid-is_office}
@@ -54,11 +54,12 @@ office_row-is a b h =
     let x = and_parts (int_eq a.kind b.kind) (bytes_eq a.key b.key) y.0 in
     λ i. record { kind = int_is a.kind b.kind x.0 i; key = text-is a.key b.key x.1 i; line = text-is a.line b.line y.1 i }
 
-obs_row-is : (a b : ObsRow) → is_obs_row a b ≡ true → a ≡ b
+obs_row-is : (a b : ObsRow2) → is_obs_row a b ≡ true → a ≡ b
 obs_row-is a b h =
     let t = and_parts _ (bytes_eq a.quals b.quals) h in
     let s = and_parts _ (bytes_eq a.null b.null) t.0 in
-    let r = and_parts _ (option_eq int_eq a.value b.value) s.0 in
+    let m = and_parts _ (option_eq int_eq a.method b.method) s.0 in
+    let r = and_parts _ (option_eq int_eq a.value b.value) m.0 in
     let q = and_parts _ (int_eq a.hour b.hour) r.0 in
     let p = and_parts _ (int_eq a.poc b.poc) q.0 in
     let o = and_parts (int_eq a.site b.site) (int_eq a.pollutant b.pollutant) p.0 in
@@ -68,6 +69,7 @@ obs_row-is a b h =
       poc = int_is a.poc b.poc p.1 i;
       hour = int_is a.hour b.hour q.1 i;
       value = value-is a.value b.value r.1 i;
+      method = value-is a.method b.method m.1 i;
       null = text-is a.null b.null s.1 i;
       quals = text-is a.quals b.quals t.1 i;
     }
@@ -94,7 +96,7 @@ record-row row r h =
     through (line_value row.line >>= record_in) (only_if (λ q. is_office_row (office_row q) row)) r (office_row r ≡ row) h
     (λ s k. office_row-is (office_row r) row (last-test (λ q. is_office_row (office_row q) row) s r k))
 
-observation-row : (row : ObsRow) (o : ObsKey × Observation) → observation_of_row row ≡ Some o → obs_row o ≡ row
+observation-row : (row : ObsRow2) (o : ObsKey × Observation) → observation_of_row row ≡ Some o → obs_row o ≡ row
 unfolding observation_of_row
 observation-row row o h =
     through (whole row.site) _ o (obs_row o ≡ row) h (λ a ha.
@@ -102,10 +104,11 @@ observation-row row o h =
     through (pollutant_with b) _ o (obs_row o ≡ row) hb (λ c hc.
     through (whole row.poc) _ o (obs_row o ≡ row) hc (λ d hd.
     through (hour_of_stored row.hour) _ o (obs_row o ≡ row) hd (λ e he.
-    through (null_of row.null) _ o (obs_row o ≡ row) he (λ f hf.
+    through (method_of row.method) _ o (obs_row o ≡ row) he (λ m hm.
+    through (null_of row.null) _ o (obs_row o ≡ row) hm (λ f hf.
     through (each qualifier_in (words row.quals)) _ o (obs_row o ≡ row) hf (λ g hg.
-    let x : ObsKey × Observation = (record { monitor = record { site = site_with a; pollutant = c; poc = d }; hour = e }, record { value = row.value; null = f; quals = g }) in
-    obs_row-is (obs_row o) row (last-test (λ q. is_obs_row (obs_row q) row) x o hg))))))))
+    let x : ObsKey × Observation = (record { monitor = record { site = site_with a; pollutant = c; poc = d }; hour = e }, record { value = row.value; null = f; quals = g; method = m }) in
+    obs_row-is (obs_row o) row (last-test (λ q. is_obs_row (obs_row q) row) x o hg)))))))))
 
 load-row : (row : LoadRow) (l : StoredLoad) → load_of_row row ≡ Some l → load_row l ≡ row
 unfolding load_of_row
@@ -124,7 +127,7 @@ abbrev R : OfficeRecord → Row
 R r = OfOfficeRow (office_row r)
 
 abbrev O : ObsKey × Observation → Row
-O o = OfObsRow (obs_row o)
+O o = OfSecondRow (obs_row o)
 
 abbrev L : StoredLoad → Row
 L l = OfLoadRow (load_row l)
@@ -152,54 +155,57 @@ no_records [] from = refl
 no_records (OfOfficeRow row ∷ rows) from = absurd (omega (arith, from.0))
 no_records (OfObsRow row ∷ rows) from = no_records rows from.1
 no_records (OfLoadRow row ∷ rows) from = no_records rows from.1
+no_records (OfSecondRow row ∷ rows) from = no_records rows from.1
 
-no_observations : (rows : List Row) → From 2 rows → filter_map observation_in_row rows ≡ []
-no_observations [] from = refl
-no_observations (OfOfficeRow row ∷ rows) from = absurd (omega (arith, from.0))
-no_observations (OfObsRow row ∷ rows) from = absurd (omega (arith, from.0))
-no_observations (OfLoadRow row ∷ rows) from = no_observations rows from.1
+no_loads : (rows : List Row) → From 3 rows → filter_map load_in_row rows ≡ []
+no_loads [] from = refl
+no_loads (OfOfficeRow row ∷ rows) from = absurd (omega (arith, from.0))
+no_loads (OfObsRow row ∷ rows) from = absurd (omega (arith, from.0))
+no_loads (OfLoadRow row ∷ rows) from = absurd (omega (arith, from.0))
+no_loads (OfSecondRow row ∷ rows) from = no_loads rows from.1
 
-abbrev three : List OfficeRecord → List (ObsKey × Observation) → List StoredLoad → List Row
-three rs os ls = map R rs ++ map O os ++ map L ls
+abbrev three : List OfficeRecord → List StoredLoad → List (ObsKey × Observation) → List Row
+three rs ls os = map R rs ++ map L ls ++ map O os
 
-first-record : (row : OfficeRow) (o : Option OfficeRecord) (rs : List OfficeRecord) (os : List (ObsKey × Observation)) (ls : List StoredLoad) (rows : List Row)
-    → record_of_row row ≡ o → is_some o ≡ true → three rs os ls ≡ rows → three (cons_option o rs) os ls ≡ OfOfficeRow row ∷ rows
-first-record row None rs os ls rows e some is = cc
-first-record row (Some r) rs os ls rows e some is = λ i. OfOfficeRow (record-row row r e i) ∷ is i
+first-record : (row : OfficeRow) (o : Option OfficeRecord) (rs : List OfficeRecord) (ls : List StoredLoad) (os : List (ObsKey × Observation)) (rows : List Row)
+    → record_of_row row ≡ o → is_some o ≡ true → three rs ls os ≡ rows → three (cons_option o rs) ls os ≡ OfOfficeRow row ∷ rows
+first-record row None rs ls os rows e some is = cc
+first-record row (Some r) rs ls os rows e some is = λ i. OfOfficeRow (record-row row r e i) ∷ is i
 
-first-observation : (row : ObsRow) (o : Option (ObsKey × Observation)) (os : List (ObsKey × Observation)) (ls : List StoredLoad) (rows : List Row)
-    → observation_of_row row ≡ o → is_some o ≡ true → three [] os ls ≡ rows → three [] (cons_option o os) ls ≡ OfObsRow row ∷ rows
-first-observation row None os ls rows e some is = cc
-first-observation row (Some r) os ls rows e some is = λ i. OfObsRow (observation-row row r e i) ∷ is i
+first-load : (row : LoadRow) (o : Option StoredLoad) (ls : List StoredLoad) (os : List (ObsKey × Observation)) (rows : List Row)
+    → load_of_row row ≡ o → is_some o ≡ true → three [] ls os ≡ rows → three [] (cons_option o ls) os ≡ OfLoadRow row ∷ rows
+first-load row None ls os rows e some is = cc
+first-load row (Some r) ls os rows e some is = λ i. OfLoadRow (load-row row r e i) ∷ is i
 
-first-load : (row : LoadRow) (o : Option StoredLoad) (ls : List StoredLoad) (rows : List Row)
-    → load_of_row row ≡ o → is_some o ≡ true → three [] [] ls ≡ rows → three [] [] (cons_option o ls) ≡ OfLoadRow row ∷ rows
-first-load row None ls rows e some is = cc
-first-load row (Some r) ls rows e some is = λ i. OfLoadRow (load-row row r e i) ∷ is i
+first-observation : (row : ObsRow2) (o : Option (ObsKey × Observation)) (os : List (ObsKey × Observation)) (rows : List Row)
+    → observation_of_row row ≡ o → is_some o ≡ true → three [] [] os ≡ rows → three [] [] (cons_option o os) ≡ OfSecondRow row ∷ rows
+first-observation row None os rows e some is = cc
+first-observation row (Some r) os rows e some is = λ i. OfSecondRow (observation-row row r e i) ∷ is i
 
 rewritten : (rows : List Row) → list_all says_something rows ≡ true → tables_follow rows ≡ true
-    → three (filter_map record_in_row rows) (filter_map observation_in_row rows) (filter_map load_in_row rows) ≡ rows
+    → three (filter_map record_in_row rows) (filter_map load_in_row rows) (filter_map observation_in_row rows) ≡ rows
 rewritten [] said follow = refl
 rewritten (OfOfficeRow row ∷ rows) said follow =
     let parts = and_parts (is_some (record_of_row row)) (list_all says_something rows) said in
     let rest = rewritten rows parts.1 (rest-follow (OfOfficeRow row) rows follow) in
-    first-record row (record_of_row row) (filter_map record_in_row rows) (filter_map observation_in_row rows) (filter_map load_in_row rows) rows refl parts.0 rest
-rewritten (OfObsRow row ∷ rows) said follow =
-    let parts = and_parts (is_some (observation_of_row row)) (list_all says_something rows) said in
-    let rest = rewritten rows parts.1 (rest-follow (OfObsRow row) rows follow) in
-    let none = no_records rows (from-follow (OfObsRow row) rows follow) in
-    let P : List OfficeRecord → Type 0 = λ rs. three rs (filter_map observation_in_row rows) (filter_map load_in_row rows) ≡ rows in
-    let Q : List OfficeRecord → Type 0 = λ rs. three rs (cons_option (observation_of_row row) (filter_map observation_in_row rows)) (filter_map load_in_row rows) ≡ OfObsRow row ∷ rows in
-    subst Q (sym none) (first-observation row (observation_of_row row) (filter_map observation_in_row rows) (filter_map load_in_row rows) rows refl parts.0 (subst P none rest))
+    first-record row (record_of_row row) (filter_map record_in_row rows) (filter_map load_in_row rows) (filter_map observation_in_row rows) rows refl parts.0 rest
+rewritten (OfObsRow row ∷ rows) said follow = absurd (false≢true said)
 rewritten (OfLoadRow row ∷ rows) said follow =
     let parts = and_parts (is_some (load_of_row row)) (list_all says_something rows) said in
     let rest = rewritten rows parts.1 (rest-follow (OfLoadRow row) rows follow) in
-    let from = from-follow (OfLoadRow row) rows follow in
-    let none = no_records rows (from-more 1 2 rows (omega arith) from) in
-    let none_seen = no_observations rows from in
-    let ls = filter_map load_in_row rows in
-    let start : three [] [] ls ≡ rows = (λ i. three (sym none i) (sym none_seen i) ls) ∙ rest in
-    (λ i. three (none i) (none_seen i) (cons_option (load_of_row row) ls)) ∙ first-load row (load_of_row row) ls rows refl parts.0 start
+    let none = no_records rows (from-more 1 2 rows (omega arith) (from-follow (OfLoadRow row) rows follow)) in
+    let P : List OfficeRecord → Type 0 = λ rs. three rs (filter_map load_in_row rows) (filter_map observation_in_row rows) ≡ rows in
+    let Q : List OfficeRecord → Type 0 = λ rs. three rs (cons_option (load_of_row row) (filter_map load_in_row rows)) (filter_map observation_in_row rows) ≡ OfLoadRow row ∷ rows in
+    subst Q (sym none) (first-load row (load_of_row row) (filter_map load_in_row rows) (filter_map observation_in_row rows) rows refl parts.0 (subst P none rest))
+rewritten (OfSecondRow row ∷ rows) said follow =
+    let parts = and_parts (is_some (observation_of_row row)) (list_all says_something rows) said in
+    let rest = rewritten rows parts.1 (rest-follow (OfSecondRow row) rows follow) in
+    let from = from-follow (OfSecondRow row) rows follow in
+    let none = no_records rows (from-more 1 3 rows (omega arith) from) in
+    let none_loaded = no_loads rows from in
+    let os = filter_map observation_in_row rows in
+    let start : three [] [] os ≡ rows = (λ i. three (sym none i) (sym none_loaded i) os) ∙ rest in
+    (λ i. three (none i) (none_loaded i) (cons_option (observation_of_row row) os)) ∙ first-observation row (observation_of_row row) os rows refl parts.0 start
 
 pub rows-rewritten : (rows : List Row) → are_office_rows rows ≡ true → rows_of (office_in rows) ≡ rows
 unfolding are_office_rows rows_of

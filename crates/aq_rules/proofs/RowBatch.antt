@@ -11,7 +11,7 @@ use Rattle.aq_base.specs.declared.office.OfficeKey.{OfficeKey}
 use Rattle.aq_rules.specs.Lines.Lines.{body_lines}
 use Rattle.aq_rules.specs.Office.Office.{Office, StoredLoad, IsOffice, is_same, comes_before, key_of, key_numbers, observation_numbers, observation_key, content_of, record_rank, observation_rank, load_rank, is_key, is_site, is_record, is_content_of, row_at, with_row, without_row, record_at, observation_at}
 use Rattle.aq_rules.specs.Office.Load.{OfficeChange, PutRecord, DropRecord, PutObservation, DropObservation, PutLoad, with_change, is_same_record, is_same_content, record_change, observation_change, record_changes, observation_changes, keys_of_either, load_change, batch, stored, load, after_all}
-use Rattle.aq_rules.specs.Kept.Rows.{Row, OfOfficeRow, OfObsRow, OfLoadRow, office_row, obs_row, load_row, rows_of}
+use Rattle.aq_rules.specs.Kept.Rows.{Row, OfOfficeRow, OfLoadRow, OfSecondRow, office_row, obs_row, load_row, rows_of}
 use Rattle.aq_rules.specs.Kept.RowChanges.{RowKey, row_key, key_before, is_same_row_key, office_row_key, obs_row_key, put_row, drop_row, with_row_change, with_row_changes, row_change, row_batch}
 use Rattle.aq_rules.proofs.Elements.{Every, every-append, every-map, every-to}
 use Rattle.aq_rules.proofs.OfficeBack.{IsSpelled}
@@ -95,7 +95,7 @@ abbrev pub R : OfficeRecord → Row
 R r = OfOfficeRow (office_row r)
 
 abbrev pub O : ObsKey × Observation → Row
-O o = OfObsRow (obs_row o)
+O o = OfSecondRow (obs_row o)
 
 abbrev pub L : StoredLoad → Row
 L l = OfLoadRow (load_row l)
@@ -116,10 +116,10 @@ module _ (office : Office) (all : AllSpelled office) where
   A = map R office.records
 
   abbrev B : List Row
-  B = map O office.observations
+  B = map L office.loads
 
   abbrev C : List Row
-  C = map L office.loads
+  C = map O office.observations
 
   change-written : (change : OfficeChange) → IsSpelledChange change → with_row_change (rows_of office) (row_change change) ≡ rows_of (with_change office change)
   unfolding rows_of IsSpelledChange
@@ -127,8 +127,8 @@ module _ (office : Office) (all : AllSpelled office) where
       let agree = every-to (λ s. is_record s ≡ true) (λ s. Agree (record_rank r) (record_rank s) (row_key (R r)) (row_key (R s)))
       (λ s h. office-agree (key_of r) (key_of s) (record-key r is) (record-key s h)) office.records all.records
       in
-      put-front (R r) (A ++ B) C (each (λ row. key_before (row_key (R r)) (row_key row) ≡ true) L (λ l. refl) office.loads)
-      ∙ ap (λ l. l ++ C) (put-front (R r) A B (each (λ row. key_before (row_key (R r)) (row_key row) ≡ true) O (λ o. refl) office.observations))
+      put-front (R r) (A ++ B) C (each (λ row. key_before (row_key (R r)) (row_key row) ≡ true) O (λ o. refl) office.observations)
+      ∙ ap (λ l. l ++ C) (put-front (R r) A B (each (λ row. key_before (row_key (R r)) (row_key row) ≡ true) L (λ l. refl) office.loads))
       ∙ ap (λ l. l ++ B ++ C) (put-map R record_rank r office.records agree)
   change-written (DropRecord key) is =
       let agree = every-to (λ s. is_record s ≡ true) (λ s. is_same_row_key (row_key (R s)) (office_row_key key) ≡ is_same (record_rank s) (key_numbers key))
@@ -136,30 +136,30 @@ module _ (office : Office) (all : AllSpelled office) where
       in
       drop-three (office_row_key key) A B C
       ∙ (λ i. drop-map R record_rank (key_numbers key) (office_row_key key) office.records agree i
-      ++ drop-others (office_row_key key) B (each (λ row. is_same_row_key (row_key row) (office_row_key key) ≡ false) O (λ o. refl) office.observations) i
-      ++ drop-others (office_row_key key) C (each (λ row. is_same_row_key (row_key row) (office_row_key key) ≡ false) L (λ l. refl) office.loads) i)
+      ++ drop-others (office_row_key key) B (each (λ row. is_same_row_key (row_key row) (office_row_key key) ≡ false) L (λ l. refl) office.loads) i
+      ++ drop-others (office_row_key key) C (each (λ row. is_same_row_key (row_key row) (office_row_key key) ≡ false) O (λ o. refl) office.observations) i)
   change-written (PutObservation key content) is =
       let o : ObsKey × Observation = (key, content) in
       let agree = every-to IsSpelled (λ p. Agree (observation_rank o) (observation_rank p) (row_key (O o)) (row_key (O p)))
       (λ p h. obs-agree key p.0 is.site h.site) office.observations all.observations
       in
-      put-front (O o) (A ++ B) C (each (λ row. key_before (row_key (O o)) (row_key row) ≡ true) L (λ l. refl) office.loads)
-      ∙ ap (λ l. l ++ C) (put-behind (O o) A B (each (λ row. (key_before (row_key (O o)) (row_key row) ≡ false) × (is_same_row_key (row_key (O o)) (row_key row) ≡ false)) R (λ r. (refl, refl)) office.records))
-      ∙ ap (λ l. A ++ l ++ C) (put-map O observation_rank o office.observations agree)
+      put-behind (O o) (A ++ B) C
+      (every-append (λ row. (key_before (row_key (O o)) (row_key row) ≡ false) × (is_same_row_key (row_key (O o)) (row_key row) ≡ false)) A B
+      (each (λ row. (key_before (row_key (O o)) (row_key row) ≡ false) × (is_same_row_key (row_key (O o)) (row_key row) ≡ false)) R (λ r. (refl, refl)) office.records)
+      (each (λ row. (key_before (row_key (O o)) (row_key row) ≡ false) × (is_same_row_key (row_key (O o)) (row_key row) ≡ false)) L (λ l. (refl, refl)) office.loads))
+      ∙ ap (λ l. A ++ B ++ l) (put-map O observation_rank o office.observations agree)
   change-written (DropObservation key) is =
       let agree = every-to IsSpelled (λ p. is_same_row_key (row_key (O p)) (obs_row_key key) ≡ is_same (observation_rank p) (observation_numbers key))
       (λ p h. (obs-agree p.0 key h.site is).same) office.observations all.observations
       in
       drop-three (obs_row_key key) A B C
       ∙ (λ i. drop-others (obs_row_key key) A (each (λ row. is_same_row_key (row_key row) (obs_row_key key) ≡ false) R (λ r. refl) office.records) i
-      ++ drop-map O observation_rank (observation_numbers key) (obs_row_key key) office.observations agree i
-      ++ drop-others (obs_row_key key) C (each (λ row. is_same_row_key (row_key row) (obs_row_key key) ≡ false) L (λ l. refl) office.loads) i)
+      ++ drop-others (obs_row_key key) B (each (λ row. is_same_row_key (row_key row) (obs_row_key key) ≡ false) L (λ l. refl) office.loads) i
+      ++ drop-map O observation_rank (observation_numbers key) (obs_row_key key) office.observations agree i)
   change-written (PutLoad kept) is =
-      put-behind (L kept) (A ++ B) C
-      (every-append (λ row. (key_before (row_key (L kept)) (row_key row) ≡ false) × (is_same_row_key (row_key (L kept)) (row_key row) ≡ false)) A B
-      (each (λ row. (key_before (row_key (L kept)) (row_key row) ≡ false) × (is_same_row_key (row_key (L kept)) (row_key row) ≡ false)) R (λ r. (refl, refl)) office.records)
-      (each (λ row. (key_before (row_key (L kept)) (row_key row) ≡ false) × (is_same_row_key (row_key (L kept)) (row_key row) ≡ false)) O (λ o. (refl, refl)) office.observations))
-      ∙ ap (λ l. A ++ B ++ l) (put-map L load_rank kept office.loads (all-loads office.loads))
+      put-front (L kept) (A ++ B) C (each (λ row. key_before (row_key (L kept)) (row_key row) ≡ true) O (λ o. refl) office.observations)
+      ∙ ap (λ l. l ++ C) (put-behind (L kept) A B (each (λ row. (key_before (row_key (L kept)) (row_key row) ≡ false) × (is_same_row_key (row_key (L kept)) (row_key row) ≡ false)) R (λ r. (refl, refl)) office.records))
+      ∙ ap (λ l. A ++ l ++ C) (put-map L load_rank kept office.loads (all-loads office.loads))
     where
       all-loads : (loads : List StoredLoad) → Every (λ l. Agree (load_rank kept) (load_rank l) (row_key (L kept)) (row_key (L l))) loads
       all-loads [] = tt

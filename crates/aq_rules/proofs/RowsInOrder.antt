@@ -51,7 +51,7 @@ cases x y rest h =
           inr (int_is x y parts.0, parts.1)
     ]
 
-columns-chain : (a b c : List ℤ) → columns_before a b ≡ true → columns_before b c ≡ true → columns_before a c ≡ true
+pub columns-chain : (a b c : List ℤ) → columns_before a b ≡ true → columns_before b c ≡ true → columns_before a c ≡ true
 columns-chain a [] c p q = absurd (false≢true p)
 columns-chain a (y ∷ b) [] p q = absurd (false≢true q)
 columns-chain [] (y ∷ b) (z ∷ c) p q = refl
@@ -85,6 +85,31 @@ columns-other (x ∷ a) (y ∷ b) p q =
 
 -- ---- keys
 
+int-irreflexive : (x : ℤ) → int_lt x x ≡ false
+int-irreflexive (pos a) = grind (arith, nat_tests)
+int-irreflexive (negsuc a) = grind (arith, nat_tests)
+
+columns-irreflexive : (a : List ℤ) → columns_before a a ≡ false
+columns-irreflexive [] = refl
+columns-irreflexive (x ∷ a) = λ i. int-irreflexive x i || ((Decides-int_eq x x).1 refl i && columns-irreflexive a i)
+
+-- a key that comes before another does not come after it, and is another
+pub before-not_after : (a b : RowKey) → key_before a b ≡ true → key_before b a ≡ false
+before-not_after a b h =
+    elim (cases_Bool (key_before b a)) [
+      | inl k ↦ absurd (false≢true (sym (columns-irreflexive (columns a)) ∙ columns-chain (columns a) (columns b) (columns a) h k))
+      | inr k ↦ k
+    ]
+
+pub before-apart : (a b : RowKey) → key_before a b ≡ true → is_same_row_key b a ≡ false
+before-apart a b h =
+    elim (cases_Bool (is_same_row_key b a)) [
+      | inl same ↦
+          let equal : columns b ≡ columns a = (pointwise_decides Decides-int_eq (columns b) (columns a)).0 same in
+          absurd (false≢true (sym (columns-irreflexive (columns a)) ∙ subst (λ (c : List ℤ). columns_before (columns a) c ≡ true) equal h))
+      | inr other ↦ other
+    ]
+
 From : RowKey → List Row → Type 0
 From key rows = keys_rise_from key (map row_key rows) ≡ true
 
@@ -92,13 +117,13 @@ same-from : (k l : RowKey) (keys : List RowKey) → columns k ≡ columns l → 
 same-from k l [] same = refl
 same-from k l (key ∷ keys) same = ap (λ c. columns_before c (columns key) && keys_rise_from key keys) same
 
-from-earlier : (k l : RowKey) (keys : List RowKey) → key_before k l ≡ true → keys_rise_from l keys ≡ true → keys_rise_from k keys ≡ true
+pub from-earlier : (k l : RowKey) (keys : List RowKey) → key_before k l ≡ true → keys_rise_from l keys ≡ true → keys_rise_from k keys ≡ true
 from-earlier k l [] p q = refl
 from-earlier k l (key ∷ keys) p q =
     let parts = and_parts (key_before l key) (keys_rise_from key keys) q in
     and_from (key_before k key) (keys_rise_from key keys) (columns-chain (columns k) (columns l) (columns key) p parts.0) parts.1
 
-rest-rises : (key : RowKey) (keys : List RowKey) → keys_rise_from key keys ≡ true → keys_rise keys ≡ true
+pub rest-rises : (key : RowKey) (keys : List RowKey) → keys_rise_from key keys ≡ true → keys_rise keys ≡ true
 rest-rises key [] p = refl
 rest-rises key (next ∷ keys) p = (and_parts (key_before key next) (keys_rise_from next keys) p).1
 

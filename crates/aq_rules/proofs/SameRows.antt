@@ -15,7 +15,7 @@ use Rattle.aq_base.specs.declared.observation.Observation.{Observation}
 use Rattle.aq_base.specs.declared.office.OfficeRecord.{OfficeRecord}
 use Rattle.aq_base.specs.declared.office.OfficeRecord.TheVariants.{Monitor, Primary, Schedule, Season, Makeup, Event, Concurrence, Approved, Combined}
 use Rattle.aq_rules.specs.Office.Monitors.{is_same_site, is_same_pollutant, is_same_monitor}
-use Rattle.aq_rules.specs.Office.Load.{is_same_duration, is_same_record, is_same_content}
+use Rattle.aq_rules.specs.Office.Load.{is_same_duration, is_same_record, is_same_method, is_same_content}
 use Rattle.aq_rules.proofs.Tests.{int_is, int_itself}
 use Rattle.aq_rules.specs.Office.Sameness.{number_itself, same_site, same_pollutant, same_monitor, site_itself, pollutant_itself}
 
@@ -156,13 +156,15 @@ code_decides a b = (same_codes a b, λ e. subst (λ (c : Code). is_same_code a c
 
 pub content-same : (a b : Observation) → is_same_content a b ≡ true → a ≡ b
 content-same a b h =
-    let q = and_parts (option_eq int_eq a.value b.value && option_eq is_same_code a.null b.null) (pointwise is_same_code a.quals b.quals) h in
+    let m = and_parts (option_eq int_eq a.value b.value && option_eq is_same_code a.null b.null && pointwise is_same_code a.quals b.quals) (option_eq is_same_method a.method b.method) h in
+    let q = and_parts (option_eq int_eq a.value b.value && option_eq is_same_code a.null b.null) (pointwise is_same_code a.quals b.quals) m.0 in
     let n = and_parts (option_eq int_eq a.value b.value) (option_eq is_same_code a.null b.null) q.0 in
     let value = options int_eq int_is int_itself a.value b.value n.0 in
     let null = options is_same_code same_codes code-itself a.null b.null n.1 in
     let quals = (pointwise_decides code_decides a.quals b.quals).0 q.1 in
-    λ i. record { value = value i; null = null i; quals = quals i }
+    let method = options is_same_method eqb-true number_itself a.method b.method m.1 in
+    λ i. record { value = value i; null = null i; quals = quals i; method = method i }
 
 pub content-itself : (a : Observation) → is_same_content a a ≡ true
 content-itself a =
-    rw (option-itself int_eq int_is int_itself a.value, option-itself is_same_code same_codes code-itself a.null, (pointwise_decides code_decides a.quals a.quals).1 refl) refl
+    rw (option-itself int_eq int_is int_itself a.value, option-itself is_same_code same_codes code-itself a.null, (pointwise_decides code_decides a.quals a.quals).1 refl, option-itself is_same_method eqb-true number_itself a.method) refl

@@ -1,6 +1,6 @@
 -- The canonical line of a sample is read as that sample.
 use Rattle.std.proofs.Common.{◌≡◌, ℕ, suc, zero, ◌<◌, ◌≤◌, Bool, true, false, not, ◌&&◌, ◌||◌, List, [], ◌∷◌, ◌++◌, length, take, drop, Some, None, Option, refl, sym, ap, ◌∙◌, arith, inl, inr, subst}
-use Rattle.std.specs.Prelude.{nat_lt, nat_le, ◌==◌, codes, decimal, if◌then◌else◌, ℤ, map}
+use Rattle.std.specs.Prelude.{nat_lt, nat_le, ◌==◌, codes, decimal, if◌then◌else◌, ℤ, map, is_some}
 use Rattle.std.specs.List.{list_all, list_any}
 use Rattle.std.proofs.lemmas.Bool.{false≢true, and_from, and_parts, cases_Bool, not-true, or_parts}
 use Rattle.std.proofs.lemmas.Bool.Decides.{nat_tests}
@@ -18,8 +18,8 @@ use Rattle.aq_rules.specs.Lines.Fields.{is_empty}
 use Rattle.aq_rules.specs.Lines.Spellings.{Rd, is_code_byte, has_duration, unit_in, null_in, qualifiers_onto, qualifiers_in}
 use Rattle.aq_rules.specs.Lines.RdForm.{RdValue, Put, Delete, start_in, content_in, put_in, delete_in}
 use Rattle.aq_rules.specs.Lines.Reading.{OfRd, line_value, has_wrong_count}
-use Rattle.aq_rules.specs.Lines.Canonical.{parameter_text, duration_text, unit_text, value_places, value_text, date_text, time_text, code_text, texts_behind, rd_texts, canonical_rd, is_rd_value, joined}
-use Rattle.aq_rules.specs.Office.Office.{is_site, is_poc, is_qualifier, is_null_code, is_measured, is_content}
+use Rattle.aq_rules.specs.Lines.Canonical.{parameter_text, duration_text, unit_text, value_places, value_text, date_text, time_text, code_text, texts_behind, method_text, rd_texts, canonical_rd, is_rd_value, joined}
+use Rattle.aq_rules.specs.Office.Office.{is_site, is_poc, is_qualifier, is_null_code, is_measured, is_method, is_content}
 use Rattle.aq_rules.proofs.Digits.{digits_three}
 use Rattle.aq_rules.proofs.KeyOrder.{less_or}
 use Rattle.aq_rules.proofs.JoinedFields.{is_clean, is_clean_byte}
@@ -172,10 +172,13 @@ clean-unit Pm10 = refl
 
 -- ---- the fields of a sample's line, with the value's field and those behind it
 
-abbrev put_texts : List ℕ → MonitorId → Duration → ℕ → ℕ → List (List ℕ) → List (List ℕ)
-put_texts action id d method hour rest =
+abbrev put_texts_by : List ℕ → MonitorId → Duration → List ℕ → ℕ → List (List ℕ) → List (List ℕ)
+put_texts_by action id d method hour rest =
     codes "RD" ∷ action ∷ site_with id.site (parameter_text id.pollutant ∷ decimal id.poc ∷ duration_text d ∷ unit_text id.pollutant
-    ∷ last_digits 3 method ∷ date_text (day_of_hour hour) ∷ time_text hour ∷ rest)
+    ∷ method ∷ date_text (day_of_hour hour) ∷ time_text hour ∷ rest)
+
+abbrev put_texts : List ℕ → MonitorId → Duration → ℕ → ℕ → List (List ℕ) → List (List ℕ)
+put_texts action id d method hour rest = put_texts_by action id d (last_digits 3 method) hour rest
 
 clean-put : (action : List ℕ) (id : MonitorId) (d : Duration) (method hour : ℕ) (rest : List (List ℕ)) → is_clean action ≡ true → is_poc id.poc ≡ true
     → list_all is_clean rest ≡ true → list_all is_clean (put_texts action id d method hour rest) ≡ true
@@ -199,8 +202,8 @@ record PutParts (id : MonitorId) (d : Duration) (method hour : ℕ) : Type 0 whe
   hour_ok : hour ≤ LAST_HOUR
 
 put_read : (update : Bool) (action : List ℕ) (id : MonitorId) (d : Duration) (method hour : ℕ) (rest : List (List ℕ)) (content : Observation) → PutParts id d method hour
-    → content_in id.pollutant (value_places id.pollutant) (put_texts action id d method hour rest) ≡ Some content
-    → put_in update (put_texts action id d method hour rest) ≡ Some (Put update id d method hour content)
+    → content_in id.pollutant (value_places id.pollutant) method (put_texts action id d method hour rest) ≡ Some content
+    → put_in update (put_texts action id d method hour rest) ≡ Some (Put update id d hour content)
 unfolding put_in start_in
 put_read update action id d method hour rest content p is =
     bind-is _ (monitor_read (codes "RD") action id.site id.pollutant id.poc (duration_text d ∷ unit_text id.pollutant ∷ last_digits 3 method ∷ date_text (day_of_hour hour) ∷ time_text hour ∷ rest) p.site_ok p.poc_ok)
@@ -212,24 +215,24 @@ second_branch true x y h = absurd (false≢true (sym h))
 second_branch false x y h = refl
 
 value_alone : (action : List ℕ) (id : MonitorId) (d : Duration) (method hour : ℕ) (text : List ℕ) (v : ℤ) → ValueText id.pollutant (value_places id.pollutant) text v
-    → content_in id.pollutant (value_places id.pollutant) (put_texts action id d method hour (text ∷ [])) ≡ Some (record { value = Some v; null = None; quals = [] })
+    → content_in id.pollutant (value_places id.pollutant) method (put_texts action id d method hour (text ∷ [])) ≡ Some (record { value = Some v; null = None; quals = []; method = Some method })
 unfolding content_in qualifiers_in
 value_alone action id d method hour text v t = second_branch (is_empty text) _ _ t.not_empty ∙ bind-is _ t.reads
 
 value_and_codes : (action : List ℕ) (id : MonitorId) (d : Duration) (method hour : ℕ) (text : List ℕ) (v : ℤ) (qs : List Code)
     → ValueText id.pollutant (value_places id.pollutant) text v → qualifiers_in (take 10 (map code_text qs)) ≡ Some qs
-    → content_in id.pollutant (value_places id.pollutant) (put_texts action id d method hour (text ∷ [] ∷ [] ∷ [] ∷ map code_text qs)) ≡ Some (record { value = Some v; null = None; quals = qs })
+    → content_in id.pollutant (value_places id.pollutant) method (put_texts action id d method hour (text ∷ [] ∷ [] ∷ [] ∷ map code_text qs)) ≡ Some (record { value = Some v; null = None; quals = qs; method = Some method })
 unfolding content_in
 value_and_codes action id d method hour text v qs t q = second_branch (is_empty text) _ _ t.not_empty ∙ bind-is _ t.reads ∙ bind-is _ q
 
 null_alone : (action : List ℕ) (id : MonitorId) (d : Duration) (method hour : ℕ) (n : Code) → is_null_code n ≡ true
-    → content_in id.pollutant (value_places id.pollutant) (put_texts action id d method hour ([] ∷ code_text n ∷ [])) ≡ Some (record { value = None; null = Some n; quals = [] })
+    → content_in id.pollutant (value_places id.pollutant) method (put_texts action id d method hour ([] ∷ code_text n ∷ [])) ≡ Some (record { value = None; null = Some n; quals = []; method = Some method })
 unfolding content_in qualifiers_in
 null_alone action id d method hour n h = bind-is _ (null_is n h)
 
 null_and_codes : (action : List ℕ) (id : MonitorId) (d : Duration) (method hour : ℕ) (n : Code) (qs : List Code) → is_null_code n ≡ true
     → qualifiers_in (take 10 (map code_text qs)) ≡ Some qs
-    → content_in id.pollutant (value_places id.pollutant) (put_texts action id d method hour ([] ∷ code_text n ∷ [] ∷ [] ∷ map code_text qs)) ≡ Some (record { value = None; null = Some n; quals = qs })
+    → content_in id.pollutant (value_places id.pollutant) method (put_texts action id d method hour ([] ∷ code_text n ∷ [] ∷ [] ∷ map code_text qs)) ≡ Some (record { value = None; null = Some n; quals = qs; method = Some method })
 unfolding content_in
 null_and_codes action id d method hour n qs h q = bind-is _ (null_is n h) ∙ bind-is _ q
 
@@ -238,19 +241,19 @@ many n h = grind (arith, nat_tests)
 
 -- what is read from the texts of an insertion or update, given its count and content
 read_put : (update : Bool) (id : MonitorId) (d : Duration) (method hour : ℕ) (content : Observation) (rest : List (List ℕ)) → PutParts id d method hour
-    → value_text id.pollutant content.value ∷ texts_behind content.null content.quals ≡ rest
+    → content.method ≡ Some method → value_text id.pollutant content.value ∷ texts_behind content.null content.quals ≡ rest
     → list_all is_clean rest ≡ true
     → ((action : List ℕ) → has_wrong_count Rd false (put_texts action id d method hour rest) ≡ false)
-    → ((action : List ℕ) → content_in id.pollutant (value_places id.pollutant) (put_texts action id d method hour rest) ≡ Some content)
-    → line_value (canonical_rd (Put update id d method hour content)) ≡ Some (OfRd (Put update id d method hour content))
+    → ((action : List ℕ) → content_in id.pollutant (value_places id.pollutant) method (put_texts action id d method hour rest) ≡ Some content)
+    → line_value (canonical_rd (Put update id d hour content)) ≡ Some (OfRd (Put update id d hour content))
 unfolding rd_texts
-read_put false id d method hour content rest p behind clean count reads =
-    ap (λ r. line_value (joined (put_texts (codes "I") id d method hour r))) behind
+read_put false id d method hour content rest p taken behind clean count reads =
+    (λ i. line_value (joined (put_texts_by (codes "I") id d (method_text (taken i)) hour (behind i))))
     ∙ from_texts (codes "RD") (drop 1 (put_texts (codes "I") id d method hour rest)) (clean-put (codes "I") id d method hour rest refl p.poc_ok clean)
     ∙ second_branch (has_wrong_count Rd false (put_texts (codes "I") id d method hour rest)) _ _ (count (codes "I"))
     ∙ bind-is (λ value. Some (OfRd value)) (put_read false (codes "I") id d method hour rest content p (reads (codes "I")))
-read_put true id d method hour content rest p behind clean count reads =
-    ap (λ r. line_value (joined (put_texts (codes "U") id d method hour r))) behind
+read_put true id d method hour content rest p taken behind clean count reads =
+    (λ i. line_value (joined (put_texts_by (codes "U") id d (method_text (taken i)) hour (behind i))))
     ∙ from_texts (codes "RD") (drop 1 (put_texts (codes "U") id d method hour rest)) (clean-put (codes "U") id d method hour rest refl p.poc_ok clean)
     ∙ second_branch (has_wrong_count Rd false (put_texts (codes "U") id d method hour rest)) _ _ (count (codes "U"))
     ∙ bind-is (λ value. Some (OfRd value)) (put_read true (codes "U") id d method hour rest content p (reads (codes "U")))
@@ -267,25 +270,25 @@ few_texts qs h = omega (arith, length_map qs)
 
 round_content : (update : Bool) (id : MonitorId) (d : Duration) (method hour : ℕ) (value : Option ℤ) (null : Option Code) (qs : List Code) → PutParts id d method hour
     → is_measured id.pollutant value null ≡ true → list_all is_qualifier qs ≡ true → all_distinct qs ≡ true → length qs ≤ 10
-    → line_value (canonical_rd (Put update id d method hour (record { value = value; null = null; quals = qs })))
-    ≡ Some (OfRd (Put update id d method hour (record { value = value; null = null; quals = qs })))
+    → line_value (canonical_rd (Put update id d hour (record { value = value; null = null; quals = qs; method = Some method })))
+    ≡ Some (OfRd (Put update id d hour (record { value = value; null = null; quals = qs; method = Some method })))
 round_content update id d method hour None None qs p m h dist few = absurd (false≢true m)
 round_content update id d method hour (Some v) (Some n) qs p m h dist few = absurd (false≢true m)
 round_content update id d method hour (Some v) None [] p m h dist few =
     let t = value_text_is id.pollutant v m in
-    read_put update id d method hour _ (value_text id.pollutant (Some v) ∷ []) p refl (one (value_text id.pollutant (Some v)) t.clean) (λ action. refl)
+    read_put update id d method hour _ (value_text id.pollutant (Some v) ∷ []) p refl refl (one (value_text id.pollutant (Some v)) t.clean) (λ action. refl)
     (λ action. value_alone action id d method hour (value_text id.pollutant (Some v)) v t)
 round_content update id d method hour (Some v) None (q ∷ qs) p m h dist few =
     let t = value_text_is id.pollutant v m in
-    read_put update id d method hour _ (value_text id.pollutant (Some v) ∷ [] ∷ [] ∷ [] ∷ map code_text (q ∷ qs)) p refl
+    read_put update id d method hour _ (value_text id.pollutant (Some v) ∷ [] ∷ [] ∷ [] ∷ map code_text (q ∷ qs)) p refl refl
     (also (value_text id.pollutant (Some v)) ([] ∷ [] ∷ [] ∷ map code_text (q ∷ qs)) t.clean (clean-codes (q ∷ qs) h))
     (λ action. long_count action id d method hour (value_text id.pollutant (Some v)) [] [] [] (map code_text (q ∷ qs)) (few_texts (q ∷ qs) few))
     (λ action. value_and_codes action id d method hour (value_text id.pollutant (Some v)) v (q ∷ qs) t (qualifiers_are (q ∷ qs) h dist few))
 round_content update id d method hour None (Some n) [] p m h dist few =
-    read_put update id d method hour _ ([] ∷ code_text n ∷ []) p refl (one (code_text n) (clean-code n (null_qualifies n m))) (λ action. refl)
+    read_put update id d method hour _ ([] ∷ code_text n ∷ []) p refl refl (one (code_text n) (clean-code n (null_qualifies n m))) (λ action. refl)
     (λ action. null_alone action id d method hour n m)
 round_content update id d method hour None (Some n) (q ∷ qs) p m h dist few =
-    read_put update id d method hour _ ([] ∷ code_text n ∷ [] ∷ [] ∷ map code_text (q ∷ qs)) p refl
+    read_put update id d method hour _ ([] ∷ code_text n ∷ [] ∷ [] ∷ map code_text (q ∷ qs)) p refl refl
     (also (code_text n) ([] ∷ [] ∷ map code_text (q ∷ qs)) (clean-code n (null_qualifies n m)) (clean-codes (q ∷ qs) h))
     (λ action. long_count action id d method hour [] (code_text n) [] [] (map code_text (q ∷ qs)) (few_texts (q ∷ qs) few))
     (λ action. null_and_codes action id d method hour n (q ∷ qs) m (qualifiers_are (q ∷ qs) h dist few))
@@ -315,24 +318,36 @@ at_most_ten : (n : ℕ) → nat_le n 10 ≡ true → n ≤ 10
 at_most_ten n h = grind (arith, nat_tests)
 
 pub round-rd : (value : RdValue) → is_rd_value value ≡ true → line_value (canonical_rd value) ≡ Some (OfRd value)
-round-rd (Put update id d method hour content) h =
-    let a = and_parts (is_site id.site && is_poc id.poc && has_duration id.pollutant d && nat_le method 999 && nat_le hour LAST_HOUR) (is_content id.pollutant content) h in
-    let b = and_parts (is_site id.site && is_poc id.poc && has_duration id.pollutant d && nat_le method 999) (nat_le hour LAST_HOUR) a.0 in
-    let c = and_parts (is_site id.site && is_poc id.poc && has_duration id.pollutant d) (nat_le method 999) b.0 in
+round-rd (Put update id d hour content) h =
+    let a = and_parts (is_site id.site && is_poc id.poc && has_duration id.pollutant d && is_some content.method && nat_le hour LAST_HOUR) (is_content id.pollutant content) h in
+    let b = and_parts (is_site id.site && is_poc id.poc && has_duration id.pollutant d && is_some content.method) (nat_le hour LAST_HOUR) a.0 in
+    let c = and_parts (is_site id.site && is_poc id.poc && has_duration id.pollutant d) (is_some content.method) b.0 in
     let e = and_parts (is_site id.site && is_poc id.poc) (has_duration id.pollutant d) c.0 in
     let f = and_parts (is_site id.site) (is_poc id.poc) e.0 in
-    let x = and_parts (is_measured id.pollutant content.value content.null && list_all is_qualifier content.quals && all_distinct content.quals) (nat_le (length content.quals) 10) a.1 in
+    let w = and_parts (is_measured id.pollutant content.value content.null && list_all is_qualifier content.quals && all_distinct content.quals && nat_le (length content.quals) 10) (is_method content.method) a.1 in
+    let x = and_parts (is_measured id.pollutant content.value content.null && list_all is_qualifier content.quals && all_distinct content.quals) (nat_le (length content.quals) 10) w.0 in
     let y = and_parts (is_measured id.pollutant content.value content.null && list_all is_qualifier content.quals) (all_distinct content.quals) x.0 in
     let z = and_parts (is_measured id.pollutant content.value content.null) (list_all is_qualifier content.quals) y.0 in
+    by_method content.method c.1 w.1
+    (λ method low.
     round_content update id d method hour content.value content.null content.quals
     (record {
       site_ok = f.0;
       poc_ok = f.1;
       duration_ok = e.1;
-      method_ok = less_or method 999 1000 c.1 (omega arith);
+      method_ok = less_or method 999 1000 low (omega arith);
       hour_ok = at_most_hour hour b.1;
     })
-    z.0 z.1 y.1 (at_most_ten (length content.quals) x.1)
+    z.0 z.1 y.1 (at_most_ten (length content.quals) x.1))
+  where
+    with_method : Option ℕ → RdValue
+    with_method method = Put update id d hour (record { value = content.value; null = content.null; quals = content.quals; method = method })
+
+    by_method : (method : Option ℕ) → is_some method ≡ true → is_method method ≡ true
+        → ((m : ℕ) → nat_le m 999 ≡ true → line_value (canonical_rd (with_method (Some m))) ≡ Some (OfRd (with_method (Some m))))
+        → line_value (canonical_rd (with_method method)) ≡ Some (OfRd (with_method method))
+    by_method None some is go = absurd (false≢true some)
+    by_method (Some m) some is go = go m is
 round-rd (Delete id hour) h =
     let a = and_parts (is_site id.site && is_poc id.poc) (nat_le hour LAST_HOUR) h in
     let b = and_parts (is_site id.site) (is_poc id.poc) a.0 in

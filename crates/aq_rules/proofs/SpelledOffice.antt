@@ -86,7 +86,7 @@ changed-record (Concurrence number agreed) h = h
 changed-record r h = cc
 
 spelled-changed : (office : Office) (value : LineValue) → is_line_value value ≡ true → AllSpelled office → AllSpelled (changed office value)
-spelled-changed office (OfRd (PutSample update monitor duration method hour content)) is all =
+spelled-changed office (OfRd (PutSample update monitor duration hour content)) is all =
     let e = and_parts _ (is_content monitor.pollutant content) is in
     let d = and_parts _ _ e.0 in
     let c = and_parts _ _ d.0 in

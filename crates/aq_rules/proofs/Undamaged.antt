@@ -6,7 +6,7 @@ use Rattle.aq_base.specs.declared.observation.ObsKey.{ObsKey}
 use Rattle.aq_base.specs.declared.observation.Observation.{Observation}
 use Rattle.aq_base.specs.declared.office.OfficeRecord.{OfficeRecord}
 use Rattle.aq_rules.specs.Office.Office.{Office, StoredLoad, IsOffice}
-use Rattle.aq_rules.specs.Kept.Rows.{Row, OfOfficeRow, OfObsRow, OfLoadRow, office_row, obs_row, load_row, rows_of, are_office_rows, place_of, damaged_at, damage}
+use Rattle.aq_rules.specs.Kept.Rows.{Row, OfOfficeRow, OfLoadRow, OfSecondRow, office_row, obs_row, load_row, rows_of, are_office_rows, place_of, damaged_at, damage}
 use Rattle.aq_rules.proofs.OfficeBack.{rows-are}
 use Rattle.aq_rules.proofs.Fronts.{records-front, observations-front, loads-front}
 
@@ -14,7 +14,7 @@ abbrev R : OfficeRecord → Row
 R r = OfOfficeRow (office_row r)
 
 abbrev O : ObsKey × Observation → Row
-O o = OfObsRow (obs_row o)
+O o = OfSecondRow (obs_row o)
 
 abbrev L : StoredLoad → Row
 L l = OfLoadRow (load_row l)
@@ -48,24 +48,24 @@ records-good office valid xs ys is =
     ap are_office_rows (sym (append-nil (map R xs)) ∙ sym (append-nil (map R xs ++ [])))
     ∙ rows-are (record { records = xs; observations = []; loads = [] }) (records-front office xs ys is valid)
 
-observations-good : (office : Office) → IsOffice office → (xs ys : List (ObsKey × Observation)) → office.observations ≡ xs ++ ys → are_office_rows (map R office.records ++ map O xs) ≡ true
+loads-good : (office : Office) → IsOffice office → (xs ys : List StoredLoad) → office.loads ≡ xs ++ ys → are_office_rows (map R office.records ++ map L xs) ≡ true
 unfolding rows_of
-observations-good office valid xs ys is =
-    ap are_office_rows (sym (append-nil (map R office.records ++ map O xs)))
-    ∙ rows-are (record { records = office.records; observations = xs; loads = [] }) (observations-front office xs ys is valid)
+loads-good office valid xs ys is =
+    ap are_office_rows (sym (append-nil (map R office.records ++ map L xs)))
+    ∙ rows-are (record { records = office.records; observations = []; loads = xs }) (loads-front office xs ys is valid)
 
-loads-good : (office : Office) → IsOffice office → (xs ys : List StoredLoad) → office.loads ≡ xs ++ ys → are_office_rows ((map R office.records ++ map O office.observations) ++ map L xs) ≡ true
+observations-good : (office : Office) → IsOffice office → (xs ys : List (ObsKey × Observation)) → office.observations ≡ xs ++ ys → are_office_rows ((map R office.records ++ map L office.loads) ++ map O xs) ≡ true
 unfolding rows_of
-loads-good office valid xs ys is = rows-are (record { records = office.records; observations = office.observations; loads = xs }) (loads-front office xs ys is valid)
+observations-good office valid xs ys is = rows-are (record { records = office.records; observations = xs; loads = office.loads }) (observations-front office xs ys is valid)
 
 pub undamaged : (office : Office) → IsOffice office → damage (rows_of office) ≡ None
 unfolding damage rows_of
 undamaged office valid =
     let A = map R office.records in
-    let B = map O office.observations in
-    let C = map L office.loads in
+    let B = map L office.loads in
+    let C = map O office.observations in
     ap (damaged_at []) (append_assoc A B C)
     ∙ passed-all R [] office.records (records-good office valid) (B ++ C)
-    ∙ passed-all O A office.observations (observations-good office valid) C
+    ∙ passed-all L A office.loads (loads-good office valid) C
     ∙ ap (damaged_at (A ++ B)) (sym (append-nil C))
-    ∙ passed-all L (A ++ B) office.loads (loads-good office valid) []
+    ∙ passed-all O (A ++ B) office.observations (observations-good office valid) []

@@ -142,16 +142,16 @@ with_observations office rows is rise fit few = record {
   few_loads = is.few_loads;
 }
 
-put_sample : (office : Office) (update : Bool) (monitor : MonitorId) (duration : Duration) (method hour : ℕ) (content : Observation) → IsOffice office
-    → is_line_value (OfRd (PutSample update monitor duration method hour content)) ≡ true
+put_sample : (office : Office) (update : Bool) (monitor : MonitorId) (duration : Duration) (hour : ℕ) (content : Observation) → IsOffice office
+    → is_line_value (OfRd (PutSample update monitor duration hour content)) ≡ true
     → is_none (duration_at office monitor) ≡ false
     → length (with_row observation_rank (kept_key office monitor hour, content) office.observations) ≤ MOST_OBSERVATIONS
-    → IsOffice (changed office (OfRd (PutSample update monitor duration method hour content)))
-put_sample office update monitor duration method hour content is spelled known few =
+    → IsOffice (changed office (OfRd (PutSample update monitor duration hour content)))
+put_sample office update monitor duration hour content is spelled known few =
     let parts = and_parts _ (is_content monitor.pollutant content) spelled in
     let low = and_parts _ (nat_le hour LAST_HOUR) parts.0 in
     with_observations office (with_row observation_rank (kept_key office monitor hour, content) office.observations) is
-    (KeysRise-changed office (OfRd (PutSample update monitor duration method hour content)) is.keys_rise)
+    (KeysRise-changed office (OfRd (PutSample update monitor duration hour content)) is.keys_rise)
     (with_row-all observation_rank (fits_monitors office) (kept_key office monitor hour, content) office.observations
     (sample_fits office monitor hour content (untrue (is_some (duration_at office monitor)) known) low.1 parts.1) is.observations_fit)
     few
@@ -162,18 +162,18 @@ standing f (Some x) h = refl
 
 sample-valid : (office : Office) (value : RdValue) → IsOffice office → is_line_value (OfRd value) ≡ true → broken office (OfRd value) ≡ None
     → IsOffice (changed office (OfRd value))
-sample-valid office (PutSample false monitor duration method hour content) is spelled unbroken =
-    let rules = none_of_four (λ rule. breaks_office rule office (OfRd (PutSample false monitor duration method hour content))) UnknownMonitor WrongDuration AlreadyThere ObservationsFull unbroken in
+sample-valid office (PutSample false monitor duration hour content) is spelled unbroken =
+    let rules = none_of_four (λ rule. breaks_office rule office (OfRd (PutSample false monitor duration hour content))) UnknownMonitor WrongDuration AlreadyThere ObservationsFull unbroken in
     let room = less (length office.observations) MOST_OBSERVATIONS rules.3 in
     let longer = length-with_row observation_rank (kept_key office monitor hour, content) office.observations in
-    put_sample office false monitor duration method hour content is spelled rules.0 (omega arith)
-sample-valid office (PutSample true monitor duration method hour content) is spelled unbroken =
-    let rules = none_of_three (λ rule. breaks_office rule office (OfRd (PutSample true monitor duration method hour content))) UnknownMonitor WrongDuration NotThere unbroken in
+    put_sample office false monitor duration hour content is spelled rules.0 (omega arith)
+sample-valid office (PutSample true monitor duration hour content) is spelled unbroken =
+    let rules = none_of_three (λ rule. breaks_office rule office (OfRd (PutSample true monitor duration hour content))) UnknownMonitor WrongDuration NotThere unbroken in
     let old = found (row_at observation_rank (observation_numbers (kept_key office monitor hour)) office.observations)
     (standing content_of (row_at observation_rank (observation_numbers (kept_key office monitor hour)) office.observations) (untrue _ rules.2)) in
     let as_long = length-with_row-there observation_rank (kept_key office monitor hour, content) old.value office.observations is.keys_rise.observations old.is in
     let few = is.few_observations in
-    put_sample office true monitor duration method hour content is spelled rules.0 (omega arith)
+    put_sample office true monitor duration hour content is spelled rules.0 (omega arith)
 sample-valid office (DeleteSample monitor hour) is spelled unbroken =
     with_observations office (without_row observation_rank (observation_numbers (kept_key office monitor hour)) office.observations) is
     (KeysRise-changed office (OfRd (DeleteSample monitor hour)) is.keys_rise)

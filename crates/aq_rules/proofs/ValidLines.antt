@@ -1,6 +1,6 @@
 -- What a line spells is one of the values whose canonical lines are read back.
 use Rattle.std.proofs.Common.{◌≡◌, ℕ, suc, ◌+◌, ◌<◌, ◌≤◌, Bool, true, false, ◌&&◌, List, [], ◌∷◌, ◌++◌, length, take, drop, Some, None, Option, refl, sym, arith, inl, inr, subst, length-append, length-take}
-use Rattle.std.specs.Prelude.{nat_le, IfSome, if◌then◌else◌, ℤ}
+use Rattle.std.specs.Prelude.{nat_le, is_some, IfSome, if◌then◌else◌, ℤ}
 use Rattle.std.specs.List.{list_all}
 use Rattle.std.proofs.lemmas.Bool.{false≢true, and_from, and_parts, cases_Bool}
 use Rattle.aq_base.specs.Calendar.{is_year}
@@ -11,6 +11,7 @@ use Rattle.aq_base.specs.declared.code.Code.{Code}
 use Rattle.aq_base.specs.declared.day.TheConstants.{LAST_HOUR}
 use Rattle.aq_base.specs.declared.monitor.Pollutant.{Pollutant}
 use Rattle.aq_base.specs.declared.monitor.MonitorId.{MonitorId}
+use Rattle.aq_base.specs.declared.observation.Observation.{Observation}
 use Rattle.aq_base.specs.declared.office.OfficeRecord.{OfficeRecord}
 use Rattle.aq_base.specs.declared.office.OfficeRecord.TheVariants.{Season, Makeup, Event, Combined}
 use Rattle.aq_base.specs.declared.office.OfficeKey.{OfficeKey}
@@ -22,7 +23,7 @@ use Rattle.aq_rules.specs.Lines.RdForm.{RdValue, monitor_in, start_in, content_i
 use Rattle.aq_rules.specs.Lines.OfficeForms.{hour_in, is_season, is_makeup, is_span, is_pair, xm_record, xp_record, xp_key, xs_record, xs_key, xo_record, xo_key, xu_record, xu_key, xe_record, xe_key, xc_record, xa_record, xa_key, xb_record, xb_key}
 use Rattle.aq_rules.specs.Lines.Reading.{LineValue, OfRd, OfOffice, line_value, value_for, form_value, action_for, has_wrong_count, is_deletion, is_plain, tag_of}
 use Rattle.aq_rules.specs.Lines.Canonical.{is_rd_value, is_office_line, is_line_value}
-use Rattle.aq_rules.specs.Office.Office.{is_site, is_poc, is_day, is_qualifier, is_null_code, is_measured, is_content}
+use Rattle.aq_rules.specs.Office.Office.{is_site, is_poc, is_day, is_qualifier, is_null_code, is_measured, is_method, is_content}
 use Rattle.aq_rules.proofs.Samples.{null_qualifies}
 use Rattle.aq_rules.proofs.Valid.{valid, valid_if, anything, site_valid, parameter_valid, poc_valid, primary_valid, duration_valid, digits_valid, date_valid, year_valid, hour_valid, interval_valid, number_valid, code_valid, at_most}
 
@@ -119,23 +120,29 @@ value_valid p places text =
     valid_if (λ v. is_in_range p v ≡ true) (is_decimal text && is_in_range p (cut text places)) (cut text places)
     (λ h. (and_parts (is_decimal text) (is_in_range p (cut text places)) h).1)
 
-good_content : (p : Pollutant) (value : Option ℤ) (null : Option Code) (qs : List Code) → is_measured p value null ≡ true → GoodCodes 10 qs
-    → is_content p (record { value = value; null = null; quals = qs }) ≡ true
-good_content p value null qs m good =
+good_content : (p : Pollutant) (value : Option ℤ) (null : Option Code) (qs : List Code) (method : ℕ) → is_measured p value null ≡ true → GoodCodes 10 qs
+    → method < 1000 → is_content p (record { value = value; null = null; quals = qs; method = Some method }) ≡ true
+good_content p value null qs method m good low =
     let few = good.few in
-    and_from (is_measured p value null && list_all is_qualifier qs && all_distinct qs) (nat_le (length qs) 10)
+    and_from (is_measured p value null && list_all is_qualifier qs && all_distinct qs && nat_le (length qs) 10) (is_method (Some method))
+    (and_from (is_measured p value null && list_all is_qualifier qs && all_distinct qs) (nat_le (length qs) 10)
     (and_from (is_measured p value null && list_all is_qualifier qs) (all_distinct qs) (and_from (is_measured p value null) (list_all is_qualifier qs) m good.spelled) good.distinct)
-    (at_most (length qs) 10 (omega arith))
+    (at_most (length qs) 10 (omega arith)))
+    (at_most method 999 low)
 
-content_valid : (p : Pollutant) (places : ℕ) (texts : List (List ℕ)) → IfSome (content_in p places texts) (λ c. is_content p c ≡ true)
+-- a content with a method that a line can spell
+abbrev IsSpelledContent : Pollutant → Observation → Type 0
+IsSpelledContent p c = (is_some c.method && is_content p c) ≡ true
+
+content_valid : (p : Pollutant) (places method : ℕ) (texts : List (List ℕ)) → method < 1000 → IfSome (content_in p places method texts) (IsSpelledContent p)
 unfolding content_in
-content_valid p places texts =
-    either (λ c. is_content p c ≡ true) (is_empty (field 13 texts)) _ _
-    (valid (λ c. is_null_code c ≡ true) (λ c. is_content p c ≡ true) (null_in (field 14 texts)) _ (null_valid (field 14 texts)) λ n h.
-    valid (GoodCodes 10) (λ c. is_content p c ≡ true) (qualifiers_in (qualifier_fields texts)) _ (quals_valid texts) λ qs g. good_content p None (Some n) qs h g)
-    (either (λ c. is_content p c ≡ true) (is_empty (field 14 texts)) _ None
-    (valid (λ v. is_in_range p v ≡ true) (λ c. is_content p c ≡ true) (value_in p places (field 13 texts)) _ (value_valid p places (field 13 texts)) λ v h.
-    valid (GoodCodes 10) (λ c. is_content p c ≡ true) (qualifiers_in (qualifier_fields texts)) _ (quals_valid texts) λ qs g. good_content p (Some v) None qs h g)
+content_valid p places method texts low =
+    either (IsSpelledContent p) (is_empty (field 13 texts)) _ _
+    (valid (λ c. is_null_code c ≡ true) (IsSpelledContent p) (null_in (field 14 texts)) _ (null_valid (field 14 texts)) λ n h.
+    valid (GoodCodes 10) (IsSpelledContent p) (qualifiers_in (qualifier_fields texts)) _ (quals_valid texts) λ qs g. good_content p None (Some n) qs method h g low)
+    (either (IsSpelledContent p) (is_empty (field 14 texts)) _ None
+    (valid (λ v. is_in_range p v ≡ true) (IsSpelledContent p) (value_in p places (field 13 texts)) _ (value_valid p places (field 13 texts)) λ v h.
+    valid (GoodCodes 10) (IsSpelledContent p) (qualifiers_in (qualifier_fields texts)) _ (quals_valid texts) λ qs g. good_content p (Some v) None qs method h g low)
     tt)
 
 put_valid : (update : Bool) (texts : List (List ℕ)) → IfSome (put_in update texts) (λ v. is_rd_value v ≡ true)
@@ -146,11 +153,12 @@ put_valid update texts =
     valid (λ n. n ≡ n) (λ v. is_rd_value v ≡ true) (unit_in id.pollutant (field 9 texts)) _ (anything (unit_in id.pollutant (field 9 texts))) λ places e.
     valid (λ n. n < 1000) (λ v. is_rd_value v ≡ true) (method_in (field 10 texts)) _ (digits_valid 3 (field 10 texts)) λ m j.
     valid (λ h. nat_le h LAST_HOUR ≡ true) (λ v. is_rd_value v ≡ true) (hour_in (field 11 texts) (field 12 texts)) _ (hour_valid (field 11 texts) (field 12 texts)) λ hour k.
-    valid (λ c. is_content id.pollutant c ≡ true) (λ v. is_rd_value v ≡ true) (content_in id.pollutant places texts) _ (content_valid id.pollutant places texts) λ c l.
-    and_from (is_site id.site && is_poc id.poc && has_duration id.pollutant d && nat_le m 999 && nat_le hour LAST_HOUR) (is_content id.pollutant c)
-    (and_from (is_site id.site && is_poc id.poc && has_duration id.pollutant d && nat_le m 999) (nat_le hour LAST_HOUR)
-    (and_from (is_site id.site && is_poc id.poc && has_duration id.pollutant d) (nat_le m 999)
-    (and_from (is_site id.site && is_poc id.poc) (has_duration id.pollutant d) h i) (at_most m 999 j)) k) l
+    valid (IsSpelledContent id.pollutant) (λ v. is_rd_value v ≡ true) (content_in id.pollutant places m texts) _ (content_valid id.pollutant places m texts j) λ c l.
+    let spelled = and_parts (is_some c.method) (is_content id.pollutant c) l in
+    and_from (is_site id.site && is_poc id.poc && has_duration id.pollutant d && is_some c.method && nat_le hour LAST_HOUR) (is_content id.pollutant c)
+    (and_from (is_site id.site && is_poc id.poc && has_duration id.pollutant d && is_some c.method) (nat_le hour LAST_HOUR)
+    (and_from (is_site id.site && is_poc id.poc && has_duration id.pollutant d) (is_some c.method)
+    (and_from (is_site id.site && is_poc id.poc) (has_duration id.pollutant d) h i) spelled.0) k) spelled.1
 
 delete_valid : (texts : List (List ℕ)) → IfSome (delete_in texts) (λ v. is_rd_value v ≡ true)
 unfolding delete_in start_in

@@ -19,7 +19,7 @@ use Rattle.aq_rules.proofs.ValidReplies.{reply-is}
 -- ---- lines leave the loads as they were
 
 changed-loads : (office : Office) (value : LineValue) → (changed office value).loads ≡ office.loads
-changed-loads office (OfRd (PutSample update monitor duration method hour content)) = refl
+changed-loads office (OfRd (PutSample update monitor duration hour content)) = refl
 changed-loads office (OfRd (DeleteSample monitor hour)) = refl
 changed-loads office (OfOffice (Put r)) = refl
 changed-loads office (OfOffice (Change r)) = refl

@@ -160,8 +160,8 @@ reading_built None texts = refl
 reading_built (Some tag) texts = tag_built tag (is_deletion texts)
 
 office_built : (value : LineValue) → list_all is_built (office_rules value) ≡ true
-office_built (OfRd (PutSample true monitor duration method hour content)) = refl
-office_built (OfRd (PutSample false monitor duration method hour content)) = refl
+office_built (OfRd (PutSample true monitor duration hour content)) = refl
+office_built (OfRd (PutSample false monitor duration hour content)) = refl
 office_built (OfRd (DeleteSample monitor hour)) = refl
 office_built (OfOffice (Put (Monitor id duration eligible))) = refl
 office_built (OfOffice (Put (Primary site pollutant from poc))) = refl

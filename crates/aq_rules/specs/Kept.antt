@@ -3,6 +3,7 @@ pub mod Summaries
 pub mod SummaryVerdicts
 pub mod Rows
 pub mod RowChanges
+pub mod Migration
 pub mod RowExamples
 pub mod Cells
 pub mod Reach

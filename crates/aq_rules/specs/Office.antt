@@ -10,6 +10,7 @@ pub mod QuestionExamples
 pub mod Exclusion
 pub mod Refusal
 pub mod Load
+pub mod Methods
 pub mod OfficeExamples
 pub mod RowOrder
 pub mod Sameness

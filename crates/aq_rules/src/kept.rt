@@ -1,5 +1,6 @@
 //! Laws of what is kept.
 
+pub mod migration;
 pub mod reach;
 pub mod row_changes;
 pub mod rows;

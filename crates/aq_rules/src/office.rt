@@ -2,6 +2,7 @@
 
 pub mod exclusion;
 pub mod load;
+pub mod methods;
 pub mod monitors;
 pub mod office_records;
 pub mod questions;

@@ -7,7 +7,6 @@ ghost use Rattle.aq_base.specs.declared.monitor.Duration.TheVariants.{Hour as Ho
 ghost use Rattle.aq_rules.specs.Office.Office.{IsOffice};
 ghost use Rattle.aq_rules.specs.Office.Questions.{registration_of};
 ghost use Rattle.aq_rules.specs.Ozone.SiteHour.{Cell};
-ghost use Rattle.aq_rules.specs.Office.Exclusion.{excluded};
 ghost use Rattle.aq_rules.specs.Particles.ParticleDay as book;
 ghost use Rattle.aq_rules.specs.Particles.ParticleDay.{day_cell};
 ghost use Rattle.aq_registry.specs.Registry.{office_with, pair_of};
@@ -17,8 +16,9 @@ ghost use Rattle.aq_series.specs.declared.day_tally.DayTally.{DayTally};
 
 use crate::day_tally::DayTally;
 use crate::days::cell_at;
+use crate::exclusion::is_excluded;
 use crate::hours::Cell;
-use aq_base::{Day, Duration, Hour, MonitorId, ObsKey, Observation, Pollutant, Quals, Steps};
+use aq_base::{Day, Duration, Hour, MonitorId, Observation, Pollutant, Steps};
 use aq_registry::Registry;
 use aq_shelf::Shelf;
 use std::sync::ledger::Ledger;
@@ -109,31 +109,6 @@ fn particle_of(
         value,
         excluded: is_excluded(registry, monitor, hour, &content.quals),
     })
-}
-
-/// Whether an observation with these codes is excluded. Without one the events are not asked.
-#[tactic(auto, using(crate::proofs::NoCodes::excluded_without_codes))]
-fn is_excluded(registry: &Registry, monitor: &MonitorId, hour: Hour, quals: &Quals) -> bool
-    ensures { result ≡ excluded registry.now (key_at monitor.now hour) quals.now }
-{
-    if quals.codes().is_empty() {
-        return false;
-    }
-    excluded_by_codes(registry, monitor, hour, *quals)
-}
-
-/// Whether an observation with these codes is excluded. It stands apart, so that the loop over a quarter's
-/// hours, which mostly have no code, is short.
-#[cold]
-#[inline(never)]
-fn excluded_by_codes(registry: &Registry, monitor: &MonitorId, hour: Hour, quals: Quals) -> bool
-    ensures { result ≡ excluded registry.now (key_at monitor.now hour) quals }
-{
-    let key = ObsKey {
-        monitor: *monitor,
-        hour,
-    };
-    registry.excluded(key, &quals)
 }
 
 /// What a monitor has for so many days from the first one on, if its samples last so long and its

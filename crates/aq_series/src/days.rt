@@ -12,6 +12,7 @@ ghost use Rattle.aq_series.specs.OfficeView.{office_of};
 ghost use Rattle.aq_series.specs.DayCells.{cell_at, cells_in, cells_on, hours_of, mean_of, monitor_at, monitor_steps, pocs_of, site_steps, steps_beside, IsOfParticles, IsParticle, IsParticulate, IsTallyOf};
 
 use crate::day_tally::DayTally;
+use crate::exclusion::is_excluded;
 use crate::hours::{Cell, is_eligible};
 use aq_base::{Day, Duration, Hour, MonitorId, ObsKey, Pollutant, SiteId, Steps};
 use aq_registry::Registry;
@@ -267,6 +268,6 @@ pub(crate) fn cell_at<L: Ledger>(
     let value = content.value?;
     Some(Cell {
         value,
-        excluded: registry.excluded(*key, &content.quals),
+        excluded: is_excluded(registry, &key.monitor, key.hour, &content.quals),
     })
 }

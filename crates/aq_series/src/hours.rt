@@ -2,7 +2,6 @@
 ghost use Rattle.std.specs.Prelude.{◌≡◌, ◌+◌, ◌≤◌, IfSome};
 ghost use Rattle.aq_base.specs.Values.{HasValueInRange};
 ghost use Rattle.aq_base.specs.declared.monitor.Pollutant.TheVariants.{Ozone};
-ghost use Rattle.aq_rules.specs.Office.Exclusion as exclusions;
 ghost use Rattle.aq_rules.specs.Office.Monitors as monitors;
 ghost use Rattle.aq_rules.specs.Office.Office.{IsOffice};
 ghost use Rattle.aq_rules.specs.Ozone.SiteHour as book;
@@ -10,8 +9,9 @@ ghost use Rattle.aq_registry.specs.Registry.{office_with};
 ghost use Rattle.aq_series.specs.OfficeView.{office_of};
 ghost use Rattle.aq_series.specs.Samples.{cell_at, cell_of, IsOzone};
 
+use crate::exclusion::is_excluded;
 use crate::tally::Tally;
-use aq_base::{Day, Hour, MonitorId, ObsKey, Observation, Pollutant, Quals, SiteId, Steps};
+use aq_base::{Day, Hour, MonitorId, ObsKey, Observation, Pollutant, SiteId, Steps};
 use aq_registry::Registry;
 use aq_shelf::Shelf;
 use std::marker::Model;
@@ -103,15 +103,8 @@ pub(crate) fn cell_of(registry: &Registry, key: &ObsKey, content: &Observation) 
     let value = content.value?;
     Some(Cell {
         value,
-        excluded: is_excluded(registry, key, &content.quals),
+        excluded: is_excluded(registry, &key.monitor, key.hour, &content.quals),
     })
-}
-
-/// Whether an exceptional event leaves an observation out. Most have no codes, and are not looked up.
-fn is_excluded(registry: &Registry, key: &ObsKey, quals: &Quals) -> bool
-    ensures { result ≡ exclusions.excluded registry.now key.now quals.now }
-{
-    !quals.codes().is_empty() && registry.excluded(*key, quals)
 }
 
 /// Whether a monitor is registered and its values count.

@@ -1,7 +1,7 @@
 //! The rows of the tables, read one at a time in the order of keys.
-use crate::statements::{READ_LOADS, READ_OBSERVATIONS, READ_RECORDS};
+use crate::statements::{READ_LOADS, READ_OBSERVATIONS, READ_RECORDS, READ_SECOND};
 use aq_base::Bytes;
-use aq_keeper::{LoadRow, ObsRow, OfficeRow, Row, Rows};
+use aq_keeper::{LoadRow, ObsRow, ObsRow2, OfficeRow, Row, Rows};
 use sqlite::types::{Type, ValueRef};
 use sqlite::{Alter, Connection, Error, ErrorCode, Row as Columns};
 use std::alloc::Global;
@@ -12,9 +12,10 @@ enum Table {
     Records,
     Observations,
     Loads,
+    Second,
 }
 
-/// All rows of the three tables.
+/// All rows of the four tables.
 pub(crate) fn read_tables<S: Alter>(
     connection: &mut Connection<S>,
     alloc: Global,
@@ -23,6 +24,7 @@ pub(crate) fn read_tables<S: Alter>(
     read_records(connection, alloc, &mut rows)?;
     read_observations(connection, alloc, &mut rows)?;
     read_loads(connection, alloc, &mut rows)?;
+    read_second(connection, alloc, &mut rows)?;
     Ok(Rows::from_vec(rows))
 }
 
@@ -56,6 +58,14 @@ fn read_loads<S: Alter>(
     take_all(connection, READ_LOADS, Table::Loads, alloc, rows)
 }
 
+fn read_second<S: Alter>(
+    connection: &mut Connection<S>,
+    alloc: Global,
+    rows: &mut Vec<Row>,
+) -> Result<(), Error> {
+    take_all(connection, READ_SECOND, Table::Second, alloc, rows)
+}
+
 /// Takes the answer of a table to its end.
 fn take_all<S: Alter>(
     connection: &mut Connection<S>,
@@ -80,6 +90,7 @@ fn row_in(table: Table, columns: &Columns, alloc: Global) -> Result<Row, Error> 
         Table::Records => record_in(columns, alloc),
         Table::Observations => observation_in(columns, alloc),
         Table::Loads => load_in(columns, alloc),
+        Table::Second => second_in(columns, alloc),
     }
 }
 
@@ -100,6 +111,19 @@ fn observation_in(columns: &Columns, alloc: Global) -> Result<Row, Error> {
         value: columns.get(4)?,
         null: bytes_at(columns, 5, alloc)?,
         quals: bytes_at(columns, 6, alloc)?,
+    }))
+}
+
+fn second_in(columns: &Columns, alloc: Global) -> Result<Row, Error> {
+    Ok(Row::second(ObsRow2 {
+        site: columns.get(0)?,
+        pollutant: columns.get(1)?,
+        poc: columns.get(2)?,
+        hour: columns.get(3)?,
+        value: columns.get(4)?,
+        method: columns.get(5)?,
+        null: bytes_at(columns, 6, alloc)?,
+        quals: bytes_at(columns, 7, alloc)?,
     }))
 }
 

@@ -1,10 +1,11 @@
 //! The tables made, and changes of their rows.
 use crate::statements::{
-    DROP_LOAD, DROP_OBSERVATION, DROP_RECORD, MAKE_LOADS, MAKE_OBSERVATIONS, MAKE_RECORDS,
-    PUT_LOAD, PUT_OBSERVATION, PUT_RECORD,
+    DROP_LOAD, DROP_OBSERVATION, DROP_RECORD, DROP_SECOND, MAKE_LOADS, MAKE_OBSERVATIONS,
+    MAKE_RECORDS, MAKE_SECOND, PUT_LOAD, PUT_OBSERVATION, PUT_RECORD, PUT_SECOND,
 };
 use aq_keeper::{
-    ChangeContent, KeyContent, LoadRow, ObsRow, OfficeRow, Row, RowChange, RowContent, RowKey,
+    ChangeContent, KeyContent, LoadRow, ObsRow, ObsRow2, OfficeRow, Row, RowChange, RowContent,
+    RowKey,
 };
 use sqlite::types::ValueRef;
 use sqlite::{Alter, Connection, Error, ErrorCode, Transaction};
@@ -15,6 +16,7 @@ pub(crate) fn make_tables<S: Alter>(connection: &mut Connection<S>) -> Result<()
     transaction.execute(MAKE_RECORDS, &[])?;
     transaction.execute(MAKE_OBSERVATIONS, &[])?;
     transaction.execute(MAKE_LOADS, &[])?;
+    transaction.execute(MAKE_SECOND, &[])?;
     transaction.commit()
 }
 
@@ -50,6 +52,7 @@ fn put<S: Alter>(transaction: &mut Transaction<'_, S>, row: &Row) -> Result<(), 
         RowContent::Office(row) => put_record(transaction, row),
         RowContent::Observation(row) => put_observation(transaction, row),
         RowContent::Load(row) => put_load(transaction, row),
+        RowContent::Second(row) => put_second(transaction, row),
     }
 }
 
@@ -61,8 +64,21 @@ fn remove<S: Alter>(transaction: &mut Transaction<'_, S>, key: &RowKey) -> Resul
             pollutant,
             poc,
             hour,
-        } => drop_observation(transaction, *site, *pollutant, *poc, *hour),
+        } => drop_observation(
+            transaction,
+            DROP_OBSERVATION,
+            *site,
+            *pollutant,
+            *poc,
+            *hour,
+        ),
         KeyContent::Load { number } => drop_load(transaction, *number),
+        KeyContent::Second {
+            site,
+            pollutant,
+            poc,
+            hour,
+        } => drop_observation(transaction, DROP_SECOND, *site, *pollutant, *poc, *hour),
     }
 }
 
@@ -75,15 +91,17 @@ fn drop_record<S: Alter>(
     Ok(())
 }
 
+/// By its key, in either table of observations.
 fn drop_observation<S: Alter>(
     transaction: &mut Transaction<'_, S>,
+    statement: &str,
     site: i64,
     pollutant: i64,
     poc: i64,
     hour: i64,
 ) -> Result<(), Error> {
     transaction.execute(
-        DROP_OBSERVATION,
+        statement,
         &[
             ValueRef::Int(site),
             ValueRef::Int(pollutant),
@@ -114,14 +132,35 @@ fn put_record<S: Alter>(
     Ok(())
 }
 
+/// A whole number, or null.
+fn number_or_null(number: Option<i64>) -> ValueRef<'static> {
+    match number {
+        Some(number) => ValueRef::Int(number),
+        None => ValueRef::Null,
+    }
+}
+
+fn put_second<S: Alter>(transaction: &mut Transaction<'_, S>, row: &ObsRow2) -> Result<(), Error> {
+    transaction.execute(
+        PUT_SECOND,
+        &[
+            ValueRef::Int(row.site),
+            ValueRef::Int(row.pollutant),
+            ValueRef::Int(row.poc),
+            ValueRef::Int(row.hour),
+            number_or_null(row.value),
+            number_or_null(row.method),
+            ValueRef::Text(row.null.as_slice()),
+            ValueRef::Text(row.quals.as_slice()),
+        ],
+    )?;
+    Ok(())
+}
+
 fn put_observation<S: Alter>(
     transaction: &mut Transaction<'_, S>,
     row: &ObsRow,
 ) -> Result<(), Error> {
-    let value = match row.value {
-        Some(value) => ValueRef::Int(value),
-        None => ValueRef::Null,
-    };
     transaction.execute(
         PUT_OBSERVATION,
         &[
@@ -129,7 +168,7 @@ fn put_observation<S: Alter>(
             ValueRef::Int(row.pollutant),
             ValueRef::Int(row.poc),
             ValueRef::Int(row.hour),
-            value,
+            number_or_null(row.value),
             ValueRef::Text(row.null.as_slice()),
             ValueRef::Text(row.quals.as_slice()),
         ],

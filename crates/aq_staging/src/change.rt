@@ -69,9 +69,12 @@ pub(crate) fn observation_change(
     }
 }
 
-/// Whether two observations have equal values, null codes and qualifiers.
+/// Whether two observations have equal values, null codes, qualifiers and methods.
 fn is_same_content(a: &Observation, b: &Observation) -> bool
     ensures { result ≡ book.is_same_content a.now b.now }
 {
-    a.value == b.value && a.null == b.null && a.quals.codes() == b.quals.codes()
+    a.value == b.value
+        && a.null == b.null
+        && a.quals.codes() == b.quals.codes()
+        && a.method == b.method
 }

@@ -179,7 +179,6 @@ impl<'a> Staging<'a> {
                 duration,
                 hour,
                 content,
-                ..
             } => self.put(*update, monitor, *duration, *hour, content),
             RdLine::Delete { monitor, hour } => self.delete(monitor, *hour),
         }
@@ -195,7 +194,7 @@ impl<'a> Staging<'a> {
         }
     }
 
-    /// Inserts or updates an observation. The method of the line is not kept.
+    /// Inserts or updates an observation, with the line's method.
     fn put(
         &mut self,
         update: bool,
@@ -205,15 +204,12 @@ impl<'a> Staging<'a> {
         content: &Observation,
     ) -> Result<(), Refusal>
         requires { HasValueInRange monitor.now.pollutant content.now }
-        ensures unbroken { OnOk result ((method : ℕ) →
-            let value = OfRd (PutSample update monitor.now duration method hour content.now) in
-            broken (office_in self.old) value ≡ None) }
-        ensures after { OnOk result ((method : ℕ) →
-            let value = OfRd (PutSample update monitor.now duration method hour content.now) in
-            office_in self.new ≡ changed (office_in self.old) value) }
-        ensures refused { IfErr result (λ refusal. (method : ℕ) →
-            let value = OfRd (PutSample update monitor.now duration method hour content.now) in
-            IsRefusal (broken (office_in self.old) value) refusal) }
+        ensures unbroken { let value = OfRd (PutSample update monitor.now duration hour content.now) in
+            OnOk result (broken (office_in self.old) value ≡ None) }
+        ensures after { let value = OfRd (PutSample update monitor.now duration hour content.now) in
+            OnOk result (office_in self.new ≡ changed (office_in self.old) value) }
+        ensures refused { let value = OfRd (PutSample update monitor.now duration hour content.now) in
+            IfErr result (IsRefusal (broken (office_in self.old) value)) }
         ensures unchanged { IfErr result (λ refusal. IsAsBefore refusal self.old self.new) }
         ensures touched { OnOk result (AreNoted self.old self.new) }
         ensures before { self.new.observations.before ≡ self.old.observations.before }

@@ -2,7 +2,7 @@
 mod Numbers
 mod Lists
 mod Sums
-mod Inserted
+pub mod Inserted
 mod Rows
 mod Copied
 mod PercentilePlaces

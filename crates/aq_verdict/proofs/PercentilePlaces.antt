@@ -64,7 +64,7 @@ percentile-itself top n m down same =
 
 -- ---- counted samples are few
 
-pub counted-few : (qs : List PmQuarter) → length qs ≡ 4 → All KeepsPmQuarter qs → scheduled_in qs ≤ 366 → kept_counted qs ≤ 400
+pub counted-few : (qs : List PmQuarter) → length qs ≡ 4 → All KeepsPmQuarter qs → scheduled_in qs ≤ 366 → kept_counted qs ≤ 366
 counted-few (p ∷ q ∷ r ∷ s ∷ []) four each most =
     let first = All-head KeepsPmQuarter p (q ∷ r ∷ s ∷ []) each in
     let others = All-tail KeepsPmQuarter p (q ∷ r ∷ s ∷ []) each in

@@ -2,7 +2,7 @@
 use Rattle.std.proofs.Common.{◌≡◌, List, [], ◌∷◌, length, Bool, true, false, ◌&&◌, refl, sym, ap, ◌∙◌}
 use Rattle.std.specs.Prelude.{Option, Some, None, ℤ}
 use Rattle.std.proofs.lemmas.Bool.{false≢true}
-use Rattle.aq_verdict.specs.declared.top.Top.TheInside.{Inside}
+use Rattle.aq_verdict.specs.declared.top_eight.TopEight.TheInside.{Inside}
 use Rattle.aq_verdict.specs.Top.{given, placed, is_no_higher, descends, HoldsTop}
 
 pub placed-given : (places : List (Option ℤ)) → HoldsTop places → (let inside : Inside = record { places = placed 8 (given places) } in inside) ≡ record { places = places }

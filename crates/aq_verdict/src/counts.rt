@@ -1,5 +1,5 @@
 //! Whether a PM2.5 quarter and year have enough samples.
-ghost use Rattle.std.specs.Prelude.{◌≡◌};
+ghost use Rattle.std.specs.Prelude.{◌≡◌, ◌≤◌};
 ghost use Rattle.std.specs.List.{list_all};
 ghost use Rattle.aq_rules.specs.Particles.QuarterCounts.{capture};
 ghost use Rattle.aq_rules.specs.Particles.AnnualVerdict.{is_captured, has_eleven_each, counts_in};
@@ -72,11 +72,18 @@ pub(crate) fn creditable_in(year: &PmYear) -> u16
         + u16::from(d.creditable())
 }
 
-/// The creditable samples of the year that are not excluded.
+/// The creditable samples of the year that are not excluded: at most one a day.
 pub fn counted_in(year: &PmYear) -> u16
-    ensures { result ≡ kept_counted year.now.quarters }
+    ensures value { result ≡ kept_counted year.now.quarters }
+    ensures most { result ≤ 366 }
 {
-    let [a, b, c, d] = year.quarters();
+    counted_of(year.quarters())
+}
+
+fn counted_of(quarters: &[PmQuarter; 4]) -> u16
+    ensures { result ≡ kept_counted quarters.now }
+{
+    let [a, b, c, d] = quarters;
     u16::from(a.counted())
         + u16::from(b.counted())
         + u16::from(c.counted())

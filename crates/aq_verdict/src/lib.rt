@@ -18,7 +18,7 @@ mod pm_year;
 mod quarterly;
 mod rounded;
 mod substitution;
-mod top;
+mod top_eight;
 
 pub use annual_value::{AnnualDv, annual};
 pub use counts::{capture, counted_in};
@@ -26,7 +26,7 @@ pub use daily_value::{DailyDv, daily};
 pub use design_value::DesignValue;
 pub use ozone_value::{OzoneDv, ozone};
 pub use ozone_year::OzoneYear;
-pub use percentile::percentile_of;
+pub use percentile::{percentile_of, rank_of};
 pub use pm_quarter::PmQuarter;
 pub use pm_year::PmYear;
 pub use pm10_value::{
@@ -35,3 +35,4 @@ pub use pm10_value::{
 };
 pub use pm10_year::{Pm10Quarter, Pm10Year};
 pub use quarterly::annual_mean;
+pub use top_eight::TopEight;

@@ -11,7 +11,7 @@ ghost use Rattle.aq_verdict.specs.Ranks.{percentile_in, counted_with};
 use crate::counts::counted_in;
 use crate::pm_year::PmYear;
 use crate::substitution::Copies;
-use crate::top::Top;
+use crate::top_eight::TopEight;
 
 /// The percentile, in tenths of a µg/m3; none without a counted sample.
 pub fn percentile_of(year: &PmYear) -> Option<i32>
@@ -37,7 +37,7 @@ pub(crate) fn percentile_with(year: &PmYear, copies: &[Copies; 4]) -> Option<i32
 }
 
 // The eight greatest values with the copies.
-fn top_with(year: &PmYear, copies: &[Copies; 4]) -> Top
+fn top_with(year: &PmYear, copies: &[Copies; 4]) -> TopEight
     ensures { result ≡ take 8 (inserted (flat_map copies_of copies.now) year.now.top) }
 {
     let [a, b, c, d] = copies;
@@ -47,7 +47,7 @@ fn top_with(year: &PmYear, copies: &[Copies; 4]) -> Top
     with_copies(&top, a)
 }
 
-fn with_copies(top: &Top, copies: &Copies) -> Top
+fn with_copies(top: &TopEight, copies: &Copies) -> TopEight
     ensures { result ≡ take 8 (inserted (copies_of copies.now) top.now) }
 {
     top.with_copies(copies.value, copies.number)
@@ -69,7 +69,7 @@ fn number(copies: &Copies) -> u16
 }
 
 // The value whose rank among the greatest ones is that of so many counted samples.
-fn percentile(top: &Top, counted: u16) -> Option<i32>
+fn percentile(top: &TopEight, counted: u16) -> Option<i32>
     requires { counted ≤ 400 }
     ensures { result ≡ percentile_in top.now counted }
 {
@@ -79,10 +79,12 @@ fn percentile(top: &Top, counted: u16) -> Option<i32>
     top.value_at(rank_of(counted))
 }
 
-// First for 1 to 50 counted samples, second to 100, and so on.
-fn rank_of(counted: u16) -> u8
+/// The rank of a year's 98th percentile, counted from the greatest value, by how many samples are
+/// counted: first for 1 to 50, second to 100, and so on to the eighth (40 CFR Part 50, Appendix N, 4.5,
+/// Table 1). The number is 1 to 400; a year has at most 366.
+pub fn rank_of(counted: u16) -> u8
     requires some { 1 ≤ counted }
-    requires few { counted ≤ 400 }
+    requires most { counted ≤ 400 }
     ensures rank { result ≡ rank_of counted }
     ensures some { 1 ≤ result }
     ensures few { result ≤ 8 }

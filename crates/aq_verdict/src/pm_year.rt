@@ -1,10 +1,10 @@
 //! What is kept of a site's PM2.5 year.
-ghost use Rattle.std.specs.Prelude.{◌≡◌, IsTrue};
+ghost use Rattle.std.specs.Prelude.{◌≡◌};
 ghost use Rattle.aq_rules.specs.Kept.Summaries.{KeepsPmYear};
-ghost use Rattle.aq_verdict.specs.Top.{given, placed, descends};
+ghost use Rattle.aq_verdict.specs.Top.{given, placed};
 
 use crate::pm_quarter::PmQuarter;
-use crate::top::Top;
+use crate::top_eight::TopEight;
 use std::marker::Model;
 
 /// The four quarters of a site's PM2.5 year and the year's eight greatest values, downwards, in tenths
@@ -12,7 +12,7 @@ use std::marker::Model;
 #[derive(Clone, Copy, Debug, PartialEq, Eq)]
 pub struct PmYear {
     quarters: [PmQuarter; 4],
-    top: Top,
+    top: TopEight,
 }
 
 impl Model for PmYear {
@@ -28,16 +28,12 @@ impl Model for PmYear {
 }
 
 impl PmYear {
-    /// The year of these quarters and greatest values; the places after the last value are empty.
-    pub fn new(quarters: [PmQuarter; 4], top: [Option<i32>; 8]) -> PmYear
-        requires falls { IsTrue (descends top) }
-        requires facts { KeepsPmYear (record { quarters = quarters; top = given top }) }
-        ensures { result ≡ record { quarters = quarters; top = given top } }
+    /// The year of these quarters and greatest values.
+    pub fn new(quarters: [PmQuarter; 4], top: TopEight) -> PmYear
+        requires { KeepsPmYear (record { quarters = quarters; top = top }) }
+        ensures { result ≡ record { quarters = quarters; top = top } }
     {
-        PmYear {
-            quarters,
-            top: Top::new(top),
-        }
+        PmYear { quarters, top }
     }
 
     /// The quarters, the first one first.
@@ -57,7 +53,7 @@ impl PmYear {
     }
 
     /// The same values as one.
-    pub(crate) fn greatest_values(&self) -> &Top
+    pub(crate) fn greatest_values(&self) -> &TopEight
         ensures { result.now ≡ self.now.top }
     {
         &self.top

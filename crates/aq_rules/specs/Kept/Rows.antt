@@ -1,4 +1,4 @@
--- An office as the rows of three tables, records, observations and loads, and which lists of rows are an office's (own).
+-- An office as rows of tables: its records, its loads, and its observations with their methods; and which lists of rows are an office's (own).
 use Rattle.std.specs.Prelude.{◌≡◌, ℕ, ◌+◌, ◌*◌, ◌/◌, ◌%◌, Bool, true, false, not, ◌&&◌, ◌==◌, nat_le, if◌then◌else◌, List, [], ◌∷◌, ◌++◌, length, map, filter_map, find, count_by, sum_by, codes, decimal, bytes_eq, Option, Some, None, is_some, option_map, ℤ, pos, negsuc, ◌+ℤ◌, ◌-ℤ◌}
 use Rattle.std.specs.List.{list_all, before_first, after_first, slice_split, join_with_byte}
 use Rattle.std.specs.Option.{option_eq}
@@ -35,13 +35,24 @@ pub record OfficeRow : Type 0 where
   pub key : List ℕ
   pub line : List ℕ
 
--- by the first four: a value, or a null code, and the qualifiers
+-- an observation of version 1, which kept no methods. By the first four: a value, or a null code, and the qualifiers
 pub record ObsRow : Type 0 where
   pub site : ℤ
   pub pollutant : ℤ
   pub poc : ℤ
   pub hour : ℤ
   pub value : Option ℤ
+  pub null : List ℕ
+  pub quals : List ℕ
+
+-- an observation, with its method
+pub record ObsRow2 : Type 0 where
+  pub site : ℤ
+  pub pollutant : ℤ
+  pub poc : ℤ
+  pub hour : ℤ
+  pub value : Option ℤ
+  pub method : Option ℤ
   pub null : List ℕ
   pub quals : List ℕ
 
@@ -58,6 +69,7 @@ pub data Row : Type 0 where
   OfOfficeRow : (row : OfficeRow) → Row
   OfObsRow : (row : ObsRow) → Row
   OfLoadRow : (row : LoadRow) → Row
+  OfSecondRow : (row : ObsRow2) → Row
 
 -- ---- an office's rows
 
@@ -78,13 +90,14 @@ hours_before_2000 = hour_number (day_number 2000 1 1) 0
 abbrev pub stored_hour : ℕ → ℤ
 stored_hour hour = pos hour -ℤ pos hours_before_2000
 
-abbrev pub obs_row : (ObsKey × Observation) → ObsRow
+abbrev pub obs_row : (ObsKey × Observation) → ObsRow2
 obs_row entry = record {
   site = pos (site_key entry.0.monitor.site);
   pollutant = pos (pollutant_number entry.0.monitor.pollutant);
   poc = pos entry.0.monitor.poc;
   hour = stored_hour entry.0.hour;
   value = entry.1.value;
+  method = option_map pos entry.1.method;
   null = null_text entry.1.null;
   quals = codes_text entry.1.quals;
 }
@@ -109,11 +122,12 @@ load_row load = record {
   rest = rest_text load.reply.rest;
 }
 
+-- the records, the loads and the observations; the table of version 1 is empty
 unfoldable pub rows_of : Office → List Row
 rows_of office =
     map (λ r. OfOfficeRow (office_row r)) office.records
-    ++ map (λ o. OfObsRow (obs_row o)) office.observations
     ++ map (λ l. OfLoadRow (load_row l)) office.loads
+    ++ map (λ o. OfSecondRow (obs_row o)) office.observations
 
 -- ---- what a row says: it counts only where it is the row of that
 
@@ -158,21 +172,28 @@ each read (text ∷ texts) = read text >>= (λ x. option_map (λ xs. x ∷ xs) (
 abbrev pub null_of : List ℕ → Option (Option Code)
 null_of text = if is_empty text then Some None else option_map Some (qualifier_in text)
 
-abbrev pub is_obs_row : ObsRow → ObsRow → Bool
+-- no method, or a whole number
+abbrev pub method_of : Option ℤ → Option (Option ℕ)
+method_of None = Some None
+method_of (Some method) = option_map Some (whole method)
+
+abbrev pub is_obs_row : ObsRow2 → ObsRow2 → Bool
 is_obs_row a b =
     int_eq a.site b.site && int_eq a.pollutant b.pollutant && int_eq a.poc b.poc && int_eq a.hour b.hour
-    && option_eq int_eq a.value b.value && bytes_eq a.null b.null && bytes_eq a.quals b.quals
+    && option_eq int_eq a.value b.value && option_eq int_eq a.method b.method && bytes_eq a.null b.null
+    && bytes_eq a.quals b.quals
 
-unfoldable pub observation_of_row : ObsRow → Option (ObsKey × Observation)
+unfoldable pub observation_of_row : ObsRow2 → Option (ObsKey × Observation)
 observation_of_row row = do
   site ← whole row.site
   number ← whole row.pollutant
   pollutant ← pollutant_with number
   poc ← whole row.poc
   hour ← hour_of_stored row.hour
+  method ← method_of row.method
   null ← null_of row.null
   quals ← each qualifier_in (words row.quals)
-  only_if (λ o. is_obs_row (obs_row o) row) (record { monitor = record { site = site_with site; pollutant = pollutant; poc = poc }; hour = hour }, record { value = row.value; null = null; quals = quals })
+  only_if (λ o. is_obs_row (obs_row o) row) (record { monitor = record { site = site_with site; pollutant = pollutant; poc = poc }; hour = hour }, record { value = row.value; null = null; quals = quals; method = method })
 
 abbrev pub number_in : List ℕ → Option ℕ
 number_in text = if are_digits text && not (is_empty text) then Some (digits_value 10 text) else None
@@ -219,17 +240,19 @@ record_in_row (OfOfficeRow row) = record_of_row row
 record_in_row row = None
 
 abbrev pub observation_in_row : Row → Option (ObsKey × Observation)
-observation_in_row (OfObsRow row) = observation_of_row row
+observation_in_row (OfSecondRow row) = observation_of_row row
 observation_in_row row = None
 
 abbrev pub load_in_row : Row → Option StoredLoad
 load_in_row (OfLoadRow row) = load_of_row row
 load_in_row row = None
 
+-- a row of version 1 says nothing of an office: it is migrated first
 abbrev pub says_something : Row → Bool
 says_something (OfOfficeRow row) = is_some (record_of_row row)
-says_something (OfObsRow row) = is_some (observation_of_row row)
+says_something (OfObsRow row) = false
 says_something (OfLoadRow row) = is_some (load_of_row row)
+says_something (OfSecondRow row) = is_some (observation_of_row row)
 
 abbrev pub office_in : List Row → Office
 office_in rows = record {
@@ -243,6 +266,7 @@ abbrev pub table_of : Row → ℕ
 table_of (OfOfficeRow row) = 0
 table_of (OfObsRow row) = 1
 table_of (OfLoadRow row) = 2
+table_of (OfSecondRow row) = 3
 
 abbrev pub tables_follow : List Row → Bool
 tables_follow [] = true
@@ -274,19 +298,28 @@ pub record Place : Type 0 where
 abbrev pub place_of : List Row → Row → Place
 place_of before row = record { table = table_of row; index = count_by (λ other. table_of other == table_of row) before }
 
--- what the first damaged row is: the rows before it are an office's, and those up to it are no office's
-pub record FirstDamaged (rows : List Row) (place : Place) : Type 0 where
+-- what the first bad row is, by a test on rows: the rows before it pass, and those up to it do not
+pub record FirstBad (pass : List Row → Bool) (rows : List Row) (place : Place) : Type 0 where
   pub before : List Row
   pub row : Row
   pub after : List Row
   pub rows_are : rows ≡ before ++ row ∷ after
-  pub good : are_office_rows before ≡ true
-  pub bad : are_office_rows (before ++ row ∷ []) ≡ false
+  pub good : pass before ≡ true
+  pub bad : pass (before ++ row ∷ []) ≡ false
   pub place_is : place ≡ place_of before row
 
+-- the place of the first bad row among those that follow
+abbrev pub first_bad : (List Row → Bool) → List Row → List Row → Option Place
+first_bad pass before [] = None
+first_bad pass before (row ∷ rows) =
+    if pass (before ++ row ∷ []) then first_bad pass (before ++ row ∷ []) rows else Some (place_of before row)
+
+-- what the first damaged row is: the rows before it are an office's, and those up to it are no office's
+abbrev pub FirstDamaged : List Row → Place → Type 0
+FirstDamaged rows place = FirstBad are_office_rows rows place
+
 abbrev pub damaged_at : List Row → List Row → Option Place
-damaged_at before [] = None
-damaged_at before (row ∷ rows) = if are_office_rows (before ++ row ∷ []) then damaged_at (before ++ row ∷ []) rows else Some (place_of before row)
+damaged_at before rows = first_bad are_office_rows before rows
 
 -- its place, found from the first row on; none where all rows are an office's
 unfoldable pub damage : List Row → Option Place

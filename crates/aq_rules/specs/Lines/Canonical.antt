@@ -1,5 +1,5 @@
 -- The one line by which a value is written (own, within the AQS raw data transaction format), and the printed keys of office records (own).
-use Rattle.std.specs.Prelude.{ℕ, nat_le, ◌&&◌, Bool, true, false, ◌==◌, if◌then◌else◌, Option, Some, None, List, [], ◌∷◌, ◌++◌, map, codes, decimal, ℤ}
+use Rattle.std.specs.Prelude.{ℕ, nat_le, ◌&&◌, Bool, true, false, ◌==◌, if◌then◌else◌, Option, Some, None, is_some, List, [], ◌∷◌, ◌++◌, map, codes, decimal, ℤ}
 use Rattle.std.specs.List.{join_with_byte}
 use Rattle.aq_base.specs.Calendar.{year_of, month_of, day_of_month, day_of_hour, hour_of_day}
 use Rattle.aq_base.specs.Decimal.{fixed, last_digits}
@@ -83,10 +83,15 @@ monitor_texts id = site_texts id.site ++ parameter_text id.pollutant ∷ decimal
 abbrev pub start_texts : ℕ → List (List ℕ)
 start_texts hour = date_text (day_of_hour hour) ∷ time_text hour ∷ []
 
+-- the method in three digits
+abbrev pub method_text : Option ℕ → List ℕ
+method_text None = []
+method_text (Some method) = last_digits 3 method
+
 unfoldable pub rd_texts : RdValue → List (List ℕ)
-rd_texts (PutSample update monitor duration method hour content) =
+rd_texts (PutSample update monitor duration hour content) =
     codes "RD" ∷ (if update then codes "U" else codes "I") ∷ monitor_texts monitor
-    ++ duration_text duration ∷ unit_text monitor.pollutant ∷ last_digits 3 method ∷ start_texts hour
+    ++ duration_text duration ∷ unit_text monitor.pollutant ∷ method_text content.method ∷ start_texts hour
     ++ value_text monitor.pollutant content.value ∷ texts_behind content.null content.quals
 rd_texts (DeleteSample monitor hour) =
     codes "RD" ∷ codes "D" ∷ monitor_texts monitor ++ [] ∷ [] ∷ [] ∷ start_texts hour
@@ -94,10 +99,10 @@ rd_texts (DeleteSample monitor hour) =
 abbrev pub canonical_rd : RdValue → List ℕ
 canonical_rd value = joined (rd_texts value)
 
--- a sample that a body's line can spell
+-- a sample that a body's line can spell: it has a method
 abbrev pub is_rd_value : RdValue → Bool
-is_rd_value (PutSample update monitor duration method hour content) =
-    is_site monitor.site && is_poc monitor.poc && has_duration monitor.pollutant duration && nat_le method 999
+is_rd_value (PutSample update monitor duration hour content) =
+    is_site monitor.site && is_poc monitor.poc && has_duration monitor.pollutant duration && is_some content.method
     && nat_le hour LAST_HOUR && is_content monitor.pollutant content
 is_rd_value (DeleteSample monitor hour) = is_site monitor.site && is_poc monitor.poc && nat_le hour LAST_HOUR
 

@@ -37,8 +37,9 @@ new_year = 12418
 abbrev pub noon : ℕ
 noon = 302413
 
+-- a value by the method 087
 abbrev pub valued : ℤ → Observation
-valued value = record { value = Some value; null = None; quals = [] }
+valued value = record { value = Some value; null = None; quals = []; method = Some 87 }
 
 -- only the ozone monitor stands
 abbrev pub one_monitor : Office
@@ -62,6 +63,12 @@ two_combined = record three_sites { records = three_sites.records ++ Combined ho
 -- the monitor has an ozone hour
 abbrev pub one_hour : Office
 one_hour = record one_monitor { observations = (record { monitor = ozone_monitor; hour = noon }, valued (pos 71)) ∷ [] }
+
+-- the same hour, kept before methods were
+abbrev pub hour_without_method : Office
+hour_without_method = record one_monitor {
+  observations = (record { monitor = ozone_monitor; hour = noon }, record (valued (pos 71)) { method = None }) ∷ [];
+}
 
 -- a PM2.5 monitor of 24 hours stands with its sample of 2024-01-07
 abbrev pub one_sample : Office

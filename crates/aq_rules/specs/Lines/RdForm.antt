@@ -10,9 +10,9 @@ use Rattle.aq_rules.specs.Lines.Fields.{is_empty}
 use Rattle.aq_rules.specs.Lines.Forms.{Parameter, Poc, SampleDuration, Unit, Method, Date, StartTime, SampleValue, NullCode, Qualifiers, text_of, texts_from, site_of}
 use Rattle.aq_rules.specs.Lines.Spellings.{◌>>=◌, Tag, Rd, parameter_in, poc_in, duration_in, unit_in, method_in, date_in, time_in, value_in, null_in, qualifiers_in}
 
--- the hour is the one that the line names
+-- the hour is the one that the line names, and the content has the line's method
 pub data RdValue : Type 0 where
-  Put : (update : Bool) (monitor : MonitorId) (duration : Duration) (method hour : ℕ) (content : Observation) → RdValue
+  Put : (update : Bool) (monitor : MonitorId) (duration : Duration) (hour : ℕ) (content : Observation) → RdValue
   Delete : (monitor : MonitorId) (hour : ℕ) → RdValue
 
 -- as many fields as there may be qualifier codes
@@ -33,17 +33,17 @@ start_in texts = do
   hour ← time_in (text_of Rd StartTime texts)
   Some (hour_number day hour)
 
--- exactly one of a value and a null code, and the qualifier codes
-unfoldable pub content_in : Pollutant → ℕ → List (List ℕ) → Option Observation
-content_in pollutant places texts =
+-- exactly one of a value and a null code, and the qualifier codes, by this method
+unfoldable pub content_in : Pollutant → ℕ → ℕ → List (List ℕ) → Option Observation
+content_in pollutant places method texts =
     if is_empty (text_of Rd SampleValue texts) then (do
       code ← null_in (text_of Rd NullCode texts)
       codes ← qualifiers_in (qualifier_fields texts)
-      Some (record { value = None; null = Some code; quals = codes }))
+      Some (record { value = None; null = Some code; quals = codes; method = Some method }))
     else (if is_empty (text_of Rd NullCode texts) then (do
       value ← value_in pollutant places (text_of Rd SampleValue texts)
       codes ← qualifiers_in (qualifier_fields texts)
-      Some (record { value = Some value; null = None; quals = codes }))
+      Some (record { value = Some value; null = None; quals = codes; method = Some method }))
     else None)
 
 unfoldable pub put_in : Bool → List (List ℕ) → Option RdValue
@@ -53,8 +53,8 @@ put_in update texts = do
   places ← unit_in monitor.pollutant (text_of Rd Unit texts)
   method ← method_in (text_of Rd Method texts)
   hour ← start_in texts
-  content ← content_in monitor.pollutant places texts
-  Some (Put update monitor duration method hour content)
+  content ← content_in monitor.pollutant places method texts
+  Some (Put update monitor duration hour content)
 
 -- of a deletion, only the monitor and the start are read
 unfoldable pub delete_in : List (List ℕ) → Option RdValue

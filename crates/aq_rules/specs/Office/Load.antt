@@ -42,7 +42,7 @@ without_key key office = without_record key office
 
 -- the office with the row of a value added, replaced or dropped
 abbrev pub changed : Office → LineValue → Office
-changed office (OfRd (PutSample update monitor duration method hour content)) =
+changed office (OfRd (PutSample update monitor duration hour content)) =
     record office { observations = with_row observation_rank (kept_key office monitor hour, content) office.observations }
 changed office (OfRd (DeleteSample monitor hour)) =
     record office { observations = without_row observation_rank (observation_numbers (kept_key office monitor hour)) office.observations }
@@ -230,10 +230,14 @@ is_same_record (Combined site pollutant from joined) (Combined site2 pollutant2 
     is_same_site site site2 && is_same_pollutant pollutant pollutant2 && (from == from2) && is_same_site joined joined2
 is_same_record _ _ = false
 
--- whether two observations have equal values, null codes and qualifiers
+abbrev pub is_same_method : ℕ → ℕ → Bool
+is_same_method a b = a == b
+
+-- whether two observations have equal values, null codes, qualifiers and methods
 abbrev pub is_same_content : Observation → Observation → Bool
 is_same_content a b =
     option_eq int_eq a.value b.value && option_eq is_same_code a.null b.null && pointwise is_same_code a.quals b.quals
+    && option_eq is_same_method a.method b.method
 
 -- what becomes of a key's record: nothing, a put or a drop
 abbrev pub record_change : OfficeKey → Option OfficeRecord → Option OfficeRecord → Option OfficeChange

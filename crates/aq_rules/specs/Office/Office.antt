@@ -9,6 +9,7 @@ use Rattle.aq_base.specs.Site.{Site}
 use Rattle.aq_base.specs.declared.code.Code.{Code}
 use Rattle.aq_base.specs.declared.day.TheConstants.{LAST_DAY, LAST_HOUR}
 use Rattle.aq_base.specs.declared.quals.TheConstants.{MOST_QUALIFIERS}
+use Rattle.aq_base.specs.declared.observation.TheConstants.{LAST_METHOD}
 use Rattle.aq_base.specs.declared.monitor.Pollutant.{Pollutant}
 use Rattle.aq_base.specs.declared.monitor.Pollutant.TheVariants.{Ozone, Pm25, Pm10}
 use Rattle.aq_base.specs.declared.monitor.Duration.{Duration}
@@ -308,11 +309,16 @@ is_measured pollutant (Some value) None = is_in_range pollutant value
 is_measured pollutant None (Some null) = is_null_code null
 is_measured pollutant _ _ = false
 
+-- a method from 0 to 999, or none: an observation that was kept before methods were has none
+abbrev pub is_method : Option ℕ → Bool
+is_method None = true
+is_method (Some method) = nat_le method LAST_METHOD
+
 abbrev pub is_content : Pollutant → Observation → Bool
 is_content pollutant content =
     is_measured pollutant content.value content.null
     && list_all is_qualifier content.quals && all_distinct content.quals
-    && nat_le (length content.quals) MOST_QUALIFIERS
+    && nat_le (length content.quals) MOST_QUALIFIERS && is_method content.method
 
 -- a sample of 24 hours stands at hour 00 of its date
 abbrev pub is_kept_hour : Option Duration → ℕ → Bool

@@ -72,12 +72,12 @@ designated observations = record {
 -- a value, in thousandths of a ppm or tenths of a µg/m3
 abbrev pub measured : Site → Pollutant → ℕ → ℕ → List Code → ℕ → (ObsKey × Observation)
 measured site pollutant poc value codes hour =
-    (record { monitor = monitor_at site pollutant poc; hour = hour }, record { value = Some (pos value); null = None; quals = codes })
+    (record { monitor = monitor_at site pollutant poc; hour = hour }, record { value = Some (pos value); null = None; quals = codes; method = None })
 
 -- a null code, AN, in place of a value
 abbrev pub missed : Site → Pollutant → ℕ → ℕ → (ObsKey × Observation)
 missed site pollutant poc hour =
-    (record { monitor = monitor_at site pollutant poc; hour = hour }, record { value = None; null = Some (record { first = 65; second = 78 }); quals = [] })
+    (record { monitor = monitor_at site pollutant poc; hour = hour }, record { value = None; null = Some (record { first = 65; second = 78 }); quals = []; method = None })
 
 -- a sample of 24 hours
 abbrev pub sampled : Site → Pollutant → ℕ → ℕ → ℕ → (ObsKey × Observation)

@@ -40,14 +40,14 @@ is_other_duration _ duration = false
 -- ---- the rules
 
 abbrev pub lacks_monitor : Office → LineValue → Bool
-lacks_monitor office (OfRd (PutSample update monitor duration method hour content)) = is_none (duration_at office monitor)
+lacks_monitor office (OfRd (PutSample update monitor duration hour content)) = is_none (duration_at office monitor)
 lacks_monitor office (OfRd (DeleteSample monitor hour)) = is_none (duration_at office monitor)
 lacks_monitor office (OfOffice (Put r)) = not (has_its_monitor office r)
 lacks_monitor office (OfOffice (Change (Monitor id duration eligible))) = is_none (duration_at office id)
 lacks_monitor office value = false
 
 abbrev pub has_wrong_duration : Office → LineValue → Bool
-has_wrong_duration office (OfRd (PutSample update monitor duration method hour content)) =
+has_wrong_duration office (OfRd (PutSample update monitor duration hour content)) =
     is_other_duration (duration_at office monitor) duration
 has_wrong_duration office (OfOffice (Change (Monitor id duration eligible))) =
     is_other_duration (duration_at office id) duration
@@ -62,7 +62,7 @@ is_taken office (Makeup site missed makeup) = nat_lt 0 (makeups_on office site m
 is_taken office r = false
 
 abbrev pub is_there : Office → LineValue → Bool
-is_there office (OfRd (PutSample update monitor duration method hour content)) = sample_stands office monitor hour
+is_there office (OfRd (PutSample update monitor duration hour content)) = sample_stands office monitor hour
 is_there office (OfRd (DeleteSample monitor hour)) = sample_stands office monitor hour
 is_there office (OfOffice (Put r)) = key_stands office (key_of r) || is_taken office r
 is_there office (OfOffice (Change r)) = key_stands office (key_of r)
@@ -134,9 +134,9 @@ rules_of_deletion (ConcurrenceKey number) = []
 rules_of_deletion key = NotThere ∷ []
 
 abbrev pub office_rules : LineValue → List Rule
-office_rules (OfRd (PutSample false monitor duration method hour content)) =
+office_rules (OfRd (PutSample false monitor duration hour content)) =
     UnknownMonitor ∷ WrongDuration ∷ AlreadyThere ∷ ObservationsFull ∷ []
-office_rules (OfRd (PutSample true monitor duration method hour content)) =
+office_rules (OfRd (PutSample true monitor duration hour content)) =
     UnknownMonitor ∷ WrongDuration ∷ NotThere ∷ []
 office_rules (OfRd (DeleteSample monitor hour)) = UnknownMonitor ∷ NotThere ∷ []
 office_rules (OfOffice (Put r)) = rules_of_new r

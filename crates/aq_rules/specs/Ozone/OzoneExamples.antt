@@ -30,7 +30,7 @@ registered poc = Monitor (monitor_id poc) Hour true
 -- the value of a monitor for an hour, in thousandths of a ppm, with qualifier codes
 abbrev pub reading : ℕ → ℕ → List Code → ℕ → (ObsKey × Observation)
 reading poc value codes hour =
-    (record { monitor = monitor_id poc; hour = hour }, record { value = Some (pos value); null = None; quals = codes })
+    (record { monitor = monitor_id poc; hour = hour }, record { value = Some (pos value); null = None; quals = codes; method = None })
 
 -- POC 1 has this value for so many hours
 abbrev pub run_of : ℕ → List Code → ℕ → ℕ → List (ObsKey × Observation)

@@ -18,7 +18,7 @@ use Rattle.aq_rules.specs.Shown.Sheet.{Sheet, head_of, site_text}
 use Rattle.aq_rules.specs.Shown.Sheet.SheetCell.{Int, Fixed, Text, Missing}
 use Rattle.aq_rules.specs.Particles.QuarterCounts.{Makeup, QuarterCounts, QuarterDays}
 use Rattle.aq_rules.specs.Particles.Pm10Estimate.{Pm10Quarter}
-use Rattle.aq_rules.specs.Kept.Rows.{Row, OfOfficeRow, OfObsRow, OfLoadRow, office_row, obs_row}
+use Rattle.aq_rules.specs.Kept.Rows.{Row, OfOfficeRow, OfLoadRow, OfSecondRow, office_row, obs_row}
 use Rattle.aq_rules.specs.Ozone.OzoneExamples.{site, office_of, smoke}
 
 -- ---- monitors and samples
@@ -32,7 +32,7 @@ sampler pollutant duration poc = Monitor (particle_id pollutant poc) duration tr
 -- a value in tenths that starts at an hour
 abbrev pub particle_hour : Pollutant → ℕ → ℕ → ℕ → (ObsKey × Observation)
 particle_hour pollutant poc value hour =
-    (record { monitor = particle_id pollutant poc; hour = hour }, record { value = Some (pos value); null = None; quals = [] })
+    (record { monitor = particle_id pollutant poc; hour = hour }, record { value = Some (pos value); null = None; quals = []; method = None })
 
 -- a sample of 24 hours
 abbrev pub particle_sample : Pollutant → ℕ → ℕ → ℕ → (ObsKey × Observation)
@@ -50,7 +50,7 @@ hourly pollutant first others =
 -- an hour with the code of an event that was concurred in
 abbrev pub smoky_hour : Pollutant → ℕ → ℕ → (ObsKey × Observation)
 smoky_hour pollutant value hour =
-    (record { monitor = particle_id pollutant 1; hour = hour }, record { value = Some (pos value); null = None; quals = smoke ∷ [] })
+    (record { monitor = particle_id pollutant 1; hour = hour }, record { value = Some (pos value); null = None; quals = smoke ∷ []; method = None })
 
 abbrev pub smoke_record : Pollutant → ℕ → ℕ → List OfficeRecord
 smoke_record pollutant first last = Event 1 site pollutant (hour_number first 0) (hour_number last 23) smoke ∷ Concurrence 1 true ∷ []
@@ -105,7 +105,7 @@ sampled_quarter =
     ∷ MakeupRecord site (day_number 2024 1 7) (day_number 2024 1 9)
     ∷ Event 1 site Pm25 (hour_number (day_number 2024 1 19) 0) (hour_number (day_number 2024 1 19) 23) smoke ∷ Concurrence 1 true ∷ [])
     (map (λ day. particle_sample Pm25 1 100 (day_number 2024 1 day)) (1 ∷ 9 ∷ 13 ∷ [])
-    ++ (record { monitor = particle_id Pm25 1; hour = hour_number (day_number 2024 1 19) 0 }, record { value = Some (pos 100); null = None; quals = smoke ∷ [] }) ∷ [])
+    ++ (record { monitor = particle_id Pm25 1; hour = hour_number (day_number 2024 1 19) 0 }, record { value = Some (pos 100); null = None; quals = smoke ∷ []; method = None }) ∷ [])
 
 -- ---- quarters and years of PM2.5: scheduled days, samples (all creditable and counted) and their values in tenths
 
@@ -229,7 +229,7 @@ abbrev pub stray_designation : Row
 stray_designation = OfOfficeRow (office_row (primary_of Pm25 2))
 
 abbrev pub sample_at : ℕ → Row
-sample_at hour = OfObsRow (obs_row (particle_hour Pm25 1 120 (hour_number winter_day hour)))
+sample_at hour = OfSecondRow (obs_row (particle_hour Pm25 1 120 (hour_number winter_day hour)))
 
 -- a load without lines
 abbrev pub empty_load : ℕ → Row
@@ -252,13 +252,13 @@ one_row = record {
   rows = (Int (neg_ℤ (pos 7)) ∷ Fixed (neg_ℤ (pos 5)) 1 ∷ Text (codes "Met") ∷ Missing ∷ []) ∷ [];
 }
 
--- a monitor with two samples in an event that was concurred in: one with the codes V and RT, and one with a null code
+-- a monitor with two samples in an event that was concurred in: one with the codes V and RT and the method 145, and one with a null code and without a method
 abbrev pub exported : Office
 exported =
     office_of
     (sampler Pm25 Day 1 ∷ Event 1 site Pm25 (hour_number winter_day 0) (hour_number winter_day 90) smoke ∷ Concurrence 1 true ∷ [])
-    ((record { monitor = particle_id Pm25 1; hour = hour_number winter_day 0 }, record { value = Some (pos 120); null = None; quals = record { first = 86; second = 0 } ∷ smoke ∷ [] })
-    ∷ (record { monitor = particle_id Pm25 1; hour = hour_number (winter_day + 3) 0 }, record { value = None; null = Some (record { first = 65; second = 78 }); quals = smoke ∷ [] })
+    ((record { monitor = particle_id Pm25 1; hour = hour_number winter_day 0 }, record { value = Some (pos 120); null = None; quals = record { first = 86; second = 0 } ∷ smoke ∷ []; method = Some 145 })
+    ∷ (record { monitor = particle_id Pm25 1; hour = hour_number (winter_day + 3) 0 }, record { value = None; null = Some (record { first = 65; second = 78 }); quals = smoke ∷ []; method = None })
     ∷ [])
 
 -- a load of three lines, of which two were refused

@@ -40,11 +40,11 @@ pub record Drawn : Type 0 where
   pub content : Observation
   pub state : ℕ
 
--- from the state after a first draw: one in twenty has the null code, and the others a value of the range
+-- from the state after a first draw: one in twenty has the null code, and the others a value of the range; the method is 000
 abbrev pub observed : ℕ → ℕ → ℕ → Drawn
 observed base span x =
-    if drawn x 20 == 0 then record { content = record { value = None; null = Some null_an; quals = [] }; state = x }
-    else record { content = record { value = Some (pos (base + drawn (next_state x) span)); null = None; quals = [] }; state = next_state x }
+    if drawn x 20 == 0 then record { content = record { value = None; null = Some null_an; quals = []; method = Some 0 }; state = x }
+    else record { content = record { value = Some (pos (base + drawn (next_state x) span)); null = None; quals = []; method = Some 0 }; state = next_state x }
 
 -- ---- the office
 
@@ -108,7 +108,7 @@ wanted_in n year =
     ++ map (wanted_day n Pm25 40 200) (every 3 year) ++ map (wanted_day n Pm10 100 1500) (every 6 year)
 
 abbrev pub sample_text : Wanted → Observation → List ℕ
-sample_text w content = canonical_rd (PutSample false w.monitor w.duration 0 w.hour content) ++ codes "\n"
+sample_text w content = canonical_rd (PutSample false w.monitor w.duration w.hour content) ++ codes "\n"
 
 unfoldable pub samples_from : ℕ → List Wanted → List ℕ
 samples_from x [] = []

@@ -134,7 +134,7 @@ third_site = record { state = 6; county = 37; number = 1105 }
 
 abbrev pub value_at : Site → Pollutant → ℕ → ℕ → ℕ → (ObsKey × Observation)
 value_at at pollutant poc hour value =
-    (record { monitor = record { site = at; pollutant = pollutant; poc = poc }; hour = hour }, record { value = Some (pos value); null = None; quals = [] })
+    (record { monitor = record { site = at; pollutant = pollutant; poc = poc }; hour = hour }, record { value = Some (pos value); null = None; quals = []; method = None })
 
 abbrev pub two_sites : Office
 two_sites =

@@ -10,7 +10,7 @@ ghost use Rattle.aq_rules.specs.Lines.LineExamples.{many_monitors, many_sites, r
 ghost use Rattle.aq_rules.specs.Office.Office.{IsOffice, Office, StoredLoad, is_load, load_at};
 ghost use Rattle.aq_rules.specs.Office.Load.{with_load};
 ghost use Rattle.aq_rules.specs.Kept.Rows.{are_office_rows, hour_of_stored, hours_before_2000, is_valid, load_row, office_row, stored_hour};
-ghost use Rattle.aq_rules.specs.Kept.RowExamples.{combination_row, neighbor_row, kept_load, load_of, load_with, monitor_row, nine_monitors, ozone_at, ozone_row, record_with, sample_with};
+ghost use Rattle.aq_rules.specs.Kept.RowExamples.{combination_row, neighbor_row, kept_load, load_of, load_with, monitor_row, nine_monitors, ozone_at, ozone_row, record_with, sample_by, sample_with};
 
 /// A record's row has its kind, its key and its canonical line; a concurrence has its event.
 pub fn record_rows()
@@ -40,7 +40,8 @@ pub fn combination_rows()
     ensures same_site { are_office_rows (monitor_row ∷ neighbor_row ∷ combination_row (codes "1103") (codes "1103") ∷ []) ≡ false }
 {}
 
-/// An observation's row has a value in range or a null code, and at most ten distinct qualifiers.
+/// An observation's row has a value in range or a null code, at most ten distinct qualifiers, and a method
+/// from 0 to 999 or none.
 pub fn observation_rows()
     ensures value { are_office_rows (monitor_row ∷ sample_with (Some (pos 120)) [] (codes "V RT") ∷ []) ≡ true }
     ensures greatest { are_office_rows (monitor_row ∷ sample_with (Some (pos 99999)) [] [] ∷ []) ≡ true }
@@ -56,6 +57,10 @@ pub fn observation_rows()
     ensures eleven { are_office_rows (monitor_row ∷ sample_with (Some (pos 120)) [] (codes "1 2 3 4 5 6 7 8 9 A B") ∷ []) ≡ false }
     ensures twice { are_office_rows (monitor_row ∷ sample_with (Some (pos 120)) [] (codes "V V") ∷ []) ≡ false }
     ensures two_spaces { are_office_rows (monitor_row ∷ sample_with (Some (pos 120)) [] (codes "V  RT") ∷ []) ≡ false }
+    ensures method_0 { are_office_rows (monitor_row ∷ sample_by (Some (pos 0)) ∷ []) ≡ true }
+    ensures last_method { are_office_rows (monitor_row ∷ sample_by (Some (pos 999)) ∷ []) ≡ true }
+    ensures beyond_methods { are_office_rows (monitor_row ∷ sample_by (Some (pos 1000)) ∷ []) ≡ false }
+    ensures method_below_0 { are_office_rows (monitor_row ∷ sample_by (Some (negsuc 0)) ∷ []) ≡ false }
 {}
 
 /// A row counts its hour from 2000-01-01 00:00, which is hour 87,648 of the profile: 10:00 of 1 July 2024 is

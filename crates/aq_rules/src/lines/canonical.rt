@@ -43,8 +43,8 @@ pub fn fields_and_samples_are_read()
     ensures three_characters { qualifiers_in (codes "RTX" ∷ []) ≡ None }
     ensures null { null_in (codes "A1") ≡ Some (record { first = 65; second = 49 }) }
     ensures null_of_one_character { null_in (codes "A") ≡ None }
-    ensures inserted { line_value (codes "RD|I|06|037|1103|44201|1|1|007|087|20240701|13:00|0.071||||V|RT") ≡ Some (OfRd (Put false (record { site = record { state = 6; county = 37; number = 1103 }; pollutant = Ozone; poc = 1 }) Hour 87 302413 (record { value = Some (pos 71); null = None; quals = record { first = 86; second = 0 } ∷ record { first = 82; second = 84 } ∷ [] }))) }
-    ensures updated { line_value (codes "RD|U|06|037|1103|88101|2|7|105|145|20240107|00:00||AN") ≡ Some (OfRd (Put true (record { site = record { state = 6; county = 37; number = 1103 }; pollutant = Pm25; poc = 2 }) Day 145 298176 (record { value = None; null = Some (record { first = 65; second = 78 }); quals = [] }))) }
+    ensures inserted { line_value (codes "RD|I|06|037|1103|44201|1|1|007|087|20240701|13:00|0.071||||V|RT") ≡ Some (OfRd (Put false (record { site = record { state = 6; county = 37; number = 1103 }; pollutant = Ozone; poc = 1 }) Hour 302413 (record { value = Some (pos 71); null = None; quals = record { first = 86; second = 0 } ∷ record { first = 82; second = 84 } ∷ []; method = Some 87 }))) }
+    ensures updated { line_value (codes "RD|U|06|037|1103|88101|2|7|105|145|20240107|00:00||AN") ≡ Some (OfRd (Put true (record { site = record { state = 6; county = 37; number = 1103 }; pollutant = Pm25; poc = 2 }) Day 298176 (record { value = None; null = Some (record { first = 65; second = 78 }); quals = []; method = Some 145 }))) }
     ensures deleted { line_value (codes "RD|D|06|037|1103|44201|1||||20240701|13:00") ≡ Some (OfRd (Delete (record { site = record { state = 6; county = 37; number = 1103 }; pollutant = Ozone; poc = 1 }) 302413)) }
     ensures first_hour { line_value (codes "RD|D|06|037|1103|44201|1||||19900101|00:00") ≡ Some (OfRd (Delete (record { site = record { state = 6; county = 37; number = 1103 }; pollutant = Ozone; poc = 1 }) 0)) }
     ensures last_hour { line_value (codes "RD|D|06|037|1103|44201|1||||20591231|23:00") ≡ Some (OfRd (Delete (record { site = record { state = 6; county = 37; number = 1103 }; pollutant = Ozone; poc = 1 }) 613607)) }
@@ -53,8 +53,8 @@ pub fn fields_and_samples_are_read()
 
 /// The same values are written as these lines.
 pub fn samples_are_written()
-    ensures inserted { canonical_rd (Put false (record { site = record { state = 6; county = 37; number = 1103 }; pollutant = Ozone; poc = 1 }) Hour 87 302413 (record { value = Some (pos 71); null = None; quals = record { first = 86; second = 0 } ∷ record { first = 82; second = 84 } ∷ [] })) ≡ codes "RD|I|06|037|1103|44201|1|1|007|087|20240701|13:00|0.071||||V|RT" }
-    ensures updated { canonical_rd (Put true (record { site = record { state = 6; county = 37; number = 1103 }; pollutant = Pm25; poc = 2 }) Day 145 298176 (record { value = None; null = Some (record { first = 65; second = 78 }); quals = [] })) ≡ codes "RD|U|06|037|1103|88101|2|7|105|145|20240107|00:00||AN" }
+    ensures inserted { canonical_rd (Put false (record { site = record { state = 6; county = 37; number = 1103 }; pollutant = Ozone; poc = 1 }) Hour 302413 (record { value = Some (pos 71); null = None; quals = record { first = 86; second = 0 } ∷ record { first = 82; second = 84 } ∷ []; method = Some 87 })) ≡ codes "RD|I|06|037|1103|44201|1|1|007|087|20240701|13:00|0.071||||V|RT" }
+    ensures updated { canonical_rd (Put true (record { site = record { state = 6; county = 37; number = 1103 }; pollutant = Pm25; poc = 2 }) Day 298176 (record { value = None; null = Some (record { first = 65; second = 78 }); quals = []; method = Some 145 })) ≡ codes "RD|U|06|037|1103|88101|2|7|105|145|20240107|00:00||AN" }
     ensures deleted { canonical_rd (Delete (record { site = record { state = 6; county = 37; number = 1103 }; pollutant = Ozone; poc = 1 }) 302413) ≡ codes "RD|D|06|037|1103|44201|1||||20240701|13:00" }
 {}
 

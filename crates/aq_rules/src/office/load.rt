@@ -12,11 +12,11 @@ ghost use Rattle.aq_rules.specs.Office.Office.{Office, StoredLoad, KeysRise, loa
 ghost use Rattle.aq_base.specs.declared.rule.Rule.{Rule};
 ghost use Rattle.aq_rules.specs.Office.Load.{reply, reply_for, rest_of, load, decide, decision_of, posted, post, batch, with_change, refusal, after, Repeat, Conflict, New, TooManyLines, Repeated, Differing, NoRoom, Taken, is_same_record, is_same_content, PutLoad, PutObservation, PutRecord, DropObservation, DropRecord, record_changes};
 ghost use Rattle.aq_rules.specs.Lines.Lines.{line_count};
-ghost use Rattle.aq_rules.specs.Lines.LineExamples.{code_rt, home, one_monitor, one_hour, one_sample, three_lines, hour_key, valued, noon, ozone_monitor, agreed_event, refused_lines, digest_a, digest_b};
+ghost use Rattle.aq_rules.specs.Lines.LineExamples.{code_rt, home, one_monitor, one_hour, hour_without_method, one_sample, three_lines, hour_key, valued, noon, ozone_monitor, agreed_event, refused_lines, digest_a, digest_b};
 
 /// A load of three lines, of which the second inserts an hour that stands. What lines change beside the
-/// row that they name, and what changes no row. A code alone that differs is a change; a row that is
-/// dropped and put again as it was is none.
+/// row that they name, and what changes no row. A code alone that differs is a change, and a method alone;
+/// a row that is dropped and put again as it was is none.
 #[tactic(auto, unfolding(crate::specs::Lines::Spellings::site_in, crate::specs::Lines::Spellings::parameter_of, crate::specs::Lines::Spellings::date_in, crate::specs::Lines::Spellings::time_in, crate::specs::Lines::Spellings::value_in, crate::specs::Lines::Spellings::qualifiers_in, crate::specs::Lines::RdForm::monitor_in, crate::specs::Lines::RdForm::start_in, crate::specs::Lines::RdForm::content_in, crate::specs::Lines::RdForm::put_in, aq_base::specs::Calendar::days_of_years, aq_base::specs::Calendar::days_of_months, crate::specs::Lines::Spellings::event_number_in, crate::specs::Lines::RdForm::delete_in, crate::specs::Lines::OfficeForms::xe_key, crate::specs::Lines::Spellings::event_code_in, crate::specs::Lines::OfficeForms::xe_record, crate::specs::Lines::OfficeForms::xc_record))]
 pub fn lines_and_rows_that_change()
     ensures reply { reply one_monitor 7 three_lines ≡ record { number = 7; lines = 3; accepted = 2; refused = 1; listed = record { line = 2; rule = AlreadyThere } ∷ []; rest = [] } }
@@ -37,8 +37,10 @@ pub fn lines_and_rows_that_change()
     ensures event_again { batch agreed_event 0 digest_a (codes "XE|D|12\nXE|I|12|06|037|1103|44201|19900101|00:00|19900101|00:00|RT\nXC|U|12|Y") ≡ [] }
     ensures flag { batch agreed_event 0 digest_a (codes "XC|U|12|N") ≡ PutRecord (Concurrence 12 false) ∷ [] }
     ensures same_flag { batch agreed_event 0 digest_a (codes "XC|U|12|Y") ≡ [] }
-    ensures qualifier { batch one_hour 0 digest_a (codes "RD|U|06|037|1103|44201|1|1|007|087|20240701|13:00|0.071||||V") ≡ PutObservation (hour_key noon) (record { value = Some (pos 71); null = None; quals = record { first = 86; second = 0 } ∷ [] }) ∷ [] }
-    ensures null { batch one_hour 0 digest_a (codes "RD|U|06|037|1103|44201|1|1|007|087|20240701|13:00||AN") ≡ PutObservation (hour_key noon) (record { value = None; null = Some (record { first = 65; second = 78 }); quals = [] }) ∷ [] }
+    ensures qualifier { batch one_hour 0 digest_a (codes "RD|U|06|037|1103|44201|1|1|007|087|20240701|13:00|0.071||||V") ≡ PutObservation (hour_key noon) (record { value = Some (pos 71); null = None; quals = record { first = 86; second = 0 } ∷ []; method = Some 87 }) ∷ [] }
+    ensures method { batch one_hour 0 digest_a (codes "RD|U|06|037|1103|44201|1|1|007|047|20240701|13:00|0.071") ≡ PutObservation (hour_key noon) (record { value = Some (pos 71); null = None; quals = []; method = Some 47 }) ∷ [] }
+    ensures first_method { batch hour_without_method 0 digest_a (codes "RD|U|06|037|1103|44201|1|1|007|000|20240701|13:00|0.071") ≡ PutObservation (hour_key noon) (record { value = Some (pos 71); null = None; quals = []; method = Some 0 }) ∷ [] }
+    ensures null { batch one_hour 0 digest_a (codes "RD|U|06|037|1103|44201|1|1|007|087|20240701|13:00||AN") ≡ PutObservation (hour_key noon) (record { value = None; null = Some (record { first = 65; second = 78 }); quals = []; method = Some 87 }) ∷ [] }
     ensures hour_again { batch one_hour 0 digest_a (codes "RD|D|06|037|1103|44201|1||||20240701|13:00\nRD|I|06|037|1103|44201|1|1|007|087|20240701|13:00|0.071") ≡ [] }
     ensures hour_gone { batch one_hour 0 digest_a (codes "RD|D|06|037|1103|44201|1||||20240701|13:00") ≡ DropObservation (hour_key noon) ∷ [] }
 {}

@@ -159,6 +159,6 @@ pub fn the_least_office_rule_is_named()
 /// A new sample of a registered monitor is refused if 4,000,000 observations stand, and taken if fewer
 /// do.
 pub fn observations_are_full()
-    ensures full { (office : Office) (monitor : MonitorId) (duration : Duration) (method hour : ℕ) (content : Observation) → duration_at office monitor ≡ Some duration → IsFalse (sample_stands office monitor hour) → length office.observations ≡ 4000000 → broken office (OfRd (Put false monitor duration method hour content)) ≡ Some ObservationsFull }
-    ensures room { (office : Office) (monitor : MonitorId) (duration : Duration) (method hour : ℕ) (content : Observation) → duration_at office monitor ≡ Some duration → IsFalse (sample_stands office monitor hour) → length office.observations < 4000000 → broken office (OfRd (Put false monitor duration method hour content)) ≡ None }
+    ensures full { (office : Office) (monitor : MonitorId) (duration : Duration) (hour : ℕ) (content : Observation) → duration_at office monitor ≡ Some duration → IsFalse (sample_stands office monitor hour) → length office.observations ≡ 4000000 → broken office (OfRd (Put false monitor duration hour content)) ≡ Some ObservationsFull }
+    ensures room { (office : Office) (monitor : MonitorId) (duration : Duration) (hour : ℕ) (content : Observation) → duration_at office monitor ≡ Some duration → IsFalse (sample_stands office monitor hour) → length office.observations < 4000000 → broken office (OfRd (Put false monitor duration hour content)) ≡ None }
 {}

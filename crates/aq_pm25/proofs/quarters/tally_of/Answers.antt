@@ -40,9 +40,9 @@ loop-count-preserved g c =
     let at : first + c.loop-count.count ≡ c.new-day.result = omega (arith, c.new-day.ensures, c.number.ensures.value, c.from.ensures) in
     record {
       tally =
-          subst (λ (days : List DayOfQuarter). IsTallyOf c.args.top.places days c.with-so_far.result)
+          subst (λ (days : List DayOfQuarter). IsTallyOf c.args.top days c.with-so_far.result)
           (days-more day first c.loop-count.count c.new-day.result c.day_of_quarter.result at c.day_of_quarter.ensures.day)
-          (c.with-so_far.ensures.tally c.args.top.places (map day (range_with_len first c.loop-count.count)) c.loop-count.invariant.tally);
+          (c.with-so_far.ensures.tally c.args.top (map day (range_with_len first c.loop-count.count)) c.loop-count.invariant.tally);
       sum = c.with-so_far.ensures.sum;
     }
 
@@ -51,6 +51,6 @@ unfolding days_of_quarter
 returns g c =
     let day = day_in (office_of c.args.registry.now c.args.shelf.now) c.args.site.now in
     let all : c.loop-count.count ≡ c.quarter_span-first.result.1 = omega (arith, c.loop-count-test.false, c.loop-count.auto.count-end) in
-    subst (λ (days : List DayOfQuarter). IsTallyOf c.args.top.places days c.loop-count.so_far)
+    subst (λ (days : List DayOfQuarter). IsTallyOf c.args.top days c.loop-count.so_far)
     (λ i. map day (range_with_len (c.quarter_span-first.ensures.first i) ((all ∙ c.quarter_span-first.ensures.days) i)))
     c.loop-count.invariant.tally

@@ -7,6 +7,6 @@ use Rattle.aq_pm25.proofs.quarters.tally_of.Given as goal
 
 abbrev pub invariant-loop-count : goal.invariant-loop-count
 invariant-loop-count g l = record {
-  tally : IsTallyOf l.fn.top.places (map (day_in (office_of l.registry l.shelf) l.site) (range_with_len l.first l.count)) l.so_far;
+  tally : IsTallyOf l.fn.top (map (day_in (office_of l.registry l.shelf) l.site) (range_with_len l.first l.count)) l.so_far;
   sum : IsSumInRange l.so_far.values;
 }

@@ -5,25 +5,18 @@ use Rattle.aq_rules.specs.Kept.Summaries.{KeepsPmQuarter, KeepsPmYear, PmYear, s
 use Rattle.aq_rules.specs.Particles.QuarterCounts.{pm25_quarter, quarter_values}
 use Rattle.aq_series.specs.OfficeView.{office_of}
 use Rattle.aq_pm25.specs.QuarterValues.{AreParticles}
-use Rattle.aq_pm25.proofs.Years.{by-part, places-are, year-descends, year-is, year-keeps}
+use Rattle.aq_pm25.proofs.Years.{by-part, top-is, year-is, year-keeps}
 use Rattle.aq_pm25.proofs.quarters.year.Goals as goal
 
-pub new-requires-clause-falls : goal.new-requires-clause-falls
-new-requires-clause-falls g c =
-    let office = office_of c.args.registry.now c.args.shelf.now in
-    year-descends office c.args.site c.args.year c.places.result
-    (places-are office c.args.site c.args.year _ _ _ _ c.new-top.result.places _ _ _ c.places.result c.quarter_in.ensures c.quarter_in-2.ensures c.quarter_in-3.ensures c.quarter_in-4.ensures
-    c.new-top.ensures c.kept_quarter-a.ensures.top c.kept_quarter-b.ensures.top c.kept_quarter-c.ensures.top (c.places.ensures ∙ c.kept_quarter-d.ensures.top))
-
-pub new-requires-clause-facts : goal.new-requires-clause-facts
-new-requires-clause-facts g c =
+pub new-requires : goal.new-requires
+new-requires g c =
     let office = office_of c.args.registry.now c.args.shelf.now in
     let site = c.args.site in
     let summary = λ (quarter : ℕ). summary_of_quarter (pm25_quarter office site quarter) in
     let values = λ (quarter : ℕ). quarter_values office site Pm25 quarter in
-    let places =
-    places-are office site c.args.year _ _ _ _ c.new-top.result.places _ _ _ c.places.result c.quarter_in.ensures c.quarter_in-2.ensures c.quarter_in-3.ensures c.quarter_in-4.ensures
-    c.new-top.ensures c.kept_quarter-a.ensures.top c.kept_quarter-b.ensures.top c.kept_quarter-c.ensures.top (c.places.ensures ∙ c.kept_quarter-d.ensures.top)
+    let top =
+    top-is office site c.args.year _ _ _ _ c.new-top.result _ _ _ _ c.quarter_in.ensures c.quarter_in-2.ensures c.quarter_in-3.ensures c.quarter_in-4.ensures
+    c.new-top.ensures c.kept_quarter-a.ensures.top c.kept_quarter-b.ensures.top c.kept_quarter-c.ensures.top c.kept_quarter-d.ensures.top
     in
     let facts =
     by-part (λ part. KeepsPmQuarter (summary (quarter_number c.args.year part)))
@@ -40,10 +33,10 @@ new-requires-clause-facts g c =
     (subst (λ q. AreParticles (values q)) c.quarter_in-4.ensures c.kept_quarter-d.ensures.range)
     in
     subst (λ (year : PmYear). KeepsPmYear year)
-    (sym (year-is office site c.args.year _ c.places.result
+    (sym (year-is office site c.args.year _ _
     (λ i. (c.kept_quarter-a.ensures.quarter ∙ ap summary c.quarter_in.ensures) i ∷ (c.kept_quarter-b.ensures.quarter ∙ ap summary c.quarter_in-2.ensures) i
     ∷ (c.kept_quarter-c.ensures.quarter ∙ ap summary c.quarter_in-3.ensures) i ∷ (c.kept_quarter-d.ensures.quarter ∙ ap summary c.quarter_in-4.ensures) i ∷ [])
-    places))
+    top))
     (year-keeps office site c.args.year facts range)
 
 pub returns : goal.returns
@@ -51,8 +44,8 @@ returns g c =
     let office = office_of c.args.registry.now c.args.shelf.now in
     let summary = λ (quarter : ℕ). summary_of_quarter (pm25_quarter office c.args.site quarter) in
     c.new.ensures
-    ∙ year-is office c.args.site c.args.year _ c.places.result
+    ∙ year-is office c.args.site c.args.year _ _
     (λ i. (c.kept_quarter-a.ensures.quarter ∙ ap summary c.quarter_in.ensures) i ∷ (c.kept_quarter-b.ensures.quarter ∙ ap summary c.quarter_in-2.ensures) i
     ∷ (c.kept_quarter-c.ensures.quarter ∙ ap summary c.quarter_in-3.ensures) i ∷ (c.kept_quarter-d.ensures.quarter ∙ ap summary c.quarter_in-4.ensures) i ∷ [])
-    (places-are office c.args.site c.args.year _ _ _ _ c.new-top.result.places _ _ _ c.places.result c.quarter_in.ensures c.quarter_in-2.ensures c.quarter_in-3.ensures c.quarter_in-4.ensures
-    c.new-top.ensures c.kept_quarter-a.ensures.top c.kept_quarter-b.ensures.top c.kept_quarter-c.ensures.top (c.places.ensures ∙ c.kept_quarter-d.ensures.top))
+    (top-is office c.args.site c.args.year _ _ _ _ c.new-top.result _ _ _ _ c.quarter_in.ensures c.quarter_in-2.ensures c.quarter_in-3.ensures c.quarter_in-4.ensures
+    c.new-top.ensures c.kept_quarter-a.ensures.top c.kept_quarter-b.ensures.top c.kept_quarter-c.ensures.top c.kept_quarter-d.ensures.top)

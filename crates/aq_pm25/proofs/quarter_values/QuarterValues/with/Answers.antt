@@ -1,9 +1,8 @@
-use Rattle.std.proofs.Common.{subst, ap, ◌∙◌, w32}
+use Rattle.std.proofs.Common.{subst, take, ap, ◌∙◌, w32}
 use Rattle.std.specs.Prelude.{ℤ, Option, Some, IfSome}
 use Rattle.std.proofs.lemmas.Int.{to_z-of_z}
-use Rattle.aq_rules.specs.Lists.{greater, lesser}
+use Rattle.aq_rules.specs.Lists.{greater, lesser, ranked_in}
 use Rattle.aq_series.specs.DayCells.{IsParticle}
-use Rattle.aq_pm25.specs.Pushed.{pushed}
 use Rattle.aq_pm25.proofs.Values.{one-given, sum-fits, sum-held, sum-is, value-fits}
 use Rattle.aq_pm25.proofs.quarter_values.QuarterValues.with.Goals as goal
 
@@ -13,15 +12,15 @@ overflow_add-result-in-Some c =
     sum-fits c.args.self c.in-Some.value c.requires.room c.requires.sum range
 
 pub returns-in-Some-clause-values : goal.returns-in-Some-clause-values
-returns-in-Some-clause-values c places values are =
+returns-in-Some-clause-values c before values are =
     let v = c.in-Some.value in
     let range : IsParticle v = subst (λ (o : Option ℤ). IfSome o (λ (value : ℤ). IsParticle value)) c.in-Some.is c.requires.range in
     let same = to_z-of_z w32 v (value-fits v range) in
-    one-given c.args.self v c.requires.room c.requires.sum range places values c.args.value _ c.lesser.result c.greater.result c.with.result c.in-Some.is are
+    one-given c.args.self v c.requires.room c.requires.sum range before values c.args.value _ c.lesser.result c.greater.result c.with_value.result c.in-Some.is are
     (sum-is c.args.self v c.requires.room c.requires.sum range)
     (c.lesser.ensures ∙ ap (lesser c.args.self.least) same)
     (c.greater.ensures ∙ ap (greater c.args.self.greatest) same)
-    (c.with.ensures ∙ ap (λ (z : ℤ). pushed (Some z) c.args.self.top.places) same)
+    (c.with_value.ensures ∙ ap (λ (z : ℤ). take 8 (ranked_in z c.args.self.top)) same)
 
 pub returns-in-Some-clause-sum : goal.returns-in-Some-clause-sum
 returns-in-Some-clause-sum c =

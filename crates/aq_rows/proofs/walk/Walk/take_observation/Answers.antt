@@ -1,8 +1,5 @@
-use Rattle.std.proofs.Common.{◌∙◌, sym, refl, Some, None, ◌++◌, ◌∷◌, []}
-use Rattle.std.proofs.lemmas.Bool.{and_parts}
+use Rattle.std.proofs.Common.{◌∙◌, sym, refl, Some, None}
 use Rattle.std.proofs.lemmas.Result.{err_from_is_err_and}
-use Rattle.aq_rules.specs.Office.Office.{observation_rank, rises}
-use Rattle.aq_rows.specs.OneMoreRow.{has_none}
 use Rattle.aq_rows.specs.Walking.{standing}
 use Rattle.aq_rows.proofs.Following.{observation-unsaid, observation-can_stand, observation-not-next, observation-not-kept, observation-refused, observation-follows}
 use Rattle.aq_rows.proofs.walk.Walk.take_observation.Goals as goal
@@ -32,8 +29,7 @@ put_observation-requires-clause-stands c =
 
 pub put_observation-requires-clause-rising : goal.put_observation-requires-clause-rising
 put_observation-requires-clause-rising c =
-    (and_parts (has_none c.args.self.now.loads) (rises observation_rank (c.args.self.now.shelf ++ (c.in-Some.key, c.in-Some.content) ∷ []))
-    (sym (c.is_next_observation.ensures c.in-Some.content) ∙ c.if-not-is_next_observation.false)).1
+    sym (c.is_next_observation.ensures c.in-Some.content) ∙ c.if-not-is_next_observation.false
 
 pub returns-in_err-put_observation-clause-refused : goal.returns-in_err-put_observation-clause-refused
 returns-in_err-put_observation-clause-refused c =

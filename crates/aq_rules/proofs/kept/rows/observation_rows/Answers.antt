@@ -64,3 +64,19 @@ returns-clause-twice c = refl
 pub returns-clause-two_spaces : goal.returns-clause-two_spaces
 unfolding digits days_of_years days_of_months year_of month_of last_digits office_texts key_texts site_in parameter_of monitor_in xm_record record_of_row observation_of_row are_office_rows hours_before_2000
 returns-clause-two_spaces c = refl
+
+pub returns-clause-method_0 : goal.returns-clause-method_0
+unfolding digits days_of_years days_of_months year_of month_of last_digits office_texts key_texts site_in parameter_of monitor_in xm_record record_of_row observation_of_row are_office_rows hours_before_2000
+returns-clause-method_0 c = refl
+
+pub returns-clause-last_method : goal.returns-clause-last_method
+unfolding digits days_of_years days_of_months year_of month_of last_digits office_texts key_texts site_in parameter_of monitor_in xm_record record_of_row observation_of_row are_office_rows hours_before_2000
+returns-clause-last_method c = refl
+
+pub returns-clause-beyond_methods : goal.returns-clause-beyond_methods
+unfolding digits days_of_years days_of_months year_of month_of last_digits office_texts key_texts site_in parameter_of monitor_in xm_record record_of_row observation_of_row are_office_rows hours_before_2000
+returns-clause-beyond_methods c = refl
+
+pub returns-clause-method_below_0 : goal.returns-clause-method_below_0
+unfolding digits days_of_years days_of_months year_of month_of last_digits office_texts key_texts site_in parameter_of monitor_in xm_record record_of_row observation_of_row are_office_rows hours_before_2000
+returns-clause-method_below_0 c = refl

@@ -32,3 +32,11 @@ returns-clause-no_records c = refl
 pub returns-clause-order : goal.returns-clause-order
 unfolding days_of_years days_of_months year_of month_of last_digits digits office_texts key_texts site_in parameter_of date_in time_in event_number_in event_code_in monitor_in xm_record xp_record xe_record xc_record record_of_row observation_of_row listed_in rest_in load_of_row are_office_rows office_of_rows damage rows_of hours_before_2000
 returns-clause-order c = refl
+
+pub returns-clause-version_1 : goal.returns-clause-version_1
+unfolding days_of_years days_of_months year_of month_of last_digits digits office_texts key_texts site_in parameter_of date_in time_in event_number_in event_code_in monitor_in xm_record xp_record xe_record xc_record record_of_row observation_of_row listed_in rest_in load_of_row are_office_rows office_of_rows damage rows_of hours_before_2000
+returns-clause-version_1 c = refl
+
+pub returns-clause-loads_before_observations : goal.returns-clause-loads_before_observations
+unfolding days_of_years days_of_months year_of month_of last_digits digits office_texts key_texts site_in parameter_of date_in time_in event_number_in event_code_in monitor_in xm_record xp_record xe_record xc_record record_of_row observation_of_row listed_in rest_in load_of_row are_office_rows office_of_rows damage rows_of hours_before_2000
+returns-clause-loads_before_observations c = refl

@@ -28,11 +28,11 @@ meets_limit monitor duration stands full registered absent =
     ∙ ap (λ b. cond b (Some AlreadyThere) (cond full (Some ObservationsFull) None)) absent
 
 pub returns-clause-full : goal.returns-clause-full
-returns-clause-full c office monitor duration method hour content registered absent full =
+returns-clause-full c office monitor duration hour content registered absent full =
     meets_limit (duration_at office monitor) duration (sample_stands office monitor hour) (nat_le 4000000 (length office.observations)) registered absent
     ∙ ap (λ b. cond b (Some ObservationsFull) None) (at (length office.observations) full)
 
 pub returns-clause-room : goal.returns-clause-room
-returns-clause-room c office monitor duration method hour content registered absent few =
+returns-clause-room c office monitor duration hour content registered absent few =
     meets_limit (duration_at office monitor) duration (sample_stands office monitor hour) (nat_le 4000000 (length office.observations)) registered absent
     ∙ ap (λ b. cond b (Some ObservationsFull) None) (below (length office.observations) few)
