@@ -7,11 +7,11 @@ use Rattle.aq_base.specs.declared.assumed.TheConstants.{MOST_ASSUMED}
 abbrev pub has_room : List Assumed → Bool
 has_room entries = nat_lt (length entries) MOST_ASSUMED
 
--- the list with one more entry at the end, or as it is where it is full
+-- the list with one more entry at the end, or as it is if it is full
 abbrev pub with_assumed : List Assumed → Assumed → List Assumed
 with_assumed entries assumed = if has_room entries then entries ++ assumed ∷ [] else entries
 
--- the entry that fills the places behind the last one
+-- the entry that fills the places after the last one
 abbrev pub no_entry : Assumed
 no_entry = record { number = 0; agreed = false }
 

@@ -41,7 +41,7 @@ abbrev pub day_number : ℕ → ℕ → ℕ → ℕ
 day_number year month day =
     days_of_years (year - FIRST_YEAR) + days_of_months year (month - 1) + (day - 1)
 
--- the number of a date, or nothing where the profile has no such date
+-- the number of a date, or nothing if the profile has no such date
 abbrev pub day_of_date : ℕ → ℕ → ℕ → Option ℕ
 day_of_date year month day = if is_date year month day then Some (day_number year month day) else None
 

@@ -19,7 +19,7 @@ abbrev pub unsigned_part : List ℕ → List ℕ
 unsigned_part [] = []
 unsigned_part (byte ∷ bytes) = if (byte == 43) || (byte == 45) then bytes else byte ∷ bytes
 
--- the digits before the point and behind it
+-- the digits before the point and after it
 abbrev pub whole_part : List ℕ → List ℕ
 whole_part text = before_first is_point (unsigned_part text)
 
@@ -35,7 +35,7 @@ is_decimal text =
     are_digits (whole_part text) && are_digits (fraction_part text)
     && nat_lt 0 (length (whole_part text ++ fraction_part text))
 
--- the number of a decimal text is this many units of 10 ^ -(its digits behind the point), its sign apart
+-- the number of a decimal text is this many units of 10 ^ -(its digits after the point), its sign apart
 abbrev pub digits_number : List ℕ → ℕ
 digits_number text = digits_value 10 (whole_part text ++ fraction_part text)
 
@@ -61,7 +61,7 @@ unfoldable pub last_digits : ℕ → ℕ → List ℕ
 last_digits zero n = []
 last_digits (suc count) n = last_digits count (n / 10) ++ (48 + n % 10) ∷ []
 
--- the text of v / 10 ^ places: a minus where v is negative, the whole part without leading zeros, and behind a point exactly `places` digits
+-- the text of v / 10 ^ places: a minus if v is negative, the whole part without leading zeros, and after a point exactly `places` digits
 abbrev pub fixed : ℤ → ℕ → List ℕ
 fixed v places =
     (if int_lt v (pos 0) then 45 ∷ [] else [])

@@ -1,8 +1,8 @@
--- Counts of faults, and objects in memory that fail at the calls that they are told to (own).
+-- Counts of faults, and objects in memory that fail at the calls that they are given (own).
 use Rattle.std.specs.Prelude.{◌≡◌, ℕ, ◌+◌, ◌-◌, ◌^◌, ◌<◌, ◌==◌, min, ◌⊎◌, Bool, List}
 use Rattle.std.specs.List.{list_any}
 
--- a count of faults rose, or stood at its greatest value, where it counts as risen
+-- a count of faults rose, or stood at its greatest value, which counts as risen
 abbrev pub HasRisen : ℕ → ℕ → Type 0
 HasRisen before after = (before < after) ⊎ ((before ≡ 2 ^ 64 - 1) × (after ≡ before))
 

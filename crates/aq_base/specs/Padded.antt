@@ -32,7 +32,7 @@ module _ {X : Type 0} (most : ℕ) (blank : X) where
   length-places places count holds =
       ap length holds.rest ∙ length-padded_to (take count places) (rw (length-held places count holds) holds.few)
 
-  -- one more item is held after it is written behind the others
+  -- one more item is held after it is written after the others
   pub take-push : (places : List X) (count : ℕ) (item : X) → Holds most blank places count → count < most
       → take (count + 1) (set places count item) ≡ take count places ++ item ∷ []
   take-push places count item holds room =

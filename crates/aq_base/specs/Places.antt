@@ -41,7 +41,7 @@ all_distinct-push (first ∷ codes) code distinct absent =
     let other : is_same_code code first ≡ false = same_code_comm code first ∙ apart.0 in
     rw (list_any-append (λ o. is_same_code o first) codes (code ∷ []), other, rest, or-false) (rw and-true parts.0)
 
--- one more code is held after it is written behind the others
+-- one more code is held after it is written after the others
 pub take-push : (places : List Code) (count : ℕ) (code : Code) → HoldsCodes places count → count < 10 → take (count + 1) (set places count code) ≡ take count places ++ code ∷ []
 take-push places count code holds room = take_more 10 blank places count code holds.held room
 

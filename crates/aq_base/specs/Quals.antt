@@ -15,11 +15,11 @@ abbrev pub all_distinct : List Code → Bool
 all_distinct [] = true
 all_distinct (code ∷ codes) = not (has_code code codes) && all_distinct codes
 
--- the codes with one more at the end, or as they are where it is there
+-- the codes with one more at the end, or as they are if it is there
 abbrev pub with_code : List Code → Code → List Code
 with_code codes code = if has_code code codes then codes else codes ++ code ∷ []
 
--- the code of no characters, which fills the places behind the last code
+-- the code of no characters, which fills the places after the last code
 abbrev pub blank : Code
 blank = record { first = 0; second = 0 }
 

@@ -19,13 +19,13 @@ all_sites_distinct (site ∷ sites) = not (has_site site sites) && all_sites_dis
 abbrev pub is_further_site : List Site → Site → Bool
 is_further_site sites site = not (has_site site sites) && nat_lt (length sites) MOST_AREA_SITES
 
--- the sites with one more at the end, or as they are where it cannot be added
+-- the sites with one more at the end, or as they are if it cannot be added
 abbrev pub with_further_site : List Site → Site → List Site
 with_further_site sites site = if is_further_site sites site then sites ++ site ∷ [] else sites
 
 -- ---- the places of the sites
 
--- the first site fills the places behind the last one
+-- the first site fills the places after the last one
 abbrev pub first_site : List Site → Site
 first_site sites = get_or sites 0 (record { state = 0; county = 0; number = 0 })
 

@@ -14,7 +14,7 @@ greatest_value Ozone = pos 9999
 greatest_value Pm25 = pos 99999
 greatest_value Pm10 = pos 99999
 
--- a value, where there is one, is in its pollutant's range
+-- a value, if there is one, is in its pollutant's range
 abbrev pub HasValueInRange : Pollutant → Observation → Type 0
 HasValueInRange pollutant content =
     IfSome content.value (λ value. (least_value ≤ℤ value) × (value ≤ℤ greatest_value pollutant))

@@ -46,7 +46,7 @@ impl SiteList {
         }
     }
 
-    /// Puts a site last. The answer is `false`, and nothing changes, exactly where the site is there or
+    /// Puts a site last. The answer is `false`, and nothing changes, exactly if the site is there or
     /// 32 sites are.
     pub fn add(&mut self, site: SiteId) -> bool
         ensures taken { result ≡ is_further_site self.old site }

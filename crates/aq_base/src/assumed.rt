@@ -66,7 +66,7 @@ impl AssumedList {
         }
     }
 
-    /// Puts an entry last. The answer is `false`, and nothing changes, exactly where 64 are there.
+    /// Puts an entry last. The answer is `false`, and nothing changes, exactly if 64 are there.
     pub fn add(&mut self, assumed: Assumed) -> bool
         ensures taken { result ≡ has_room self.old }
         ensures entries { self.new ≡ with_assumed self.old assumed }

@@ -38,3 +38,12 @@ pub const MOST_EVENT_HOURS: u32 = 8_784;
 
 /// An event's number is 1 to this.
 pub const LAST_EVENT_NUMBER: u32 = 999_999;
+
+/// A simulated office has at most this many sites.
+pub const MOST_GENERATED_SITES: u8 = 32;
+
+/// A simulated office has at least this many years, since a design value needs three.
+pub const FEWEST_GENERATED_YEARS: u8 = 3;
+
+/// A simulated office has at most this many years.
+pub const MOST_GENERATED_YEARS: u8 = 10;

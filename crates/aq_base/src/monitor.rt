@@ -19,7 +19,7 @@ pub enum Duration {
     Day,
 }
 
-/// A monitor: a site, a pollutant and the parameter occurrence code (POC), which tells apart the
+/// A monitor: a site, a pollutant and the parameter occurrence code (POC), which distinguishes the
 /// instruments for one pollutant at one site.
 #[derive(Clone, Copy, Debug, PartialEq, Eq, PartialOrd, Ord)]
 pub struct MonitorId {

@@ -116,8 +116,8 @@ impl OfficeRecord {
     }
 }
 
-/// What tells an office record apart from the others of its kind. It has no order: rows go by kind and
-/// printed key, where PM10 (81102) comes before PM2.5 (88101).
+/// What sets an office record apart from the others of its kind. It has no order: rows go by kind and
+/// printed key, in which PM10 (81102) comes before PM2.5 (88101).
 #[derive(Clone, Copy, Debug, PartialEq, Eq)]
 pub enum OfficeKey {
     Monitor {

@@ -25,7 +25,7 @@ impl SiteId {
     ghost use Rattle.std.specs.Prelude.{◌≡◌, ◌≤◌};
     ghost use Rattle.aq_base.specs.Site.{site_of};
 
-    /// The site with these parts, or `None` where the state is above 99, the county above 999 or the
+    /// The site with these parts, or `None` if the state is above 99, the county above 999 or the
     /// site's number above 9999.
     pub fn new(state: u8, county: u16, site: u16) -> Option<SiteId>
         ensures { result ≡ site_of state county site }

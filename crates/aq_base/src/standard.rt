@@ -86,7 +86,7 @@ pub enum Verdict {
     Met,
     NotMet,
     /// There is a design value, but too few samples were taken to rest a verdict on it. It may be above
-    /// the level too: for an annual PM2.5 standard where the minimum test fails, and for PM10.
+    /// the level too: for an annual PM2.5 standard if the minimum test fails, and for PM10.
     Incomplete,
     /// There is no design value.
     NoValue,

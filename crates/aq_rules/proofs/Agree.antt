@@ -1,4 +1,4 @@
--- A line spells a value exactly where it breaks no reading rule.
+-- A line spells a value exactly if it breaks no reading rule.
 use Rattle.std.proofs.Common.{◌≡◌, ℕ, Bool, true, false, cond, not, ◌&&◌, ◌||◌, List, [], ◌∷◌, Some, None, Option, refl, sym, ap, ◌∙◌, inl, inr, subst}
 use Rattle.std.specs.List.{AllByRecursion, list_any}
 use Rattle.std.specs.Prelude.{bytes_eq, codes, filter, find, is_some, is_none, ℤ, if◌then◌else◌}
@@ -22,7 +22,7 @@ use Rattle.aq_rules.specs.Lines.RdForm.{monitor_in, start_in, content_in, put_in
 use Rattle.aq_rules.specs.Lines.OfficeForms.{hour_in, is_season, is_makeup, is_span, is_pair, xm_record, xp_record, xp_key, xs_record, xs_key, xo_record, xo_key, xu_record, xu_key, xe_record, xe_key, xc_record, xa_record, xa_key, xb_record, xb_key}
 use Rattle.aq_rules.specs.Lines.Reading.{FIELD_RULES, demands_on, is_of_rule, breaks_in, rules_of, reported_value, fails, value_for, action_for, form_value, has_wrong_count, is_deletion, breaks_parts, rules_for, line_value, reading_rule, is_plain, tag_of}
 
--- a part that spells something, exactly where its rule is not broken
+-- a part that spells something, exactly if its rule is not broken
 agree : {A B : Type 0} (part : Option A) (next : A → Option B) (is_broken : Bool) (rule : Rule) (rest : Option Rule)
     → is_broken ≡ is_none part → ((x : A) → part ≡ Some x → is_some (next x) ≡ is_none rest)
     → is_some (part >>= next) ≡ is_none (cond is_broken (Some rule) rest)

@@ -76,7 +76,7 @@ module _ {X : Type 0} (rank : X → List ℕ) where
       by_test true e rest = same-is (rank row) key e
       by_test false e rest = rest
 
-  -- where the row found at a key is as it was, nothing is to be done
+  -- if the row found at a key is as it was, nothing is to be done
   pub as-before : (key at : List ℕ) (rows : List X) (row : Option X) → row_at rank key rows ≡ row → row_at rank at rows ≡ cond (is_same key at) row (row_at rank at rows)
   as-before key at rows row here = by_test (is_same key at) refl
     where

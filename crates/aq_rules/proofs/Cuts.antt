@@ -1,4 +1,4 @@
--- The strata of a quarter: its days in order, six at most in each, and no scheduled day behind the first of one.
+-- The strata of a quarter: its days in order, six at most in each, and no scheduled day after the first of one.
 use Rattle.std.proofs.Common.{◌≡◌, ℕ, zero, suc, ◌+◌, ◌-◌, ◌<◌, ◌≤◌, Bool, true, false, not, ◌||◌, cond, List, [], ◌∷◌, ◌++◌, length, drop, refl, ap, ◌∙◌, arith, append-nil}
 use Rattle.std.specs.Prelude.{⊤, ◌==◌, All}
 use Rattle.std.specs.List.{flat_map, range_with_len, list_all}
@@ -58,7 +58,7 @@ module _ (f : ℕ → Bool) where
   abbrev joined : List (List ℕ) → List ℕ
   joined strata = flat_map (λ days. days) strata
 
-  -- the strata from the one that began at `start`, where the days from `day` on are still to be cut
+  -- the strata from the one that began at `start`, if the days from `day` on are still to be cut
   abbrev rest : ℕ → ℕ → ℕ → ℕ → List (List ℕ)
   rest end start day n = strata_from end (start ∷ first_days_after f start (range_with_len day n))
 

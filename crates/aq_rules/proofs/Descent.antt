@@ -41,7 +41,7 @@ at_least-cons p x xs = sum_by-cons (λ v. cond (int_le p v) 1 0) x xs
 not_above_next : (p x y : ℤ) → int_lt p x ≡ false → int_lt x y ≡ false → int_lt p y ≡ false
 not_above_next p x y h k = grind (arith, ints)
 
--- nothing behind a value is above what it is not above
+-- nothing after a value is above what it is not above
 none_above : (p x : ℤ) (xs : List ℤ) → int_lt p x ≡ false → Descends (x ∷ xs) → above p xs ≡ 0
 none_above p x [] h falls = refl
 none_above p x (y ∷ ys) h falls =

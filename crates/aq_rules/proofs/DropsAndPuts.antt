@@ -93,7 +93,7 @@ drop-front first p (row ∷ front) back others = λ i.
 drop-itself : (first : Row) (back : List Row) → drop_row (row_key first) (first ∷ back) ≡ drop_row (row_key first) back
 drop-itself first back = ap (λ b. cond (not b) (first ∷ drop_row (row_key first) back) (drop_row (row_key first) back)) ((pointwise_decides Decides-int_eq (columns (row_key first)) (columns (row_key first))).1 refl)
 
--- what stands behind has other keys
+-- what stands after has other keys
 drop-back : (first : Row) → is_first first ≡ true → (back : List Row) → keys_rise_from (row_key first) (map row_key (filter is_first back)) ≡ true → drop_row (row_key first) back ≡ back
 drop-back first p [] rise = refl
 drop-back first p (row ∷ back) rise = by_test (is_first row) refl rise (drop-back first p back)
@@ -138,7 +138,7 @@ first-before_row row (x ∷ rows) back key rise =
     let parts = and_parts (key_before key (row_key x)) (keys_rise_from (row_key x) (map row_key (rows ++ row ∷ back))) rise in
     first-before_row row rows back key (from-earlier key (row_key x) (map row_key (rows ++ row ∷ back)) parts.0 parts.1)
 
--- a row that comes after all others is put behind them
+-- a row that comes after all others is put after them
 put-last : (row : Row) (rows back : List Row) → keys_rise (map row_key (rows ++ row ∷ back)) ≡ true → put_row row rows ≡ rows ++ row ∷ []
 put-last row [] back rise = refl
 put-last row (first ∷ rows) back rise =

@@ -30,7 +30,7 @@ descends-take zero xs falls = tt
 descends-take (suc n) [] falls = tt
 descends-take (suc n) (x ∷ xs) falls = (next-take n x xs falls.0, descends-take n xs falls.1)
 
--- ---- what stands behind the first n does not count for the first n
+-- ---- what stands after the first n does not count for the first n
 
 behind : (n : ℕ) (y : ℤ) (ys : List ℤ) → take n (y ∷ take n ys) ≡ take n (y ∷ ys)
 behind zero y ys = refl

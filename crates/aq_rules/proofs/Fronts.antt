@@ -25,7 +25,7 @@ use Rattle.aq_rules.specs.Lines.Spellings.{◌>>=◌}
 use Rattle.aq_rules.specs.Office.Office.{Office, StoredLoad, IsOffice, observation_rank, load_rank, fits_monitors, is_load, is_same, comes_before, rises_from, rises, part_numbers, kind_of, key_of, record_rank, monitor_duration, registers, has_monitor, has_its_monitor, has_its_event, group_of, group_size, most_in_group, is_record, fits_records, site_numbers, series_numbers, makes_up_on, makeups_on, combines_either, combinations_of, is_alone, with_site, sites_of}
 use Rattle.aq_rules.proofs.Elements.{Every, every-to}
 
--- ---- the records behind one have its kind or a greater one
+-- ---- the records after one have its kind or a greater one
 
 abbrev kind : OfficeRecord → ℕ
 kind r = kind_of (key_of r)
@@ -56,7 +56,7 @@ rises-rest : (r : OfficeRecord) (records : List OfficeRecord) → rises_from rec
 rises-rest r [] rising = refl
 rises-rest r (s ∷ records) rising = (and_parts (comes_before (record_rank r) (record_rank s)) (rises_from record_rank s records) rising).1
 
--- of records that rise, those behind a front have the kind of each record of the front or a greater one
+-- of records that rise, those after a front have the kind of each record of the front or a greater one
 every-split : {X : Type 0} (P : X → Type 0) (xs ys : List X) → Every P (xs ++ ys) → Every P xs × Every P ys
 every-split P [] ys every = (tt, every)
 every-split P (x ∷ xs) ys every = let parts = every-split P xs ys every.1 in ((every.0, parts.0), parts.1)

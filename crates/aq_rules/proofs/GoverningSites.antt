@@ -78,7 +78,7 @@ pub least_site-is : (sites : List Site) → MatchOption (least_site sites) (site
 least_site-is [] = refl
 least_site-is (a ∷ xs) = least-matches (a ∷ xs) (fold lower_site (Some a) xs) (least-from a xs)
 
--- ---- a row governs where a row has a value
+-- ---- a row governs if a row has a value
 
 is_itself : (v : ℤ) → int_eq v v ≡ true
 is_itself v = (Decides-int_eq v v).1 refl

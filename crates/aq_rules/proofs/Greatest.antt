@@ -7,7 +7,7 @@ use Rattle.std.proofs.lemmas.List.Elements.{All-cons, All-tail}
 use Rattle.std.specs.Int.{int_max}
 use Rattle.aq_rules.specs.Lists.{greater, greatest, later, latest}
 
--- an element behind the first one
+-- an element after the first one
 further : {X : Type 0} (x : X) (xs : List X) (y : X) → Contains xs y → Contains (x ∷ xs) y
 further x xs y h = (suc h.0, omega (arith, h.1), h.2)
 

@@ -1,4 +1,4 @@
--- Words with single spaces between them: the first, and each further one behind a space.
+-- Words with single spaces between them: the first, and each further one after a space.
 use Rattle.std.proofs.Common.{◌≡◌, ℕ, List, [], ◌∷◌, ◌++◌, sym, ap}
 use Rattle.std.proofs.lemmas.List.{append-nil}
 use Rattle.std.specs.Prelude.{codes}

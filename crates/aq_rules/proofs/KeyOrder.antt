@@ -245,7 +245,7 @@ ordered-parameter Pm10 Ozone = record { len = refl; before = refl; same = refl }
 ordered-parameter Pm10 Pm25 = record { len = refl; before = refl; same = refl }
 ordered-parameter Pm10 Pm10 = record { len = refl; before = refl; same = refl }
 
--- a part with a bar behind it, and the last part
+-- a part with a bar after it, and the last part
 part : (xs ys us vs : List ℕ) (m n : ℕ) (ms ns : List ℕ) → Ordered xs ys m n → comes_before us vs ≡ comes_before ms ns
     → comes_before (xs ++ 124 ∷ us) (ys ++ 124 ∷ vs) ≡ comes_before (m ∷ ms) (n ∷ ns)
 part xs ys us vs m n ms ns o rest = before-two xs ys m n (124 ∷ us) (124 ∷ vs) _ o rest
@@ -258,7 +258,7 @@ last_part xs ys m n o = o.before ∙ nothing_behind (nat_lt m n) (m == n)
     nothing_behind false true = refl
     nothing_behind false false = refl
 
--- a site with parts behind it
+-- a site with parts after it
 site_parts : (s t : Site) (us vs ms ns : List ℕ) → is_site s ≡ true → is_site t ≡ true → comes_before us vs ≡ comes_before ms ns
     → comes_before (joined (site_texts s ++ us ∷ [])) (joined (site_texts t ++ vs ∷ [])) ≡ comes_before (site_numbers s ++ ms) (site_numbers t ++ ns)
 site_parts s t us vs ms ns p q rest =

@@ -22,7 +22,7 @@ use Rattle.aq_rules.specs.Least.{IsLeastBroken, rule_rank}
 one_before : (a b : ℕ) → comes_before (a ∷ []) (b ∷ []) ≡ true → a < b
 one_before a b h = grind (arith, nat_tests)
 
--- the rules behind one in a rising list have greater numbers
+-- the rules after one in a rising list have greater numbers
 above : (n : ℕ) (first : Rule) (rest : List Rule) → n ≤ rule_number first → rises_from rule_rank first rest ≡ true
     → AllByRecursion (λ other. n < rule_number other) rest
 above n first [] small rising = tt

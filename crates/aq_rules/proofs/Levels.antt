@@ -59,7 +59,7 @@ pm10-met (Some v) true unambiguous h = by_test (int_le v (level_of Pm10Of1987)) 
     by_test true h = refl
     by_test false h = cc
 
--- ---- PM2.5 of 24 hours: a year with a percentile is valid where the value is above the level, since it has a creditable sample
+-- ---- PM2.5 of 24 hours: a year with a percentile is valid if the value is above the level, since it has a creditable sample
 
 counted-creditable : (office : Office) (site : Site) (quarter : ℕ) → (quarter_counts office site quarter).counted ≤ (quarter_counts office site quarter).creditable
 unfolding quarter_counts

@@ -115,7 +115,7 @@ module _ {X : Type 0} (rank : X → List ℕ) where
       ap (λ b. cond b (Some first) (At key (next ∷ rows))) (before-other_way key (rank first) before)
       ∙ none-before key next rows (before-trans key (rank first) (rank next) before parts.0) parts.1
 
-  -- nor is the first row's key found behind it
+  -- nor is the first row's key found after it
   pub none-behind : (first : X) (rows : List X) → rises_from rank first rows ≡ true → At (rank first) rows ≡ None
   none-behind first [] rising = refl
   none-behind first (next ∷ rows) rising =

@@ -5,7 +5,7 @@ use Rattle.std.specs.List.Sorted.{IsPermutation}
 use Rattle.std.specs.Prelude.{Option, Some, None}
 use Rattle.std.proofs.lemmas.List.Sorted.{IsPermutation-keeps, IsPermutation-refl, IsPermutation-trans, IsPermutation-cons, IsPermutation-middle}
 
--- a relation that holds of a list and itself, is passed on, and stays where a first item is put before both lists or the first two items change places, holds of a list and each of its orders
+-- a relation that holds of a list and itself, is passed on, and stays if a first item is put before both lists or the first two items change places, holds of a list and each of its orders
 module _ {X : Type 0} (Same : List X → List X → Type 0) (same : (xs : List X) → Same xs xs)
     (joined : (xs ys zs : List X) → Same xs ys → Same ys zs → Same xs zs)
     (next : (x : X) (xs ys : List X) → Same xs ys → Same (x ∷ xs) (x ∷ ys))

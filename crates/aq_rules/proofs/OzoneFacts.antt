@@ -42,7 +42,7 @@ use Rattle.aq_rules.proofs.Pm25Counts.{is_record-of}
 use Rattle.aq_rules.proofs.Pm25Range.{measured-of, measured-in_range}
 use Rattle.aq_rules.proofs.ValueRange.{InRangeTo, SumTo, IfValueTo, CellTo, IfCellTo, SampleTo, IfSampleTo, from_test, to_test, total-between, trunc-in_range, value-onto, greatest-in_range, every-ranked, at-in_range, cell-onto, found-in_range, chosen-in_range}
 
--- the greatest value that a line can tell
+-- the greatest value that a line can state
 abbrev top : ℕ
 top = 9999
 

@@ -17,7 +17,7 @@ use Rattle.aq_rules.proofs.Descent.{Descends, ranked-descends, length-ranked}
 use Rattle.aq_rules.proofs.Eight.{descends-take, slice_get-front}
 use Rattle.aq_rules.proofs.KeptSums.{days-summary, greatest-summary}
 
--- ---- there is a least and a greatest value where there is one
+-- ---- there is a least and a greatest value if there is one
 
 some_lesser : (x : ℤ) (o : Option ℤ) → is_some (lesser_of (Some x) o) ≡ true
 some_lesser x None = refl
@@ -67,7 +67,7 @@ max_first x y = grind (arith, ints)
 max_second : (x y : ℤ) → y ≤ℤ int_max x y
 max_second x y = grind (arith, ints)
 
--- where there is no least value there is no value
+-- if there is no least value there is no value
 no_values : (values : List ℤ) → is_some (least values) ≡ false → values ≡ []
 no_values [] none = refl
 no_values (v ∷ vs) none = let some = least-there (v ∷ vs) in let h = one_or_more (length vs) in cc

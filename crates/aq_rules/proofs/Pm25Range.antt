@@ -36,7 +36,7 @@ use Rattle.aq_rules.proofs.Pm10Facts.{length-days, length-filter-le}
 use Rattle.aq_rules.proofs.Pm25Counts.{HoldsDays, counts-keep}
 use Rattle.aq_rules.proofs.ValueRange.{InRangeTo, SumTo, IfValueTo, CellTo, IfCellTo, SampleTo, from_test, to_test, total-between, trunc-in_range, value-onto, least-in_range, greatest-in_range, every-ranked, cell-onto, found-in_range, chosen-in_range}
 
--- the greatest value that a line can tell
+-- the greatest value that a line can state
 abbrev top : ℕ
 top = 99999
 

@@ -53,7 +53,7 @@ every-flat P Q f h (x ∷ xs) every = every-append Q (f x) (flat_map f xs) (h x 
 
 -- ---- means
 
--- where the quarter has a day
+-- if the quarter has a day
 abbrev pub MeanIn : Fraction → Type 0
 MeanIn f = has_days f ≡ true → Part 999 99999 f
 

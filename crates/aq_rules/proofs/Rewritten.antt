@@ -1,4 +1,4 @@
--- Rows that are an office's are the rows of that office; so rows are an office's exactly where none is damaged.
+-- Rows that are an office's are the rows of that office; so rows are an office's exactly if none is damaged.
 use Rattle.std.proofs.Common.{◌≡◌, ℕ, ◌+◌, ◌≤◌, Bool, true, false, ◌&&◌, cond, List, [], ◌∷◌, ◌++◌, map, refl, sym, ap, subst, ◌∙◌, arith}
 use Rattle.std.specs.Prelude.{ℤ, Option, Some, None, is_some, nat_le, bytes_eq, sum_by, length}
 use Rattle.std.specs.Option.{option_eq}

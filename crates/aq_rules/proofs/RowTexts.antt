@@ -169,7 +169,7 @@ unspaced-append [] ys h k = k
 unspaced-append (x ∷ xs) ys h k =
     let parts = and_parts (not (is_space x)) (unspaced xs) h in and_from (not (is_space x)) (unspaced (xs ++ ys)) parts.0 (unspaced-append xs ys parts.1 k)
 
--- the part before a colon and the part behind it
+-- the part before a colon and the part after it
 colon-before : (ds rest : List ℕ) → are_digits ds ≡ true → before_first is_colon (ds ++ 58 ∷ rest) ≡ ds
 colon-before [] rest h = refl
 colon-before (c ∷ ds) rest h =

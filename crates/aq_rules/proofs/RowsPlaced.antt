@@ -112,7 +112,7 @@ module _ {X : Type 0} where
       let here : cond {A = ℕ} (p x) 1 0 ≡ 1 = ap (λ b. cond {A = ℕ} b 1 0) h in
       omega (arith, count_joined p front back x)
 
-  -- none is counted where a wider search finds none
+  -- none is counted if a wider search finds none
   pub count_none : (p q : X → Bool) (xs : List X) → ((x : X) → p x ≡ true → q x ≡ true) → find q xs ≡ None → count_by p xs ≡ 0
   count_none p q [] h none = refl
   count_none p q (x ∷ xs) h none =
@@ -257,7 +257,7 @@ module _ {X : Type 0} (rank : X → List ℕ) where
                 record { front = first ∷ rest.front; back = rest.back; before = ap (λ l. first ∷ l) rest.before; after = ap (λ l. first ∷ l) rest.after }
           ]
 
-  -- what is found stays where a row with another rank comes
+  -- what is found stays if a row with another rank comes
   pub row_at-inserted : (row : X) (rows : List X) (key : List ℕ) (found : X) → row_at rank (rank row) rows ≡ None → row_at rank key rows ≡ Some found
       → row_at rank key (with_row rank row rows) ≡ Some found
   row_at-inserted row rows key found none is =

@@ -170,7 +170,7 @@ clean-unit Ozone = refl
 clean-unit Pm25 = refl
 clean-unit Pm10 = refl
 
--- ---- the fields of a sample's line, with the value's field and those behind it
+-- ---- the fields of a sample's line, with the value's field and those after it
 
 abbrev put_texts_by : List ℕ → MonitorId → Duration → List ℕ → ℕ → List (List ℕ) → List (List ℕ)
 put_texts_by action id d method hour rest =

@@ -1,4 +1,4 @@
--- What tests on Booleans and numbers say, where std has no word for it.
+-- What tests on Booleans and numbers say, if std has no word for it.
 use Rattle.std.proofs.Common.{◌≡◌, Bool, true, false, ◌||◌, refl, sym}
 use Rattle.std.specs.Prelude.{ℤ}
 use Rattle.std.specs.Ordering.{int_eq}

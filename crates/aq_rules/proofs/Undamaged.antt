@@ -27,7 +27,7 @@ one_more : {X : Type 0} (write : X → Row) (before : List Row) (xs : List X) (x
 one_more write before xs x =
     append_assoc before (map write xs) (write x ∷ []) ∙ ap (λ l. before ++ l) (sym (map-append write xs (x ∷ [])))
 
--- the rows of a list are passed one after the other, where each front of it keeps the rows an office's
+-- the rows of a list are passed one after the other, if each front of it keeps the rows an office's
 module _ {X : Type 0} (write : X → Row) (before : List Row) (all : List X)
     (good : (xs ys : List X) → all ≡ xs ++ ys → are_office_rows (before ++ map write xs) ≡ true) where
   passed : (xs ys : List X) (rest : List Row) → all ≡ xs ++ ys → damaged_at (before ++ map write xs) (map write ys ++ rest) ≡ damaged_at (before ++ map write all) rest

@@ -348,7 +348,7 @@ module _ (office : Office) (r : OfficeRecord) (may : MayJoin office r) where
 
 -- ---- a record that takes another's place
 
--- two records that the others cannot tell apart
+-- two records that the others cannot separate
 pub record Alike (old r : OfficeRecord) : Type 0 where
   pub rank : record_rank old ≡ record_rank r
   pub duration : monitor_duration old ≡ monitor_duration r

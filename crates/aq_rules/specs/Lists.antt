@@ -22,7 +22,7 @@ lesser (Some other) value = Some (int_min other value)
 abbrev pub least : List ℤ → Option ℤ
 least values = fold lesser None values
 
--- all, or nothing where one is missing
+-- all, or nothing if one is missing
 abbrev pub all_of : {X : Type 0} → List (Option X) → Option (List X)
 all_of [] = Some []
 all_of (None ∷ xs) = None

@@ -36,7 +36,7 @@ pub fn averages_on_the_day_before_a_site_is_joined()
         ≡ Some (replicate 12 (Some (pos 80)) ++ replicate 5 None) }
 {}
 
-/// Before the day the joined site's hours are not read. From then on they are, and the site's where
+/// Before the day the joined site's hours are not read. From then on they are, and the site's if
 /// there is none. An excluded hour of the joined site is there, and hides the site's. Approved days are
 /// the site's before the day, and the joined site's from then on. The season is the site's, of June and
 /// July: one of its days is valid by its averages, and another one is approved.
@@ -57,7 +57,7 @@ pub fn hours_and_approvals_of_a_pair()
 /// each third one. So of the pair the 1st, 7th and 13th are scheduled, and each third day from the 16th
 /// on: 29 of the quarter. So a sample of the 17th makes up for the 13th at the site alone, and not in the
 /// pair. The joined site's sample of the 20th makes up for the 13th, a week before, of
-/// the site; then it does not make up for the 19th of the joined site. Where the 13th has a sample, its
+/// the site; then it does not make up for the 19th of the joined site. If the 13th has a sample, its
 /// make-up gives no credit, and takes none from that of the 19th. Make-ups of the site from the 15th on
 /// and of the joined site before it are not read.
 pub fn schedules_and_makeups_of_a_pair()
@@ -76,8 +76,8 @@ pub fn schedules_and_makeups_of_a_pair()
     ensures counts_not_missed { pair_counts not_missed winter_pair (quarter_number 2024 0) ≡ record { scheduled = 29; creditable = 2; counted = 2 } }
 {}
 
-/// There are averages of a pair where the site is the first of a combination for ozone, and a design
-/// value where it is of one for the standard's pollutant. There is no pair for PM10.
+/// There are averages of a pair if the site is the first of a combination for ozone, and a design
+/// value if it is of one for the standard's pollutant. There is no pair for PM10.
 pub fn pairs_are_where_sites_are_combined()
     ensures averages { (office : Office) (site : Site) (day : ℕ)
         → is_some (pair_windows office site day) ≡ is_some (combined office.records site Ozone) }

@@ -36,7 +36,7 @@ pub fn annual_standards_have_their_own_levels()
 {}
 
 /// A standard is met only by a design value at or below its level. That of ozone or PM2.5 is not met only
-/// where the design value is above the level; of PM10 the exceedances may show it without one. A 24-hour
+/// if the design value is above the level; of PM10 the exceedances may show it without one. A 24-hour
 /// PM2.5 design value of 36 µg/m3 or more is not met.
 pub fn verdicts_follow_the_level()
     ensures met { (standard : Standard) (office : Office) (site : Site) (year : ℕ) → verdict_in (design_value standard office site year) ≡ Met

@@ -72,7 +72,7 @@ pub fn events_that_decide_a_pm10_verdict()
     ensures known { unknown_event (dusty 2024 []) (as_if 4 true ∷ as_if 6 true ∷ as_if 3 false ∷ []) ≡ None }
 {}
 
-/// The events of a site and pollutant come by rising number, each once, where the keys of the records
+/// The events of a site and pollutant come by rising number, each once, if the keys of the records
 /// rise.
 pub fn events_come_by_rising_number()
     ensures { (office : Office) (site : Site) (pollutant : Pollutant)

@@ -39,7 +39,7 @@ lower_site (Some other) site = Some (if comes_before (site_numbers site) (site_n
 abbrev pub least_site : List Site → Option Site
 least_site sites = fold lower_site None sites
 
--- the least of the sites with the greatest value; none where no site has a value
+-- the least of the sites with the greatest value; none if no site has a value
 abbrev pub governing_site : List SiteValue → Option Site
 governing_site rows =
     option_and_then (λ value. least_site (map site_in (filter (has_value value) rows))) (greatest_value rows)

@@ -30,7 +30,7 @@ abbrev pub of_last_two : {X : Type 0} → (X → X → LastTwo) → List (Option
 of_last_two make (first ∷ Some before ∷ Some last ∷ []) = Some (make before last)
 of_last_two make _ = None
 
--- a mean of means that is not rounded; none where a quarter has no day
+-- a mean of means that is not rounded; none if a quarter has no day
 abbrev pub exact_mean_of : List Fraction → Option Fraction
 exact_mean_of means =
     if list_all has_days means then Some ((sum_of_fractions means).0, length means * (sum_of_fractions means).1) else None
@@ -38,7 +38,7 @@ exact_mean_of means =
 abbrev pub exact_mean : PmYear → Option Fraction
 exact_mean year = exact_mean_of (map (of_summaries.mean_with []) year.quarters)
 
--- none where one of the two years lacks its part
+-- none if one of the two years lacks its part
 abbrev pub last_two : DesignValue → Option LastTwo
 last_two (OfOzone years design) = of_last_two Fourths (map (λ (year : OzoneYear). year.fourth) years)
 last_two (OfAnnual years design) = of_last_two Means (map exact_mean years)

@@ -38,7 +38,7 @@ pair_of office site pollutant =
 
 -- ---- what the pair reads
 
--- before the day the site's; from the day on the joined site's where there is one, else the site's. An excluded value is there, and hides the site's
+-- before the day the site's; from the day on the joined site's if there is one, else the site's. An excluded value is there, and hides the site's
 abbrev pub of_either : Pair → ℕ → (Site → Option Cell) → Option Cell
 of_either pair day cell_of =
     if nat_lt day pair.from then cell_of pair.site else option_or (cell_of pair.joined) (cell_of pair.site)
@@ -125,7 +125,7 @@ pair_pm25_year office pair year = map (pair_quarter office pair) (quarters_of ye
 
 -- ---- the answers
 
--- the day's averages, where the site is the first of a pair for ozone
+-- the day's averages, if the site is the first of a pair for ozone
 unfoldable pub pair_windows : Office → Site → ℕ → Option (List WindowRow)
 pair_windows office site day = option_map (λ pair. pair_windows_on office pair day) (pair_of office site Ozone)
 
@@ -144,7 +144,7 @@ annual_value_of level years = OfAnnual (map summary_of_year years) (annual_dv le
 abbrev pub daily_value_of : List (List QuarterDays) → DesignValue
 daily_value_of years = OfDaily (map summary_of_year years) (daily_dv years)
 
--- the design value of three years, where the site is the first of a pair for the standard's pollutant. PM10 has no pairs
+-- the design value of three years, if the site is the first of a pair for the standard's pollutant. PM10 has no pairs
 unfoldable pub pair_value : Standard → Office → Site → ℕ → Option DesignValue
 pair_value Ozone2015 office site year = option_map (λ pair. ozone_value_of (pair_ozone_years office year pair)) (pair_of office site Ozone)
 pair_value Annual2012 office site year = option_map (λ pair. annual_value_of (level_of Annual2012) (pair_pm25_years office year pair)) (pair_of office site Pm25)

@@ -52,7 +52,7 @@ can_be_opened rows = are_office_rows rows || are_version_1 rows
 abbrev pub FirstUnopened : List Row → Place → Type 0
 FirstUnopened rows place = FirstBad can_be_opened rows place
 
--- its place; none where all rows can be opened
+-- its place; none if all rows can be opened
 unfoldable pub opening_damage : List Row → Option Place
 opening_damage rows = first_bad can_be_opened [] rows
 

@@ -226,7 +226,7 @@ look_ups site pollutant _ = 0
 abbrev pub day_steps : List OfficeRecord → Site → Pollutant → ℕ
 day_steps records site pollutant = 16 + sum_by (look_ups site pollutant) records
 
--- how many steps are enough to bring a cell up to date, where these rows changed:
+-- how many steps are enough to bring a cell up to date, if these rows changed:
 --   an ozone hour          40: eight look-ups before the change, after it and in finding the hour; eight averages with two sums each
 --   an average, a day       4: the sums of its day, and of its year
 --   an ozone year         732: 366 days in two sums, if a season or an approved day of it changed, and else none

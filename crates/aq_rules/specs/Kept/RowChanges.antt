@@ -90,7 +90,7 @@ abbrev pub changed_key : RowChange → RowKey
 changed_key (PutRow row) = row_key row
 changed_key (DropRow key) = key
 
--- the rows with this one at its place, where it takes the place of one with its key
+-- the rows with this one at its place, if it takes the place of one with its key
 abbrev pub put_row : Row → List Row → List Row
 put_row row [] = row ∷ []
 put_row row (first ∷ rows) =
@@ -108,7 +108,7 @@ with_row_change rows (DropRow key) = drop_row key rows
 abbrev pub with_row_changes : List Row → List RowChange → List Row
 with_row_changes rows changes = fold with_row_change rows changes
 
--- whether a change changes these rows: a put where this row does not stand, a drop where one stands at the key
+-- whether a change changes these rows: a put if this row does not stand, a drop if one stands at the key
 abbrev pub Alters : List Row → RowChange → Type 0
 Alters rows (PutRow row) = row_with (row_key row) rows ≡ Some row → ⊥
 Alters rows (DropRow key) = IsSome (row_with key rows)

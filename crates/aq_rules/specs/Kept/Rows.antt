@@ -129,13 +129,13 @@ rows_of office =
     ++ map (λ l. OfLoadRow (load_row l)) office.loads
     ++ map (λ o. OfSecondRow (obs_row o)) office.observations
 
--- ---- what a row says: it counts only where it is the row of that
+-- ---- what a row says: it counts only if it is the row of that
 
 abbrev pub whole : ℤ → Option ℕ
 whole (pos n) = Some n
 whole (negsuc n) = None
 
--- the hour that a row counts, or nothing where it comes before the profile
+-- the hour that a row counts, or nothing if it comes before the profile
 abbrev pub hour_of_stored : ℤ → Option ℕ
 hour_of_stored stored = whole (stored +ℤ pos hours_before_2000)
 
@@ -164,7 +164,7 @@ pollutant_with n = find (λ p. pollutant_number p == n) (Ozone ∷ Pm25 ∷ Pm10
 abbrev pub words : List ℕ → List (List ℕ)
 words text = if is_empty text then [] else slice_split is_space text
 
--- what each part says, or nothing where one says nothing
+-- what each part says, or nothing if one says nothing
 abbrev pub each : {X : Type 0} → (List ℕ → Option X) → List (List ℕ) → Option (List X)
 each read [] = Some []
 each read (text ∷ texts) = read text >>= (λ x. option_map (λ xs. x ∷ xs) (each read texts))
@@ -321,6 +321,6 @@ FirstDamaged rows place = FirstBad are_office_rows rows place
 abbrev pub damaged_at : List Row → List Row → Option Place
 damaged_at before rows = first_bad are_office_rows before rows
 
--- its place, found from the first row on; none where all rows are an office's
+-- its place, found from the first row on; none if all rows are an office's
 unfoldable pub damage : List Row → Option Place
 damage rows = damaged_at [] rows

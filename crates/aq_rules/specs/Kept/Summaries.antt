@@ -12,7 +12,7 @@ use Rattle.aq_rules.specs.Ozone.OzoneYear.{OzoneYear}
 use Rattle.aq_rules.specs.Particles.QuarterCounts.{QuarterCounts, QuarterDays, pm25_year, values_in}
 use Rattle.aq_rules.specs.Particles.Pm10Estimate.{Pm10Quarter}
 
--- a value, where there is one, is in its pollutant's range
+-- a value, if there is one, is in its pollutant's range
 abbrev pub is_value : Pollutant → Option ℤ → Bool
 is_value pollutant value = option_map_or (is_in_range pollutant) value true
 

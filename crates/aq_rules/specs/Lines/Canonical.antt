@@ -36,7 +36,7 @@ abbrev pub duration_text : Duration → List ℕ
 duration_text Hour = codes "1"
 duration_text Day = codes "7"
 
--- the unit in which values are written, and the places behind the point
+-- the unit in which values are written, and the places after the point
 abbrev pub unit_text : Pollutant → List ℕ
 unit_text Ozone = codes "007"
 unit_text Pm25 = codes "105"
@@ -139,7 +139,7 @@ deletion_texts (ConcurrenceKey number) = decimal number ∷ []
 deletion_texts (ApprovedKey site day) = site_texts site ++ date_text day ∷ []
 deletion_texts (CombinedKey site pollutant) = series_texts site pollutant
 
--- what a record's line has behind the fields of its key
+-- what a record's line has after the fields of its key
 abbrev pub content_texts : OfficeRecord → List (List ℕ)
 content_texts (Monitor id duration eligible) = duration_text duration ∷ truth_text eligible ∷ []
 content_texts (Primary site pollutant from poc) = decimal poc ∷ []

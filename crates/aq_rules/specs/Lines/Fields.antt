@@ -33,6 +33,6 @@ trimmed text = without_back (without_front text)
 abbrev pub fields : List ℕ → List (List ℕ)
 fields line = map trimmed (slice_split is_bar line)
 
--- a field by its number from 1, empty where the line has none
+-- a field by its number from 1, empty if the line has none
 abbrev pub field : ℕ → List (List ℕ) → List ℕ
 field number texts = slice_index_or texts (number - 1) []

@@ -20,7 +20,7 @@ or_two a b = ap (λ c. a || c) (or_false b)
 or_three : (a b c : Bool) → (a || (b || (c || false))) ≡ (a || (b || c))
 or_three a b c = ap (λ d. a || d) (or_two b c)
 
--- a site is spelled where its three numbers are
+-- a site is spelled if its three numbers are
 three_parts : {A B C D : Type 0} (one : Option A) (two : Option B) (three : Option C) (f : A → B → C → D)
     → (is_none one || (is_none two || (is_none three || false))) ≡ is_none (one >>= λ x. two >>= λ y. three >>= λ z. Some (f x y z))
 three_parts None two three f = refl
@@ -47,7 +47,7 @@ two_sites_spelled state county number joined_state joined_county joined_number =
     ∙ ap (λ b. b || (is_none (digits_in 2 joined_state) || (is_none (digits_in 3 joined_county) || (is_none (digits_in 4 joined_number) || false)))) (site_spelled state county number)
     ∙ ap (λ b. is_none (site_in state county number) || b) (site_spelled joined_state joined_county joined_number)
 
--- a rule and those behind it
+-- a rule and those after it
 link : {a b : Bool} (rule : Rule) {rest others : Option Rule} → a ≡ b → rest ≡ others → cond a (Some rule) rest ≡ cond b (Some rule) others
 link {a} {b} rule {rest} {others} same more = ap (λ c. cond c (Some rule) rest) same ∙ ap (λ o. cond b (Some rule) o) more
 

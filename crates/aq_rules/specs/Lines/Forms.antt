@@ -32,7 +32,7 @@ pub data Row : Type 0 where
   -- a field that may hold any text
   Unread : (place : ℕ) → Row
 
--- what a form may do, and its fields behind the tag and the action
+-- what a form may do, and its fields after the tag and the action
 pub record Form : Type 0 where
   pub inserts : Bool
   pub updates : Bool
@@ -193,7 +193,7 @@ acts tag Delete = (form tag).deletes
 
 -- ---- a field by its name
 
--- names are told apart by numbers
+-- names are distinguished by numbers
 abbrev pub name_number : FieldName → ℕ
 name_number State = 1
 name_number County = 2
@@ -247,7 +247,7 @@ abbrev pub text_at : Option Row → List (List ℕ) → List ℕ
 text_at None texts = []
 text_at (Some row) texts = field (place_of row) texts
 
--- the text of a form's field, empty where the form has no such field
+-- the text of a form's field, empty if the form has no such field
 abbrev pub text_of : Tag → FieldName → List (List ℕ) → List ℕ
 text_of tag name texts = text_at (row_of tag name) texts
 
@@ -290,7 +290,7 @@ is_needed (Unread place) = false
 abbrev pub key_rows : Tag → List Row
 key_rows tag = filter is_key (form tag).rows
 
--- the last place of rows that stand behind the given place
+-- the last place of rows that stand after the given place
 abbrev pub last_place : ℕ → List Row → ℕ
 last_place place [] = place
 last_place place (row ∷ rows) = last_place (place_of row) rows
@@ -301,6 +301,6 @@ fewest_fields tag deletes =
     if deletes then last_place ACTION_PLACE (key_rows tag)
     else last_place ACTION_PLACE (filter is_needed (form tag).rows)
 
--- how many fields a form has; those behind them are empty
+-- how many fields a form has; those after them are empty
 abbrev pub most_fields : Tag → ℕ
 most_fields tag = last_place ACTION_PLACE (form tag).rows

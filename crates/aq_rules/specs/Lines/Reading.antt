@@ -28,7 +28,7 @@ tag_of line = tag_in (field TAG_PLACE (fields line))
 abbrev pub is_deletion : List (List ℕ) → Bool
 is_deletion texts = bytes_eq (field ACTION_PLACE texts) (codes "D")
 
--- whether the line has too few fields, or a text behind those of its form
+-- whether the line has too few fields, or a text after those of its form
 abbrev pub has_wrong_count : Tag → Bool → List (List ℕ) → Bool
 has_wrong_count tag deletes texts =
     nat_lt (length texts) (fewest_fields tag deletes)
@@ -163,7 +163,7 @@ demands_of_fields tag (Optional place name rule ∷ rows) =
     record { rule = rule; is_broken = is_misspelled tag name } ∷ demands_of_fields tag rows
 demands_of_fields tag (Unread place ∷ rows) = demands_of_fields tag rows
 
--- what a line must be; of a deletion only the key is read, where the form has deletions
+-- what a line must be; of a deletion only the key is read, if the form has deletions
 abbrev pub demands_on : Tag → Bool → List Demand
 demands_on tag deletes =
     if deletes && acts tag Delete then demands_of_fields tag (key_rows tag)

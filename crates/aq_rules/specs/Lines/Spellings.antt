@@ -14,7 +14,7 @@ use Rattle.aq_base.specs.declared.monitor.Duration.{Duration}
 use Rattle.aq_base.specs.declared.monitor.Duration.TheVariants.{Hour, Day}
 use Rattle.aq_rules.specs.Limits.{least_value, greatest_value, LAST_EVENT_NUMBER}
 
--- what the first spells is handed on; where it spells nothing, the whole spells nothing
+-- what the first spells is handed on; if it spells nothing, the whole spells nothing
 infixl 10 ◌>>=◌
 abbrev pub ◌>>=◌ : {A B : Type 0} → Option A → (A → Option B) → Option B
 None >>= next = None
@@ -156,7 +156,7 @@ abbrev pub qualifier_in : List ℕ → Option Code
 qualifier_in (first ∷ []) = if is_code_byte first then Some (record { first = first; second = 0 }) else None
 qualifier_in text = null_in text
 
--- the codes of the qualifier fields behind these codes: an empty field is passed over, and a code that came before is dropped
+-- the codes of the qualifier fields after these codes: an empty field is passed over, and a code that came before is dropped
 abbrev pub qualifiers_onto : List Code → List (List ℕ) → Option (List Code)
 qualifiers_onto codes [] = Some codes
 qualifiers_onto codes ([] ∷ texts) = qualifiers_onto codes texts

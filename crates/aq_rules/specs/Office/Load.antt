@@ -166,7 +166,7 @@ posted office number digest body =
     if nat_lt MOST_LINES (line_count body) then TooManyLines
     else posted_beside (load_at office number) office number digest body
 
--- the decision behind an answer: none was made on a body of too many lines
+-- the decision that an answer reports: none was made on a body of too many lines
 abbrev pub decision_of : Posted → Option Decision
 decision_of TooManyLines = None
 decision_of (Repeated kept) = Some Repeat
@@ -178,7 +178,7 @@ abbrev pub office_after : Posted → Office → Office
 office_after (Taken answer now) office = now
 office_after _ office = office
 
--- the office after a load is posted: it changes where the load is taken
+-- the office after a load is posted: it changes if the load is taken
 abbrev pub post : Office → ℕ → List ℕ → List ℕ → Office
 post office number digest body = office_after (posted office number digest body) office
 

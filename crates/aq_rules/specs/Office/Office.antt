@@ -128,7 +128,7 @@ rises rank (row ∷ rows) = rises_from rank row rows
 abbrev pub row_at : {X : Type 0} → (X → List ℕ) → List ℕ → List X → Option X
 row_at rank key rows = find (λ row. is_same (rank row) key) rows
 
--- the rows with this one at its place, where it takes the place of one with its rank
+-- the rows with this one at its place, if it takes the place of one with its rank
 abbrev pub with_row : {X : Type 0} → (X → List ℕ) → X → List X → List X
 with_row rank row [] = row ∷ []
 with_row rank row (first ∷ rows) =

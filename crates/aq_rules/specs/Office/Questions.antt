@@ -95,7 +95,7 @@ joined_by site pollutant (Combined other kind from joined) =
     if is_same_site other site && is_same_pollutant kind pollutant then Some (record { site = joined; from = from }) else None
 joined_by site pollutant _ = None
 
--- none where the site is not the first one of a combination of the pollutant
+-- none if the site is not the first one of a combination of the pollutant
 unfoldable pub combined : List OfficeRecord → Site → Pollutant → Option Joined
 combined records site pollutant = first_given (joined_by site pollutant) records
 
@@ -107,6 +107,6 @@ coverage_by number hour (Event other site pollutant first last code) =
     if other == number then Some (nat_le first hour && nat_le hour last) else None
 coverage_by number hour _ = None
 
--- none where no such event stands
+-- none if no such event stands
 unfoldable pub covers : List OfficeRecord → ℕ → ℕ → Option Bool
 covers records number hour = first_given (coverage_by number hour) records

@@ -68,7 +68,7 @@ is_there office (OfOffice (Put r)) = key_stands office (key_of r) || is_taken of
 is_there office (OfOffice (Change r)) = key_stands office (key_of r)
 is_there office (OfOffice (Drop key)) = key_stands office key
 
--- a new site where as many are registered as there may be
+-- a new site if as many are registered as there may be
 abbrev pub is_new_site : Office → LineValue → Bool
 is_new_site office (OfOffice (Put (Monitor id duration eligible))) =
     not (list_any (λ site. is_same (site_numbers site) (site_numbers id.site)) (sites_of office.records))

@@ -29,7 +29,7 @@ distance a b = (a - b) + (b - a)
 abbrev pub asks_for : ℕ → Schedule → Bool
 asks_for day schedule = distance day schedule.anchor % schedule.interval == 0
 
--- whether the day is scheduled: by the schedule with the greatest start date not after it, and not where there is none
+-- whether the day is scheduled: by the schedule with the greatest start date not after it, and not if there is none
 unfoldable pub is_scheduled : List OfficeRecord → Site → Pollutant → ℕ → Bool
 is_scheduled records site pollutant day =
     option_map_or (asks_for day) (latest (λ (s : Schedule). s.from) (filter_map (schedule_by site pollutant day) records)) false

@@ -17,7 +17,7 @@ LEAST_ABOVE = level_of Ozone2015 +ℤ pos 1
 abbrev pub LEAST_SUM_ABOVE : ℤ
 LEAST_SUM_ABOVE = pos 8 *ℤ LEAST_ABOVE
 
--- the average of so many hours with this sum, truncated to 0.001 ppm: over their number where there are six or more; else over eight, zero for the missing ones, where the sum is above 0.567 ppm, so that what is left is above 0.070 ppm, and none where it is not (0.567 over eight is above 0.070 too, before it is truncated)
+-- the average of so many hours with this sum, truncated to 0.001 ppm: over their number if there are six or more; else over eight, zero for the missing ones, if the sum is above 0.567 ppm, so that what is left is above 0.070 ppm, and none if it is not (0.567 over eight is above 0.070 too, before it is truncated)
 abbrev pub average : ℕ → ℤ → Option ℤ
 average count sum =
     if nat_le 6 count then Some (truncated sum (pos count))

@@ -32,7 +32,7 @@ pub record OzoneDay : Type 0 where
   pub valid : Bool
   pub maximum : Option ℤ
 
--- a day is valid with 13 full averages or more, and also where the greatest one is above the level of 0.070 ppm: what is excluded counts for that (3(d)), and not for the maximum
+-- a day is valid with 13 full averages or more, and also if the greatest one is above the level of 0.070 ppm: what is excluded counts for that (3(d)), and not for the maximum
 abbrev pub day_of_windows : List WindowRow → OzoneDay
 day_of_windows rows = record {
   averages = length (full_averages rows);

@@ -9,7 +9,7 @@ use Rattle.aq_rules.specs.Standards.{level_of, years_to}
 use Rattle.aq_rules.specs.Office.Office.{Office}
 use Rattle.aq_rules.specs.Ozone.OzoneYear.{OzoneYear, ozone_year}
 
--- the mean of the three fourth highest values, truncated; none where one is missing
+-- the mean of the three fourth highest values, truncated; none if one is missing
 abbrev pub design_value_of : Option ℤ → Option ℤ → Option ℤ → Option ℤ
 design_value_of (Some a) (Some b) (Some c) = Some (truncated (a +ℤ b +ℤ c) (pos 3))
 design_value_of _ _ _ = None

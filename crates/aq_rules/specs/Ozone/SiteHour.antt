@@ -40,7 +40,7 @@ sample_of office site hour entry =
 abbrev pub samples_at : Office → Site → ℕ → List Sample
 samples_at office site hour = filter_map (sample_of office site hour) office.observations
 
--- the mean of the samples, truncated, and excluded where one of them is
+-- the mean of the samples, truncated, and excluded if one of them is
 abbrev pub mean_of : List Sample → Option Cell
 mean_of [] = None
 mean_of (first ∷ others) =
@@ -52,7 +52,7 @@ mean_of (first ∷ others) =
 abbrev pub is_of_poc : Option ℕ → Sample → Bool
 is_of_poc poc sample = option_map_or (λ primary. sample.poc == primary) poc false
 
--- the primary's sample where it has one, else the mean of what the others have
+-- the primary's sample if it has one, else the mean of what the others have
 abbrev pub chosen : Option Sample → List Sample → Option Cell
 chosen (Some primary) others = Some primary.cell
 chosen None others = mean_of others

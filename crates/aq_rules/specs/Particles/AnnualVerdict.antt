@@ -26,13 +26,13 @@ is_annual_year level value mean quarters =
 abbrev pub are_all : List Bool → Bool
 are_all valid = list_all (λ v. v) valid
 
--- the test's value: above the level the minimum test is asked for, else the maximum test, and none where all years are valid
+-- the test's value: above the level the minimum test is asked for, else the maximum test, and none if all years are valid
 abbrev pub annual_test : ℤ → Option ℤ → List Bool → Option ℤ → Option ℤ → Option ℤ
 annual_test level None valid minimum maximum = None
 annual_test level (Some value) valid minimum maximum =
     if are_all valid then None else (if int_lt level value then minimum else maximum)
 
--- above the level the verdict is NotMet or Incomplete, at or below it Met or Incomplete: where a year is not valid, the test has to bear the value out, and Incomplete says that it does not
+-- above the level the verdict is NotMet or Incomplete, at or below it Met or Incomplete: if a year is not valid, the test has to bear the value out, and Incomplete says that it does not
 abbrev pub annual_verdict : ℤ → Option ℤ → List Bool → Option ℤ → Verdict
 annual_verdict level None valid test = NoValue
 annual_verdict level (Some value) valid test =

@@ -21,7 +21,7 @@ quarterly_mean values = (total values, length values)
 abbrev pub has_days : Fraction → Bool
 has_days mean = nat_le 1 mean.1
 
--- the mean of quarterly means, of four quarters for the annual mean and of the twelve of three years for the design value: rounded half up to a whole tenth, and not before; none where a quarter has no day (own)
+-- the mean of quarterly means, of four quarters for the annual mean and of the twelve of three years for the design value: rounded half up to a whole tenth, and not before; none if a quarter has no day (own)
 abbrev pub mean_of_means : List Fraction → Option ℤ
 mean_of_means means =
     if list_all has_days means

@@ -45,7 +45,7 @@ mean_of_hours count sum = if nat_le 18 count then Some (truncated sum (pos count
 abbrev pub LEAST_HIGH_MEAN : ℤ
 LEAST_HIGH_MEAN = (pos 10 *ℤ level_of Daily2006) +ℤ pos 5
 
--- and for PM2.5 fewer also do where their sum over 24, zero for the missing ones, is 35.5 or more (own)
+-- and for PM2.5 fewer also do if their sum over 24, zero for the missing ones, is 35.5 or more (own)
 abbrev pub mean_or_high_sum : ℕ → ℤ → Option ℤ
 mean_or_high_sum count sum =
     if nat_le 18 count then Some (truncated sum (pos count))
@@ -56,13 +56,13 @@ day_value pollutant Day values = slice_get values 0
 day_value Pm10 Hour values = mean_of_hours (length values) (total values)
 day_value pollutant Hour values = mean_or_high_sum (length values) (total values)
 
--- the day with these cells, excluded where one of them is
+-- the day with these cells, excluded if one of them is
 abbrev pub day_cell : Pollutant → Duration → List Cell → Option Cell
 day_cell pollutant duration cells =
     option_map (λ value. record { value = value; excluded = list_any (λ (c : Cell). c.excluded) cells })
     (day_value pollutant duration (map (λ (c : Cell). c.value) cells))
 
--- the day that the monitor's observations make, where a sample lasts so long
+-- the day that the monitor's observations make, if a sample lasts so long
 abbrev pub day_of_samples : Office → MonitorId → Duration → ℕ → Option Cell
 day_of_samples office monitor duration day =
     day_cell monitor.pollutant duration (filter_map (cell_of office monitor duration day) office.observations)
@@ -107,7 +107,7 @@ lowest_poc pocs = fold lower_poc None pocs
 abbrev pub counting_poc : Office → Site → ℕ → Option ℕ
 counting_poc office site day = option_or (primary_on office.records site Pm10 day) (lowest_poc (eligible_pocs office.records site Pm10))
 
--- PM2.5: the primary's day where it has one, else the truncated mean of the others' (own). PM10: that of the one monitor that counts
+-- PM2.5: the primary's day if it has one, else the truncated mean of the others' (own). PM10: that of the one monitor that counts
 unfoldable pub site_day : Office → Site → Pollutant → ℕ → Option Cell
 site_day office site Ozone day = None
 site_day office site Pm25 day =

@@ -88,7 +88,7 @@ primary_of pollutant poc = Primary site pollutant 0 poc
 abbrev pub makeup_on : ℕ → Makeup
 makeup_on day = record { missed = day_number 2024 1 7; makeup = day_number 2024 1 day }
 
--- samples on four days, where every so manyth day is scheduled
+-- samples on four days, if every so manyth day is scheduled
 abbrev pub makeups_every : ℕ → Office
 makeups_every interval =
     office_of (sampler Pm25 Day 1 ∷ Schedule site Pm25 (day_number 2024 1 1) interval (day_number 2024 1 1) ∷ [])
@@ -113,7 +113,7 @@ abbrev pub quarter_with : ℕ → ℕ → List ℕ → QuarterDays
 quarter_with scheduled samples values =
     record { counts = record { scheduled = scheduled; creditable = samples; counted = samples }; values = map pos values }
 
--- so many days of one value, where not all samples are counted, and some days are not scheduled
+-- so many days of one value, if not all samples are counted, and some days are not scheduled
 abbrev pub mixed_quarter : ℕ → ℕ → ℕ → ℕ → ℕ → QuarterDays
 mixed_quarter scheduled creditable counted days value =
     record { counts = record { scheduled = scheduled; creditable = creditable; counted = counted }; values = replicate days (pos value) }
@@ -125,7 +125,7 @@ even_quarter scheduled samples value = quarter_with scheduled samples (replicate
 abbrev pub even_year : QuarterDays → List QuarterDays
 even_year quarter = replicate 4 quarter
 
--- quarters told apart by their scheduled days
+-- quarters that differ in their scheduled days
 abbrev pub year_from : ℕ → List QuarterDays
 year_from scheduled = map (λ part. mixed_quarter (scheduled + part) 3 2 4 100) (0 ∷ 1 ∷ 2 ∷ 3 ∷ [])
 

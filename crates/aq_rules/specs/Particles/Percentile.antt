@@ -11,7 +11,7 @@ rank_of counted = (counted + 49) / 50
 abbrev pub percentile : List ℤ → ℕ → Option ℤ
 percentile values counted = if counted == 0 then None else slice_get (ranked values) (rank_of counted - 1)
 
--- the mean of three years' percentiles, rounded half up to a whole µg/m3; none where one is missing
+-- the mean of three years' percentiles, rounded half up to a whole µg/m3; none if one is missing
 abbrev pub daily_value : Option ℤ → Option ℤ → Option ℤ → Option ℤ
 daily_value (Some a) (Some b) (Some c) = Some (half_up (a +ℤ b +ℤ c) (pos 30))
 daily_value _ _ _ = None

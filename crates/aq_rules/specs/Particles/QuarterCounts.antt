@@ -81,7 +81,7 @@ unfoldable pub quarter_counts : Office → Site → ℕ → QuarterCounts
 quarter_counts office site quarter =
     counts_by (is_sampled office site Pm25) (is_kept office site Pm25) (scheduled_days office site Pm25 quarter) (credits office site quarter)
 
--- the quarter's data capture rate (Appendix N, 1.0(c)): creditable samples in percent of the scheduled days, to the nearest whole one; 0 where nothing is scheduled (own)
+-- the quarter's data capture rate (Appendix N, 1.0(c)): creditable samples in percent of the scheduled days, to the nearest whole one; 0 if nothing is scheduled (own)
 abbrev pub capture : QuarterCounts → ℕ
 capture counts =
     if counts.scheduled == 0 then 0 else unsigned_abs (half_up (pos (100 * counts.creditable)) (pos counts.scheduled))

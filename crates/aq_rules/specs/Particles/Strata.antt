@@ -12,7 +12,7 @@ use Rattle.aq_rules.specs.Particles.QuarterCounts.{days_of_quarter}
 
 -- ---- first days
 
--- a stratum starts at each scheduled day, and six days after the last start where none came sooner (own)
+-- a stratum starts at each scheduled day, and six days after the last start if none came sooner (own)
 abbrev pub begins : (ℕ → Bool) → ℕ → ℕ → Bool
 begins is_scheduled start day = is_scheduled day || (day == start + 6)
 
@@ -21,7 +21,7 @@ abbrev pub first_day_onto : Bool → ℕ → List ℕ → List ℕ
 first_day_onto true day firsts = day ∷ firsts
 first_day_onto false day firsts = firsts
 
--- of these days, those that begin a stratum, where the last one began at `start`
+-- of these days, those that begin a stratum, if the last one began at `start`
 unfoldable pub first_days_after : (ℕ → Bool) → ℕ → List ℕ → List ℕ
 first_days_after is_scheduled start [] = []
 first_days_after is_scheduled start (day ∷ days) =
@@ -52,7 +52,7 @@ abbrev pub strata_from : ℕ → List ℕ → List (List ℕ)
 strata_from end [] = []
 strata_from end (first ∷ firsts) = range_with_len first (next_or end firsts - first) ∷ strata_from end firsts
 
--- the day behind a quarter's last one
+-- the day after a quarter's last one
 abbrev pub quarter_end : ℕ → ℕ
 quarter_end quarter = quarter_first quarter + days_in_quarter quarter
 

@@ -4,7 +4,7 @@ use Rattle.aq_rules.specs.Lists.{least, greatest}
 use Rattle.aq_rules.specs.Particles.QuarterCounts.{QuarterCounts, capture}
 use Rattle.aq_rules.specs.Particles.YearParts.{Parts}
 
--- ---- one quarter: the copies that join its list, or nothing where the test is not to be had
+-- ---- one quarter: the copies that join its list, or nothing if the test is not to be had
 
 -- minimum test: a quarter with fewer than 11 creditable samples gets as many copies as it has fewer, of the least value of its calendar quarter in the three years, which needs at least 30 days of values in them
 abbrev pub minimum_copies : QuarterCounts → ℕ → Option ℤ → Option (List ℤ)

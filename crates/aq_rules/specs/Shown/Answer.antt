@@ -49,7 +49,7 @@ abbrev pub of_load : Option StoredLoad → Answer
 of_load None = NoLoad
 of_load (Some load) = OfSheet (load_sheet load.reply)
 
--- the answer where the site is registered, also without a monitor of the pollutant
+-- the answer if the site is registered, also without a monitor of the pollutant
 abbrev pub of_site : Office → Site → Answer → Answer
 of_site office site answer = if is_registered office site then answer else NoSite
 

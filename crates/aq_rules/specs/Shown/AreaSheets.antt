@@ -99,7 +99,7 @@ area_sites_sheet standard year rows = record {
 
 -- ---- the sheets of an area of an office
 
--- the area's sites with a monitor of the standard's pollutant, in rising order; where there is none the area is not answered
+-- the area's sites with a monitor of the standard's pollutant, in rising order; if there is none the area is not answered
 unfoldable pub area_sites : Standard → Office → Area → List Site
 area_sites standard office area = filter (area_holds area) (sites_with office (pollutant_of standard))
 
@@ -120,7 +120,7 @@ end_years year = range_with_len first_end_year (year + 1 - first_end_year)
 abbrev pub area_row : ℕ × AreaYear → ℕ × Verdict × Option ℤ
 area_row row = (row.0, row.1.verdict, row.1.value)
 
--- the years from the first that is NotMet on; no year where none is
+-- the years from the first that is NotMet on; no year if none is
 abbrev pub rows_from : Option ℕ → List AreaYear → List (ℕ × Verdict × Option ℤ)
 rows_from None years = []
 rows_from (Some place) years = drop place (map area_row (enumerate_from first_end_year years))

@@ -127,7 +127,7 @@ generated_load start sites years load =
     if load == 1 then office_load sites years
     else samples_from ((start + load) % 2 ^ 64) (wanted_in ((load - 2) / years + 1) (FIRST_GENERATED_YEAR + (load - 2) % years))
 
--- the body of a load, or nothing where there is no such load
+-- the body of a load, or nothing if there is no such load
 unfoldable pub generate : ℕ → ℕ → ℕ → ℕ → Option (List ℕ)
 generate start sites years load =
     if (load == 0) || nat_lt (load_count sites years) load then None else Some (generated_load start sites years load)

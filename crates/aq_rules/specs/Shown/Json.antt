@@ -35,7 +35,7 @@ in_order members = fold (λ done member. with_row (λ (m : Member). m.name) memb
 abbrev pub head_member : Head → Member
 head_member head = record { name = head.name; value = json_cell head.cell }
 
--- where there are columns, their names and the rows
+-- if there are columns, their names and the rows
 abbrev pub table_members : List (List ℕ) → List (List SheetCell) → List Member
 table_members [] rows = []
 table_members (column ∷ columns) rows =

@@ -40,7 +40,7 @@ head_text head = line_of (head.name ∷ cell_text head.cell ∷ [])
 abbrev pub row_text : List SheetCell → List ℕ
 row_text row = line_of (map cell_text row)
 
--- the column names and the rows, where there are columns
+-- the column names and the rows, if there are columns
 abbrev pub table_text : List (List ℕ) → List (List SheetCell) → List ℕ
 table_text [] rows = []
 table_text (column ∷ columns) rows = line_of (column ∷ columns) ++ flat_map row_text rows

@@ -17,7 +17,7 @@ is_word text = nat_lt 0 (length text) && list_all is_word_byte text
 abbrev pub is_whole : ℤ → Bool
 is_whole value = int_le (neg_ℤ (pos (2 ^ 63))) value && int_lt value (pos (2 ^ 63))
 
--- a value, where there is one, is such a number
+-- a value, if there is one, is such a number
 abbrev pub is_whole_if : Option ℤ → Bool
 is_whole_if value = option_map_or is_whole value true
 

@@ -48,7 +48,7 @@ pub fn histories_of_some_years()
 {}
 
 /// A further year that is Met adds one to those that are, and any other one leaves none. There is a
-/// first year that is NotMet where one is.
+/// first year that is NotMet if one is.
 pub fn histories_grow_by_the_year()
     ensures met { (years : List AreaYear) (year : AreaYear)
         → met_at_end (years ++ year ∷ []) ≡ (if is_year_of Met year then met_at_end years + 1 else 0) }

@@ -21,7 +21,7 @@ ghost use Rattle.aq_rules.specs.Shown.ShownExamples.{exceeding_pm10, tested_annu
 /// 71. Percentiles of 35.4 and 35.5 leave 35.5: 106.4 / 3 rounds to 35, and 106.5 / 3 to 36. Estimates
 /// of 1.0 and 1.1 leave 1.0: 3.1 / 3 rounds to 1.0, and 3.2 / 3 to 1.1. Annual means of 9.0 and 9.0
 /// leave 9.1 at the level 9.0: 27.1 / 3 rounds to 9.0, and 27.2 / 3 to 9.1. Means are not rounded: two
-/// of 9.025 leave 9.0, where two of 9.0 leave 9.1.
+/// of 9.025 leave 9.0, while two of 9.0 leave 9.1.
 pub fn what_two_years_leave()
     ensures ozone { critical_with (level_of Ozone2015) (Fourths (pos 70) (pos 71)) ≡ pos 71 }
     ensures ozone_kept { keeps_level (level_of Ozone2015) (Fourths (pos 70) (pos 71)) (pos 71) ≡ true }
@@ -41,7 +41,7 @@ pub fn what_two_years_leave()
 {}
 
 /// The parts are those of the last two of the three years, whatever the first has, and there is no
-/// critical value where one of the two lacks its part. Annual means of 10.75 and 10.75 leave 14.6 at
+/// critical value if one of the two lacks its part. Annual means of 10.75 and 10.75 leave 14.6 at
 /// the level 12.0: what is below 36.15 - 21.5. Percentiles of 28.0 and 17.0 leave 61.4. Estimates of 63.0
 /// and 43.8 leave -103.7: a critical value has no bounds.
 pub fn critical_values_of_design_values()

@@ -109,7 +109,7 @@ pub fn load_rows()
 {}
 
 /// Beyond 500 listed lines the others are counted by rule, in rising number, each once at least. Nine
-/// monitors of a site may stand where they are of two pollutants, and of one eight.
+/// monitors of a site may stand if they are of two pollutants, and of one eight.
 pub fn rests_and_monitors()
     ensures rest { is_load (kept_load 700 50 602 (refused_lines 500) (record { rule = BadTag; count = 100 } ∷ record { rule = ParameterOutOfProfile; count = 2 } ∷ [])) ≡ true }
     ensures falling { is_load (kept_load 700 50 602 (refused_lines 500) (record { rule = ParameterOutOfProfile; count = 2 } ∷ record { rule = BadTag; count = 100 } ∷ [])) ≡ false }

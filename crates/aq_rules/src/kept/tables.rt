@@ -46,7 +46,7 @@ pub fn valid_offices_pass_the_test()
 {}
 
 /// A place that is found is that of the first row with which the rows up to it are no office's, and none is
-/// found exactly where the rows are an office's.
+/// found exactly if the rows are an office's.
 pub fn first_damaged_row_is_named()
     ensures place { (rows : List Row) (place : Place) → damage rows ≡ Some place → FirstDamaged rows place }
     ensures none { (rows : List Row) → (damage rows ≡ None) ↔ IsTrue (are_office_rows rows) }

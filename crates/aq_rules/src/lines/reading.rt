@@ -147,7 +147,7 @@ pub fn office_lines_at_the_edge_of_a_rule()
 {}
 
 /// Lines that combine two sites, of ozone or PM2.5. Both sites are read before the parameter and the
-/// date, and then they must differ. Of a deletion six fields are read, and no field behind them.
+/// date, and then they must differ. Of a deletion six fields are read, and no field after them.
 #[tactic(auto, unfolding(crate::specs::Lines::Spellings::site_in, crate::specs::Lines::Spellings::parameter_of, crate::specs::Lines::Spellings::date_in, aq_base::specs::Calendar::days_of_years, aq_base::specs::Calendar::days_of_months))]
 pub fn lines_that_combine_sites()
     ensures ozone { reading_rule (codes "XB|I|06|037|1103|44201|20240702|06|037|1104") ≡ None }
@@ -174,7 +174,7 @@ pub fn the_least_rule_is_named()
     ensures none { (line : List ℕ) → reading_rule line ≡ None → All (λ r. breaks r line ≡ false) (reading_rules line) }
 {}
 
-/// A line spells a value exactly where it breaks no rule.
+/// A line spells a value exactly if it breaks no rule.
 pub fn a_value_or_a_rule()
     ensures { (line : List ℕ) → is_some (line_value line) ≡ is_none (reading_rule line) }
 {}

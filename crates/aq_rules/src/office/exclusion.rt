@@ -14,7 +14,7 @@ ghost use Rattle.aq_rules.specs.Office.Exclusion.{agrees_to, excluded};
 ghost use Rattle.aq_rules.specs.Ozone.OzoneExamples.{monitor_id, site, smoke, smoke_event, summer_day};
 ghost use Rattle.aq_rules.specs.Office.OfficeExamples.{east, events, fireworks, monitor_at, noon, west};
 
-/// Nothing is excluded where no concurrence `Y` stands. The event's hours with its code are excluded;
+/// Nothing is excluded if no concurrence `Y` stands. The event's hours with its code are excluded;
 /// its other hours, hours outside, and hours under the number of another event are not. A code outside
 /// RA to RZ, as IT, excludes nothing, whatever events stand.
 pub fn exclusion_needs_an_event_and_its_concurrence()

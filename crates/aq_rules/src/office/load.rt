@@ -74,7 +74,7 @@ pub fn a_load_of_refused_lines_is_recorded()
 {}
 
 /// The lines are counted first: more than 120,000 are refused under a known number too. Then the number is
-/// looked up: a known one is answered where no further load can be kept too. Then 100,000 loads are as many as
+/// looked up: a known one is answered if no further load can be kept too. Then 100,000 loads are as many as
 /// may stand.
 pub fn answers_come_in_this_order()
     ensures too_many { (office : Office) (number : ℕ) (digest body : List ℕ) → 120000 < line_count body → posted office number digest body ≡ TooManyLines }

@@ -10,7 +10,7 @@ ghost use Rattle.aq_rules.specs.Office.OfficeExamples.{west, east, noon, plain_d
 /// A monitor that is not eligible gives no hour and no day, beside others or alone, though another
 /// site's or pollutant's monitor with its POC does. One excluded hour of two monitors excludes their
 /// mean, one excluded hour of eighteen the day of its monitor, and that day the mean of the monitors'
-/// days. The values stay what they are. Where the primary has a value it is the site's, excluded or
+/// days. The values stay what they are. If the primary has a value it is the site's, excluded or
 /// not, whatever the others are. Where it has none, or a null code, theirs count.
 #[tactic(auto, unfolding(crate::specs::Office::Monitors::is_eligible, crate::specs::Office::Exclusion::excluded, crate::specs::Office::Designation::primary_on, crate::specs::Ozone::SiteHour::site_hour, crate::specs::Particles::ParticleDay::eligible_pocs, crate::specs::Particles::ParticleDay::monitor_day, crate::specs::Particles::ParticleDay::site_day, aq_base::specs::Calendar::days_of_years, aq_base::specs::Calendar::days_of_months))]
 pub fn what_counts_for_a_site()

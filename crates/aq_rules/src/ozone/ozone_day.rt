@@ -9,8 +9,8 @@ ghost use Rattle.aq_rules.specs.Ozone.SiteHour.{site_hour};
 ghost use Rattle.aq_rules.specs.Ozone.OzoneDay.{OzoneDay, day_of_windows, windows, ozone_day};
 ghost use Rattle.aq_rules.specs.Ozone.OzoneExamples.{site, summer_day, afternoon, smoky, day_with, empty_row, excluded_row, lowered_row};
 
-/// Twelve averages do not make a valid day where the greatest is 0.070 ppm. Twelve averages make one
-/// where the greatest is above the level. Thirteen averages make a valid day. What is excluded counts
+/// Twelve averages do not make a valid day if the greatest is 0.070 ppm. Twelve averages make one
+/// if the greatest is above the level. Thirteen averages make a valid day. What is excluded counts
 /// for a day's validity: one full average above the level, or thirteen below it, make a valid day that
 /// has no maximum.
 pub fn days_are_valid_by_their_full_averages()

@@ -10,7 +10,7 @@ ghost use Rattle.aq_rules.specs.Office.Office.{Office};
 ghost use Rattle.aq_rules.specs.Office.OfficeExamples.{season_of_days};
 ghost use Rattle.aq_rules.specs.Ozone.OzoneExamples.{year_with, year_without_fourth};
 
-/// A third of 212 thousandths is cut to 0.070 ppm, which meets the standard where the seasons are
+/// A third of 212 thousandths is cut to 0.070 ppm, which meets the standard if the seasons are
 /// complete. A third of 213 thousandths is above the level, complete or not. A year without a fourth
 /// highest value leaves no design value.
 pub fn values_of_three_years()
@@ -21,7 +21,7 @@ pub fn values_of_three_years()
 {}
 
 /// Of three seasons of 245 days, 662 days are nine tenths, and 661 are not. Each season needs three
-/// quarters of its days: 184 of 245, where 183 are too few. Nine tenths are of the three fractions, and
+/// quarters of its days: 184 of 245, while 183 are too few. Nine tenths are of the three fractions, and
 /// not of all days together: 292 of 365, 100 of 100 and 90 of 100 are enough, and with one day fewer
 /// they are not.
 pub fn complete_seasons()
@@ -36,7 +36,7 @@ pub fn complete_seasons()
     ensures met { ozone_dv (season_of_days 365 292 ∷ season_of_days 100 100 ∷ season_of_days 100 90 ∷ []) ≡ record { value = Some (pos 69); verdict = Met } }
 {}
 
-/// Where the three seasons are of one length, the mean of the fractions is nine tenths where nine
+/// If the three seasons are of one length, the mean of the fractions is nine tenths if nine
 /// tenths of all their days are valid.
 pub fn nine_tenths_of_equal_seasons()
     ensures { (a b c : OzoneYear)

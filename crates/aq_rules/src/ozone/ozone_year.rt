@@ -32,7 +32,7 @@ pub fn year_of_four_peaks()
     ensures { ozone_year four_peaks site 2024 ≡ record { season_days = 366; season_valid = 4; ranked = 4; fourth = Some (pos 71) } }
 {}
 
-/// The order of the observations does not matter to an average, a day or a year, where no two stand
+/// The order of the observations does not matter to an average, a day or a year, if no two stand
 /// at one key.
 pub fn ozone_forgets_the_order()
     ensures average { (a b : Office) (site : Site) (start : ℕ)

@@ -20,7 +20,7 @@ pub fn hours_of_two_monitors()
         ≡ Some (record { value = pos 50; excluded = false }) }
 {}
 
-/// The order of the observations does not matter, where no two stand at one key.
+/// The order of the observations does not matter, if no two stand at one key.
 pub fn site_hour_forgets_the_order()
     ensures { (a b : Office) (site : Site) (hour : ℕ)
         → a.records ≡ b.records

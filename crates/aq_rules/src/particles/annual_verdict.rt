@@ -57,7 +57,7 @@ pub fn levels_of_2012_and_2024()
 
 /// Each quarter counts the same in a year, however many days it has: 10.0 and three times 14.0 have the
 /// mean 13.0. Eleven creditable samples in each quarter are enough for a year whose mean is above the
-/// level, and also where the design value alone is, and ten are not; counted samples and days are other
+/// level, and also if the design value alone is, and ten are not; counted samples and days are other
 /// numbers. For the maximum test a quarter gets as many copies as its scheduled days less its creditable
 /// samples, if half of these days have one; what is excluded gets no copy. For the minimum test it gets
 /// eleven less its creditable samples, if thirty days have a value. The copies are of the least value

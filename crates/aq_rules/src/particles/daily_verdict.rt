@@ -26,7 +26,7 @@ pub fn percentiles_of_three_years()
 {}
 
 /// One creditable sample is enough for a year whose percentile, rounded, or whose design value is above
-/// 35, also where that sample is excluded. A missing percentile is above nothing.
+/// 35, also if that sample is excluded. A missing percentile is above nothing.
 pub fn one_sample_is_enough_above_the_level()
     ensures value { is_daily_year (Some (pos 36)) None one_sample ≡ true }
     ensures percentile { is_daily_year (Some (pos 34)) (Some (pos 355)) one_sample ≡ true }

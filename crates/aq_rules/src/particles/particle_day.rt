@@ -21,7 +21,7 @@ ghost use Rattle.aq_rules.specs.Particles.ParticleExamples.{hourly, particle_id,
 /// eighteen makes the day an excluded one. A monitor that is not eligible has no day, and neither has
 /// one that is not registered. An event takes a 24-hour sample out if it holds hour 00 of the day, and
 /// leaves it in if it begins at 01:00. A monitor's own duration decides: of hours its day is their
-/// mean, of 24 hours its sample at 00:00. Of PM2.5 the primary's sample counts, and where it has none
+/// mean, of 24 hours its sample at 00:00. Of PM2.5 the primary's sample counts, and if it has none
 /// the truncated mean of the others'. Of PM10 the primary alone counts, and without one the lowest POC
 /// alone, whether or not it has a sample.
 pub fn days_of_monitors_and_sites()
@@ -62,7 +62,7 @@ pub fn mean_forgets_the_order()
     ensures { (a b : List Sample) → IsPermutation a b → mean_of a ≡ mean_of b }
 {}
 
-/// The order of the observations does not matter to a site's day or year, where no two stand at one
+/// The order of the observations does not matter to a site's day or year, if no two stand at one
 /// key.
 pub fn particles_forget_the_order()
     ensures day { (a b : Office) (site : Site) (pollutant : Pollutant) (day : ℕ)

@@ -48,7 +48,7 @@ pub fn a_pm10_quarter_is_counted()
 
 /// Means are rounded and not cut: of 0, 0 and 3.2 the mean is 1.07, which is 1.1. Without a scheduled
 /// day the lower estimate is 0. Three quarters of the scheduled days have to be captured, and one day
-/// has to be scheduled. An unambiguous case does not meet the standard where a quarter is not complete,
+/// has to be scheduled. An unambiguous case does not meet the standard if a quarter is not complete,
 /// whatever the value. One exceedance on one of 16 scheduled days is unambiguous: its lower estimate is
 /// 5.75 for the quarter and 1.9 for the three years.
 pub fn estimates_and_completeness()

@@ -16,8 +16,8 @@ ghost use Rattle.aq_rules.specs.Shown.Sheet.{text_of};
 /// one for each site and year and the office's. The loads of a site are its years in order, and those
 /// of the sites stand one after the other: of two sites and three years load 3 is the second year of
 /// the first site, and load 5 the first of the second. Each begins with the start number plus its own,
-/// which is taken below 2^64. Behind the 8,760 hours of 2021 stand the samples of PM2.5 of every third
-/// day, of 4.0 to 23.9, and behind its 122 those of PM10 of every sixth day, of 10.0 to 159.9. A
+/// which is taken below 2^64. After the 8,760 hours of 2021 stand the samples of PM2.5 of every third
+/// day, of 4.0 to 23.9, and after its 122 those of PM10 of every sixth day, of 10.0 to 159.9. A
 /// simulation of three years prints the summary and then the report of each standard for 2023.
 pub fn generated_loads()
     ensures loads { load_count 1 3 ≡ 4 }

@@ -24,7 +24,7 @@ pub fn sheets_have_their_json()
 {}
 
 /// The members of an object are those of the heads and of the table, in byte order of their names; and
-/// where the sheet is well formed each of them is there, once.
+/// if the sheet is well formed each of them is there, once.
 pub fn members_stand_once_and_in_order()
     ensures order { (sheet : Sheet) → IsTrue (rises (λ (m : Member). m.name) (members_of sheet)) }
     ensures once { (sheet : Sheet) → IsWellFormed sheet

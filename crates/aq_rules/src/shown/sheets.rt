@@ -65,7 +65,7 @@ pub fn sheets_have_their_rows()
     ensures value { (standard : Standard) (office : Office) (site : Site) (year : ℕ) → length (value_answer standard office site year).rows ≡ 3 }
 {}
 
-/// A line is its first word, each further one behind a space, and LF.
+/// A line is its first word, each further one after a space, and LF.
 pub fn words_stand_behind_single_spaces()
     ensures { (word : List ℕ) (words : List (List ℕ))
         → line_of (word ∷ words) ≡ (word ++ flat_map (λ (w : List ℕ). codes " " ++ w) words) ++ codes "\n" }
