@@ -19,10 +19,10 @@ pub(crate) struct Tables {
 
 impl Model for Tables {
     ghost use Rattle.std.specs.Prelude.{List};
-    ghost use Rattle.aq_rules.specs.Kept.Rows as book;
+    ghost use Rattle.aq_rules.specs.Kept.Rows as the_rows;
     ghost use Rattle.aq_keeper.specs.Rising.{Rise, keys_of_rows};
 
-    ghost Value = { List book.Row };
+    ghost Value = { List the_rows.Row };
 
     ghost view = { λ tables. tables.rows.items };
 
