@@ -14,7 +14,7 @@ use Rattle.aq_keeper.specs.contracts.key.KeyViewOrd.TheImpl as derived
 use Rattle.aq_keeper.specs.declared.key.KeyView.{KeyView}
 use Rattle.aq_keeper.specs.declared.key.KeyView.TheVariants.{Office, Observation, Load, Second}
 use Rattle.aq_keeper.specs.KeyView.{key_seen, key_order, is_load}
-use Rattle.aq_rules.specs.Kept.RowChanges.{RowKey, LoadRowKey, batch_before, columns, columns_before, key_before, is_same_row_key}
+use Rattle.aq_rules.specs.Kept.RowChanges.{RowKey, OfficeRowKey, ObsRowKey, LoadRowKey, SecondRowKey, batch_before, columns, columns_before, key_before, is_same_row_key}
 
 key_total : IsTotalOrder key_order
 key_total = on_total columns (lists_total int_cmp_total)
@@ -50,6 +50,9 @@ same_key a b = same-columns (columns a) (columns b)
 -- in a batch loads come last
 pub batch_by_load : (a b : RowKey) → batch_before a b ≡ cond (is_load a) (is_load b && key_before a b) (is_load b || key_before a b)
 batch_by_load (LoadRowKey number) (LoadRowKey other) = refl
+batch_by_load (OfficeRowKey kind key) (LoadRowKey other) = refl
+batch_by_load (ObsRowKey site pollutant poc hour) (LoadRowKey other) = refl
+batch_by_load (SecondRowKey site pollutant poc hour) (LoadRowKey other) = refl
 batch_by_load a b = refl
 
 -- ---- the derived order of lent keys
