@@ -55,7 +55,7 @@ module _ (office : Office) (row : Row) where
 one-said : {X : Type 0} (read : Row → Option X) (row : Row) (x : X) → read row ≡ Some x → filter_map read (row ∷ []) ≡ x ∷ []
 one-said read row x e = rw e refl
 
--- what is said where its test passes
+-- what is said if its test passes
 said : {X : Type 0} (o : Option X) (test : X → Bool) (x : X) → Some x ≡ (o >>- only_if test) → (o ≡ Some x) × (test x ≡ true)
 said None test x h = cc
 said (Some y) test x h = choose (test y) refl h

@@ -1,4 +1,4 @@
--- An observation or a load behind the others: where it leaves the office valid, and where it does not.
+-- An observation or a load after the others: if it leaves the office valid, and if it does not.
 use Rattle.std.proofs.Common.{◌≡◌, ℕ, ◌<◌, Bool, true, false, List, [], ◌∷◌, ◌++◌, length, refl, arith, length-append}
 use Rattle.std.specs.List.{list_all}
 use Rattle.std.proofs.lemmas.Bool.{and_from, and_parts}
