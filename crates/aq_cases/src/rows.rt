@@ -90,14 +90,14 @@ fn read_load(alloc: Global, columns: &str) -> Result<LoadRow, Trouble> {
     let (digest, rest) = cut(rest)?;
     let (lines, rest) = cut(rest)?;
     let (accepted, rest) = cut(rest)?;
-    let (listed, behind) = cut(rest)?;
+    let (listed, last) = cut(rest)?;
     Ok(LoadRow {
         number: number_in(number)?,
         digest: digest_in(alloc, digest)?,
         lines: number_in(lines)?,
         accepted: number_in(accepted)?,
         listed: bytes_in(alloc, listed)?,
-        rest: bytes_in(alloc, behind)?,
+        rest: bytes_in(alloc, last)?,
     })
 }
 
