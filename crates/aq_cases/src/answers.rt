@@ -1,11 +1,15 @@
 //! Functions that a case may call, by their names, and their answers as text. Each takes words with spaces
 //! between them; bytes are spelled as in a block.
+ghost use Rattle.std.specs.Int.{IsInRange};
 ghost use Rattle.std.specs.Prelude.{◌≤◌, IfOk};
 
 use crate::dates::{day_in, day_name};
 use crate::spelling::{spelling_of, write_line};
 use crate::trouble::Trouble;
-use aq_base::{FIRST_YEAR, LAST_YEAR, MOST_BYTES, OfficeLine, Rule};
+use aq_base::{
+    FEWEST_GENERATED_YEARS, FIRST_YEAR, LAST_YEAR, MOST_BYTES, MOST_GENERATED_SITES,
+    MOST_GENERATED_YEARS, OfficeLine, Rule,
+};
 use aq_cal::{quarter_of, quarter_span, write_day, year_span};
 use aq_desk::{MemorySink, end_without_memory};
 use aq_forms::{count_lines, lines_of, print_key, print_office, read_office};
@@ -99,7 +103,7 @@ fn route(alloc: Global, arguments: &str) -> Result<String, Trouble> {
 }
 
 /// What is due on a connection with these bytes: `more`, `refuse STATUS`, or `whole USED VERB TARGET BODY`,
-/// the last three by their lengths, and `close` where the connection ends behind the reply.
+/// the last three by their lengths, and `close` if the connection ends after the reply.
 fn request(alloc: Global, arguments: &str) -> Result<String, Trouble> {
     let bytes = spelled(alloc, arguments)?;
     match next_request(&bytes) {
@@ -173,7 +177,7 @@ fn body(alloc: Global, arguments: &str) -> Result<String, Trouble> {
     Ok(all)
 }
 
-/// The first word of a text and what stands behind it.
+/// The first word of a text and what stands after it.
 fn cut(text: &str) -> (&str, &str) {
     match text.split_once(' ') {
         Some(parts) => parts,
@@ -187,6 +191,17 @@ fn count(word: &str) -> Result<u64, Trouble> {
         Ok(number) => Ok(number),
         Err(_) => Err(NOT_SO),
     }
+}
+
+/// A number from the least to the most.
+fn count_within(word: &str, least: u8, most: u8) -> Result<u8, Trouble>
+    ensures { IfOk result (IsInRange least most) }
+{
+    let number = count(word)?;
+    if number < u64::from(least) || number > u64::from(most) {
+        return Err(NOT_SO);
+    }
+    Ok(number as u8)
 }
 
 /// A number with or without a sign.
@@ -214,12 +229,13 @@ fn generated(alloc: Global, arguments: &str) -> Result<String, Trouble> {
     let (sites, rest) = cut(rest);
     let (years, rest) = cut(rest);
     let (load, place) = cut(rest);
-    let (start, place) = (count(start)?, count(place)?);
-    let (sites, years, load) = (count(sites)?, count(years)?, count(load)?);
-    if sites < 1 || sites > 32 || years < 3 || years > 10 || load > 1_000 {
+    let (start, load, place) = (count(start)?, count(load)?, count(place)?);
+    let sites = count_within(sites, 1, MOST_GENERATED_SITES)?;
+    let years = count_within(years, FEWEST_GENERATED_YEARS, MOST_GENERATED_YEARS)?;
+    if load > 1_000 {
         return Err(NOT_SO);
     }
-    match generate(alloc, start, sites as u8, years as u8, load as u32)? {
+    match generate(alloc, start, sites, years, load as u32)? {
         Some(body) => line_at(alloc, &body, place),
         None => text(alloc, "none"),
     }
@@ -330,7 +346,7 @@ fn keys_rise(alloc: Global, arguments: &str) -> Result<String, Trouble> {
     Ok(format!(in alloc; "{rise}")?)
 }
 
-/// How the program ends where its words had no memory: the status, and what is told.
+/// How the program ends if its words had no memory: the status, and what it says.
 fn without_memory(alloc: Global) -> Result<String, Trouble> {
     let mut errors = MemorySink::new(alloc, 1_000, Vec::new(alloc))?;
     let status = end_without_memory(&mut errors);

@@ -1,5 +1,5 @@
 //! The lines of a block, as bytes: a line stands for itself, or for many by an expansion.
-use crate::dates::{date_text, day_behind, day_in, day_name, hour_behind, hour_in};
+use crate::dates::{date_text, day_after, day_in, day_name, hour_after, hour_in};
 use crate::spelling::write_line;
 use crate::trouble::Trouble;
 use aq_base::Day;
@@ -9,7 +9,7 @@ use std::alloc::Global;
 #[derive(Clone, Copy)]
 struct Fields {
     number: u32,
-    /// The day and the hour, where the expansion goes over those.
+    /// The day and the hour, if the expansion goes over those.
     time: Option<(Day, u32)>,
 }
 
@@ -59,7 +59,7 @@ fn write_days(alloc: Global, rest: &str, out: &mut Vec<u8>) -> Result<(), Troubl
     let (count, rest) = cut_number(rest)?;
     let (step, line) = cut_number(rest)?;
     for number in 0..count {
-        let Some(day) = day_behind(first, number.saturating_mul(step)) else {
+        let Some(day) = day_after(first, number.saturating_mul(step)) else {
             return Err(LATE);
         };
         let fields = Fields {
@@ -83,7 +83,7 @@ fn write_hours(alloc: Global, rest: &str, out: &mut Vec<u8>) -> Result<(), Troub
     };
     let (count, line) = cut_number(rest)?;
     for number in 0..count {
-        let Some(time) = hour_behind(first, number) else {
+        let Some(time) = hour_after(first, number) else {
             return Err(LATE);
         };
         let fields = Fields {
@@ -97,9 +97,9 @@ fn write_hours(alloc: Global, rest: &str, out: &mut Vec<u8>) -> Result<(), Troub
 
 const NO_DAY: Trouble = Trouble::Wrong("no day YYYY-MM-DD");
 
-const LATE: Trouble = Trouble::Wrong("a day behind the last one");
+const LATE: Trouble = Trouble::Wrong("a day after the last one");
 
-/// The first word and what stands behind it.
+/// The first word and what stands after it.
 fn cut(text: &str) -> Result<(&str, &str), Trouble> {
     match text.split_once(' ') {
         Some(parts) => Ok(parts),
@@ -133,7 +133,7 @@ fn write_filled(
     write_line(&filled, out)
 }
 
-/// Appends a field, and what stands behind it. The brace before it is cut off.
+/// Appends a field, and what stands after it. The brace before it is cut off.
 fn write_field(
     alloc: Global,
     part: &str,

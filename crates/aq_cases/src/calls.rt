@@ -5,7 +5,7 @@ use crate::trouble::Trouble;
 use aq_base::Memory;
 use std::alloc::Global;
 
-/// The first call that answers something else, told in words, if there is one.
+/// The first call that answers something else, in words, if there is one.
 pub fn try_calls(alloc: Global, text: &str) -> Result<Option<String>, Memory> {
     for line in text.lines() {
         if let Some(found) = try_call(alloc, line)? {

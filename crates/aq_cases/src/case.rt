@@ -69,7 +69,7 @@ pub enum Subject {
     Errors,
     /// What was written on a connection, counted from 0.
     Replies(usize),
-    /// The rows that the keeper has behind the run.
+    /// The rows that the keeper has after the run.
     Tables,
 }
 

@@ -1,4 +1,4 @@
-//! Texts that are compared, and the first difference told.
+//! Texts that are compared, and the first difference in words.
 use crate::case::Extent;
 use crate::spelling::spelling_of;
 use aq_base::Memory;
@@ -59,7 +59,7 @@ fn first_other_line(alloc: Global, wanted: &[u8], found: &[u8]) -> Result<Option
         None => Ok(None),
         Some(other) => {
             let other = shown(alloc, other)?;
-            Ok(Some(format!(in alloc; "goes on behind line {number} with `{other}`")?))
+            Ok(Some(format!(in alloc; "goes on after line {number} with `{other}`")?))
         }
     }
 }

@@ -20,7 +20,7 @@ pub fn hour_in(day: Day, text: &str) -> Option<Hour> {
 }
 
 /// The day so many days on.
-pub fn day_behind(day: Day, days: u32) -> Option<Day> {
+pub fn day_after(day: Day, days: u32) -> Option<Day> {
     let number = u32::from(day.number()).checked_add(days)?;
     if number > u32::from(LAST_DAY) {
         return None;
@@ -29,7 +29,7 @@ pub fn day_behind(day: Day, days: u32) -> Option<Day> {
 }
 
 /// The day and the hour of the day so many hours on.
-pub fn hour_behind(hour: Hour, hours: u32) -> Option<(Day, u32)> {
+pub fn hour_after(hour: Hour, hours: u32) -> Option<(Day, u32)> {
     let number = hour.number().checked_add(hours)?;
     if number > LAST_HOUR {
         return None;

@@ -16,7 +16,7 @@
 //!
 //! - `case NAME`: the next case begins. Its keeper is one for all its runs.
 //! - `rows`, a block: the rows that the keeper has before the first run, as `rows` says in its module.
-//! - `keeper fails at NUMBERS`: these calls of the keeper fail, counted from 1. Comparing its rows behind a
+//! - `keeper fails at NUMBERS`: these calls of the keeper fail, counted from 1. Comparing its rows after a
 //!   run is a call too.
 //! - `calls`, a block: calls of single functions, `NAME ARGUMENTS => ANSWER`, by the names of `answers`. Its
 //!   lines stand for themselves alone.
@@ -25,8 +25,8 @@
 //! - `connection`, a block: what comes on the next connection of the door.
 //! - `status NUMBER`: the exit status that is wanted. Every run has one.
 //! - `output`, `errors`, a block: what has to be written there. `replies`, a block: what has to be written
-//!   on the connection above. `tables`, a block: the rows that the keeper has to have behind the run. A word
-//!   behind them says less: that it `starts` or `ends` so, that it `has` each of these lines, `lacks` all of
+//!   on the connection above. `tables`, a block: the rows that the keeper has to have after the run. A word
+//!   after them says less: that it `starts` or `ends` so, that it `has` each of these lines, `lacks` all of
 //!   them, or `contains` each of them somewhere. What a run does not speak of is not compared.
 //! - `input`, `output`, `errors`, `door` or `transfer`, with `fails at NUMBERS`: these calls fail. Of the
 //!   door `listen` and `accept` are counted, and of a transfer `read` and `write`.
@@ -37,7 +37,7 @@
 //!
 //! - `@repeat COUNT LINE`
 //! - `@count FIRST LAST LINE`, where `{n}`, `{n:02}` and `{n:04}` are the number.
-//! - `@days DAY COUNT STEP LINE`, for so many days from `YYYY-MM-DD` on, each so many behind the one before,
+//! - `@days DAY COUNT STEP LINE`, for so many days from `YYYY-MM-DD` on, each so many after the one before,
 //!   where `{date}` is `YYYYMMDD`, `{day}` is `YYYY-MM-DD`, and `{n}` counts from 0.
 //! - `@hours DAY TIME COUNT LINE`, for so many hours from `HH:00` of a day on, where `{time}` is `HH:00`.
 use crate::blocks::write_block_line;
@@ -46,7 +46,7 @@ use crate::trouble::Trouble;
 use aq_base::Memory;
 use std::alloc::Global;
 
-/// So many bytes can be written where a case says nothing of it.
+/// So many bytes can be written if a case says nothing of it.
 const ROOM: Room = Room {
     output: 1_000_000,
     errors: 10_000,
@@ -72,7 +72,7 @@ struct Reader {
     block: Block,
 }
 
-/// The cases of a text, in order. What cannot be read is told by the case that it stands in.
+/// The cases of a text, in order. The case that has what cannot be read says so.
 pub fn read_cases(alloc: Global, text: &str) -> Result<Vec<Case>, Memory> {
     let mut reader = Reader {
         alloc,

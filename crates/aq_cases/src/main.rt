@@ -3,7 +3,7 @@
 //! what has to come out. `format` says how a case is written.
 //!
 //! The files are those that its words name, or else those that `index.txt` lists. `rt try -- data/scan.txt`
-//! runs the cases of one, and proves nothing. It ends with 1 where a case differs.
+//! runs the cases of one, and proves nothing. It ends with 1 if a case differs.
 #![tactic(auto)]
 
 mod answers;
@@ -78,7 +78,7 @@ fn try_one(rt: &HostRuntime, case: Case, tally: &mut Tally) -> io::Result<()> {
     }
 }
 
-/// A value, or want of memory as the system tells it.
+/// A value, or want of memory as the system says it.
 fn known<T: Drop>(value: Result<T, Memory>) -> io::Result<T> {
     match value {
         Ok(value) => Ok(value),

@@ -1,11 +1,12 @@
 //! Rows of the tables as text, both ways, with `, ` between the columns, and `-` for one that has nothing:
 //!
 //! - `records KIND, KEY, LINE`
-//! - `observations SITE, POLLUTANT, POC, HOUR, VALUE, NULL CODE, QUALIFIERS`
+//! - `observations SITE, POLLUTANT, POC, HOUR, VALUE, NULL CODE, QUALIFIERS`, which version 1 kept
 //! - `loads NUMBER, DIGEST, LINES, ACCEPTED, LISTED, REST`, the digest as hex digits
+//! - `observations2 SITE, POLLUTANT, POC, HOUR, VALUE, METHOD, NULL CODE, QUALIFIERS`
 use crate::trouble::Trouble;
 use aq_base::{Bytes, Memory};
-use aq_keeper::{LoadRow, ObsRow, OfficeRow, Row, RowContent};
+use aq_keeper::{LoadRow, ObsRow, ObsRow2, OfficeRow, Row, RowContent};
 use std::alloc::Global;
 
 const NO_ROW: Trouble = Trouble::Wrong("no row");
@@ -30,6 +31,7 @@ fn read_row(alloc: Global, line: &str) -> Result<Row, Trouble> {
         "records" => Ok(Row::office(read_record(alloc, columns)?)),
         "observations" => Ok(Row::observation(read_observation(alloc, columns)?)),
         "loads" => Ok(Row::load(read_load(alloc, columns)?)),
+        "observations2" => Ok(Row::second(read_second(alloc, columns)?)),
         _ => Err(NO_ROW),
     }
 }
@@ -51,17 +53,33 @@ fn read_observation(alloc: Global, columns: &str) -> Result<ObsRow, Trouble> {
     let (hour, rest) = cut(rest)?;
     let (value, rest) = cut(rest)?;
     let (null, quals) = cut(rest)?;
-    let value = if value == "-" {
-        None
-    } else {
-        Some(number_in(value)?)
-    };
     Ok(ObsRow {
         site: number_in(site)?,
         pollutant: number_in(pollutant)?,
         poc: number_in(poc)?,
         hour: number_in(hour)?,
-        value,
+        value: option_in(value)?,
+        null: bytes_in(alloc, null)?,
+        quals: bytes_in(alloc, quals)?,
+    })
+}
+
+/// An observation of version 1, with a method between its value and its null code.
+fn read_second(alloc: Global, columns: &str) -> Result<ObsRow2, Trouble> {
+    let (site, rest) = cut(columns)?;
+    let (pollutant, rest) = cut(rest)?;
+    let (poc, rest) = cut(rest)?;
+    let (hour, rest) = cut(rest)?;
+    let (value, rest) = cut(rest)?;
+    let (method, rest) = cut(rest)?;
+    let (null, quals) = cut(rest)?;
+    Ok(ObsRow2 {
+        site: number_in(site)?,
+        pollutant: number_in(pollutant)?,
+        poc: number_in(poc)?,
+        hour: number_in(hour)?,
+        value: option_in(value)?,
+        method: option_in(method)?,
         null: bytes_in(alloc, null)?,
         quals: bytes_in(alloc, quals)?,
     })
@@ -72,14 +90,14 @@ fn read_load(alloc: Global, columns: &str) -> Result<LoadRow, Trouble> {
     let (digest, rest) = cut(rest)?;
     let (lines, rest) = cut(rest)?;
     let (accepted, rest) = cut(rest)?;
-    let (listed, behind) = cut(rest)?;
+    let (listed, last) = cut(rest)?;
     Ok(LoadRow {
         number: number_in(number)?,
         digest: digest_in(alloc, digest)?,
         lines: number_in(lines)?,
         accepted: number_in(accepted)?,
         listed: bytes_in(alloc, listed)?,
-        rest: bytes_in(alloc, behind)?,
+        rest: bytes_in(alloc, last)?,
     })
 }
 
@@ -96,6 +114,14 @@ fn number_in(column: &str) -> Result<i64, Trouble> {
         Ok(number) => Ok(number),
         Err(_) => Err(NO_ROW),
     }
+}
+
+/// A number, or none.
+fn option_in(column: &str) -> Result<Option<i64>, Trouble> {
+    if column == "-" {
+        return Ok(None);
+    }
+    Ok(Some(number_in(column)?))
 }
 
 fn bytes_in(alloc: Global, column: &str) -> Result<Bytes, Memory> {
@@ -123,6 +149,7 @@ pub fn rows_text(alloc: Global, rows: &[Row]) -> Result<String, Memory> {
             RowContent::Office(row) => record_text(alloc, row)?,
             RowContent::Observation(row) => observation_text(alloc, row)?,
             RowContent::Load(row) => load_text(alloc, row)?,
+            RowContent::Second(row) => second_text(alloc, row)?,
         };
         text.push_str(line.as_str())?;
     }
@@ -135,16 +162,26 @@ fn record_text(alloc: Global, row: &OfficeRow) -> Result<String, Memory> {
 }
 
 fn observation_text(alloc: Global, row: &ObsRow) -> Result<String, Memory> {
-    let value = match row.value {
-        Some(value) => format!(in alloc; "{value}")?,
-        None => String::from_str(alloc, "-")?,
-    };
+    let value = option_text(alloc, row.value)?;
     let (null, quals) = (
         bytes_text(alloc, &row.null)?,
         bytes_text(alloc, &row.quals)?,
     );
     Ok(format!(in alloc;
         "observations {}, {}, {}, {}, {value}, {null}, {quals}\n",
+        row.site, row.pollutant, row.poc, row.hour
+    )?)
+}
+
+fn second_text(alloc: Global, row: &ObsRow2) -> Result<String, Memory> {
+    let value = option_text(alloc, row.value)?;
+    let method = option_text(alloc, row.method)?;
+    let (null, quals) = (
+        bytes_text(alloc, &row.null)?,
+        bytes_text(alloc, &row.quals)?,
+    );
+    Ok(format!(in alloc;
+        "observations2 {}, {}, {}, {}, {value}, {method}, {null}, {quals}\n",
         row.site, row.pollutant, row.poc, row.hour
     )?)
 }
@@ -159,6 +196,13 @@ fn load_text(alloc: Global, row: &LoadRow) -> Result<String, Memory> {
         "loads {}, {digest}, {}, {}, {listed}, {rest}\n",
         row.number, row.lines, row.accepted
     )?)
+}
+
+fn option_text(alloc: Global, number: Option<i64>) -> Result<String, Memory> {
+    match number {
+        Some(number) => Ok(format!(in alloc; "{number}")?),
+        None => Ok(String::from_str(alloc, "-")?),
+    }
 }
 
 fn bytes_text(alloc: Global, bytes: &Bytes) -> Result<String, Memory> {

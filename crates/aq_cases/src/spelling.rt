@@ -9,7 +9,7 @@ enum Before {
     Nothing,
     /// A backslash.
     Escape,
-    /// `\x`, and the first digit behind it.
+    /// `\x`, and the first digit after it.
     Hex,
     HexDigit(u8),
 }
@@ -31,7 +31,7 @@ pub fn write_line(line: &[u8], out: &mut Vec<u8>) -> Result<(), Trouble> {
     }
 }
 
-/// Appends what a byte says behind what stands before it.
+/// Appends what a byte says after what stands before it.
 fn write_byte(before: Before, byte: u8, out: &mut Vec<u8>) -> Result<Before, Trouble> {
     match before {
         Before::Nothing => {

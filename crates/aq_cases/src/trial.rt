@@ -18,7 +18,7 @@ struct Outcome {
     replies: Vec<Vec<u8>>,
 }
 
-/// The first difference of a case, told in words, if there is one.
+/// The first difference of a case, in words, if there is one.
 pub fn try_case(alloc: Global, case: Case) -> Result<Option<String>, Memory> {
     let Case {
         name: _,
