@@ -1,4 +1,4 @@
--- Rows that rise: a change made between those before its key and the others, and where a key stands.
+-- Rows that rise: cut at a key, and with a change made at the cut.
 use Rattle.std.proofs.Common.{◌≡◌, ℕ, zero, suc, ◌+◌, Bool, true, false, not, cond, ◌&&◌, List, [], ◌∷◌, ◌++◌, length, refl, ap, sym, ◌∙◌, subst, arith}
 use Rattle.std.specs.Prelude.{◌-◌, reverse, get_or, slice_get, option_to_list, Option, Some, None, IfSome}
 use Rattle.std.proofs.lemmas.Bool.{false≢true}
