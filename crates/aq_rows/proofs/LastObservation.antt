@@ -85,6 +85,3 @@ module _ (office : Office) (load : StoredLoad) where
 
   pub load-fits : IsOffice with_it → is_load load ≡ true
   load-fits is = last-passes is_load office.loads load is.loads_fit
-
-  pub load-room : IsOffice with_it → length office.loads < MOST_LOADS
-  load-room is = let few = is.few_loads in let long = length-append office.loads (load ∷ []) in omega arith

@@ -19,7 +19,7 @@ use Rattle.aq_rules.specs.Limits.{MOST_SITES}
 use Rattle.aq_rules.specs.Lines.Canonical.{record_line, is_line_value}
 use Rattle.aq_rules.specs.Lines.Reading.{OfOffice}
 use Rattle.aq_rules.specs.Lines.Spellings.{◌>>=◌}
-use Rattle.aq_rules.specs.Office.Office.{Office, IsOffice, key_of, key_numbers, record_rank, is_same, rises, site_numbers, with_site, sites_of, monitor_duration, registers, event_stands, group_of, group_size, most_in_group, makes_up_on, makeups_on, combines_either, combinations_of, has_monitor, has_its_monitor, has_its_event, is_record, fits_records, is_alone}
+use Rattle.aq_rules.specs.Office.Office.{Office, IsOffice, key_of, key_numbers, record_rank, is_same, rises, site_numbers, with_site, sites_of, monitor_duration, registers, event_stands, group_of, group_size, most_in_group, makes_up_on, makeups_on, combines_either, combinations_of, has_its_monitor, has_its_event, is_record, fits_records, is_alone}
 use Rattle.aq_rules.specs.Office.Refusal.{broken, breaks_office, key_stands, is_taken, is_combined}
 use Rattle.aq_rules.specs.Office.Load.{changed, with_record}
 use Rattle.aq_rules.proofs.RowsPlaced.{is_same-refl, find_passed, count_joined}
