@@ -11,7 +11,7 @@ use aq_rows::{load_row, observation_key, observation_row, office_key, office_row
 use aq_staging::{OfficeChange, OfficeChanges};
 use std::alloc::Global;
 
-/// Changes of rows, in the order of a batch: of records, of observations, and of loads, each by key.
+/// Changes of rows, in the order of a batch: that of tables and keys, but for the loads, which come last.
 pub type RowChanges = Items<RowChange>;
 
 /// The changes of rows that a load's changes stand for, and its own row last; a load with the number 0 has
