@@ -112,6 +112,10 @@ undamaged_old rows standing place undamaged office old is at =
     let good : are_office_rows standing ≡ true = ap are_office_rows is ∙ office rows old in
     absurd (cc)
 
+-- only what is of version 1 is changed
+pub only_old : {X : Type 0} (rows : List Row) → are_version_1 rows ≡ true → are_version_1 rows ≡ false → X
+only_old rows old new = absurd (cc)
+
 -- so nothing but memory stops them from being opened
 pub old_stops : {A : Type 0} (answer : Result A Stop) (before after : Option (List Row)) (m n : ℕ) (standing : List Row) (why : OpenFault) → IsErrAnd answer (λ stop. stop ≡ stop_of_book why) → IsOpenFault standing why
     → ((place : Place) → damage standing ≡ Some place → ⊥) → after ≡ option_map opened_rows before → n ≡ m → IfErr answer (IsUnopened before after m n)
