@@ -12,9 +12,9 @@ use Rattle.aq_rules.specs.Office.Office.{IsOffice, Office}
 use Rattle.aq_rows.specs.Opening.{IsOpenFault}
 use Rattle.aq_rows.specs.declared.opening.OpenFault.{OpenFault}
 use Rattle.aq_rows.specs.declared.opening.OpenFault.TheVariants as opening
-use Rattle.aq_desk.proofs.Tables.{cut_gives, keeps_same, keeps_taken_up, of_any, stopped_gives}
+use Rattle.aq_desk.proofs.Tables.{cut_gives, keeps_same, keeps_at_most_opened, of_any, stopped_gives}
 use Rattle.aq_desk.proofs.Unread.{stopped_by}
-use Rattle.aq_desk.specs.Command.{AreTakenUp, Outcome, RisesAt, leaving, opened_rows, unwritten}
+use Rattle.aq_desk.specs.Command.{AtMostOpened, Outcome, RisesAt, leaving, opened_rows, unwritten}
 use Rattle.aq_desk.specs.Ending.{damaged}
 use Rattle.aq_desk.specs.Office.{HasOpened, IsOpened, IsUnopened, over_damage, over_office}
 use Rattle.aq_desk.specs.Outside.{IsAll, Over}
@@ -141,10 +141,10 @@ over_damaged rows place next found = ap (λ place. over_damage place rows next) 
 unopened-gives : (before after : Option (List Row)) (m n : ℕ) (stop : Stop) (next : Office → Outcome) → IsUnopened before after m n stop → Over before (λ rows. Gives (over_office rows next) (Err stop) before after)
 unopened-gives before after m n KeeperFailed next cause =
     of_any before (λ rows. Gives (over_office rows next) (Err KeeperFailed) before after) (λ rows.
-    cut_gives (over_office rows next) KeeperFailed before after (λ kept. omega (arith, kept)) (keeps_taken_up (over_office rows next).rows 5 before after (λ kept. omega (arith, kept)) (λ three. omega (arith, three)) (inl cause.0)))
+    cut_gives (over_office rows next) KeeperFailed before after (λ kept. omega (arith, kept)) (keeps_at_most_opened (over_office rows next).rows 5 before after (λ kept. omega (arith, kept)) (λ three. omega (arith, three)) (inl cause.0)))
 unopened-gives before after m n Memory next cause =
     of_any before (λ rows. Gives (over_office rows next) (Err Memory) before after) (λ rows.
-    cut_gives (over_office rows next) Memory before after (λ kept. omega (arith, kept)) (keeps_taken_up (over_office rows next).rows 7 before after (λ kept. omega (arith, kept)) (λ three. omega (arith, three)) cause.0))
+    cut_gives (over_office rows next) Memory before after (λ kept. omega (arith, kept)) (keeps_at_most_opened (over_office rows next).rows 7 before after (λ kept. omega (arith, kept)) (λ three. omega (arith, three)) cause.0))
 unopened-gives before after m n (Damaged place) next cause =
     let rows = cause.2.all in
     let P = λ (o : Outcome). Gives o (Err (Damaged place)) before after in
