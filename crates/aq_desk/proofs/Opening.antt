@@ -12,9 +12,9 @@ use Rattle.aq_rules.specs.Office.Office.{IsOffice, Office}
 use Rattle.aq_rows.specs.Opening.{IsOpenFault}
 use Rattle.aq_rows.specs.declared.opening.OpenFault.{OpenFault}
 use Rattle.aq_rows.specs.declared.opening.OpenFault.TheVariants as opening
-use Rattle.aq_desk.proofs.Tables.{cut_gives, keeps_same, keeps_taken_up, of_any, stopped_gives}
+use Rattle.aq_desk.proofs.Tables.{cut_gives, keeps_same, keeps_at_most_opened, of_any, stopped_gives}
 use Rattle.aq_desk.proofs.Unread.{stopped_by}
-use Rattle.aq_desk.specs.Command.{AreTakenUp, Outcome, RisesAt, leaving, opened_rows, unwritten}
+use Rattle.aq_desk.specs.Command.{AtMostOpened, Outcome, RisesAt, leaving, opened_rows, unwritten}
 use Rattle.aq_desk.specs.Ending.{damaged}
 use Rattle.aq_desk.specs.Office.{HasOpened, IsOpened, IsUnopened, over_damage, over_office}
 use Rattle.aq_desk.specs.Outside.{IsAll, Over}
@@ -112,6 +112,10 @@ undamaged_old rows standing place undamaged office old is at =
     let good : are_office_rows standing ≡ true = ap are_office_rows is ∙ office rows old in
     absurd (cc)
 
+-- only what is of version 1 is changed
+pub only_old : {X : Type 0} (rows : List Row) → are_version_1 rows ≡ true → are_version_1 rows ≡ false → X
+only_old rows old new = absurd (cc)
+
 -- so nothing but memory stops them from being opened
 pub old_stops : {A : Type 0} (answer : Result A Stop) (before after : Option (List Row)) (m n : ℕ) (standing : List Row) (why : OpenFault) → IsErrAnd answer (λ stop. stop ≡ stop_of_book why) → IsOpenFault standing why
     → ((place : Place) → damage standing ≡ Some place → ⊥) → after ≡ option_map opened_rows before → n ≡ m → IfErr answer (IsUnopened before after m n)
@@ -137,10 +141,10 @@ over_damaged rows place next found = ap (λ place. over_damage place rows next) 
 unopened-gives : (before after : Option (List Row)) (m n : ℕ) (stop : Stop) (next : Office → Outcome) → IsUnopened before after m n stop → Over before (λ rows. Gives (over_office rows next) (Err stop) before after)
 unopened-gives before after m n KeeperFailed next cause =
     of_any before (λ rows. Gives (over_office rows next) (Err KeeperFailed) before after) (λ rows.
-    cut_gives (over_office rows next) KeeperFailed before after (λ kept. omega (arith, kept)) (keeps_taken_up (over_office rows next).rows 5 before after (λ kept. omega (arith, kept)) (λ three. omega (arith, three)) (inl cause.0)))
+    cut_gives (over_office rows next) KeeperFailed before after (λ kept. omega (arith, kept)) (keeps_at_most_opened (over_office rows next).rows 5 before after (λ kept. omega (arith, kept)) (λ three. omega (arith, three)) (inl cause.0)))
 unopened-gives before after m n Memory next cause =
     of_any before (λ rows. Gives (over_office rows next) (Err Memory) before after) (λ rows.
-    cut_gives (over_office rows next) Memory before after (λ kept. omega (arith, kept)) (keeps_taken_up (over_office rows next).rows 7 before after (λ kept. omega (arith, kept)) (λ three. omega (arith, three)) cause.0))
+    cut_gives (over_office rows next) Memory before after (λ kept. omega (arith, kept)) (keeps_at_most_opened (over_office rows next).rows 7 before after (λ kept. omega (arith, kept)) (λ three. omega (arith, three)) cause.0))
 unopened-gives before after m n (Damaged place) next cause =
     let rows = cause.2.all in
     let P = λ (o : Outcome). Gives o (Err (Damaged place)) before after in

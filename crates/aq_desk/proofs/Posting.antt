@@ -21,9 +21,9 @@ use Rattle.aq_service.specs.Posting.{IsPosted, LosesLoad, TakenBy}
 use Rattle.aq_service.specs.declared.posting.Posted as answers
 use Rattle.aq_service.specs.declared.posting.Posted.TheVariants as answered
 use Rattle.aq_desk.proofs.Opening.{over_opened, unopened_gives}
-use Rattle.aq_desk.proofs.Tables.{cut_gives, keeps_opened, keeps_taken_up, opened_tables, stopped_gives}
+use Rattle.aq_desk.proofs.Tables.{cut_gives, keeps_opened, keeps_at_most_opened, opened_tables, stopped_gives}
 use Rattle.aq_desk.proofs.Unread.{stays_at_from, stopped_by}
-use Rattle.aq_desk.specs.Command.{AreTakenUp, Outcome, RisesAt, leaving, opened_rows, printed, unwritten}
+use Rattle.aq_desk.specs.Command.{AtMostOpened, Outcome, RisesAt, leaving, opened_rows, printed, unwritten}
 use Rattle.aq_desk.specs.Command as commands
 use Rattle.aq_desk.specs.Ending.{loads_full}
 use Rattle.aq_desk.specs.Load.{IsAnswered, IsKeptText, IsTextOf, load_answer, posted_outcome}
@@ -167,7 +167,7 @@ module _ (number : ℕ) (rows : List Row) (body : List ℕ) (start : Option (Lis
       let P = λ (r : Result (List ℕ) Stop). Gives outcome r start after.tables in
       subst P (sym text)
       (cut_gives outcome stops.KeeperFailed start after.tables (λ kept. omega (arith, kept))
-      (keeps_taken_up (rows_of now) 5 start after.tables (λ kept. omega (arith, kept)) (λ three. omega (arith, three)) (inr (taken.1 ∙ opened))))
+      (keeps_at_most_opened (rows_of now) 5 start after.tables (λ kept. omega (arith, kept)) (λ three. omega (arith, three)) (inr (taken.1 ∙ opened))))
   taken-gives (answered.Lines lines) answer made now is taken text = absurd taken
   taken-gives (answered.Conflict sent) answer made now is taken text = absurd taken
   taken-gives answered.Full answer made now is taken text = absurd taken
@@ -201,7 +201,7 @@ module _ (number : ℕ) (rows : List Row) (body : List ℕ) (start : Option (Lis
         };
       })
     where
-      one : Become before before.office after ⊎ Become before (loads.post before.office number digest body) after → AreTakenUp start after.tables ⊎ (after.tables ≡ option_map (λ _. (posted_outcome number before.office body (posted before.office number digest body)).rows) start)
+      one : Become before before.office after ⊎ Become before (loads.post before.office number digest body) after → AtMostOpened start after.tables ⊎ (after.tables ≡ option_map (λ _. (posted_outcome number before.office body (posted before.office number digest body)).rows) start)
       one (inl same) = inl (inr (becomes before.office same ∙ sym (opened_tables start rows before.office told are)))
       one (inr load) = inr (becomes (loads.post before.office number digest body) load ∙ ap (λ rs. option_map (λ _. rs) start) (rows-after number body before.office (posted before.office number digest body)))
 

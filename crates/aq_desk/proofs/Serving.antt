@@ -12,7 +12,7 @@ use Rattle.aq_serve.specs.declared.ending.ServeFault.TheVariants as faults
 use Rattle.aq_desk.proofs.Opening.{over_damaged, over_opened}
 use Rattle.aq_desk.proofs.Tables.{of_any}
 use Rattle.aq_desk.proofs.Unread.{stays_at_from, stopped_by}
-use Rattle.aq_desk.specs.Command.{AreTakenUp, IsWhole, Outcome, RisesAt, leaving, opened_rows, unwritten}
+use Rattle.aq_desk.specs.Command.{AtMostOpened, IsWhole, Outcome, RisesAt, leaving, opened_rows, unwritten}
 use Rattle.aq_desk.specs.Ending.{done}
 use Rattle.aq_desk.specs.Office.{HasOpened, IsOpened, IsUnopened}
 use Rattle.aq_desk.specs.Outside.{IsAll, Over}
@@ -27,7 +27,7 @@ use Rattle.aq_desk.specs.declared.stop.Stop.TheVariants.{InputFailed, OutputFail
 module _ (before after : Around) (door : after.door ≡ before.door) where
   -- for any cause but the door's
   unserved : (rows : List Row) (status : ℕ) → (status ≡ 5) ⊎ (status ≡ 6) ⊎ (status ≡ 7) → (status ≡ 6 → opening_damage rows ≡ None → ⊥)
-      → ((status ≡ 5) ⊎ (status ≡ 6) → after.tables ≡ before.tables) → AreTakenUp before.tables after.tables → RisesAt 5 status before.faults after.faults → IsUnserved rows status before after
+      → ((status ≡ 5) ⊎ (status ≡ 6) → after.tables ≡ before.tables) → AtMostOpened before.tables after.tables → RisesAt 5 status before.faults after.faults → IsUnserved rows status before after
   unserved rows status is damaged unopened tables rises = record {
     ended = grind (arith, is);
     damaged = damaged;
@@ -43,7 +43,7 @@ module _ (before after : Around) (door : after.door ≡ before.door) where
   }
 
   -- for want of memory
-  unremembered : (rows : List Row) → AreTakenUp before.tables after.tables → after.faults ≡ before.faults → IsUnserved rows 7 before after
+  unremembered : (rows : List Row) → AtMostOpened before.tables after.tables → after.faults ≡ before.faults → IsUnserved rows 7 before after
   unremembered rows tables steady =
       unserved rows 7 (inr (inr refl)) (λ six. absurd (omega (arith, six))) (λ either. absurd (omega (arith, either))) tables (stays_at_from 5 7 _ _ (λ five. omega (arith, five)) steady)
 

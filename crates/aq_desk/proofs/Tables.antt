@@ -6,7 +6,7 @@ use Rattle.aq_rules.specs.Kept.Rows.{Row, rows_of}
 use Rattle.aq_rules.specs.Office.Office.{Office}
 use Rattle.aq_desk.proofs.Outcomes.{nothing_written}
 use Rattle.aq_desk.proofs.Fronts.{behind_nothing}
-use Rattle.aq_desk.specs.Command.{AreTakenUp, IsKept, IsWhole, Keeps, Outcome, Printout, leaving, opened_rows, printed, printout_of, unwritten}
+use Rattle.aq_desk.specs.Command.{AtMostOpened, IsKept, IsWhole, Keeps, Outcome, Printout, leaving, opened_rows, printed, printout_of, unwritten}
 use Rattle.aq_desk.specs.Ending.{done}
 use Rattle.aq_desk.specs.Outside.{IsAll, Over}
 use Rattle.aq_desk.specs.Stop.{Gives, IsUnprinted, Obeys, Performs, ending_at, status_of}
@@ -53,8 +53,8 @@ keeps_before rows status tables cut = record {
 }
 
 -- at most the office was opened before it was
-pub keeps_taken_up : (rows : List Row) (status : ℕ) (before after : Option (List Row)) → (IsKept status → ⊥) → (status ≡ 3 → ⊥) → AreTakenUp before after → Keeps rows status before after
-keeps_taken_up rows status before after cut read taken = record {
+pub keeps_at_most_opened : (rows : List Row) (status : ℕ) (before after : Option (List Row)) → (IsKept status → ⊥) → (status ≡ 3 → ⊥) → AtMostOpened before after → Keeps rows status before after
+keeps_at_most_opened rows status before after cut read taken = record {
   kept = λ kept. absurd (cut kept);
   unread = λ three. absurd (read three);
   failed = λ _. taken;

@@ -51,16 +51,16 @@ IsKept status = IsWhole status ⊎ (status ≡ 4)
 unfoldable pub opened_rows : List Row → List Row
 opened_rows rows = if are_version_1 rows then migrated rows else rows
 
--- the tables are as before, or as they are once the office is opened
-abbrev pub AreTakenUp : Option (List Row) → Option (List Row) → Type 0
-AreTakenUp before after = (after ≡ before) ⊎ (after ≡ option_map opened_rows before)
+-- the tables are as before, or, at most, as they are once the office is opened
+abbrev pub AtMostOpened : Option (List Row) → Option (List Row) → Type 0
+AtMostOpened before after = (after ≡ before) ⊎ (after ≡ option_map opened_rows before)
 
 -- the tables after a run, if they are told: those of the command; if the input failed they are as before, and if the keeper did, as before the call that failed; and if memory ran out, one of these
 pub record Keeps (rows : List Row) (status : ℕ) (before after : Option (List Row)) : Type 0 where
   pub kept : IsKept status → after ≡ option_map (λ _. rows) before
   pub unread : status ≡ 3 → after ≡ before
-  pub failed : status ≡ 5 → AreTakenUp before after
-  pub one : AreTakenUp before after ⊎ (after ≡ option_map (λ _. rows) before)
+  pub failed : status ≡ 5 → AtMostOpened before after
+  pub one : AtMostOpened before after ⊎ (after ≡ option_map (λ _. rows) before)
 
 -- a run does all of the command, or, if a count rose or memory ran out, a front of its output; the output fails only if there is something to write
 pub record Follows (outcome : Outcome) (status : ℕ) (before after : Option (List ℕ)) (tables_before tables_after : Option (List Row)) : Type 0 where

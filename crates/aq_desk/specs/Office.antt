@@ -5,7 +5,7 @@ use Rattle.aq_rules.specs.Kept.Migration.{opening_damage}
 use Rattle.aq_rules.specs.Kept.Rows.{Place, Row, office_in, rows_of}
 use Rattle.aq_rules.specs.Office.Office.{IsOffice, Office}
 use Rattle.aq_base.specs.Faults.{HasRisen}
-use Rattle.aq_desk.specs.Command.{AreTakenUp, Outcome, leaving, opened_rows, unwritten}
+use Rattle.aq_desk.specs.Command.{AtMostOpened, Outcome, leaving, opened_rows, unwritten}
 use Rattle.aq_desk.specs.Ending.{damaged}
 use Rattle.aq_desk.specs.Outside.{Over}
 use Rattle.aq_desk.specs.declared.stop.Stop.{Stop}
@@ -34,7 +34,7 @@ pub record HasOpened (office : Office) (before after : Option (List Row)) : Type
 -- why an office is not opened: the keeper's count rose, or, if it did not, a row cannot be opened with those before it, and the tables are as before; want of memory has no cause that is told, and may come after the migration
 abbrev pub IsUnopened : Option (List Row) → Option (List Row) → ℕ → ℕ → Stop → Type 0
 IsUnopened before after m n KeeperFailed = (after ≡ before) × HasRisen m n
-IsUnopened before after m n Memory = AreTakenUp before after × (n ≡ m)
+IsUnopened before after m n Memory = AtMostOpened before after × (n ≡ m)
 IsUnopened before after m n (Damaged place) =
     (after ≡ before) × (n ≡ m) × Over before (λ rows. opening_damage rows ≡ Some (record { table = place.table; index = place.index }))
 IsUnopened before after m n _ = ⊥

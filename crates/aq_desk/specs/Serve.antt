@@ -10,7 +10,7 @@ use Rattle.aq_serve.specs.Service.{AreOfOffice, ServiceView}
 use Rattle.aq_serve.specs.Serving.{Serves}
 use Rattle.aq_serve.specs.declared.ending.ServeFault.{ServeFault}
 use Rattle.aq_serve.specs.declared.ending.ServeFault.TheVariants.{DoorFailed, Memory}
-use Rattle.aq_desk.specs.Command.{AreTakenUp, Outcome, RisesAt, leaving, opened_rows, unwritten}
+use Rattle.aq_desk.specs.Command.{AtMostOpened, Outcome, RisesAt, leaving, opened_rows, unwritten}
 use Rattle.aq_desk.specs.Ending.{done}
 use Rattle.aq_desk.specs.Office.{over_office}
 use Rattle.aq_desk.specs.declared.stop.Stop.{Stop}
@@ -51,7 +51,7 @@ pub record IsUnserved (rows : List Row) (status : ℕ) (before after : Around) :
   pub wire : after.door.wire ≡ before.door.wire
   pub unopened : (status ≡ 5) ⊎ (status ≡ 6) → after.tables ≡ before.tables
   pub opened : status ≡ 8 → after.tables ≡ option_map opened_rows before.tables
-  pub tables : AreTakenUp before.tables after.tables
+  pub tables : AtMostOpened before.tables after.tables
   pub faults : RisesAt 5 status before.faults after.faults
   pub accepts : RisesAt 8 status before.door.accepts after.door.accepts
   pub reads : after.door.reads ≡ before.door.reads

@@ -118,7 +118,7 @@ count_from byte (next ∷ bytes) =
     let rest = count_from next bytes in
     omega (arith, step, more, rest)
 
--- the LF bytes, and one more where the last byte is another
+-- the LF bytes, and one more if the last byte is another
 pub lines_are_counted : (bytes : List ℕ) → length (map without_return (cut_at_ends bytes)) ≡ count_by is_end bytes + unended (slice_get bytes (length bytes - 1))
 lines_are_counted [] = refl
 lines_are_counted (byte ∷ bytes) = length-map (cut_at_ends (byte ∷ bytes)) without_return ∙ rw sub-one (count_from byte bytes)

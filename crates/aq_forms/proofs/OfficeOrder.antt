@@ -161,7 +161,7 @@ xu_key-fields texts =
     agree (date_in (field 7 texts)) _ _ _ BadDate _ refl λ missed is_missed.
     (refl, refl)
 
--- the number and the code of an event, behind the test of its hours
+-- the number and the code of an event, after the test of its hours
 event-end : (fits : Bool) (number : Option ℕ) (code : Option Code) (event : ℕ → Code → OfficeRecord)
     → Reads (cond fits (ok_or number BadCode >>= λ n. ok_or code BadCode >>= λ c. Ok (event n c)) (Err BadSpan))
     (number >>- λ n. code >>- λ c. cond fits (Some (event n c)) None)

@@ -201,7 +201,7 @@ any-renewed test number None spans = any-kept test (λ (span : Span). not (span.
 any-renewed test number (Some span) spans =
     any-with_span test span (without_number number spans) ∙ ap (λ b. test span || b) (any-kept test (λ (span : Span). not (span.number == number)) spans)
 
--- where there is no event of a number, none is left out
+-- if there is no event of a number, none is left out
 pub without-none : (number : ℕ) (spans : List Span) → has_number number spans ≡ false → without_number number spans ≡ spans
 without-none number [] h = refl
 without-none number (span ∷ spans) h = choose (span.number == number) h (without-none number spans)

@@ -86,7 +86,7 @@ AreEntries-put p r es fs at old is sorted = record {
 
 -- ---- a record that is taken away
 
--- no record behind one with the key has the key
+-- no record after one with the key has the key
 none-behind : (k : OfficeKey) (es : List (Place × OfficeRecord)) → AllByRecursion (λ y. place_cmp (place_of k) y ≡ Less) (keys_of es) → ArePlaced es → without_row record_rank (key_numbers k) (values_of es) ≡ values_of es
 none-behind k [] below h = refl
 none-behind k (e ∷ es) below h =
@@ -130,7 +130,7 @@ AreEntries-remove_entry test es fs old is sorted = record {
 
 -- ---- a part of the map
 
--- a test of places that tells what a test of records tells
+-- a test of places that says what a test of records says
 pub values-filter : (p : Place → Bool) (q : OfficeRecord → Bool) (es : List (Place × OfficeRecord)) → ((k : OfficeRecord) → p (place_of (key_of k)) ≡ q k) → ArePlaced es → values_of (filter (λ (e : Place × OfficeRecord). p e.0) es) ≡ filter q (values_of es)
 values-filter p q [] tells h = refl
 values-filter p q (e ∷ es) tells h =

@@ -21,7 +21,7 @@ use Rattle.aq_registry.specs.Registry.{agreement_in}
 later_number : (m n : ℕ) → nat_cmp n m ≡ Less → (m == n) ≡ false
 later_number m n h = grind (arith, nat_tests)
 
--- behind the place of a concurrence there is no other in its event
+-- after the place of a concurrence there is no other in its event
 none_behind : (number : ℕ) (rows : List OfficeRecord) → AllByRecursion (λ p. place_cmp (of_event 7 number) p ≡ Less) (places_of rows) → list_any (agrees_to number) rows ≡ false
 none_behind number [] h = refl
 none_behind number (Concurrence other agreed ∷ rows) h =

@@ -141,7 +141,7 @@ unless_it test number false span other = refl
 gone : (test : Span → Bool) (number : ℕ) (b : Bool) (span : Span) → (span.number == number) ≡ true → passes (but number test) (cond b (Some span) None) ≡ false
 gone test number b span is = none_pass (but number test) b span (ap (λ c. not c && test span) is)
 
--- the rows behind one come after it
+-- each row after one has a later rank
 all_behind : (row : OfficeRecord) (rows : List OfficeRecord) → rises_from record_rank row rows ≡ true → AllByRecursion (λ other. comes_before (record_rank row) (record_rank other) ≡ true) rows
 all_behind row [] h = tt
 all_behind row (next ∷ rows) h =

@@ -64,7 +64,7 @@ step day None before rest some turn = absurd (false≢true some)
 step day (Some x) before rest some turn = ap (λ o. fold (later day) o rest) (turn x refl)
 
 module _ {X : Type 0} (answer word : OfficeRecord → Option X) (day : X → ℕ) (kind : ℕ) (site : Site) (parameter end : ℕ) (tells : (r : OfficeRecord) → answer r ≡ cond (is_of_between kind site parameter 0 end r) (word r) None) (says : (r : OfficeRecord) → is_of_between kind site parameter 0 end r ≡ true → is_some (word r) ≡ true) (parts : (r : OfficeRecord) (x : X) → word r ≡ Some x → day x ≡ (place_of (key_of r)).part) where
-  -- of two records of the part the one that stands behind is taken
+  -- of two records of the part the one that stands later is taken
   turn : (a b : OfficeRecord) → is_of_between kind site parameter 0 end a ≡ true → is_of_between kind site parameter 0 end b ≡ true → place_cmp (place_of (key_of a)) (place_of (key_of b)) ≡ Less → (x : X) → word b ≡ Some x → later day (word a) x ≡ Some x
   turn a b f g less x is =
       let apart = parts-rise kind site parameter a b (in-front kind site parameter 0 end a f) (in-front kind site parameter 0 end b g) less in

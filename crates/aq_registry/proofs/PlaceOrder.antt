@@ -76,7 +76,7 @@ before-places (Approved s d) (Approved t e) = lt-site s t _ _ (lt-nat_cmp d e)
 before-places (Combined s p) (Combined t q) = lt-site s t _ _ (lt-then (parameter_number p) (parameter_number q) (nat_cmp 0 0) false refl)
 before-places a b = refl
 
--- two keys are the same where neither comes first
+-- two keys are the same if neither comes first
 pub same-places : (a b : OfficeKey) → is_eq (place_cmp (place_of a) (place_of b)) ≡ is_same (key_numbers a) (key_numbers b)
 same-places (Monitor i) (Monitor j) = eq-site i.site j.site _ _ (eq-then (parameter_number i.pollutant) (parameter_number j.pollutant) _ _ (eq-last i.poc j.poc))
 same-places (Primary s p d) (Primary t q e) = eq-site s t _ _ (eq-then (parameter_number p) (parameter_number q) _ _ (eq-last d e))

@@ -28,7 +28,7 @@ some_answer : {X : Type 0} (o : Option X) (xs : List X) → is_some o ≡ true �
 some_answer None xs h = absurd (false≢true h)
 some_answer (Some x) xs h = refl
 
--- records answer where a test holds, as one word says, and nowhere else
+-- records answer if a test holds, as one word says, and else not
 module _ {X : Type 0} (answer word : OfficeRecord → Option X) (test : OfficeRecord → Bool) (tells : (r : OfficeRecord) → answer r ≡ cond (test r) (word r) None) (says : (r : OfficeRecord) → test r ≡ true → is_some (word r) ≡ true) where
   pub first_given-found : (rows : List OfficeRecord) → first_given answer rows ≡ option_and_then word (find test rows)
   first_given-found [] = refl

@@ -29,7 +29,7 @@ reached-set before [] i d entry h reached is = absurd (omega (arith, h))
 reached-set before (first ∷ entries) zero d entry h reached is = (is, tt)
 reached-set before (first ∷ entries) (suc i) d entry h reached is = (reached.0, reached-set (Some first) entries i d entry (omega arith) reached.1 is)
 
--- an entry put behind others, and what follows from them
+-- an entry put after others, and what follows from them
 pub reached-inserted : (before : Option Entry) (entries : List Entry) (n : ℕ) (entry : Entry) → AreReached before entries → entry ≡ entry_behind (last_or before (take n entries)) entry.span → AreReached before (take (suc n) (take n entries ++ entry ∷ drop n entries))
 reached-inserted before [] zero entry h is = (is, tt)
 reached-inserted before [] (suc n) entry h is = (is, tt)
@@ -52,7 +52,7 @@ chained-set [] (suc i) entry h = tt
 chained-set (first ∷ entries) zero entry h = chained-of first entries h
 chained-set (first ∷ entries) (suc i) entry h = chained-set entries i entry h
 
--- where an entry is as it should be, and those behind it follow from it, all are
+-- if an entry is as it should be, and those after it follow from it, all are
 pub reached-whole : (before : Option Entry) (entries : List Entry) (i : ℕ) (d : Entry) → i < length entries → AreReached before (take i entries) → AreChained (drop i entries) → slice_index_or entries i d ≡ entry_behind (last_or before (take i entries)) ((slice_index_or entries i d).span) → AreReached before entries
 reached-whole before [] i d h reached chained is = absurd (omega (arith, h))
 reached-whole before (first ∷ entries) zero d h reached chained is = (is, chained)
@@ -150,7 +150,7 @@ hour-behind event at same high =
     ∙ ap (λ b. b || (is_same_series at event && nat_lt at.hour event.hour)) (sym (ap (comes_before (series_of at)) (same-series event at same) ∙ before-itself (series_of at)))
     ∙ sym (by_series at event) ∙ high)
 
--- an event that starts behind the hour does not cover it
+-- an event that starts after the hour does not cover it
 behind-not : (at : Start) (span : Span) → starts_before at span.start ≡ true → covers at span ≡ false
 behind-not at span behind =
     let to : (b : Bool) → is_same_series span.start at ≡ b → (b && nat_le span.start.hour at.hour && nat_le at.hour span.last) ≡ false =
@@ -224,7 +224,7 @@ covered at before (entry ∷ entries) ordered sorted reached up =
     ∙ ap (λ b. b || list_any (covers at) (spans_of entries)) (step at before entry.span ordered.0 up.0 ∙ ap (λ (e : Entry). does_reach at (Some e)) (sym reached.0))
     ∙ covered at (Some entry) entries sorted.0 sorted.1 reached.1 up.1
 
--- ---- the last entry that does not start behind the hour
+-- ---- the last entry that does not start after the hour
 
 front_only : (at : Start) (entries : List Entry) (n : ℕ) → AllByRecursion (λ (entry : Entry). starts_before at entry.span.start ≡ true) (drop n entries) → list_any (covers at) (spans_of entries) ≡ list_any (covers at) (spans_of (take n entries))
 front_only at [] zero back = refl

@@ -34,7 +34,7 @@ between-then m n o u b h =
 between-parts : (from end n : ℕ) → (is_le (nat_cmp from n) && not (is_le (nat_cmp end n))) ≡ (nat_le from n && nat_lt n end)
 between-parts from end n = grind (arith, nat_tests)
 
--- with a later number behind it at the end
+-- with a later number after it at the end
 pub between-whole : (m n : ℕ) (o u : Ordering) → is_le u ≡ true → (is_le (ordering_then (nat_cmp m n) o) && not (is_le (ordering_then (nat_cmp (m + 1) n) u))) ≡ ((n == m) && is_le o)
 between-whole m n o u h = grind (arith, nat_tests)
 

@@ -125,7 +125,7 @@ le-then m n o b h =
 le-next : (m n : ℕ) (o : Ordering) → is_le o ≡ true → is_le (ordering_then (nat_cmp (m + 1) n) o) ≡ (nat_lt m n || ((m == n) && false))
 le-next m n o h = grind (arith, nat_tests)
 
--- a place of the kinds behind monitors
+-- a place of the kinds after monitors
 pub all-below : (p : Place) → is_le (ordering_then (nat_cmp 0 p.state) (ordering_then (nat_cmp 0 p.county) (ordering_then (nat_cmp 0 p.number) (ordering_then (nat_cmp 0 p.parameter) (nat_cmp 0 p.part))))) ≡ true
 all-below p = below-then p.state _ (below-then p.county _ (below-then p.number _ (below-then p.parameter _ (none_below p.part))))
 

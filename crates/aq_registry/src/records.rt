@@ -156,7 +156,7 @@ impl Records {
             .range((Bound::Included(start), Bound::Excluded(end)))
     }
 
-    /// Puts a record at its place, where it takes the place of one with its key.
+    /// Puts a record at its place, in place of one with its key.
     pub fn put(&mut self, row: OfficeRecord) -> Result<(), Memory>
         ensures ok { OnOk result (self.new ≡ with_row record_rank row self.old) }
         ensures unchanged { OnErr result (self.new ≡ self.old) }

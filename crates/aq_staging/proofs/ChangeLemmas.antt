@@ -20,12 +20,12 @@ Row = ObsKey × Observation
 
 -- ---- what is found after the changes
 
--- the first, where there is one
+-- the first, if there is one
 abbrev pub or_else : {A : Type 0} → Option A → Option A → Option A
 or_else None other = other
 or_else (Some a) other = Some a
 
--- the second, where the first is none
+-- the second, if the first is none
 abbrev pub unless : {A : Type 0} → Option A → Option A → Option A
 unless None other = other
 unless (Some a) other = None
@@ -168,7 +168,7 @@ length-with_rows-more [] rows = omega arith
 length-with_rows-more (row ∷ left) rows =
     omega (arith, length-with_row-more observation_rank row rows, length-with_rows-more left (with_row observation_rank row rows))
 
--- the next of some rows has room, where all have
+-- the next of some rows has room, if all have
 pub next-has_room : (row : Row) (rest items left rows start : List Row) → items ≡ row ∷ rest → with_rows items rows ≡ with_rows left start → length (with_rows left start) ≤ MOST_OBSERVATIONS → length (with_row observation_rank row rows) ≤ MOST_OBSERVATIONS
 next-has_room row rest items left rows start next so_far few =
     let all = ap length (ap (λ (l : List Row). with_rows l rows) (sym next) ∙ so_far) in
@@ -239,7 +239,7 @@ module _ (key : ObsKey) (before : List Row) (changes : Changes) (are : AreChange
       by_test o below true = refl
       by_test o below false = refl
 
-  -- where it was taken away before, or never stood
+  -- if it was taken away before, or never stood
   pub change-drop-left : content_at key (without_rows changes.dropped before) ≡ None → with_changes (changes_of (without_row observation_rank (observation_numbers key) changes.left) changes.dropped) before ≡ without_row observation_rank (observation_numbers key) (with_changes changes before)
   change-drop-left absent = drop_by changes.dropped (λ q. by_test q (is_same (observation_numbers key) q) refl)
     where
@@ -314,7 +314,7 @@ without-none key (row ∷ rows) none = by_test (without-none key rows) (is_same 
 pub without-absent : (key : ObsKey) (rows : List Row) → content_at key rows ≡ None → without_row observation_rank (observation_numbers key) rows ≡ rows
 without-absent key rows absent = without-none key rows (no_row (row_at observation_rank (observation_numbers key) rows) absent)
 
--- taken away where it is there, and else as before
+-- taken away if it is there, and else as before
 pub removed : {T E : Type 0} (key : ObsKey) (rows new : List Row) (answer : Result T E) → OnOk answer (new ≡ without_row observation_rank (observation_numbers key) rows) → OnErr answer (content_at key rows ≡ None) → OnErr answer (new ≡ rows) → new ≡ without_row observation_rank (observation_numbers key) rows
 removed key rows new (Ok before) ok absent unchanged = ok
 removed key rows new (Err fault) ok absent unchanged =

@@ -28,7 +28,7 @@ module _ {K : Type 0} (rank : K → List ℕ) where
           let parts = and_parts (comes_before (rank key) (rank next)) (rises_from rank next second) rising in
           ap (λ b. b && rises_from rank next second) (before-trans (rank x) (rank key) (rank next) before parts.0) ∙ parts.1
 
-  -- which of two first keys is the first of all, and what is left behind it
+  -- which of two first keys is the first of all, and what is left after it
   pub first_ahead : (x y : K) (first second : List K) → comes_before (rank x) (rank y) ≡ true → rises rank (y ∷ second) ≡ true → keys_of_either rank (x ∷ first) (y ∷ second) ≡ x ∷ keys_of_either rank first (y ∷ second)
   first_ahead x y first second before rising =
       ahead x first (y ∷ second) (ap (λ b. b && rises_from rank y second) before ∙ rising)
@@ -50,7 +50,7 @@ module _ {K : Type 0} (rank : K → List ℕ) where
   none_first [] rising = refl
   none_first (y ∷ second) rising = ahead y [] second rising ∙ ap (λ (keys : List K). y ∷ keys) (none_first second (rises-rest rank y second rising))
 
--- ---- the first key, and what is left behind it
+-- ---- the first key, and what is left after it
 
 pub headed : {X : Type 0} (xs : List X) (x : X) → slice_get xs 0 ≡ Some x → xs ≡ x ∷ drop 1 xs
 headed [] x h = cc

@@ -51,7 +51,7 @@ module _ (key : ObsKey) (before : List (ObsKey × Observation)) (changes : Chang
   pub kept-stands : is_some kept ≡ true → IsSome (content_at key standing)
   kept-stands some = rw found (either_is_some (content_at key changes.left) kept some)
 
-  -- why the changes refuse the key is why the overlay does; they are not full where it is not
+  -- why the changes refuse the key is why the overlay does; they are not full if it is not
   pub refused_by : (fault : ShelfFault) → kept ≡ None → count ≢ MOST_OBSERVATIONS → IsInsertFault fault key changes.left → IsInsertFault fault key standing
   refused_by AlreadyThere none room why = rw found (left_is_some (content_at key changes.left) kept why)
   refused_by Full none room why =

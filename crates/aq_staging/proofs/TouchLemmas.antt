@@ -59,7 +59,7 @@ module _ (q : List ℕ) where
       let no : Some row ≡ None = sym there ∙ sym (found-with record_rank q row touched) ∙ none in
       cc
 
-  -- where neither the record before nor the one after was noted, there is none
+  -- if neither the record before nor the one after was noted, there is none
   both_none : (old new : Option OfficeRecord) (before after touched : List OfficeRecord) → at q before ≡ old → at q after ≡ new → at q (noted_row (option_or new old) touched) ≡ None → at q before ≡ at q after
   both_none None None before after touched was is none = was ∙ sym is
   both_none old (Some row) before after touched was is none = absurd (never row touched (has_key q after row is) none)

@@ -50,7 +50,7 @@ impl<'a> KeysAhead<'a> {
         self.next
     }
 
-    /// Leaves the first key behind.
+    /// Passes the first key.
     fn skip(&mut self)
         ensures { self.new ≡ drop 1 self.old }
     {

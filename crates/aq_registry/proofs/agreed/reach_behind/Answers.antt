@@ -31,7 +31,7 @@ loop-i-preserved c =
       within = search rules;
     }
 
--- an entry with its reach is the one that stands there, and those behind it follow from it
+-- an entry with its reach is the one that stands there, and those after it follow from it
 pub returns-then-entry-standing-clause-reached : goal.returns-then-entry-standing-clause-reached
 returns-then-entry-standing-clause-reached c =
     let entries = c.loop-i.entries.items in
