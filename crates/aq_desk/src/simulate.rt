@@ -3,10 +3,7 @@ ghost use Rattle.std.specs.Prelude.{◌≤◌, IfErr};
 ghost use Rattle.aq_desk.specs.Command.{RisesAt};
 ghost use Rattle.aq_desk.specs.Simulate.{simulate_outcome};
 ghost use Rattle.aq_desk.specs.Stop.{IsCutShort, Obeys, status_of};
-<<<<<<< HEAD
-=======
 ghost use Rattle.aq_rules.specs.Limits.{MOST_GENERATED_SITES, FEWEST_GENERATED_YEARS, MOST_GENERATED_YEARS};
->>>>>>> f91ab5101ddbb3c2aa8b83092967cc5d8bc3e64f
 
 use crate::outside::Sink;
 use crate::stop::Stop;
