@@ -7,3 +7,5 @@ pub mod LoadlessAnswers
 pub mod RisingSites
 pub mod ShownLemmas
 pub mod ReportLemmas
+pub mod OpenedFronts
+pub mod MigrationLemmas

@@ -3,3 +3,4 @@ pub mod View
 pub mod Checks
 pub mod Questions
 pub mod Staged
+pub mod Migrating

@@ -11,7 +11,7 @@ use aq_rows::{load_row, observation_key, observation_row, office_key, office_row
 use aq_staging::{OfficeChange, OfficeChanges};
 use std::alloc::Global;
 
-/// Changes of rows, in the order of tables and keys.
+/// Changes of rows, in the order of a batch: that of tables and keys, but for the loads, which come last.
 pub type RowChanges = Items<RowChange>;
 
 /// The changes of rows that a load's changes stand for, and its own row last; a load with the number 0 has
@@ -52,7 +52,7 @@ fn row_change(alloc: Global, change: &OfficeChange) -> Result<RowChange, Memory>
         OfficeChange::PutRecord(record) => RowChange::put(Row::office(office_row(alloc, record)?)),
         OfficeChange::DropRecord(key) => RowChange::drop(office_key(alloc, key)?),
         OfficeChange::PutObservation(key, content) => {
-            RowChange::put(Row::observation(observation_row(alloc, key, content)?))
+            RowChange::put(Row::second(observation_row(alloc, key, content)?))
         }
         OfficeChange::DropObservation(key) => RowChange::drop(observation_key(key)),
     })

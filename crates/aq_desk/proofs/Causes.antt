@@ -182,7 +182,7 @@ none_follows found left written tables same _ =
       whole = λ _. sym (behind_nothing written);
       front = nothing_written written [];
       written = λ four. absurd (omega (arith, four));
-      tables = keeps_same rows 2 tables told;
+      tables = keeps_same rows 2 tables tables told refl;
     })))
 
 pub none_tells : (found : Option Command) (left : Option (List ℕ)) (tables : Option (List Row)) (m n : ℕ) (told telling : Option (List ℕ)) → None ≡ found → Tells no_command.message m n told telling → Over tables (λ rows. Over left (λ body. Tells (message_for (outcome_for found rows body) 2) m n told telling))

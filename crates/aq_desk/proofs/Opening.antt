@@ -1,94 +1,188 @@
 -- The office that a command opens, and one that it does not.
-use Rattle.std.proofs.Common.{◌≡◌, ℕ, ◌⊎◌, inl, inr, Bool, true, false, cond, List, Option, Some, None, refl, sym, ap, subst, ◌∙◌, arith}
-use Rattle.std.specs.Prelude.{◌↔◌, IfSome, IsTrue, Result, Err, IsErrAnd}
+use Rattle.std.proofs.Common.{◌≡◌, ℕ, ◌⊎◌, inl, inr, Bool, true, false, cond, ◌||◌, List, Option, Some, None, refl, sym, ap, subst, ◌∙◌, arith}
+use Rattle.std.specs.Prelude.{◌↔◌, IfErr, IfOk, IfSome, IsTrue, Result, Ok, Err, IsErrAnd}
+use Rattle.std.specs.Option.{option_map}
+use Rattle.std.proofs.Math.Bool.{or-true}
 use Rattle.aq_base.specs.Faults.{HasRisen}
+use Rattle.aq_book.proofs.OpenedFronts.{no-opening_damage}
+use Rattle.aq_rules.specs.Kept.Migration.{are_version_1, can_be_opened, migrated, migration_batch, opening_damage}
+use Rattle.aq_rules.specs.Kept.RowChanges.{RowChange, with_row_changes}
 use Rattle.aq_rules.specs.Kept.Rows.{Place, Row, are_office_rows, damage, office_in, office_of_rows, rows_of}
 use Rattle.aq_rules.specs.Office.Office.{IsOffice, Office}
-use Rattle.aq_desk.proofs.Tables.{cut_gives, of_any, stopped_gives}
+use Rattle.aq_rows.specs.Opening.{IsOpenFault}
+use Rattle.aq_rows.specs.declared.opening.OpenFault.{OpenFault}
+use Rattle.aq_rows.specs.declared.opening.OpenFault.TheVariants as opening
+use Rattle.aq_desk.proofs.Tables.{cut_gives, keeps_same, keeps_at_most_opened, of_any, stopped_gives}
 use Rattle.aq_desk.proofs.Unread.{stopped_by}
-use Rattle.aq_desk.specs.Command.{Outcome, RisesAt, leaving, unwritten}
+use Rattle.aq_desk.specs.Command.{AtMostOpened, Outcome, RisesAt, leaving, opened_rows, unwritten}
 use Rattle.aq_desk.specs.Ending.{damaged}
-use Rattle.aq_desk.specs.Office.{IsOpened, IsUnopened, over_damage, over_office}
+use Rattle.aq_desk.specs.Office.{HasOpened, IsOpened, IsUnopened, over_damage, over_office}
 use Rattle.aq_desk.specs.Outside.{IsAll, Over}
-use Rattle.aq_desk.specs.Stop.{Gives, IsUnprinted, ending_at, status_of}
+use Rattle.aq_desk.specs.Stop.{Gives, IsUnprinted, ending_at, status_of, stop_of_book}
 use Rattle.aq_desk.specs.declared.stop.Stop.{Stop}
 use Rattle.aq_desk.specs.declared.stop.Stop.TheVariants.{InputFailed, OutputFailed, KeeperFailed, DoorFailed, Damaged, Memory, Conflict, TooManyBytes, TooManyLines, LoadsFull, NoSite}
+
+-- ---- rows that are opened
 
 -- rows that give an office are its own
 office-found : (b : Bool) (found office : Office) → cond b (Some found) None ≡ Some office → (b ≡ true) × (found ≡ office)
 office-found true found office is = (refl, cc)
 office-found false found office is = absurd (cc)
 
-pub opened_is : (rows : List Row) (office : Office)
-    → ((rs : List Row) → (damage rs ≡ None) ↔ IsTrue (are_office_rows rs))
-    → ((rs : List Row) → IsTrue (are_office_rows rs) → rows_of (office_in rs) ≡ rs)
-    → ((rs : List Row) → IsTrue (are_office_rows rs) → IsOffice (office_in rs))
-    → office_of_rows rows ≡ Some office → IsOpened rows office
-unfolding office_of_rows
-opened_is rows office undamaged are valid found =
-    let is = office-found (are_office_rows rows) (office_in rows) office found in
-    record {
-      undamaged = (undamaged rows).1 is.0;
-      is_office = is.1;
-      are_rows = ap rows_of (sym is.1) ∙ are rows is.0;
-      valid = subst IsOffice is.1 (valid rows is.0);
-    }
+opened-office : (rows : List Row) → are_version_1 rows ≡ false → opened_rows rows ≡ rows
+unfolding opened_rows
+opened-office rows new = ap (λ (b : Bool). cond b (migrated rows) rows) new
 
--- what follows over the office
+opened-old : (rows : List Row) → are_version_1 rows ≡ true → opened_rows rows ≡ migrated rows
+unfolding opened_rows
+opened-old rows old = ap (λ (b : Bool). cond b (migrated rows) rows) old
+
+office-undamaged : (rows : List Row) → are_office_rows rows ≡ true → opening_damage rows ≡ None
+unfolding can_be_opened
+office-undamaged rows is = no-opening_damage rows (ap (λ b. b || are_version_1 rows) is)
+
+old-undamaged : (rows : List Row) → are_version_1 rows ≡ true → opening_damage rows ≡ None
+unfolding can_be_opened
+old-undamaged rows old = no-opening_damage rows (ap (λ b. are_office_rows rows || b) old ∙ or-true (are_office_rows rows))
+
+-- rows with a damaged one are no office's
+pub no_office : (rows : List Row) (place : Place) → ((rs : List Row) → (damage rs ≡ None) ↔ IsTrue (are_office_rows rs)) → damage rows ≡ Some place → are_office_rows rows ≡ false
+no_office rows place undamaged at = by_test (are_office_rows rows) refl
+  where
+    some-none : {A : Type 0} (a : A) → Some a ≡ None → ⊥
+    some-none a is = absurd (cc)
+
+    by_test : (b : Bool) → are_office_rows rows ≡ b → are_office_rows rows ≡ false
+    by_test true is = absurd (some-none place (sym at ∙ (undamaged rows).1 is))
+    by_test false is = is
+
+told-rows : (tables : Option (List Row)) (rows : List Row) → IfSome tables (λ told. rows ≡ told) → IsAll tables rows
+told-rows None rows told = tt
+told-rows (Some all) rows told = sym told
+
+become : (tables : Option (List Row)) (rows : List Row) → IfSome tables (λ told. rows ≡ told) → opened_rows rows ≡ rows → tables ≡ option_map opened_rows tables
+become None rows told stays = refl
+become (Some all) rows told stays = ap Some (sym (ap opened_rows (sym told) ∙ stays ∙ told))
+
+module _ (are : (rs : List Row) → IsTrue (are_office_rows rs) → rows_of (office_in rs) ≡ rs) (valid : (rs : List Row) → IsTrue (are_office_rows rs) → IsOffice (office_in rs)) where
+  -- rows, and the office's that they become
+  opened-as : (rows standing : List Row) (office : Office) → opening_damage rows ≡ None → opened_rows rows ≡ standing → office_of_rows standing ≡ Some office → IsOpened rows office
+  unfolding office_of_rows
+  opened-as rows standing office undamaged become found =
+      let is = office-found (are_office_rows standing) (office_in standing) office found in
+      record {
+        undamaged = undamaged;
+        is_office = ap office_in become ∙ is.1;
+        are_rows = ap rows_of (sym is.1) ∙ are standing is.0 ∙ sym become;
+        valid = subst IsOffice is.1 (valid standing is.0);
+      }
+
+  -- of an office's rows the tables stay as they are
+  pub office_opened : (before after : Option (List Row)) (rows : List Row) (office : Office) → ((rs : List Row) → IsTrue (are_office_rows rs) → are_version_1 rs ≡ false)
+      → IfSome before (λ told. rows ≡ told) → after ≡ before → office_of_rows rows ≡ Some office → HasOpened office before after
+  unfolding office_of_rows
+  office_opened before after rows office once told same found =
+      let is = office-found (are_office_rows rows) (office_in rows) office found in
+      let stays = opened-office rows (once rows is.0) in
+      record {
+        opened = record { all = rows; is_all = told-rows before rows told; says = opened-as rows rows office (office-undamaged rows is.0) stays found };
+        tables = same ∙ become before rows told stays;
+      }
+
+  -- and those of version 1 are migrated
+  pub old_opened : (before after : Option (List Row)) (rows standing : List Row) (office : Office) → are_version_1 rows ≡ true → standing ≡ migrated rows
+      → IfSome before (λ told. rows ≡ told) → after ≡ option_map opened_rows before → office_of_rows standing ≡ Some office → HasOpened office before after
+  old_opened before after rows standing office old is told now found = record {
+    opened = record { all = rows; is_all = told-rows before rows told; says = opened-as rows standing office (old-undamaged rows old) (opened-old rows old ∙ sym is) found };
+    tables = now;
+  }
+
+-- the tables after the commit of a migration
+pub committed : (before after : Option (List Row)) (rows : List Row) (batch : List RowChange) → are_version_1 rows ≡ true → batch ≡ migration_batch rows → with_row_changes rows (migration_batch rows) ≡ migrated rows
+    → IfSome before (λ told. rows ≡ told) → after ≡ option_map (λ told. with_row_changes told batch) before → after ≡ option_map opened_rows before
+committed None after rows batch old is gives told done = done
+committed (Some all) after rows batch old is gives told done =
+    done ∙ ap Some (ap (λ (rs : List Row). with_row_changes rs batch) (sym told) ∙ ap (with_row_changes rows) is ∙ gives ∙ sym (opened-old rows old) ∙ ap opened_rows told)
+
+-- migrated rows are an office's, so none is damaged
+pub undamaged_old : (rows standing : List Row) (place : Place) → ((rs : List Row) → (damage rs ≡ None) ↔ IsTrue (are_office_rows rs)) → ((rs : List Row) → IsTrue (are_version_1 rs) → IsTrue (are_office_rows (migrated rs)))
+    → are_version_1 rows ≡ true → standing ≡ migrated rows → damage standing ≡ Some place → ⊥
+undamaged_old rows standing place undamaged office old is at =
+    let found : are_office_rows standing ≡ false = no_office standing place undamaged at in
+    let good : are_office_rows standing ≡ true = ap are_office_rows is ∙ office rows old in
+    absurd (cc)
+
+-- only what is of version 1 is changed
+pub only_old : {X : Type 0} (rows : List Row) → are_version_1 rows ≡ true → are_version_1 rows ≡ false → X
+only_old rows old new = absurd (cc)
+
+-- so nothing but memory stops them from being opened
+pub old_stops : {A : Type 0} (answer : Result A Stop) (before after : Option (List Row)) (m n : ℕ) (standing : List Row) (why : OpenFault) → IsErrAnd answer (λ stop. stop ≡ stop_of_book why) → IsOpenFault standing why
+    → ((place : Place) → damage standing ≡ Some place → ⊥) → after ≡ option_map opened_rows before → n ≡ m → IfErr answer (IsUnopened before after m n)
+old_stops answer before after m n standing why is fault undamaged now steady =
+    subst (λ r. IfErr r (IsUnopened before after m n)) (sym (stopped_by answer (stop_of_book why) is)) (by why fault)
+  where
+    by : (w : OpenFault) → IsOpenFault standing w → IsUnopened before after m n (stop_of_book w)
+    by (opening.Damaged place) at = absurd (undamaged place at)
+    by opening.Memory at = (inr now, steady)
+
+-- ---- what follows over the office
+
 pub over_opened : (rows : List Row) (office : Office) (next : Office → Outcome) → IsOpened rows office → over_office rows next ≡ next office
 unfolding over_office
 over_opened rows office next opened = ap (λ place. over_damage place rows next) opened.undamaged ∙ ap next opened.is_office
 
-pub over_damaged : (rows : List Row) (place : Place) (next : Office → Outcome) → damage rows ≡ Some place → over_office rows next ≡ leaving rows (unwritten (damaged place))
+pub over_damaged : (rows : List Row) (place : Place) (next : Office → Outcome) → opening_damage rows ≡ Some place → over_office rows next ≡ leaving rows (unwritten (damaged place))
 unfolding over_office
 over_damaged rows place next found = ap (λ place. over_damage place rows next) found
 
 -- ---- an office that is not opened
 
-unopened-gives : (tables : Option (List Row)) (m n : ℕ) (stop : Stop) (next : List Row → Office → Outcome) → IsUnopened tables m n stop → Over tables (λ rows. Gives (over_office rows (next rows)) (Err stop) tables tables)
-unopened-gives tables m n KeeperFailed next cause =
-    of_any tables (λ rows. Gives (over_office rows (next rows)) (Err KeeperFailed) tables tables) (λ rows. cut_gives (over_office rows (next rows)) KeeperFailed tables (λ kept. omega (arith, kept)))
-unopened-gives tables m n Memory next cause =
-    of_any tables (λ rows. Gives (over_office rows (next rows)) (Err Memory) tables tables) (λ rows. cut_gives (over_office rows (next rows)) Memory tables (λ kept. omega (arith, kept)))
-unopened-gives tables m n (Damaged place) next cause =
-    let rows = cause.1.all in
-    let P = λ (o : Outcome). Gives o (Err (Damaged place)) tables tables in
+unopened-gives : (before after : Option (List Row)) (m n : ℕ) (stop : Stop) (next : Office → Outcome) → IsUnopened before after m n stop → Over before (λ rows. Gives (over_office rows next) (Err stop) before after)
+unopened-gives before after m n KeeperFailed next cause =
+    of_any before (λ rows. Gives (over_office rows next) (Err KeeperFailed) before after) (λ rows.
+    cut_gives (over_office rows next) KeeperFailed before after (λ kept. omega (arith, kept)) (keeps_at_most_opened (over_office rows next).rows 5 before after (λ kept. omega (arith, kept)) (λ three. omega (arith, three)) (inl cause.0)))
+unopened-gives before after m n Memory next cause =
+    of_any before (λ rows. Gives (over_office rows next) (Err Memory) before after) (λ rows.
+    cut_gives (over_office rows next) Memory before after (λ kept. omega (arith, kept)) (keeps_at_most_opened (over_office rows next).rows 7 before after (λ kept. omega (arith, kept)) (λ three. omega (arith, three)) cause.0))
+unopened-gives before after m n (Damaged place) next cause =
+    let rows = cause.2.all in
+    let P = λ (o : Outcome). Gives o (Err (Damaged place)) before after in
     record {
       all = rows;
-      is_all = cause.1.is_all;
-      says = subst P (sym (over_damaged rows (record { table = place.table; index = place.index }) (next rows) cause.1.says)) (stopped_gives rows (Damaged place) tables cause.1.is_all);
+      is_all = cause.2.is_all;
+      says = subst P (sym (over_damaged rows (record { table = place.table; index = place.index }) next cause.2.says)) (stopped_gives rows before after (Damaged place) (keeps_same rows 6 before after cause.2.is_all cause.0));
     }
-unopened-gives tables m n InputFailed next cause = absurd cause
-unopened-gives tables m n OutputFailed next cause = absurd cause
-unopened-gives tables m n DoorFailed next cause = absurd cause
-unopened-gives tables m n (Conflict number kept sent) next cause = absurd cause
-unopened-gives tables m n TooManyBytes next cause = absurd cause
-unopened-gives tables m n (TooManyLines lines) next cause = absurd cause
-unopened-gives tables m n LoadsFull next cause = absurd cause
-unopened-gives tables m n (NoSite site) next cause = absurd cause
+unopened-gives before after m n InputFailed next cause = absurd cause
+unopened-gives before after m n OutputFailed next cause = absurd cause
+unopened-gives before after m n DoorFailed next cause = absurd cause
+unopened-gives before after m n (Conflict number kept sent) next cause = absurd cause
+unopened-gives before after m n TooManyBytes next cause = absurd cause
+unopened-gives before after m n (TooManyLines lines) next cause = absurd cause
+unopened-gives before after m n LoadsFull next cause = absurd cause
+unopened-gives before after m n (NoSite site) next cause = absurd cause
 
-pub unopened_gives : (before after : Option (List Row)) (m n : ℕ) (stop : Stop) (next : List Row → Office → Outcome) (answer : Result (List ℕ) Stop) → IsErrAnd answer (λ why. why ≡ stop) → after ≡ before → IsUnopened before m n stop → Over before (λ rows. Gives (over_office rows (next rows)) answer before after)
-unopened_gives before after m n stop next answer is same cause =
-    let P = λ (r : Result (List ℕ) Stop). Over before (λ rows. Gives (over_office rows (next rows)) r before after) in
-    let Q = λ (t : Option (List Row)). Over before (λ rows. Gives (over_office rows (next rows)) (Err stop) before t) in
-    subst P (sym (stopped_by answer stop is)) (subst Q (sym same) (unopened-gives before m n stop next cause))
+pub unopened_gives : (before after : Option (List Row)) (m n : ℕ) (stop : Stop) (next : Office → Outcome) (answer : Result (List ℕ) Stop) → IsErrAnd answer (λ why. why ≡ stop) → IsUnopened before after m n stop → Over before (λ rows. Gives (over_office rows next) answer before after)
+unopened_gives before after m n stop next answer is cause =
+    let P = λ (r : Result (List ℕ) Stop). Over before (λ rows. Gives (over_office rows next) r before after) in
+    subst P (sym (stopped_by answer stop is)) (unopened-gives before after m n stop next cause)
 
 -- the statuses of an office that is not opened, with the keeper's count
 abbrev pub IsFault : ℕ → ℕ → ℕ → Type 0
 IsFault m n status = ((status ≡ 5) × HasRisen m n) ⊎ (((status ≡ 6) ⊎ (status ≡ 7)) × (n ≡ m))
 
-unopened-fault : (tables : Option (List Row)) (m n : ℕ) (stop : Stop) → IsUnopened tables m n stop → IsFault m n (ending_at stop).status
-unopened-fault tables m n KeeperFailed cause = inl (refl, cause)
-unopened-fault tables m n Memory cause = inr (inr refl, cause)
-unopened-fault tables m n (Damaged place) cause = inr (inl refl, cause.0)
-unopened-fault tables m n InputFailed cause = absurd cause
-unopened-fault tables m n OutputFailed cause = absurd cause
-unopened-fault tables m n DoorFailed cause = absurd cause
-unopened-fault tables m n (Conflict number kept sent) cause = absurd cause
-unopened-fault tables m n TooManyBytes cause = absurd cause
-unopened-fault tables m n (TooManyLines lines) cause = absurd cause
-unopened-fault tables m n LoadsFull cause = absurd cause
-unopened-fault tables m n (NoSite site) cause = absurd cause
+unopened-fault : (before after : Option (List Row)) (m n : ℕ) (stop : Stop) → IsUnopened before after m n stop → IsFault m n (ending_at stop).status
+unopened-fault before after m n KeeperFailed cause = inl (refl, cause.1)
+unopened-fault before after m n Memory cause = inr (inr refl, cause.1)
+unopened-fault before after m n (Damaged place) cause = inr (inl refl, cause.1)
+unopened-fault before after m n InputFailed cause = absurd cause
+unopened-fault before after m n OutputFailed cause = absurd cause
+unopened-fault before after m n DoorFailed cause = absurd cause
+unopened-fault before after m n (Conflict number kept sent) cause = absurd cause
+unopened-fault before after m n TooManyBytes cause = absurd cause
+unopened-fault before after m n (TooManyLines lines) cause = absurd cause
+unopened-fault before after m n LoadsFull cause = absurd cause
+unopened-fault before after m n (NoSite site) cause = absurd cause
 
 pub fault-unprinted : (m n : ℕ) (stop : Stop) → IsFault m n (ending_at stop).status → IsUnprinted stop
 fault-unprinted m n stop (inl five) = inl five.0
@@ -99,24 +193,10 @@ pub fault-rises : (m n status : ℕ) → IsFault m n status → RisesAt 5 status
 fault-rises m n status (inl five) = record { rises = λ _. five.1; stays = λ other. absurd (other five.0) }
 fault-rises m n status (inr (other, same)) = record { rises = λ five. absurd (omega (arith, five, other)); stays = λ _. same }
 
-pub unopened_unprinted : (tables : Option (List Row)) (m n : ℕ) (stop : Stop) → IsUnopened tables m n stop → IsUnprinted stop
-unopened_unprinted tables m n stop cause = fault-unprinted m n stop (unopened-fault tables m n stop cause)
+pub unopened_unprinted : (before after : Option (List Row)) (m n : ℕ) (stop : Stop) → IsUnopened before after m n stop → IsUnprinted stop
+unopened_unprinted before after m n stop cause = fault-unprinted m n stop (unopened-fault before after m n stop cause)
 
-pub unopened_rises : (tables : Option (List Row)) (m n : ℕ) (stop : Stop) (answer : Result (List ℕ) Stop) → IsErrAnd answer (λ why. why ≡ stop) → IsUnopened tables m n stop → RisesAt 5 (status_of answer) m n
-unopened_rises tables m n stop answer is cause =
+pub unopened_rises : (before after : Option (List Row)) (m n : ℕ) (stop : Stop) (answer : Result (List ℕ) Stop) → IsErrAnd answer (λ why. why ≡ stop) → IsUnopened before after m n stop → RisesAt 5 (status_of answer) m n
+unopened_rises before after m n stop answer is cause =
     let P = λ (r : Result (List ℕ) Stop). RisesAt 5 (status_of r) m n in
-    subst P (sym (stopped_by answer stop is)) (fault-rises m n (ending_at stop).status (unopened-fault tables m n stop cause))
-
--- ---- the rows that the keeper told
-
-told-rows : (tables : Option (List Row)) (rows : List Row) → IfSome tables (λ told. rows ≡ told) → IsAll tables rows
-told-rows None rows told = tt
-told-rows (Some all) rows told = sym told
-
-pub opened_over : (tables : Option (List Row)) (rows : List Row) (office : Office)
-    → ((rs : List Row) → (damage rs ≡ None) ↔ IsTrue (are_office_rows rs))
-    → ((rs : List Row) → IsTrue (are_office_rows rs) → rows_of (office_in rs) ≡ rs)
-    → ((rs : List Row) → IsTrue (are_office_rows rs) → IsOffice (office_in rs))
-    → IfSome tables (λ told. rows ≡ told) → office_of_rows rows ≡ Some office → Over tables (λ rs. IsOpened rs office)
-opened_over tables rows office undamaged are valid told found =
-    record { all = rows; is_all = told-rows tables rows told; says = opened_is rows office undamaged are valid found }
+    subst P (sym (stopped_by answer stop is)) (fault-rises m n (ending_at stop).status (unopened-fault before after m n stop cause))

@@ -14,7 +14,7 @@ use Rattle.aq_rules.specs.Office.Office.{Office, nothing}
 use Rattle.aq_rules.specs.Ozone.EightHour.{WindowRow}
 use Rattle.aq_rules.specs.Ozone.OzoneDay.{windows}
 use Rattle.aq_rules.specs.Shown.Answer.{OfSheet, NoSite, Windows, is_registered}
-use Rattle.aq_rules.specs.Shown.Answer as book
+use Rattle.aq_rules.specs.Shown.Answer as questions
 use Rattle.aq_rules.specs.Shown.Sheet.{Sheet, text_of}
 use Rattle.aq_rules.specs.Shown.Sheets.{load_sheet, windows_answer, windows_sheet}
 use Rattle.aq_desk.proofs.Fronts.{behind_nothing}
@@ -118,20 +118,20 @@ scan_beyond site day body is = ap (λ (few : Bool). if few then scan_answer site
 -- the answer by whether the site is registered
 answered : (office : Office) (site : Site) (day : ℕ) (there : Bool) (answer : Result Unit Stop) (before after : Option (List ℕ)) → is_registered office site ≡ there
     → Obeys (sheet_or_no_site site (if there then OfSheet (windows_answer office site day) else NoSite)) answer before after
-    → Obeys (sheet_or_no_site site (book.answer office (Windows site day))) answer before after
-unfolding book.answer
+    → Obeys (sheet_or_no_site site (questions.answer office (Windows site day))) answer before after
+unfolding questions.answer
 answered office site day there answer before after is obeys =
     let P = λ (b : Bool). Obeys (sheet_or_no_site site (if b then OfSheet (windows_answer office site day) else NoSite)) answer before after in
     subst P (sym is) obeys
 
 pub registered_answer : (office : Office) (site : Site) (day : ℕ) (rows : List WindowRow) (sheet : Sheet) (answer : Result Unit Stop) (before after : Option (List ℕ)) → is_registered office site ≡ true → rows ≡ windows office site day → sheet ≡ windows_sheet site day rows
-    → Obeys (printed (text_of sheet)) answer before after → Obeys (sheet_or_no_site site (book.answer office (Windows site day))) answer before after
+    → Obeys (printed (text_of sheet)) answer before after → Obeys (sheet_or_no_site site (questions.answer office (Windows site day))) answer before after
 unfolding windows_answer
 registered_answer office site day rows sheet answer before after registered same_rows same_sheet obeys =
     let P = λ (s : Sheet). Obeys (printed (text_of s)) answer before after in
     answered office site day true answer before after registered (subst P (same_sheet ∙ ap (windows_sheet site day) same_rows) obeys)
 
-pub unregistered_answer : (office : Office) (site : Site) (day : ℕ) (written : Option (List ℕ)) → is_registered office site ≡ false → Obeys (sheet_or_no_site site (book.answer office (Windows site day))) (Err (stops.NoSite site)) written written
+pub unregistered_answer : (office : Office) (site : Site) (day : ℕ) (written : Option (List ℕ)) → is_registered office site ≡ false → Obeys (sheet_or_no_site site (questions.answer office (Windows site day))) (Err (stops.NoSite site)) written written
 unregistered_answer office site day written unregistered =
     answered office site day false (Err (stops.NoSite site)) written written unregistered (writes_nothing (no_site site) (Err (stops.NoSite site)) written refl (λ four. absurd (omega (arith, four))))
 
@@ -161,15 +161,15 @@ cut_behind text outcome stop answer before after is cut told =
     subst P (sym is) (cut_short (after_text text outcome) stop before after (λ whole. omega (arith, cut, whole)) (front_of_more before after text outcome.output told.front) (λ four. more_bytes text outcome.output (told.written four)))
 
 -- the reply and the office are those of the body
-scanned : (site : Site) (day : ℕ) (body : List ℕ) → after_text (text_of (load_sheet (reply nothing 0 body))) (sheet_or_no_site site (book.answer (load nothing 0 [] body) (Windows site day))) ≡ scan_answer site day body
+scanned : (site : Site) (day : ℕ) (body : List ℕ) → after_text (text_of (load_sheet (reply nothing 0 body))) (sheet_or_no_site site (questions.answer (load nothing 0 [] body) (Windows site day))) ≡ scan_answer site day body
 unfolding scan_answer
 scanned site day body = refl
 
 pub answers : (site : Site) (day : ℕ) (body : List ℕ) (start : Office) (told : LoadReply) (office : Office) (answer : Result Unit Stop) (before after : Option (List ℕ)) → start ≡ nothing → told ≡ reply start 0 body → office ≡ load start 0 [] body
-    → Obeys (after_text (text_of (load_sheet told)) (sheet_or_no_site site (book.answer office (Windows site day)))) answer before after → Obeys (scan_answer site day body) answer before after
+    → Obeys (after_text (text_of (load_sheet told)) (sheet_or_no_site site (questions.answer office (Windows site day)))) answer before after → Obeys (scan_answer site day body) answer before after
 answers site day body start told office answer before after empty same_reply same_office obeys =
-    let P = λ (r : LoadReply). Obeys (after_text (text_of (load_sheet r)) (sheet_or_no_site site (book.answer office (Windows site day)))) answer before after in
-    let Q = λ (o : Office). Obeys (after_text (text_of (load_sheet (reply nothing 0 body))) (sheet_or_no_site site (book.answer o (Windows site day)))) answer before after in
+    let P = λ (r : LoadReply). Obeys (after_text (text_of (load_sheet r)) (sheet_or_no_site site (questions.answer office (Windows site day)))) answer before after in
+    let Q = λ (o : Office). Obeys (after_text (text_of (load_sheet (reply nothing 0 body))) (sheet_or_no_site site (questions.answer o (Windows site day)))) answer before after in
     let R = λ (outcome : Printout). Obeys outcome answer before after in
     subst R (scanned site day body)
     (subst Q (same_office ∙ ap (λ (o : Office). load o 0 [] body) empty)

@@ -10,7 +10,7 @@ use Rattle.aq_rules.specs.Kept.Rows.{Row, rows_of}
 use Rattle.aq_rules.specs.Limits.{MOST_LINES}
 use Rattle.aq_rules.specs.Lines.Lines.{line_count}
 use Rattle.aq_rules.specs.Office.Load.{Posted, TooManyLines, Repeated, Differing, NoRoom, Taken, load, office_after, posted, posted_beside, reply}
-use Rattle.aq_rules.specs.Office.Load as book
+use Rattle.aq_rules.specs.Office.Load as loads
 use Rattle.aq_rules.specs.Office.Office.{Office, StoredLoad, load_at}
 use Rattle.aq_rules.specs.Shown.Answer.{is_load_number}
 use Rattle.aq_rules.specs.Shown.Sheet.{text_of}
@@ -21,13 +21,13 @@ use Rattle.aq_service.specs.Posting.{IsPosted, LosesLoad, TakenBy}
 use Rattle.aq_service.specs.declared.posting.Posted as answers
 use Rattle.aq_service.specs.declared.posting.Posted.TheVariants as answered
 use Rattle.aq_desk.proofs.Opening.{over_opened, unopened_gives}
-use Rattle.aq_desk.proofs.Tables.{cut_gives, keeps_same, same_tables, stopped_gives}
+use Rattle.aq_desk.proofs.Tables.{cut_gives, keeps_opened, keeps_at_most_opened, opened_tables, stopped_gives}
 use Rattle.aq_desk.proofs.Unread.{stays_at_from, stopped_by}
-use Rattle.aq_desk.specs.Command.{Outcome, RisesAt, leaving, printed, unwritten}
+use Rattle.aq_desk.specs.Command.{AtMostOpened, Outcome, RisesAt, leaving, opened_rows, printed, unwritten}
 use Rattle.aq_desk.specs.Command as commands
 use Rattle.aq_desk.specs.Ending.{loads_full}
 use Rattle.aq_desk.specs.Load.{IsAnswered, IsKeptText, IsTextOf, load_answer, posted_outcome}
-use Rattle.aq_desk.specs.Office.{IsOpened, IsUnopened}
+use Rattle.aq_desk.specs.Office.{HasOpened, IsOpened, IsUnopened}
 use Rattle.aq_desk.specs.Outside.{IsAll, Over}
 use Rattle.aq_desk.specs.Stop.{Gives, IsUnprinted, ending_at, status_of}
 use Rattle.aq_desk.specs.declared.stop.Stop.{Stop}
@@ -35,37 +35,41 @@ use Rattle.aq_desk.specs.declared.stop.Stop.TheVariants as stops
 
 -- ---- the office is opened
 
-load_opened : (number : ℕ) (body : List ℕ) (rows : List Row) (office : Office) → IsOpened rows office → load_answer number body rows ≡ posted_outcome number rows body (posted office number (sha256 body) body)
+load_opened : (number : ℕ) (body : List ℕ) (rows : List Row) (office : Office) → IsOpened rows office → load_answer number body rows ≡ posted_outcome number office body (posted office number (sha256 body) body)
 unfolding load_answer
 load_opened number body rows office opened =
-    over_opened rows office (λ o. posted_outcome number rows body (posted o number (sha256 body) body)) opened
+    over_opened rows office (λ o. posted_outcome number o body (posted o number (sha256 body) body)) opened
 
-pub unopened_load : (number : ℕ) (body : List ℕ) (before after : Option (List Row)) (m n : ℕ) (stop : Stop) (answer : Result (List ℕ) Stop) → IsErrAnd answer (λ why. why ≡ stop) → after ≡ before → IsUnopened before m n stop → Over before (λ rows. Gives (load_answer number body rows) answer before after)
+pub unopened_load : (number : ℕ) (body : List ℕ) (before after : Option (List Row)) (m n : ℕ) (stop : Stop) (answer : Result (List ℕ) Stop) → IsErrAnd answer (λ why. why ≡ stop) → IsUnopened before after m n stop → Over before (λ rows. Gives (load_answer number body rows) answer before after)
 unfolding load_answer
-unopened_load number body before after m n stop answer is same cause =
-    unopened_gives before after m n stop (λ rows office. posted_outcome number rows body (posted office number (sha256 body) body)) answer is same cause
+unopened_load number body before after m n stop answer is cause =
+    unopened_gives before after m n stop (λ office. posted_outcome number office body (posted office number (sha256 body) body)) answer is cause
 
 -- ---- what becomes of a load
 
 -- one that no answer of too many lines is given to
-abbrev IsFew : book.Posted → Type 0
+abbrev IsFew : loads.Posted → Type 0
 IsFew TooManyLines = ⊥
 IsFew (Repeated kept) = ⊤
 IsFew (Differing kept sent) = ⊤
 IsFew NoRoom = ⊤
 IsFew (Taken reply now) = ⊤
 
--- the tables after it, where they were those of the office
-rows-after : (number : ℕ) (rows : List Row) (body : List ℕ) (office : Office) (p : book.Posted) → rows_of office ≡ rows → rows_of (office_after p office) ≡ (posted_outcome number rows body p).rows
-rows-after number rows body office TooManyLines are = are
-rows-after number rows body office (Repeated kept) are = are
-rows-after number rows body office (Differing kept sent) are = are
-rows-after number rows body office NoRoom are = are
-rows-after number rows body office (Taken reply now) are = refl
+-- the rows after it
+rows-after : (number : ℕ) (body : List ℕ) (office : Office) (p : loads.Posted) → rows_of (office_after p office) ≡ (posted_outcome number office body p).rows
+rows-after number body office TooManyLines = refl
+rows-after number body office (Repeated kept) = refl
+rows-after number body office (Differing kept sent) = refl
+rows-after number body office NoRoom = refl
+rows-after number body office (Taken reply now) = refl
 
-of-office : (tables : Option (List Row)) (rows : List Row) (office : Office) → IsAll tables rows → rows_of office ≡ rows → IfSome tables (λ told. told ≡ rows_of office)
-of-office None rows office told are = tt
-of-office (Some all) rows office told are = told ∙ sym are
+of-office : (start : Option (List Row)) (office : Office) → IfSome (option_map (λ _. rows_of office) start) (λ told. told ≡ rows_of office)
+of-office None office = tt
+of-office (Some all) office = refl
+
+mapped-again : (start : Option (List Row)) (one two : List Row) → option_map (λ _. two) (option_map (λ _. one) start) ≡ option_map (λ _. two) start
+mapped-again None one two = refl
+mapped-again (Some all) one two = refl
 
 is-few : (office : Office) (number : ℕ) (digest body : List ℕ) → line_count body ≤ MOST_LINES → IsFew (posted office number digest body)
 is-few office number digest body few = subst IsFew (sym (posted-few office number digest body few)) (by_found (load_at office number))
@@ -90,8 +94,9 @@ same-some a b is = cc
 cut-keeps : (rows : List Row) (before after : Option (List Row)) → commands.Keeps rows 0 before after → commands.Keeps rows 7 before after
 cut-keeps rows before after keeps = record {
   kept = λ kept. absurd (omega (arith, kept));
-  undone = λ undone. absurd (omega (arith, undone));
-  either = keeps.either;
+  unread = λ three. absurd (omega (arith, three));
+  failed = λ five. absurd (omega (arith, five));
+  one = keeps.one;
 }
 
 kept-gives : (found : Option StoredLoad) (made : LoadReply) (rows : List Row) (answer : Result (List ℕ) Stop) (before after : Option (List Row)) → IsKept (λ kept. kept.reply ≡ made) found → IsKeptText found answer → commands.Keeps rows 0 before after → Gives (leaving rows (printed (text_of (load_sheet made)))) answer before after
@@ -111,86 +116,94 @@ kept-gives (Some kept) made rows (Err stop) before after is same keeps =
       tables = cut-keeps rows before after keeps;
     })
 
-conflict-gives : (found : Option StoredLoad) (number : ℕ) (kept digest sent : List ℕ) (rows : List Row) (answer : Result (List ℕ) Stop) (tables : Option (List Row)) → IsAll tables rows → IsKept (λ load. (load.digest ≡ kept) × (sent ≡ digest)) found → IfSome found (λ load. answer ≡ Err (stops.Conflict number load.digest sent)) → Gives (leaving rows (unwritten (ending_at (stops.Conflict number kept sent)))) answer tables tables
-conflict-gives None number kept digest sent rows answer tables told none is = absurd none
-conflict-gives (Some load) number kept digest sent rows answer tables told same is =
+conflict-gives : (found : Option StoredLoad) (number : ℕ) (kept digest sent : List ℕ) (rows : List Row) (answer : Result (List ℕ) Stop) (before after : Option (List Row)) → commands.Keeps rows 9 before after → IsKept (λ load. (load.digest ≡ kept) × (sent ≡ digest)) found → IfSome found (λ load. answer ≡ Err (stops.Conflict number load.digest sent)) → Gives (leaving rows (unwritten (ending_at (stops.Conflict number kept sent)))) answer before after
+conflict-gives None number kept digest sent rows answer before after keeps none is = absurd none
+conflict-gives (Some load) number kept digest sent rows answer before after keeps same is =
     let outcome = leaving rows (unwritten (ending_at (stops.Conflict number kept sent))) in
-    let P = λ (r : Result (List ℕ) Stop). Gives outcome r tables tables in
-    subst P (sym (is ∙ ap (λ (d : List ℕ). Err (stops.Conflict number d sent)) same.0)) (stopped_gives rows (stops.Conflict number kept sent) tables told)
+    let P = λ (r : Result (List ℕ) Stop). Gives outcome r before after in
+    subst P (sym (is ∙ ap (λ (d : List ℕ). Err (stops.Conflict number d sent)) same.0)) (stopped_gives rows before after (stops.Conflict number kept sent) keeps)
 
--- ---- and over the rows of the office
+-- ---- and over the office that was opened: what its tables were at the start
 
-module _ (number : ℕ) (rows : List Row) (body : List ℕ) (before after : ServiceView) (told : IsAll before.tables rows) (are : rows_of before.office ≡ rows) (some : (number == 0) ≡ false) where
+module _ (number : ℕ) (rows : List Row) (body : List ℕ) (start : Option (List Row)) (before after : ServiceView) (told : IsAll start rows) (are : rows_of before.office ≡ opened_rows rows) (opened : before.tables ≡ option_map opened_rows start) (some : (number == 0) ≡ false) where
   abbrev digest : List ℕ
   digest = sha256 body
+
+  -- the tables are those of the office
+  its-own : before.tables ≡ option_map (λ _. rows_of before.office) start
+  its-own = opened ∙ opened_tables start rows before.office told are
+
+  of-its-office : IfSome before.tables (λ told. told ≡ rows_of before.office)
+  of-its-office = subst (λ (t : Option (List Row)). IfSome t (λ told. told ≡ rows_of before.office)) (sym its-own) (of-office start before.office)
+
+  becomes : (office : Office) → Become before office after → after.tables ≡ option_map (λ _. rows_of office) start
+  becomes office become = become ∙ ap (option_map (λ _. rows_of office)) its-own ∙ mapped-again start (rows_of before.office) (rows_of office)
 
   stored-reply : (made : LoadReply) (now : Office) → (made ≡ reply before.office number body) × (now ≡ load before.office number digest body) → after.office ≡ now → IsKept (λ kept. kept.reply ≡ made) (load_at after.office number)
   stored-reply made now is same =
       let P = λ (found : Option StoredLoad). IsKept (λ kept. kept.reply ≡ made) found in
       subst P (sym (ap (λ o. load_at o number) (same ∙ is.1) ∙ load_stands before.office number digest body some)) (sym is.0)
 
-  taken-keeps : (now : Office) → after.office ≡ now → Keeps before after → commands.Keeps (rows_of now) 0 before.tables after.tables
+  taken-keeps : (now : Office) → after.office ≡ now → Keeps before after → commands.Keeps (rows_of now) 0 start after.tables
   taken-keeps now same keeps =
-      let become = keeps (of-office before.tables rows before.office told are) ∙ ap (λ o. option_map (λ _. rows_of o) before.tables) same in
-      record { kept = λ _. become; undone = λ undone. absurd (omega (arith, undone)); either = inr become }
+      let become = becomes after.office (keeps of-its-office) ∙ ap (λ o. option_map (λ _. rows_of o) start) same in
+      record { kept = λ _. become; unread = λ three. absurd (omega (arith, three)); failed = λ five. absurd (omega (arith, five)); one = inr become }
 
-  -- where nothing changed
+  -- if nothing changed
   same-answer : (ans kind : answers.Posted) (answer : Result (List ℕ) Stop) → (ans ≡ kind) × (after ≡ before) → IsTextOf ans number (load_at after.office number) answer → IsTextOf kind number (load_at before.office number) answer
   same-answer ans kind answer is text =
       let P = λ (a : answers.Posted). IsTextOf a number (load_at before.office number) answer in
       let Q = λ (v : ServiceView). IsTextOf ans number (load_at v.office number) answer in
       subst P is.0 (subst Q is.1 text)
 
-  same-tables : (outcome : Outcome) (answer : Result (List ℕ) Stop) → after ≡ before → Gives outcome answer before.tables before.tables → Gives outcome answer before.tables after.tables
-  same-tables outcome answer is gives =
-      let P = λ (v : ServiceView). Gives outcome answer before.tables v.tables in
-      subst P (sym is) gives
+  same-keeps : (status : ℕ) → (status ≡ 3 → ⊥) → after ≡ before → commands.Keeps (rows_of before.office) status start after.tables
+  same-keeps status three is = keeps_opened rows before.office status start after.tables three told are (ap (λ (v : ServiceView). v.tables) is ∙ opened)
 
-  taken-gives : (ans : answers.Posted) (answer : Result (List ℕ) Stop) (made : LoadReply) (now : Office) → (made ≡ reply before.office number body) × (now ≡ load before.office number digest body) → TakenBy ans now before after → IsTextOf ans number (load_at after.office number) answer → Gives (leaving (rows_of now) (printed (text_of (load_sheet made)))) answer before.tables after.tables
+  taken-gives : (ans : answers.Posted) (answer : Result (List ℕ) Stop) (made : LoadReply) (now : Office) → (made ≡ reply before.office number body) × (now ≡ load before.office number digest body) → TakenBy ans now before after → IsTextOf ans number (load_at after.office number) answer → Gives (leaving (rows_of now) (printed (text_of (load_sheet made)))) answer start after.tables
   taken-gives answered.Done answer made now is taken text =
-      kept-gives (load_at after.office number) made (rows_of now) answer before.tables after.tables (stored-reply made now is taken.0) text (taken-keeps now taken.0 taken.2)
+      kept-gives (load_at after.office number) made (rows_of now) answer start after.tables (stored-reply made now is taken.0) text (taken-keeps now taken.0 taken.2)
   taken-gives answered.Failed answer made now is taken text =
       let outcome = leaving (rows_of now) (printed (text_of (load_sheet made))) in
-      let P = λ (r : Result (List ℕ) Stop). Gives outcome r before.tables after.tables in
-      let Q = λ (t : Option (List Row)). Gives outcome (Err stops.KeeperFailed) before.tables t in
-      subst P (sym text) (subst Q (sym taken.1) (cut_gives outcome stops.KeeperFailed before.tables (λ kept. omega (arith, kept))))
+      let P = λ (r : Result (List ℕ) Stop). Gives outcome r start after.tables in
+      subst P (sym text)
+      (cut_gives outcome stops.KeeperFailed start after.tables (λ kept. omega (arith, kept))
+      (keeps_at_most_opened (rows_of now) 5 start after.tables (λ kept. omega (arith, kept)) (λ three. omega (arith, three)) (inr (taken.1 ∙ opened))))
   taken-gives (answered.Lines lines) answer made now is taken text = absurd taken
   taken-gives (answered.Conflict sent) answer made now is taken text = absurd taken
   taken-gives answered.Full answer made now is taken text = absurd taken
 
-  pub posted_gives : (p : book.Posted) (ans : answers.Posted) (answer : Result (List ℕ) Stop) → IsFew p → Tells before.office number digest body p → IsPosted p (line_count body) before after ans → IsTextOf ans number (load_at after.office number) answer → Gives (posted_outcome number rows body p) answer before.tables after.tables
+  pub posted_gives : (p : loads.Posted) (ans : answers.Posted) (answer : Result (List ℕ) Stop) → IsFew p → Tells before.office number digest body p → IsPosted p (line_count body) before after ans → IsTextOf ans number (load_at after.office number) answer → Gives (posted_outcome number before.office body p) answer start after.tables
   posted_gives TooManyLines ans answer few is posted text = absurd few
   posted_gives (Repeated made) ans answer few is posted text =
-      same-tables _ answer posted.1
-      (kept-gives (load_at before.office number) made rows answer before.tables before.tables is (same-answer ans answered.Done answer posted text) (keeps_same rows 0 before.tables told))
+      kept-gives (load_at before.office number) made (rows_of before.office) answer start after.tables is (same-answer ans answered.Done answer posted text) (same-keeps 0 (λ three. omega (arith, three)) posted.1)
   posted_gives (Differing kept sent) ans answer few is posted text =
-      same-tables _ answer posted.1
-      (conflict-gives (load_at before.office number) number kept digest sent rows answer before.tables told is (same-answer ans (answered.Conflict sent) answer posted text))
+      conflict-gives (load_at before.office number) number kept digest sent (rows_of before.office) answer start after.tables (same-keeps 9 (λ three. omega (arith, three)) posted.1) is (same-answer ans (answered.Conflict sent) answer posted text)
   posted_gives NoRoom ans answer few is posted text =
-      let outcome = leaving rows (unwritten loads_full) in
-      let P = λ (r : Result (List ℕ) Stop). Gives outcome r before.tables before.tables in
-      same-tables outcome answer posted.1 (subst P (sym (same-answer ans answered.Full answer posted text)) (stopped_gives rows stops.LoadsFull before.tables told))
+      let outcome = leaving (rows_of before.office) (unwritten loads_full) in
+      let P = λ (r : Result (List ℕ) Stop). Gives outcome r start after.tables in
+      subst P (sym (same-answer ans answered.Full answer posted text)) (stopped_gives (rows_of before.office) start after.tables stops.LoadsFull (same-keeps 11 (λ three. omega (arith, three)) posted.1))
   posted_gives (Taken made now) ans answer few is posted text = taken-gives ans answer made now is posted text
 
-  -- memory ran out: the tables are as before, or those with the load
-  pub lost_gives : (answer : Result (List ℕ) Stop) → IsErrAnd answer (λ stop. stop ≡ stops.Memory) → LosesLoad number digest body before after → Gives (posted_outcome number rows body (posted before.office number digest body)) answer before.tables after.tables
+  -- memory ran out: the tables are those of the office that was opened, or those with the load
+  pub lost_gives : (answer : Result (List ℕ) Stop) → IsErrAnd answer (λ stop. stop ≡ stops.Memory) → LosesLoad number digest body before after → Gives (posted_outcome number before.office body (posted before.office number digest body)) answer start after.tables
   lost_gives answer is lost =
-      let outcome = posted_outcome number rows body (posted before.office number digest body) in
-      let P = λ (r : Result (List ℕ) Stop). Gives outcome r before.tables after.tables in
+      let outcome = posted_outcome number before.office body (posted before.office number digest body) in
+      let P = λ (r : Result (List ℕ) Stop). Gives outcome r start after.tables in
       subst P (sym (stopped_by answer stops.Memory is)) (record {
         text = tt;
         ending = λ whole. absurd (omega (arith, whole));
         nothing = λ _ whole. absurd (omega (arith, whole));
         tables = record {
           kept = λ kept. absurd (omega (arith, kept));
-          undone = λ undone. absurd (omega (arith, undone));
-          either = either (lost.tables (of-office before.tables rows before.office told are));
+          unread = λ three. absurd (omega (arith, three));
+          failed = λ five. absurd (omega (arith, five));
+          one = one (lost.tables of-its-office);
         };
       })
     where
-      either : Become before before.office after ⊎ Become before (book.post before.office number digest body) after → (after.tables ≡ before.tables) ⊎ (after.tables ≡ option_map (λ _. (posted_outcome number rows body (posted before.office number digest body)).rows) before.tables)
-      either (inl same) = inl (same ∙ ap (λ rs. option_map (λ _. rs) before.tables) are ∙ sym (same_tables before.tables rows told))
-      either (inr load) = inr (load ∙ ap (λ rs. option_map (λ _. rs) before.tables) (rows-after number rows body before.office (posted before.office number digest body) are))
+      one : Become before before.office after ⊎ Become before (loads.post before.office number digest body) after → AtMostOpened start after.tables ⊎ (after.tables ≡ option_map (λ _. (posted_outcome number before.office body (posted before.office number digest body)).rows) start)
+      one (inl same) = inl (inr (becomes before.office same ∙ sym (opened_tables start rows before.office told are)))
+      one (inr load) = inr (becomes (loads.post before.office number digest body) load ∙ ap (λ rs. option_map (λ _. rs) start) (rows-after number body before.office (posted before.office number digest body)))
 
 -- ---- what it is answered with
 
@@ -214,7 +227,7 @@ module _ (number : ℕ) (digest body : List ℕ) (lines : ℕ) (before after : S
   answered-taken (answered.Conflict sent) made now is taken = absurd taken
   answered-taken answered.Full made now is taken = absurd taken
 
-  pub is_answered : (p : book.Posted) (ans : answers.Posted) → IsFew p → Tells before.office number digest body p → IsPosted p lines before after ans → IsAnswered ans (load_at after.office number)
+  pub is_answered : (p : loads.Posted) (ans : answers.Posted) → IsFew p → Tells before.office number digest body p → IsPosted p lines before after ans → IsAnswered ans (load_at after.office number)
   is_answered TooManyLines ans few is posted = absurd few
   is_answered (Repeated made) ans few is posted = answered-same ans answered.Done posted (is-some _ (load_at before.office number) is)
   is_answered (Differing kept sent) ans few is posted = answered-same ans (answered.Conflict sent) posted (is-some _ (load_at before.office number) is)
@@ -254,7 +267,7 @@ counted-taken (answered.Lines count) now before after taken = absurd taken
 counted-taken (answered.Conflict sent) now before after taken = absurd taken
 counted-taken answered.Full now before after taken = absurd taken
 
-pub is_counted : (p : book.Posted) (ans : answers.Posted) (lines : ℕ) (before after : ServiceView) → IsPosted p lines before after ans → IsCounted ans before.faults after.faults
+pub is_counted : (p : loads.Posted) (ans : answers.Posted) (lines : ℕ) (before after : ServiceView) → IsPosted p lines before after ans → IsCounted ans before.faults after.faults
 is_counted TooManyLines ans lines before after posted = counted-same ans (answered.Lines lines) before after posted refl
 is_counted (Repeated made) ans lines before after posted = counted-same ans answered.Done before after posted refl
 is_counted (Differing kept sent) ans lines before after posted = counted-same ans (answered.Conflict sent) before after posted refl
@@ -277,44 +290,40 @@ text_rises answered.Failed number found answer m n kept text risen = subst (λ (
 
 -- ---- over the tables
 
-module _ (number : ℕ) (body : List ℕ) (office now : Office) (before between after : Option (List Row)) (m n : ℕ) (over : Over before (λ rows. IsOpened rows office)) (same : between ≡ before) where
-  abbrev view : Option (List Row) → ServiceView
-  view tables = record { office = office; tables = tables; faults = m }
+module _ (number : ℕ) (body : List ℕ) (office now : Office) (before between after : Option (List Row)) (m n : ℕ) (has : HasOpened office before between) where
+  abbrev view : ServiceView
+  view = record { office = office; tables = between; faults = m }
 
   abbrev later : ServiceView
   later = record { office = now; tables = after; faults = n }
 
-  pub posted_over : (ans : answers.Posted) (answer : Result (List ℕ) Stop) → line_count body ≤ MOST_LINES → IsTrue (is_load_number number)
-      → IsPosted (posted office number (sha256 body) body) (line_count body) (view between) later ans → IsTextOf ans number (load_at now number) answer → Over before (λ rows. Gives (load_answer number body rows) answer before after)
-  posted_over ans answer few some is text =
-      let p = posted office number (sha256 body) body in
+  -- a fact over the rows of before
+  over-load : (answer : Result (List ℕ) Stop) → Gives (posted_outcome number office body (posted office number (sha256 body) body)) answer before after → Over before (λ rows. Gives (load_answer number body rows) answer before after)
+  over-load answer gives =
+      let over = has.opened in
       let P = λ (o : Outcome). Gives o answer before after in
-      let Q = λ (t : Option (List Row)). IsPosted p (line_count body) (view t) later ans in
-      record {
-        all = over.all;
-        is_all = over.is_all;
-        says = subst P (sym (load_opened number body over.all office over.says))
-            (posted_gives number over.all body (view before) later over.is_all over.says.are_rows (is_numbered number some) p ans answer (is-few office number (sha256 body) body few) (tells office number (sha256 body) body) (subst Q same is) text);
-      }
+      record { all = over.all; is_all = over.is_all; says = subst P (sym (load_opened number body over.all office over.says)) gives }
+
+  pub posted_over : (ans : answers.Posted) (answer : Result (List ℕ) Stop) → line_count body ≤ MOST_LINES → IsTrue (is_load_number number)
+      → IsPosted (posted office number (sha256 body) body) (line_count body) view later ans → IsTextOf ans number (load_at now number) answer → Over before (λ rows. Gives (load_answer number body rows) answer before after)
+  posted_over ans answer few some is text =
+      let over = has.opened in
+      over-load answer
+      (posted_gives number over.all body before view later over.is_all over.says.are_rows has.tables (is_numbered number some) (posted office number (sha256 body) body) ans answer (is-few office number (sha256 body) body few) (tells office number (sha256 body) body) is text)
 
   pub lost_over : (answer : Result (List ℕ) Stop) → IsErrAnd answer (λ stop. stop ≡ stops.Memory) → IsTrue (is_load_number number)
-      → LosesLoad number (sha256 body) body (view between) later → Over before (λ rows. Gives (load_answer number body rows) answer before after)
+      → LosesLoad number (sha256 body) body view later → Over before (λ rows. Gives (load_answer number body rows) answer before after)
   lost_over answer is some lost =
-      let P = λ (o : Outcome). Gives o answer before after in
-      let Q = λ (t : Option (List Row)). LosesLoad number (sha256 body) body (view t) later in
-      record {
-        all = over.all;
-        is_all = over.is_all;
-        says = subst P (sym (load_opened number body over.all office over.says))
-            (lost_gives number over.all body (view before) later over.is_all over.says.are_rows (is_numbered number some) answer is (subst Q same lost));
-      }
+      let over = has.opened in
+      over-load answer
+      (lost_gives number over.all body before view later over.is_all over.says.are_rows has.tables (is_numbered number some) answer is lost)
 
-  pub is_kept : (ans : answers.Posted) → line_count body ≤ MOST_LINES → IsTrue (is_load_number number) → IsPosted (posted office number (sha256 body) body) (line_count body) (view between) later ans → IsAnswered ans (load_at now number)
+  pub is_kept : (ans : answers.Posted) → line_count body ≤ MOST_LINES → IsTrue (is_load_number number) → IsPosted (posted office number (sha256 body) body) (line_count body) view later ans → IsAnswered ans (load_at now number)
   is_kept ans few some is =
-      is_answered number (sha256 body) body (line_count body) (view between) later (is_numbered number some) (posted office number (sha256 body) body) ans (is-few office number (sha256 body) body few) (tells office number (sha256 body) body) is
+      is_answered number (sha256 body) body (line_count body) view later (is_numbered number some) (posted office number (sha256 body) body) ans (is-few office number (sha256 body) body few) (tells office number (sha256 body) body) is
 
   pub posted_rises : (ans : answers.Posted) (answer : Result (List ℕ) Stop) (k : ℕ) → line_count body ≤ MOST_LINES → IsTrue (is_load_number number) → m ≡ k
-      → IsPosted (posted office number (sha256 body) body) (line_count body) (view between) later ans → IsTextOf ans number (load_at now number) answer → RisesAt 5 (status_of answer) k n
+      → IsPosted (posted office number (sha256 body) body) (line_count body) view later ans → IsTextOf ans number (load_at now number) answer → RisesAt 5 (status_of answer) k n
   posted_rises ans answer k few some steady is text =
       subst (λ (j : ℕ). RisesAt 5 (status_of answer) j n) steady
-      (text_rises ans number (load_at now number) answer m n (is_kept ans few some is) text (is_counted (posted office number (sha256 body) body) ans (line_count body) (view between) later is))
+      (text_rises ans number (load_at now number) answer m n (is_kept ans few some is) text (is_counted (posted office number (sha256 body) body) ans (line_count body) view later is))

@@ -1,7 +1,9 @@
 -- Connections that are served over the office of the tables.
 use Rattle.std.proofs.Common.{◌≡◌, ℕ, ◌⊎◌, inl, inr, List, Option, Some, None, refl, sym, ap, subst, ◌∙◌, arith}
 use Rattle.std.specs.Prelude.{Result, Ok, Err, IfSome, IsErrAnd}
-use Rattle.aq_rules.specs.Kept.Rows.{Row, damage, office_in, rows_of}
+use Rattle.std.specs.Option.{option_map}
+use Rattle.aq_rules.specs.Kept.Migration.{opening_damage}
+use Rattle.aq_rules.specs.Kept.Rows.{Row, office_in, rows_of}
 use Rattle.aq_rules.specs.Office.Office.{Office}
 use Rattle.aq_serve.specs.Door.{DoorView}
 use Rattle.aq_serve.specs.Serving.{Serves, World}
@@ -10,26 +12,29 @@ use Rattle.aq_serve.specs.declared.ending.ServeFault.TheVariants as faults
 use Rattle.aq_desk.proofs.Opening.{over_damaged, over_opened}
 use Rattle.aq_desk.proofs.Tables.{of_any}
 use Rattle.aq_desk.proofs.Unread.{stays_at_from, stopped_by}
-use Rattle.aq_desk.specs.Command.{IsWhole, Outcome, RisesAt, leaving, unwritten}
+use Rattle.aq_desk.specs.Command.{AtMostOpened, IsWhole, Outcome, RisesAt, leaving, opened_rows, unwritten}
 use Rattle.aq_desk.specs.Ending.{done}
-use Rattle.aq_desk.specs.Office.{IsOpened, IsUnopened}
+use Rattle.aq_desk.specs.Office.{HasOpened, IsOpened, IsUnopened}
 use Rattle.aq_desk.specs.Outside.{IsAll, Over}
 use Rattle.aq_desk.specs.Run.{KeeperRises}
-use Rattle.aq_desk.specs.Serve.{Around, CannotListen, HasAttended, HasListened, HasServed, IsUnserved, serve_outcome, serving, status_served, stop_served}
+use Rattle.aq_desk.specs.Serve.{Around, CannotListen, HasAttended, HasListened, HasServed, IsUnserved, once_opened, serve_outcome, serving, status_served, stop_served}
 use Rattle.aq_desk.specs.Stop.{EndsAs, ending_at, ending_of, status_of}
 use Rattle.aq_desk.specs.declared.stop.Stop.{Stop}
 use Rattle.aq_desk.specs.declared.stop.Stop.TheVariants.{InputFailed, OutputFailed, KeeperFailed, DoorFailed, Damaged, Memory, Conflict, TooManyBytes, TooManyLines, LoadsFull, NoSite}
 
 -- ---- no connection was accepted
 
-module _ (before after : Around) (door : after.door ≡ before.door) (tables : after.tables ≡ before.tables) where
+module _ (before after : Around) (door : after.door ≡ before.door) where
   -- for any cause but the door's
-  unserved : (rows : List Row) (status : ℕ) → (status ≡ 5) ⊎ (status ≡ 6) ⊎ (status ≡ 7) → (status ≡ 6 → damage rows ≡ None → ⊥) → RisesAt 5 status before.faults after.faults → IsUnserved rows status before after
-  unserved rows status is damaged rises = record {
+  unserved : (rows : List Row) (status : ℕ) → (status ≡ 5) ⊎ (status ≡ 6) ⊎ (status ≡ 7) → (status ≡ 6 → opening_damage rows ≡ None → ⊥)
+      → ((status ≡ 5) ⊎ (status ≡ 6) → after.tables ≡ before.tables) → AtMostOpened before.tables after.tables → RisesAt 5 status before.faults after.faults → IsUnserved rows status before after
+  unserved rows status is damaged unopened tables rises = record {
     ended = grind (arith, is);
     damaged = damaged;
     undamaged = λ eight. absurd (omega (arith, eight, is));
     wire = ap (λ (d : DoorView). d.wire) door;
+    unopened = unopened;
+    opened = λ eight. absurd (omega (arith, eight, is));
     tables = tables;
     faults = rises;
     accepts = stays_at_from 8 status _ _ (λ eight. omega (arith, eight, is)) (ap (λ (d : DoorView). d.accepts) door);
@@ -37,15 +42,20 @@ module _ (before after : Around) (door : after.door ≡ before.door) (tables : a
     writes = ap (λ (d : DoorView). d.writes) door;
   }
 
-  unopened-served : (n : ℕ) (stop : Stop) → IsUnopened before.tables before.faults after.faults stop → Over before.tables (λ rows. HasServed n rows (ending_at stop).status before after)
+  -- for want of memory
+  unremembered : (rows : List Row) → AtMostOpened before.tables after.tables → after.faults ≡ before.faults → IsUnserved rows 7 before after
+  unremembered rows tables steady =
+      unserved rows 7 (inr (inr refl)) (λ six. absurd (omega (arith, six))) (λ either. absurd (omega (arith, either))) tables (stays_at_from 5 7 _ _ (λ five. omega (arith, five)) steady)
+
+  unopened-served : (n : ℕ) (stop : Stop) → IsUnopened before.tables after.tables before.faults after.faults stop → Over before.tables (λ rows. HasServed n rows (ending_at stop).status before after)
   unopened-served n KeeperFailed cause =
-      of_any before.tables (λ rows. HasServed n rows 5 before after) (λ rows. inl (unserved rows 5 (inl refl) (λ six. absurd (omega (arith, six))) (record { rises = λ _. cause; stays = λ other. absurd (other refl) })))
+      of_any before.tables (λ rows. HasServed n rows 5 before after) (λ rows. inl (unserved rows 5 (inl refl) (λ six. absurd (omega (arith, six))) (λ _. cause.0) (inl cause.0) (record { rises = λ _. cause.1; stays = λ other. absurd (other refl) })))
   unopened-served n Memory cause =
-      of_any before.tables (λ rows. HasServed n rows 7 before after) (λ rows. inl (unserved rows 7 (inr (inr refl)) (λ six. absurd (omega (arith, six))) (stays_at_from 5 7 _ _ (λ five. omega (arith, five)) cause)))
+      of_any before.tables (λ rows. HasServed n rows 7 before after) (λ rows. inl (unremembered rows cause.0 cause.1))
   unopened-served n (Damaged place) cause = record {
-    all = cause.1.all;
-    is_all = cause.1.is_all;
-    says = inl (unserved cause.1.all 6 (inr (inl refl)) (λ _ none. absurd (some-none _ (sym cause.1.says ∙ none))) (stays_at_from 5 6 _ _ (λ five. omega (arith, five)) cause.0));
+    all = cause.2.all;
+    is_all = cause.2.is_all;
+    says = inl (unserved cause.2.all 6 (inr (inl refl)) (λ _ none. absurd (some-none _ (sym cause.2.says ∙ none))) (λ _. cause.0) (inl cause.0) (stays_at_from 5 6 _ _ (λ five. omega (arith, five)) cause.1));
   }
     where
       some-none : {A : Type 0} (a : A) → Some a ≡ None → ⊥
@@ -59,41 +69,41 @@ module _ (before after : Around) (door : after.door ≡ before.door) (tables : a
   unopened-served n LoadsFull cause = absurd cause
   unopened-served n (NoSite site) cause = absurd cause
 
-  pub unopened_served : (n : ℕ) (stop : Stop) (answer : Result Unit Stop) → IsErrAnd answer (λ why. why ≡ stop) → IsUnopened before.tables before.faults after.faults stop → Over before.tables (λ rows. HasServed n rows (status_of answer) before after)
+  pub unopened_served : (n : ℕ) (stop : Stop) (answer : Result Unit Stop) → IsErrAnd answer (λ why. why ≡ stop) → IsUnopened before.tables after.tables before.faults after.faults stop → Over before.tables (λ rows. HasServed n rows (status_of answer) before after)
   unopened_served n stop answer is cause =
       let P = λ (r : Result Unit Stop). Over before.tables (λ rows. HasServed n rows (status_of r) before after) in
       subst P (sym (stopped_by answer stop is)) (unopened-served n stop cause)
 
   -- nor was memory for the routes
-  pub unrouted_served : (n : ℕ) (answer : Result Unit Stop) → IsErrAnd answer (λ why. why ≡ Memory) → after.faults ≡ before.faults → Over before.tables (λ rows. HasServed n rows (status_of answer) before after)
-  unrouted_served n answer is steady = unopened_served n Memory answer is steady
+  pub unrouted_served : (n : ℕ) (answer : Result Unit Stop) (office : Office) → IsErrAnd answer (λ why. why ≡ Memory) → HasOpened office before.tables after.tables → after.faults ≡ before.faults → Over before.tables (λ rows. HasServed n rows (status_of answer) before after)
+  unrouted_served n answer office is has steady = unopened_served n Memory answer is (inr has.tables, steady)
 
--- the ending is that of the definition, where the office is not opened
-unopened-ends : (tables : Option (List Row)) (m n : ℕ) (stop : Stop) → IsUnopened tables m n stop → Over tables (λ rows. EndsAs {A = Unit} (serve_outcome rows) (Err stop))
+-- the ending is that of the definition, if the office is not opened
+unopened-ends : (before after : Option (List Row)) (m n : ℕ) (stop : Stop) → IsUnopened before after m n stop → Over before (λ rows. EndsAs {A = Unit} (serve_outcome rows) (Err stop))
 unfolding serve_outcome
-unopened-ends tables m n KeeperFailed cause = of_any tables (λ rows. EndsAs {A = Unit} (serve_outcome rows) (Err KeeperFailed)) (λ rows whole. absurd (omega (arith, whole)))
-unopened-ends tables m n Memory cause = of_any tables (λ rows. EndsAs {A = Unit} (serve_outcome rows) (Err Memory)) (λ rows whole. absurd (omega (arith, whole)))
-unopened-ends tables m n (Damaged place) cause = record {
-  all = cause.1.all;
-  is_all = cause.1.is_all;
-  says = λ _. ap (λ (o : Outcome). o.ending) (sym (over_damaged cause.1.all (record { table = place.table; index = place.index }) (λ office. leaving cause.1.all (unwritten done)) cause.1.says));
+unopened-ends before after m n KeeperFailed cause = of_any before (λ rows. EndsAs {A = Unit} (serve_outcome rows) (Err KeeperFailed)) (λ rows whole. absurd (omega (arith, whole)))
+unopened-ends before after m n Memory cause = of_any before (λ rows. EndsAs {A = Unit} (serve_outcome rows) (Err Memory)) (λ rows whole. absurd (omega (arith, whole)))
+unopened-ends before after m n (Damaged place) cause = record {
+  all = cause.2.all;
+  is_all = cause.2.is_all;
+  says = λ _. ap (λ (o : Outcome). o.ending) (sym (over_damaged cause.2.all (record { table = place.table; index = place.index }) (λ office. leaving (rows_of office) (unwritten done)) cause.2.says));
 }
-unopened-ends tables m n InputFailed cause = absurd cause
-unopened-ends tables m n OutputFailed cause = absurd cause
-unopened-ends tables m n DoorFailed cause = absurd cause
-unopened-ends tables m n (Conflict number kept sent) cause = absurd cause
-unopened-ends tables m n TooManyBytes cause = absurd cause
-unopened-ends tables m n (TooManyLines lines) cause = absurd cause
-unopened-ends tables m n LoadsFull cause = absurd cause
-unopened-ends tables m n (NoSite site) cause = absurd cause
+unopened-ends before after m n InputFailed cause = absurd cause
+unopened-ends before after m n OutputFailed cause = absurd cause
+unopened-ends before after m n DoorFailed cause = absurd cause
+unopened-ends before after m n (Conflict number kept sent) cause = absurd cause
+unopened-ends before after m n TooManyBytes cause = absurd cause
+unopened-ends before after m n (TooManyLines lines) cause = absurd cause
+unopened-ends before after m n LoadsFull cause = absurd cause
+unopened-ends before after m n (NoSite site) cause = absurd cause
 
-pub unopened_ends : (tables : Option (List Row)) (m n : ℕ) (stop : Stop) (answer : Result Unit Stop) → IsErrAnd answer (λ why. why ≡ stop) → IsUnopened tables m n stop → Over tables (λ rows. EndsAs (serve_outcome rows) answer)
-unopened_ends tables m n stop answer is cause =
-    let P = λ (r : Result Unit Stop). Over tables (λ rows. EndsAs (serve_outcome rows) r) in
-    subst P (sym (stopped_by answer stop is)) (unopened-ends tables m n stop cause)
+pub unopened_ends : (before after : Option (List Row)) (m n : ℕ) (stop : Stop) (answer : Result Unit Stop) → IsErrAnd answer (λ why. why ≡ stop) → IsUnopened before after m n stop → Over before (λ rows. EndsAs (serve_outcome rows) answer)
+unopened_ends before after m n stop answer is cause =
+    let P = λ (r : Result Unit Stop). Over before (λ rows. EndsAs (serve_outcome rows) r) in
+    subst P (sym (stopped_by answer stop is)) (unopened-ends before after m n stop cause)
 
 pub unrouted_ends : (tables : Option (List Row)) (answer : Result Unit Stop) → IsErrAnd answer (λ why. why ≡ Memory) → Over tables (λ rows. EndsAs (serve_outcome rows) answer)
-unrouted_ends tables answer is = unopened_ends tables 0 0 Memory answer is refl
+unrouted_ends tables answer is = unopened_ends tables tables 0 0 Memory answer is (inl refl, refl)
 
 -- ---- over an office that is opened
 
@@ -102,12 +112,12 @@ status-is (Ok nothing) = refl
 status-is (Err faults.DoorFailed) = refl
 status-is (Err faults.Memory) = refl
 
-of-office : (tables : Option (List Row)) (rows : List Row) → IsAll tables rows → rows_of (office_in rows) ≡ rows → IfSome tables (λ told. told ≡ rows_of (office_in rows))
-of-office None rows told are = tt
-of-office (Some all) rows told are = told ∙ sym are
+of-office : (tables : Option (List Row)) (rows : List Row) (office : Office) → IsAll tables rows → rows_of office ≡ opened_rows rows → IfSome (option_map opened_rows tables) (λ told. told ≡ rows_of office)
+of-office None rows office told are = tt
+of-office (Some all) rows office told are = ap opened_rows told ∙ sym are
 
 module _ (n : ℕ) (rows : List Row) (office : Office) (before after : Around) (answer : Result Unit Stop) (opened : IsOpened rows office) (told : IsAll before.tables rows) where
-  cannot-listen : CannotListen before after answer → HasServed n rows (status_of answer) before after
+  cannot-listen : CannotListen (once_opened before) after answer → HasServed n rows (status_of answer) before after
   cannot-listen cannot =
       let P = λ (r : Result Unit Stop). HasServed n rows (status_of r) before after in
       subst P (sym cannot.stopped) (inl (record {
@@ -115,19 +125,22 @@ module _ (n : ℕ) (rows : List Row) (office : Office) (before after : Around) (
         damaged = λ six. absurd (omega (arith, six));
         undamaged = λ _. opened.undamaged;
         wire = cannot.wire;
-        tables = cannot.tables;
+        unopened = λ either. absurd (omega (arith, either));
+        opened = λ _. cannot.tables;
+        tables = inr cannot.tables;
         faults = stays_at_from 5 8 _ _ (λ five. omega (arith, five)) cannot.faults;
         accepts = record { rises = λ _. cannot.accepts; stays = λ other. absurd (other refl) };
         reads = cannot.reads;
         writes = cannot.writes;
       }))
 
-  has-listened : HasListened n office before after answer → HasServed n rows (status_of answer) before after
+  has-listened : HasListened n office (once_opened before) after answer → HasServed n rows (status_of answer) before after
   has-listened listened =
-      let Q = λ (o : Office). Serves n (record { door = listened.listening; service = serving o before }) (record { door = after.door; service = serving listened.left after }) listened.ending in
+      let Q = λ (o : Office). Serves n (record { door = listened.listening; service = serving o (once_opened before) }) (record { door = after.door; service = serving listened.left after }) listened.ending in
+      let R = λ (o : Office). IfSome (option_map opened_rows before.tables) (λ told. told ≡ rows_of o) in
       inr (record {
         undamaged = opened.undamaged;
-        of_office = of-office before.tables rows told (ap rows_of opened.is_office ∙ opened.are_rows);
+        of_office = subst R (sym opened.is_office) (of-office before.tables rows office told opened.are_rows);
         listening = listened.listening;
         listens = listened.listens;
         office = listened.left;
@@ -136,23 +149,24 @@ module _ (n : ℕ) (rows : List Row) (office : Office) (before after : Around) (
         serves = subst Q (sym opened.is_office) listened.serves;
       })
 
-  has-attended : HasAttended n office before after answer → HasServed n rows (status_of answer) before after
+  has-attended : HasAttended n office (once_opened before) after answer → HasServed n rows (status_of answer) before after
   has-attended (inl cannot) = cannot-listen cannot
   has-attended (inr listened) = has-listened listened
 
--- the keeper was asked for the rows before, and the door was as it is
+-- the office was opened before, and the door was as it is
 module _ (n : ℕ) (office service : Office) (is : service ≡ office) (door : DoorView) (tables now : Option (List Row)) (faults later : ℕ) (after : Around) (answer : Result Unit Stop) where
-  pub attended_served : Over tables (λ rows. IsOpened rows office) → now ≡ tables → later ≡ faults
+  pub attended_served : HasOpened office tables now → later ≡ faults
       → HasAttended n service (record { door = door; tables = now; faults = later }) after answer
       → Over tables (λ rows. HasServed n rows (status_of answer) (record { door = door; tables = tables; faults = faults }) after)
-  attended_served over kept steady attended =
+  attended_served has steady attended =
+      let over = has.opened in
       let O = λ (o : Office). HasAttended n o (record { door = door; tables = now; faults = later }) after answer in
       let P = λ (t : Option (List Row)). HasAttended n office (record { door = door; tables = t; faults = later }) after answer in
-      let Q = λ (k : ℕ). HasAttended n office (record { door = door; tables = tables; faults = k }) after answer in
+      let Q = λ (k : ℕ). HasAttended n office (record { door = door; tables = option_map opened_rows tables; faults = k }) after answer in
       record {
         all = over.all;
         is_all = over.is_all;
-        says = has-attended n over.all office (record { door = door; tables = tables; faults = faults }) after answer over.says over.is_all (subst Q steady (subst P kept (subst O is attended)));
+        says = has-attended n over.all office (record { door = door; tables = tables; faults = faults }) after answer over.says over.is_all (subst Q steady (subst P has.tables (subst O is attended)));
       }
 
 attended-done : (n : ℕ) (office : Office) (before after : Around) (answer : Result Unit Stop) → HasAttended n office before after answer → IsWhole (status_of answer) → ending_of answer ≡ done
@@ -168,13 +182,15 @@ attended-done n office before after answer (inr listened) whole =
     served-done (Err faults.DoorFailed) same = absurd (omega (arith, same))
     served-done (Err faults.Memory) same = absurd (omega (arith, same))
 
-pub attended_ends : (n : ℕ) (office service : Office) (tables : Option (List Row)) (before after : Around) (answer : Result Unit Stop) → Over tables (λ rows. IsOpened rows office) → HasAttended n service before after answer → Over tables (λ rows. EndsAs (serve_outcome rows) answer)
+pub attended_ends : (n : ℕ) (office service : Office) (tables now : Option (List Row)) (before after : Around) (answer : Result Unit Stop) → HasOpened office tables now → HasAttended n service before after answer → Over tables (λ rows. EndsAs (serve_outcome rows) answer)
 unfolding serve_outcome
-attended_ends n office service tables before after answer over attended = record {
-  all = over.all;
-  is_all = over.is_all;
-  says = λ whole. attended-done n service before after answer attended whole ∙ ap (λ (o : Outcome). o.ending) (sym (over_opened over.all office (λ o. leaving over.all (unwritten done)) over.says));
-}
+attended_ends n office service tables now before after answer has attended =
+    let over = has.opened in
+    record {
+      all = over.all;
+      is_all = over.is_all;
+      says = λ whole. attended-done n service before after answer attended whole ∙ ap (λ (o : Outcome). o.ending) (sym (over_opened over.all office (λ o. leaving (rows_of o) (unwritten done)) over.says));
+    }
 
 -- ---- its statuses, and the counts
 

@@ -1,11 +1,12 @@
 -- The tables of a keeper, and the text that is printed over them.
-use Rattle.std.proofs.Common.{◌≡◌, ℕ, List, [], ◌++◌, Option, Some, None, refl, sym, ap, subst, ◌∙◌, inl, arith}
+use Rattle.std.proofs.Common.{◌≡◌, ℕ, List, [], ◌++◌, Option, Some, None, refl, sym, ap, subst, ◌∙◌, inl, inr, arith}
 use Rattle.std.specs.Prelude.{Result, Ok, Err, IfErr}
 use Rattle.std.specs.Option.{option_map}
-use Rattle.aq_rules.specs.Kept.Rows.{Row}
+use Rattle.aq_rules.specs.Kept.Rows.{Row, rows_of}
+use Rattle.aq_rules.specs.Office.Office.{Office}
 use Rattle.aq_desk.proofs.Outcomes.{nothing_written}
 use Rattle.aq_desk.proofs.Fronts.{behind_nothing}
-use Rattle.aq_desk.specs.Command.{IsKept, IsWhole, Keeps, Outcome, Printout, leaving, printed, printout_of, unwritten}
+use Rattle.aq_desk.specs.Command.{AtMostOpened, IsKept, IsWhole, Keeps, Outcome, Printout, leaving, opened_rows, printed, printout_of, unwritten}
 use Rattle.aq_desk.specs.Ending.{done}
 use Rattle.aq_desk.specs.Outside.{IsAll, Over}
 use Rattle.aq_desk.specs.Stop.{Gives, IsUnprinted, Obeys, Performs, ending_at, status_of}
@@ -26,27 +27,53 @@ pub same_tables : (tables : Option (List Row)) (rows : List Row) → IsAll table
 same_tables None rows told = refl
 same_tables (Some all) rows told = ap Some told
 
--- ---- tables that stay as they are
+-- the tables of an office that was opened
+pub opened_tables : (tables : Option (List Row)) (rows : List Row) (office : Office) → IsAll tables rows → rows_of office ≡ opened_rows rows → option_map opened_rows tables ≡ option_map (λ _. rows_of office) tables
+opened_tables None rows office told are = refl
+opened_tables (Some all) rows office told are = ap Some (ap opened_rows told ∙ sym are)
 
-pub keeps_same : (rows : List Row) (status : ℕ) (tables : Option (List Row)) → IsAll tables rows → Keeps rows status tables tables
-keeps_same rows status tables told = record {
-  kept = λ _. same_tables tables rows told;
-  undone = λ _. refl;
-  either = inl refl;
+-- ---- what becomes of them
+
+-- nothing
+pub keeps_same : (rows : List Row) (status : ℕ) (before after : Option (List Row)) → IsAll before rows → after ≡ before → Keeps rows status before after
+keeps_same rows status before after told same = record {
+  kept = λ _. same ∙ same_tables before rows told;
+  unread = λ _. same;
+  failed = λ _. inl same;
+  one = inl (inl same);
 }
 
--- where the command was cut short before it changed them
+-- nor before the command was cut short
 pub keeps_before : (rows : List Row) (status : ℕ) (tables : Option (List Row)) → (IsKept status → ⊥) → Keeps rows status tables tables
 keeps_before rows status tables cut = record {
   kept = λ kept. absurd (cut kept);
-  undone = λ _. refl;
-  either = inl refl;
+  unread = λ _. refl;
+  failed = λ _. inl refl;
+  one = inl (inl refl);
+}
+
+-- at most the office was opened before it was
+pub keeps_at_most_opened : (rows : List Row) (status : ℕ) (before after : Option (List Row)) → (IsKept status → ⊥) → (status ≡ 3 → ⊥) → AtMostOpened before after → Keeps rows status before after
+keeps_at_most_opened rows status before after cut read taken = record {
+  kept = λ kept. absurd (cut kept);
+  unread = λ three. absurd (read three);
+  failed = λ _. taken;
+  one = inl taken;
+}
+
+-- the office was opened, and nothing else
+pub keeps_opened : (rows : List Row) (office : Office) (status : ℕ) (before after : Option (List Row)) → (status ≡ 3 → ⊥) → IsAll before rows → rows_of office ≡ opened_rows rows → after ≡ option_map opened_rows before → Keeps (rows_of office) status before after
+keeps_opened rows office status before after read told are opened = record {
+  kept = λ _. opened ∙ opened_tables before rows office told are;
+  unread = λ three. absurd (read three);
+  failed = λ _. inr opened;
+  one = inl (inr opened);
 }
 
 pub with_tables : (rows : List Row) (printout : Printout) (answer : Result Unit Stop) (before after : Option (List ℕ)) (tables : Option (List Row)) → IsAll tables rows → Obeys printout answer before after → Performs (leaving rows printout) answer before after tables tables
 with_tables rows printout answer before after tables told obeys = record {
   obeys = obeys;
-  tables = keeps_same rows (status_of answer) tables told;
+  tables = keeps_same rows (status_of answer) tables tables told refl;
 }
 
 -- ---- a text that has still to be printed
@@ -57,29 +84,30 @@ whole-0 = grind arith
 kept-0 : IsKept 0
 kept-0 = grind arith
 
-pub printed_gives : (rows : List Row) (text : List ℕ) (tables : Option (List Row)) → IsAll tables rows → Gives (leaving rows (printed text)) (Ok text) tables tables
-printed_gives rows text tables told = record {
-  text = refl;
-  ending = λ _. refl;
-  nothing = λ failed _. absurd (cc);
-  tables = keeps_same rows 0 tables told;
-}
+module _ (rows : List Row) (before after : Option (List Row)) where
+  pub printed_gives : (text : List ℕ) → Keeps rows 0 before after → Gives (leaving rows (printed text)) (Ok text) before after
+  printed_gives text keeps = record {
+    text = refl;
+    ending = λ _. refl;
+    nothing = λ failed _. absurd (cc);
+    tables = keeps;
+  }
 
-pub stopped_gives : (rows : List Row) (stop : Stop) (tables : Option (List Row)) → IsAll tables rows → Gives (leaving rows (unwritten (ending_at stop))) (Err stop) tables tables
-stopped_gives rows stop tables told = record {
-  text = tt;
-  ending = λ _. refl;
-  nothing = λ _ _. refl;
-  tables = keeps_same rows (ending_at stop).status tables told;
-}
+  pub stopped_gives : (stop : Stop) → Keeps rows (ending_at stop).status before after → Gives (leaving rows (unwritten (ending_at stop))) (Err stop) before after
+  stopped_gives stop keeps = record {
+    text = tt;
+    ending = λ _. refl;
+    nothing = λ _ _. refl;
+    tables = keeps;
+  }
 
 -- a command that was cut short before it had a text
-pub cut_gives : (outcome : Outcome) (stop : Stop) (tables : Option (List Row)) → (IsKept (ending_at stop).status → ⊥) → Gives outcome (Err stop) tables tables
-cut_gives outcome stop tables cut = record {
+pub cut_gives : (outcome : Outcome) (stop : Stop) (before after : Option (List Row)) → (IsKept (ending_at stop).status → ⊥) → Keeps outcome.rows (ending_at stop).status before after → Gives outcome (Err stop) before after
+cut_gives outcome stop before after cut keeps = record {
   text = tt;
   ending = λ whole. absurd (cut (inl whole));
   nothing = λ _ whole. absurd (cut (inl whole));
-  tables = keeps_before outcome.rows (ending_at stop).status tables cut;
+  tables = keeps;
 }
 
 -- ---- and then is printed
@@ -90,8 +118,9 @@ of_printed outcome text is ending = λ i. record { ending = ending i; output = i
 still_kept : (rows : List Row) (before after : Option (List Row)) → Keeps rows 0 before after → Keeps rows 4 before after
 still_kept rows before after keeps = record {
   kept = λ _. keeps.kept kept-0;
-  undone = λ undone. absurd (omega (arith, undone));
-  either = keeps.either;
+  unread = λ three. absurd (omega (arith, three));
+  failed = λ five. absurd (omega (arith, five));
+  one = keeps.one;
 }
 
 pub print_performs : (outcome : Outcome) (text : List ℕ) (answer : Result Unit Stop) (before after : Option (List ℕ)) (tables_before tables_after : Option (List Row)) → Gives outcome (Ok text) tables_before tables_after → Obeys (printed text) answer before after → IfErr answer (λ stop. stop ≡ OutputFailed) → Performs outcome answer before after tables_before tables_after

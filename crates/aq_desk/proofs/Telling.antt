@@ -143,8 +143,8 @@ conflict_message number kept sent =
     (sym (append_assoc front one (between ++ (two ++ end))) ∙ sym (append_assoc (front ++ one) between (two ++ end)) ∙ sym (append_assoc ((front ++ one) ++ between) two end))
 
 -- a byte's two digits, and then those of the others
-pub digest_split : (bytes rest two : List ℕ) (first : ℕ) → bytes ≡ first ∷ rest → two ≡ digest_text (first ∷ []) → two ++ digest_text rest ≡ digest_text bytes
-digest_split bytes rest two first split is = ap (λ (l : List ℕ). l ++ digest_text rest) is ∙ ap digest_text (sym split)
+pub digest_split : (bytes rest pair : List ℕ) (first : ℕ) → bytes ≡ first ∷ rest → pair ≡ digest_text (first ∷ []) → pair ++ digest_text rest ≡ digest_text bytes
+digest_split bytes rest pair first split is = ap (λ (l : List ℕ). l ++ digest_text rest) is ∙ ap digest_text (sym split)
 
 pub memory_message : codes "airdv: 7 memory\n" ≡ no_memory.message
 memory_message = rw seven refl

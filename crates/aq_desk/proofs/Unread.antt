@@ -79,7 +79,7 @@ unread_keeps outcome rows stop body tables told beyond (inr (inl memory)) =
     subst P (sym memory) (keeps_before outcome.rows 7 tables (λ kept. omega (arith, kept)))
 unread_keeps outcome rows stop body tables told beyond (inr (inr cause)) =
     let P = λ (o : Outcome). Keeps o.rows (ending_at stop).status tables tables in
-    subst P (sym (beyond cause.0)) (keeps_same rows (ending_at stop).status tables told)
+    subst P (sym (beyond cause.0)) (keeps_same rows (ending_at stop).status tables tables told refl)
 
 pub unread_told : (site : Site) (day : ℕ) (left written : Option (List ℕ)) (m n : ℕ) (why : BodyFault) (answer : Result Unit Stop) → IsErrAnd answer (λ stop. stop ≡ stop_of why) → IsBodyFault m n (HasTooManyBytes left) (HasTooManyLines left) why → Over left (λ body. Obeys (scan_outcome site day body) answer written written)
 unread_told site day left written m n why answer is cause =

@@ -2,7 +2,7 @@
 use Rattle.std.specs.Prelude.{◌≡◌, ⊤, List}
 use Rattle.aq_base.specs.declared.ask.Ask.{Ask}
 use Rattle.aq_base.specs.declared.ask.Ask.TheVariants.{Value, Export}
-use Rattle.aq_rules.specs.Kept.Rows.{Row}
+use Rattle.aq_rules.specs.Kept.Rows.{Row, rows_of}
 use Rattle.aq_rules.specs.Shown.Answer.{Answer, OfSheet, OfExport, NoSite, NoLoad, answer}
 use Rattle.aq_rules.specs.Shown.Sheet.{text_of}
 use Rattle.aq_service.specs.declared.answers.Unanswered.{Unanswered}
@@ -27,7 +27,7 @@ answered ask NoSite = unwritten (without_answer ask)
 answered ask NoLoad = unwritten no_command
 
 unfoldable pub ask_outcome : Ask → List Row → Outcome
-ask_outcome ask rows = over_office rows (λ office. leaving rows (answered ask (answer office ask)))
+ask_outcome ask rows = over_office rows (λ office. leaving (rows_of office) (answered ask (answer office ask)))
 
 -- the questions of a site
 abbrev pub HasSite : Ask → Type 0

@@ -1,6 +1,7 @@
 -- What a command is: how it ends, what it writes, and what it leaves in the keeper's tables, over its words, these tables and its input; and what a run may do with it (own).
 use Rattle.std.specs.Prelude.{◌≡◌, ℕ, ◌<◌, ◌⊎◌, ◌==◌, if◌then◌else◌, List, [], ◌++◌, length, Option}
 use Rattle.std.specs.Option.{option_map}
+use Rattle.aq_rules.specs.Kept.Migration.{are_version_1, migrated}
 use Rattle.aq_rules.specs.Kept.Rows.{Row}
 use Rattle.aq_desk.specs.Ending.{Ending, done, input_failed, output_failed, keeper_failed, door_failed, no_memory}
 use Rattle.aq_base.specs.Faults.{HasRisen}
@@ -46,15 +47,20 @@ IsWhole status = (status ≡ 0) ⊎ (status ≡ 2) ⊎ (status ≡ 6) ⊎ (statu
 abbrev pub IsKept : ℕ → Type 0
 IsKept status = IsWhole status ⊎ (status ≡ 4)
 
--- those with which the tables are as before: the input failed, or the keeper did
-abbrev pub IsUndone : ℕ → Type 0
-IsUndone status = (status ≡ 3) ⊎ (status ≡ 5)
+-- the rows of the tables once the office is opened: those of version 1 are migrated
+unfoldable pub opened_rows : List Row → List Row
+opened_rows rows = if are_version_1 rows then migrated rows else rows
 
--- the tables after a run, if they are told: what they were, or those of the command, the one or the other by the status unless memory ran out
+-- the tables are as before, or, at most, as they are once the office is opened
+abbrev pub AtMostOpened : Option (List Row) → Option (List Row) → Type 0
+AtMostOpened before after = (after ≡ before) ⊎ (after ≡ option_map opened_rows before)
+
+-- the tables after a run, if they are told: those of the command; if the input failed they are as before, and if the keeper did, as before the call that failed; and if memory ran out, one of these
 pub record Keeps (rows : List Row) (status : ℕ) (before after : Option (List Row)) : Type 0 where
   pub kept : IsKept status → after ≡ option_map (λ _. rows) before
-  pub undone : IsUndone status → after ≡ before
-  pub either : (after ≡ before) ⊎ (after ≡ option_map (λ _. rows) before)
+  pub unread : status ≡ 3 → after ≡ before
+  pub failed : status ≡ 5 → AtMostOpened before after
+  pub one : AtMostOpened before after ⊎ (after ≡ option_map (λ _. rows) before)
 
 -- a run does all of the command, or, if a count rose or memory ran out, a front of its output; the output fails only if there is something to write
 pub record Follows (outcome : Outcome) (status : ℕ) (before after : Option (List ℕ)) (tables_before tables_after : Option (List Row)) : Type 0 where

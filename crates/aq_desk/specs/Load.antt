@@ -5,7 +5,7 @@ use Rattle.sha2.specs.Sha256.{sha256}
 use Rattle.aq_rules.specs.Kept.Rows.{Row, rows_of}
 use Rattle.aq_rules.specs.Lines.Lines.{line_count}
 use Rattle.aq_rules.specs.Office.Load.{Posted, TooManyLines, Repeated, Differing, NoRoom, Taken, posted}
-use Rattle.aq_rules.specs.Office.Office.{StoredLoad}
+use Rattle.aq_rules.specs.Office.Office.{Office, StoredLoad}
 use Rattle.aq_rules.specs.Shown.Sheet.{text_of}
 use Rattle.aq_rules.specs.Shown.Sheets.{load_sheet}
 use Rattle.aq_desk.specs.Body.{excess, is_within}
@@ -17,18 +17,18 @@ use Rattle.aq_desk.specs.declared.stop.Stop.TheVariants as stops
 use Rattle.aq_service.specs.declared.posting.Posted as answers
 use Rattle.aq_service.specs.declared.posting.Posted.TheVariants.{Done, Lines, Conflict, Full, Failed}
 
--- a known number with the same body gives the kept reply; the rows change only if the load is taken
-abbrev pub posted_outcome : ℕ → List Row → List ℕ → Posted → Outcome
-posted_outcome number rows body TooManyLines = leaving rows (unwritten (too_many_lines (line_count body)))
-posted_outcome number rows body (Repeated kept) = leaving rows (printed (text_of (load_sheet kept)))
-posted_outcome number rows body (Differing kept sent) = leaving rows (unwritten (conflict number kept sent))
-posted_outcome number rows body NoRoom = leaving rows (unwritten loads_full)
-posted_outcome number rows body (Taken reply office) = leaving (rows_of office) (printed (text_of (load_sheet reply)))
+-- a known number with the same body gives the kept reply; the office changes only if the load is taken
+abbrev pub posted_outcome : ℕ → Office → List ℕ → Posted → Outcome
+posted_outcome number office body TooManyLines = leaving (rows_of office) (unwritten (too_many_lines (line_count body)))
+posted_outcome number office body (Repeated kept) = leaving (rows_of office) (printed (text_of (load_sheet kept)))
+posted_outcome number office body (Differing kept sent) = leaving (rows_of office) (unwritten (conflict number kept sent))
+posted_outcome number office body NoRoom = leaving (rows_of office) (unwritten loads_full)
+posted_outcome number office body (Taken reply now) = leaving (rows_of now) (printed (text_of (load_sheet reply)))
 
 -- the digest of a load is the SHA-256 of its body
 unfoldable pub load_answer : ℕ → List ℕ → List Row → Outcome
 load_answer number body rows =
-    over_office rows (λ office. posted_outcome number rows body (posted office number (sha256 body) body))
+    over_office rows (λ office. posted_outcome number office body (posted office number (sha256 body) body))
 
 -- a body of too many bytes or lines is not taken, whatever the tables hold
 abbrev pub load_outcome : ℕ → List Row → List ℕ → Outcome

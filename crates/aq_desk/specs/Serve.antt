@@ -1,14 +1,16 @@
 -- The command `serve --port P --connections N`: connections are served over the office of the tables (own).
 use Rattle.std.specs.Prelude.{◌≡◌, ℕ, ◌⊎◌, true, List, Option, None, Result, Ok, Err}
+use Rattle.std.specs.Option.{option_map}
 use Rattle.aq_base.specs.Faults.{HasRisen}
-use Rattle.aq_rules.specs.Kept.Rows.{Row, damage, office_in}
+use Rattle.aq_rules.specs.Kept.Migration.{opening_damage}
+use Rattle.aq_rules.specs.Kept.Rows.{Row, office_in, rows_of}
 use Rattle.aq_rules.specs.Office.Office.{Office}
 use Rattle.aq_serve.specs.Door.{DoorView}
 use Rattle.aq_serve.specs.Service.{AreOfOffice, ServiceView}
 use Rattle.aq_serve.specs.Serving.{Serves}
 use Rattle.aq_serve.specs.declared.ending.ServeFault.{ServeFault}
 use Rattle.aq_serve.specs.declared.ending.ServeFault.TheVariants.{DoorFailed, Memory}
-use Rattle.aq_desk.specs.Command.{Outcome, RisesAt, leaving, unwritten}
+use Rattle.aq_desk.specs.Command.{AtMostOpened, Outcome, RisesAt, leaving, opened_rows, unwritten}
 use Rattle.aq_desk.specs.Ending.{done}
 use Rattle.aq_desk.specs.Office.{over_office}
 use Rattle.aq_desk.specs.declared.stop.Stop.{Stop}
@@ -16,13 +18,17 @@ use Rattle.aq_desk.specs.declared.stop.Stop.TheVariants as stops
 
 -- nothing is printed; what is served is told by the door
 unfoldable pub serve_outcome : List Row → Outcome
-serve_outcome rows = over_office rows (λ office. leaving rows (unwritten done))
+serve_outcome rows = over_office rows (λ office. leaving (rows_of office) (unwritten done))
 
 -- what serving may change: the door, and what the keeper tells
 pub record Around : Type 0 where
   pub door : DoorView
   pub tables : Option (List Row)
   pub faults : ℕ
+
+-- the same once the office is opened
+abbrev pub once_opened : Around → Around
+once_opened around = record { door = around.door; tables = option_map opened_rows around.tables; faults = around.faults }
 
 -- the same with the office that is served
 abbrev pub serving : Office → Around → ServiceView
@@ -37,13 +43,15 @@ pub record IsListening (before after : DoorView) : Type 0 where
   pub reads : after.reads ≡ before.reads
   pub writes : after.writes ≡ before.writes
 
--- no connection was accepted: the office was not opened, memory ran out, or the door did not listen
+-- no connection was accepted: the office was not opened, memory ran out, or the door did not listen, which comes after the migration
 pub record IsUnserved (rows : List Row) (status : ℕ) (before after : Around) : Type 0 where
   pub ended : (status ≡ 5) ⊎ (status ≡ 6) ⊎ (status ≡ 7) ⊎ (status ≡ 8)
-  pub damaged : status ≡ 6 → damage rows ≡ None → ⊥
-  pub undamaged : status ≡ 8 → damage rows ≡ None
+  pub damaged : status ≡ 6 → opening_damage rows ≡ None → ⊥
+  pub undamaged : status ≡ 8 → opening_damage rows ≡ None
   pub wire : after.door.wire ≡ before.door.wire
-  pub tables : after.tables ≡ before.tables
+  pub unopened : (status ≡ 5) ⊎ (status ≡ 6) → after.tables ≡ before.tables
+  pub opened : status ≡ 8 → after.tables ≡ option_map opened_rows before.tables
+  pub tables : AtMostOpened before.tables after.tables
   pub faults : RisesAt 5 status before.faults after.faults
   pub accepts : RisesAt 8 status before.door.accepts after.door.accepts
   pub reads : after.door.reads ≡ before.door.reads
@@ -55,16 +63,16 @@ status_served (Ok nothing) = 0
 status_served (Err DoorFailed) = 8
 status_served (Err Memory) = 7
 
--- connections were served over the office of the tables
+-- connections were served over the office of the tables, once it was opened
 pub record IsServed (n : ℕ) (rows : List Row) (status : ℕ) (before after : Around) : Type 0 where
-  pub undamaged : damage rows ≡ None
-  pub of_office : AreOfOffice (serving (office_in rows) before)
+  pub undamaged : opening_damage rows ≡ None
+  pub of_office : AreOfOffice (serving (office_in (opened_rows rows)) (once_opened before))
   pub listening : DoorView
   pub listens : IsListening before.door listening
   pub office : Office
   pub ending : Result Unit ServeFault
   pub ended : status ≡ status_served ending
-  pub serves : Serves n (record { door = listening; service = serving (office_in rows) before }) (record { door = after.door; service = serving office after }) ending
+  pub serves : Serves n (record { door = listening; service = serving (office_in (opened_rows rows)) (once_opened before) }) (record { door = after.door; service = serving office after }) ending
 
 abbrev pub HasServed : ℕ → List Row → ℕ → Around → Around → Type 0
 HasServed n rows status before after = IsUnserved rows status before after ⊎ IsServed n rows status before after

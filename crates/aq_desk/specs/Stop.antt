@@ -8,7 +8,7 @@ use Rattle.aq_desk.specs.Ending.{Ending, done, input_failed, output_failed, keep
 use Rattle.aq_desk.specs.Outside.{Over}
 use Rattle.aq_desk.specs.Writing.{WritesFront}
 use Rattle.aq_rows.specs.declared.opening.OpenFault.{OpenFault}
-use Rattle.aq_rows.specs.declared.opening.OpenFault.TheVariants as book
+use Rattle.aq_rows.specs.declared.opening.OpenFault.TheVariants as opening
 use Rattle.aq_keeper.specs.declared.keeper.KeeperFault.{KeeperFault}
 use Rattle.aq_keeper.specs.declared.keeper.KeeperFault.TheVariants as keeper
 use Rattle.aq_desk.specs.declared.body.BodyFault.{BodyFault}
@@ -48,8 +48,8 @@ stop_of_keeper keeper.Failed = KeeperFailed
 stop_of_keeper keeper.Memory = Memory
 
 abbrev pub stop_of_book : OpenFault → Stop
-stop_of_book (book.Damaged place) = Damaged place
-stop_of_book book.Memory = Memory
+stop_of_book (opening.Damaged place) = Damaged place
+stop_of_book opening.Memory = Memory
 
 -- what stops a command is what ends its outcome, unless it was cut short
 abbrev pub EndsAs : {A : Type 0} → Outcome → Result A Stop → Type 0

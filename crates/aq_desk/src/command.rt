@@ -47,12 +47,14 @@ pub fn run<K: Keeper, D: Door, S: Source, O: Sink, E: Sink>(
 
     // The headline of the commands that print: what is answered and written, and the tables after it, are
     // what the command's definition gives for the words, the tables and the input, all of it or, if a
-    // count rose or memory ran out, a front of its output.
+    // count rose or memory ran out, a front of its output. Tables of version 1 are migrated as the office
+    // is opened. With 3 the tables are as before the run, and with 5 as before the call that failed.
     ensures headline { IsNone (connections_for (command_of (map string_bytes words.now))) → Over (K.tables keeper.old) (λ rows. Over (S.left input.old) (λ body. Follows (outcome_for (command_of (map string_bytes words.now)) rows body) result (O.written output.old) (O.written output.new) (K.tables keeper.old) (K.tables keeper.new))) }
 
     // The headline of the command that serves: each connection's replies are those of its session over the
-    // office that the connections before left, from the office of the tables on, and the tables after it are
-    // those of the last office; a connection is cut only if a count of the door rose.
+    // office that the connections before left, from the office of the migrated tables on, and the tables
+    // after it are those of the last office; a connection is cut only if a count of the door rose. Tables of
+    // version 1 are migrated before the door listens.
     ensures served { IfSome (connections_for (command_of (map string_bytes words.now))) (λ connections. Over (K.tables keeper.old) (λ rows. HasServed connections rows result (record { door = D.seen door.old; tables = K.tables keeper.old; faults = K.faults keeper.old }) (record { door = D.seen door.new; tables = K.tables keeper.new; faults = K.faults keeper.new }))) }
 
     // The message is that of the status: of a status that the definition gives, the definition's.

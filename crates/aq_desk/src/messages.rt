@@ -21,7 +21,7 @@ pub(crate) fn write_damaged<E: Sink>(table: u8, index: u64, errors: &mut E) -> R
 }
 
 /// The name of a table by its number.
-#[tactic(auto, using(crate::proofs::TableNames::records_name, crate::proofs::TableNames::observations_name, crate::proofs::TableNames::loads_name, crate::proofs::TableNames::no_name))]
+#[tactic(auto, using(crate::proofs::TableNames::records_name, crate::proofs::TableNames::observations_name, crate::proofs::TableNames::loads_name, crate::proofs::TableNames::observations2_name, crate::proofs::TableNames::no_name))]
 fn table_name(table: u8) -> &'static str
     ensures { result.now ≡ table_name table }
 {
@@ -33,6 +33,9 @@ fn table_name(table: u8) -> &'static str
     }
     if table == 2 {
         return "loads";
+    }
+    if table == 3 {
+        return "observations2";
     }
     ""
 }

@@ -1,6 +1,5 @@
 //! The command `serve`.
 ghost use Rattle.std.specs.Prelude.{◌≡◌, ◌⊎◌, false};
-ghost use Rattle.aq_rules.specs.Kept.Rows.{damage};
 ghost use Rattle.aq_base.specs.Faults.{HasRisen};
 ghost use Rattle.aq_desk.specs.Command.{RisesAt};
 ghost use Rattle.aq_desk.specs.Outside.{Over};

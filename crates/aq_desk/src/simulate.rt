@@ -3,7 +3,7 @@ ghost use Rattle.std.specs.Prelude.{◌≤◌, IfErr};
 ghost use Rattle.aq_desk.specs.Command.{RisesAt};
 ghost use Rattle.aq_desk.specs.Simulate.{simulate_outcome};
 ghost use Rattle.aq_desk.specs.Stop.{IsCutShort, Obeys, status_of};
-ghost use Rattle.aq_words.specs.Words.{FEWEST_YEARS, MOST_SITES, MOST_YEARS};
+ghost use Rattle.aq_rules.specs.Limits.{MOST_GENERATED_SITES, FEWEST_GENERATED_YEARS, MOST_GENERATED_YEARS};
 
 use crate::outside::Sink;
 use crate::stop::Stop;
@@ -20,9 +20,9 @@ pub(crate) fn simulate<O: Sink>(
     output: &mut O,
 ) -> Result<(), Stop>
     requires some_sites { 1 ≤ sites }
-    requires few_sites { sites ≤ MOST_SITES }
-    requires some_years { FEWEST_YEARS ≤ years }
-    requires few_years { years ≤ MOST_YEARS }
+    requires few_sites { sites ≤ MOST_GENERATED_SITES }
+    requires some_years { FEWEST_GENERATED_YEARS ≤ years }
+    requires few_years { years ≤ MOST_GENERATED_YEARS }
     ensures told { Obeys (simulate_outcome start sites years) result (O.written output.old) (O.written output.new) }
     ensures cut { IfErr result IsCutShort }
     ensures output_failed { RisesAt 4 (status_of result) (O.faults output.old) (O.faults output.new) }

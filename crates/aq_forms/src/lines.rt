@@ -1,5 +1,5 @@
 ghost use Rattle.std.specs.Prelude.{◌≡◌, ◌≤◌, ◌<◌, [], ◌∷◌, length, MatchOption, IfSome, position, count_by, ◌==◌};
-ghost use Rattle.aq_rules.specs.Lines.Lines as book;
+ghost use Rattle.aq_rules.specs.Lines.Lines as lines;
 ghost use Rattle.aq_rules.specs.Lines.Lines.{body_lines, line_count, cut_at_ends, without_mark};
 
 use aq_base::MOST_BYTES;
@@ -127,7 +127,7 @@ fn ends_in(piece: &[u8]) -> u8
 
 // What stands after the byte order mark, if the body begins with it.
 fn without_mark(body: &[u8]) -> &[u8]
-    ensures value { result.now ≡ book.without_mark body.now }
+    ensures value { result.now ≡ lines.without_mark body.now }
     ensures few { length result.now ≤ length body.now }
 {
     body.strip_prefix(&MARK).unwrap_or(body)
@@ -158,7 +158,7 @@ fn first_end(rest: &[u8]) -> Option<usize>
 
 #[tactic(auto, using(crate::proofs::Cuts::without_last))]
 fn without_return(line: &[u8]) -> &[u8]
-    ensures { result.now ≡ book.without_return line.now }
+    ensures { result.now ≡ lines.without_return line.now }
 {
     line.strip_suffix(b"\r").unwrap_or(line)
 }
@@ -166,7 +166,7 @@ fn without_return(line: &[u8]) -> &[u8]
 // Whether a line has no byte but spaces, or its first other byte is `#`.
 #[tactic(auto, using(crate::proofs::Cuts::skips_more, crate::proofs::Cuts::skips_all))]
 fn is_skipped(text: &[u8]) -> bool
-    ensures { result ≡ book.is_skipped text.now }
+    ensures { result ≡ lines.is_skipped text.now }
 {
     for byte in text {
         if *byte != b' ' {

@@ -2,7 +2,7 @@
 ghost use Rattle.std.specs.Prelude.{◌≡◌, option_map};
 ghost use Rattle.aq_rules.specs.Lines.Forms.{acts};
 ghost use Rattle.aq_rules.specs.Lines.Spellings.{has_parameter, parameter_of, primary_in, interval_in, event_number_in, event_code_in, is_event_code};
-ghost use Rattle.aq_rules.specs.Lines.Spellings as book;
+ghost use Rattle.aq_rules.specs.Lines.Spellings as spellings;
 ghost use Rattle.aq_rules.specs.Lines.Reading.{action_for};
 ghost use Rattle.aq_rd.specs.Tags.{tag_value};
 ghost use Rattle.aq_forms.specs.Actions.{action_value};
@@ -34,19 +34,19 @@ pub(crate) fn action_for(tag: Tag, text: &[u8]) -> Option<Action>
 }
 
 fn inserts(tag: Tag) -> bool
-    ensures { result ≡ acts (tag_value tag) book.Insert }
+    ensures { result ≡ acts (tag_value tag) spellings.Insert }
 {
     tag != Tag::Xc
 }
 
 fn updates(tag: Tag) -> bool
-    ensures { result ≡ acts (tag_value tag) book.Update }
+    ensures { result ≡ acts (tag_value tag) spellings.Update }
 {
     matches!(tag, Tag::Rd | Tag::Xm | Tag::Xc)
 }
 
 fn deletes(tag: Tag) -> bool
-    ensures { result ≡ acts (tag_value tag) book.Delete }
+    ensures { result ≡ acts (tag_value tag) spellings.Delete }
 {
     !matches!(tag, Tag::Xm | Tag::Xc)
 }

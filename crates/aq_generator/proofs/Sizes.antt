@@ -1,12 +1,12 @@
 -- How many bytes and lines a load has at most.
-use Rattle.std.proofs.Common.{◌≡◌, ℕ, zero, suc, ◌+◌, ◌-◌, ◌*◌, ◌/◌, ◌%◌, ◌^◌, ◌<◌, ◌≤◌, Bool, true, false, cond, List, [], ◌∷◌, ◌++◌, length, take, drop, Some, None, Option, refl, sym, ap, ◌∙◌, arith, subst, append_assoc, append-nil, length-append, length-drop, map, filter, count_by}
-use Rattle.std.specs.Prelude.{◌==◌, ◌||◌, nat_lt, codes, decimal, pos, int_lt, if◌then◌else◌, flat_map, bytes_eq, slice_get}
+use Rattle.std.proofs.Common.{◌≡◌, ℕ, zero, suc, ◌+◌, ◌-◌, ◌*◌, ◌/◌, ◌%◌, ◌^◌, ◌<◌, ◌≤◌, Bool, true, false, cond, List, [], ◌∷◌, ◌++◌, length, take, drop, Some, None, Option, refl, sym, ap, arith, subst, append_assoc, append-nil, length-append, map, filter, count_by}
+use Rattle.std.specs.Prelude.{◌==◌, codes, decimal, pos, int_lt, if◌then◌else◌, flat_map, bytes_eq, slice_get}
 use Rattle.std.specs.List.{list_all, range_with_len}
-use Rattle.std.specs.Fmt.{digits}
 use Rattle.std.proofs.lemmas.Bool.{and_parts}
 use Rattle.std.proofs.lemmas.Bool.Decides.{nat_tests}
 use Rattle.std.proofs.lemmas.Fmt.{length-decimal-le}
-use Rattle.std.proofs.lemmas.List.{length-map, map-append}
+use Rattle.std.proofs.Math.Nat.{suc-mul}
+use Rattle.std.proofs.lemmas.Nat.{mul-le}
 use Rattle.std.proofs.lemmas.List.FromFn.{length-range_with_len}
 use Rattle.std.proofs.lemmas.List.Sums.{sum_by-cons, sum_by-append, length-filter, count_by-le-length}
 use Rattle.std.proofs.lemmas.Grind.{flat_map-append}
@@ -17,16 +17,17 @@ use Rattle.aq_base.specs.declared.monitor.Pollutant.{Pollutant}
 use Rattle.aq_base.specs.declared.monitor.Pollutant.TheVariants.{Ozone, Pm25, Pm10}
 use Rattle.aq_base.specs.declared.monitor.Duration.{Duration}
 use Rattle.aq_base.specs.declared.monitor.Duration.TheVariants.{Hour, Day}
-use Rattle.aq_base.specs.declared.office.OfficeRecord.{OfficeRecord}
 use Rattle.aq_base.specs.declared.office.OfficeRecord.TheVariants.{Monitor, Primary, Schedule, Season}
+use Rattle.aq_rules.specs.Limits.{MOST_GENERATED_SITES, MOST_GENERATED_YEARS}
 use Rattle.aq_rules.specs.Lines.Spellings.{is_in_range}
 use Rattle.aq_rules.specs.Lines.Reading.{is_plain, is_plain_byte}
-use Rattle.aq_rules.specs.Lines.Lines.{line_count, without_mark, without_return, cut_at_ends, BYTE_ORDER_MARK}
-use Rattle.aq_rules.specs.Lines.Canonical.{parameter_text, duration_text, unit_text, date_text, time_text, value_text, value_places, code_text, joined, rd_texts, office_texts}
+use Rattle.aq_rules.specs.Lines.Lines.{line_count, without_mark, BYTE_ORDER_MARK}
+use Rattle.aq_rules.specs.Lines.Canonical.{parameter_text, duration_text, unit_text, date_text, time_text, value_text, joined, rd_texts, office_texts}
 use Rattle.aq_rules.specs.Ozone.OzoneYear.{days_of}
-use Rattle.aq_rules.specs.Shown.Generator.{next_state, drawn, null_an, Drawn, observed, generated_site, generated_monitor, generated_season, generated_years, generated_start, generated_records, record_text, office_load, Wanted, every, wanted_hour, wanted_day, wanted_in, sample_text, samples_from, load_count, generated_load, generate, FIRST_GENERATED_YEAR}
+use Rattle.aq_rules.specs.Shown.Generator.{next_state, drawn, null_an, Drawn, observed, generated_site, generated_season, generated_years, generated_start, generated_records, record_text, office_load, Wanted, every, wanted_hour, wanted_day, wanted_in, sample_text, samples_from, FIRST_GENERATED_YEAR}
 use Rattle.aq_rules.proofs.JoinedFields.{is_clean, plain-some}
-use Rattle.aq_rules.proofs.RoundTrip.{also, one, site_with, clean-site, clean-parameter, clean-decimal, clean-duration, clean-digits, clean-date, clean-time}
+use Rattle.aq_rules.proofs.KeyOrder.{length-digits}
+use Rattle.aq_rules.proofs.RoundTrip.{also, site_with, clean-decimal, clean-digits, clean-date, clean-time}
 use Rattle.aq_rules.proofs.Values.{value_text_is}
 use Rattle.aq_generator.specs.Sizes.{IsSmall}
 use Rattle.aq_forms.proofs.Cuts.{is_end, unended, lines_are_counted}
@@ -67,7 +68,7 @@ no_ends (byte ∷ line) h =
     let parts = and_parts (is_plain_byte byte) (is_plain line) h in
     omega (arith, sum_by-cons end_of byte line, not_end byte parts.0, no_ends line parts.1)
 
--- the bytes of fields, each with one more behind it
+-- the bytes of fields, each with one more after it
 abbrev room : List (List ℕ) → ℕ
 room [] = 0
 room (text ∷ texts) = length text + 1 + room texts
@@ -76,51 +77,72 @@ joined-room : (text : List ℕ) (texts : List (List ℕ)) → length (joined (te
 joined-room text [] = omega arith
 joined-room text (next ∷ texts) = omega (arith, length-append text (124 ∷ joined (next ∷ texts)), joined-room next texts)
 
-a_line : (text : List ℕ) (texts : List (List ℕ)) → list_all is_clean (text ∷ texts) ≡ true → room (text ∷ texts) ≤ 64
-    → HasLines 1 (joined (text ∷ texts) ++ 10 ∷ [])
-a_line text texts clean short =
+-- a text without a bar or an end, of so many bytes at most
+record Fits (bytes : ℕ) (text : List ℕ) : Type 0 where
+  clean : is_clean text ≡ true
+  short : length text ≤ bytes
+
+-- such texts, and the room of all
+record AreFields (bytes : ℕ) (texts : List (List ℕ)) : Type 0 where
+  clean : list_all is_clean texts ≡ true
+  short : room texts ≤ bytes
+
+last : AreFields 0 []
+last = record { clean = refl; short = omega arith }
+
+field : {m n : ℕ} {text : List ℕ} {texts : List (List ℕ)} → Fits m text → AreFields n texts → AreFields (m + 1 + n) (text ∷ texts)
+field {text = text} {texts = texts} h k = record {
+  clean = also text texts h.clean k.clean;
+  short = omega (arith, h.short, k.short);
+}
+
+a_line : {n : ℕ} (text : List ℕ) (texts : List (List ℕ)) → AreFields n (text ∷ texts) → n ≤ 64 → HasLines 1 (joined (text ∷ texts) ++ 10 ∷ [])
+a_line text texts fields few =
     let line = joined (text ∷ texts) in
     record {
-      bytes = omega (arith, short, joined-room text texts, length-append line (10 ∷ []));
-      ends = omega (arith, no_ends line (plain-some text texts clean), sum_by-append end_of line (10 ∷ []));
+      bytes = omega (arith, few, fields.short, joined-room text texts, length-append line (10 ∷ []));
+      ends = omega (arith, no_ends line (plain-some text texts fields.clean), sum_by-append end_of line (10 ∷ []));
     }
 
 -- ---- fields
 
-length-digits : (w n : ℕ) → length (last_digits w n) ≡ w
+literal : (text : List ℕ) → is_clean text ≡ true → Fits (length text) text
+literal text clean = record { clean = clean; short = omega arith }
+
+digits : (w n : ℕ) → Fits w (last_digits w n)
+digits w n = record { clean = clean-digits w n; short = omega (arith, length-digits w n) }
+
+digit : (n : ℕ) → n < 10 → Fits 1 (decimal n)
+digit n low = record {
+  clean = clean-decimal n (omega (arith, low));
+  short = length-decimal-le 1 n (omega arith) (omega (arith, low)) (omega (arith, low));
+}
+
+date : (day : ℕ) → Fits 8 (date_text day)
 unfolding last_digits
-length-digits zero n = refl
-length-digits (suc w) n = omega (arith, length-append (last_digits w (n / 10)) ((48 + n % 10) ∷ []), length-digits w (n / 10))
+date day = record { clean = clean-date day; short = omega arith }
 
-length-date : (day : ℕ) → length (date_text day) ≡ 8
+time : (hour : ℕ) → Fits 5 (time_text hour)
 unfolding last_digits
-length-date day = refl
+time hour = record { clean = clean-time hour; short = omega arith }
 
-length-time : (hour : ℕ) → length (time_text hour) ≡ 5
-unfolding last_digits
-length-time hour = refl
+parameter : (p : Pollutant) → Fits 5 (parameter_text p)
+parameter Ozone = literal (parameter_text Ozone) refl
+parameter Pm25 = literal (parameter_text Pm25) refl
+parameter Pm10 = literal (parameter_text Pm10) refl
 
-length-parameter : (p : Pollutant) → length (parameter_text p) ≡ 5
-length-parameter Ozone = refl
-length-parameter Pm25 = refl
-length-parameter Pm10 = refl
+duration : (d : Duration) → Fits 1 (duration_text d)
+duration Hour = literal (duration_text Hour) refl
+duration Day = literal (duration_text Day) refl
 
-length-duration : (d : Duration) → length (duration_text d) ≡ 1
-length-duration Hour = refl
-length-duration Day = refl
+unit : (p : Pollutant) → Fits 3 (unit_text p)
+unit Ozone = literal (unit_text Ozone) refl
+unit Pm25 = literal (unit_text Pm25) refl
+unit Pm10 = literal (unit_text Pm10) refl
 
-length-unit : (p : Pollutant) → length (unit_text p) ≡ 3
-length-unit Ozone = refl
-length-unit Pm25 = refl
-length-unit Pm10 = refl
-
-clean-unit : (p : Pollutant) → is_clean (unit_text p) ≡ true
-clean-unit Ozone = refl
-clean-unit Pm25 = refl
-clean-unit Pm10 = refl
-
-room-site : (s : Site) (rest : List (List ℕ)) → room (site_with s rest) ≡ 12 + room rest
-room-site s rest = omega (arith, length-digits 2 s.state, length-digits 3 s.county, length-digits 4 s.number)
+-- from the site's fields on
+at_site : {n : ℕ} {rest : List (List ℕ)} (s : Site) → AreFields n rest → AreFields (2 + 1 + (3 + 1 + (4 + 1 + n))) (site_with s rest)
+at_site s rest = field (digits 2 s.state) (field (digits 3 s.county) (field (digits 4 s.number) rest))
 
 -- ---- samples
 
@@ -132,86 +154,44 @@ value_in_range Pm10 v h = grind (arith, nat_tests)
 not_below : (v : ℕ) → int_lt (pos v) (pos 0) ≡ false
 not_below v = grind (arith, nat_tests)
 
-three_places : (v : ℕ) → fixed (pos v) 3 ≡ decimal (v / 1000) ++ (46 ∷ last_digits 3 v)
-three_places v = ap (λ b. (if b then 45 ∷ [] else []) ++ decimal (v / 1000) ++ (46 ∷ last_digits 3 v)) (not_below v)
+-- with so many places, and so many digits before the point
+length-fixed : (v places whole : ℕ) → (places == 0) ≡ false → 0 < whole → v / 10 ^ places < 10 ^ whole → v < 2 ^ 64 → length (fixed (pos v) places) ≤ whole + 1 + places
+length-fixed v places whole places_some some low small =
+    let front = decimal (v / 10 ^ places) in
+    let back = 46 ∷ last_digits places v in
+    let is : fixed (pos v) places ≡ front ++ back = λ i. (if not_below v i then 45 ∷ [] else []) ++ front ++ (if places_some i then [] else back) in
+    omega (arith, ap length is, length-append front back, length-digits places v, length-decimal-le whole (v / 10 ^ places) some low (omega (arith, small)))
 
-one_place : (v : ℕ) → fixed (pos v) 1 ≡ decimal (v / 10) ++ (46 ∷ last_digits 1 v)
-one_place v = ap (λ b. (if b then 45 ∷ [] else []) ++ decimal (v / 10) ++ (46 ∷ last_digits 1 v)) (not_below v)
-
-length-three : (v : ℕ) → v ≤ 1599 → length (fixed (pos v) 3) ≤ 5
-length-three v h =
-    omega (arith, ap length (three_places v), length-append (decimal (v / 1000)) (46 ∷ last_digits 3 v), length-digits 3 v, length-decimal-le 1 (v / 1000) (omega arith) (omega (arith, h)) (omega (arith, h)))
-
-length-one : (v : ℕ) → v ≤ 1599 → length (fixed (pos v) 1) ≤ 5
-length-one v h =
-    omega (arith, ap length (one_place v), length-append (decimal (v / 10)) (46 ∷ last_digits 1 v), length-digits 1 v, length-decimal-le 3 (v / 10) (omega arith) (omega (arith, h)) (omega (arith, h)))
-
-length-value : (p : Pollutant) (v : ℕ) → v ≤ 1599 → length (value_text p (Some (pos v))) ≤ 5
-length-value Ozone v h = length-three v h
-length-value Pm25 v h = length-one v h
-length-value Pm10 v h = length-one v h
-
--- the fields of a sample, from the monitor's on
-abbrev front : Site → Pollutant → Duration → ℕ → List (List ℕ) → List (List ℕ)
-front s p d hour rest =
-    codes "I" ∷ site_with s (parameter_text p ∷ decimal 1 ∷ duration_text d ∷ unit_text p ∷ last_digits 3 0
-    ∷ date_text (day_of_hour hour) ∷ time_text hour ∷ rest)
-
-clean-front : (s : Site) (p : Pollutant) (d : Duration) (hour : ℕ) (rest : List (List ℕ)) → list_all is_clean rest ≡ true
-    → list_all is_clean (codes "RD" ∷ front s p d hour rest) ≡ true
-clean-front s p d hour rest h =
-    let timed = time_text hour ∷ rest in
-    let dated = date_text (day_of_hour hour) ∷ timed in
-    let method = last_digits 3 0 ∷ dated in
-    let unit = unit_text p ∷ method in
-    let duration = duration_text d ∷ unit in
-    let poc = decimal 1 ∷ duration in
-    let parameter = parameter_text p ∷ poc in
-    also (codes "RD") (codes "I" ∷ site_with s parameter) refl
-    (also (codes "I") (site_with s parameter) refl
-    (clean-site s parameter
-    (also (parameter_text p) poc (clean-parameter p)
-    (also (decimal 1) duration (clean-decimal 1 (omega arith))
-    (also (duration_text d) unit (clean-duration d)
-    (also (unit_text p) method (clean-unit p)
-    (also (last_digits 3 0) dated (clean-digits 3 0)
-    (also (date_text (day_of_hour hour)) timed (clean-date (day_of_hour hour))
-    (also (time_text hour) rest (clean-time hour) h)))))))))
-
-room-front : (s : Site) (p : Pollutant) (d : Duration) (hour : ℕ) (rest : List (List ℕ)) → room (codes "RD" ∷ front s p d hour rest) ≤ 50 + room rest
-room-front s p d hour rest =
-    omega (
-      arith,
-      room-site s (parameter_text p ∷ decimal 1 ∷ duration_text d ∷ unit_text p ∷ last_digits 3 0 ∷ date_text (day_of_hour hour) ∷ time_text hour ∷ rest),
-      length-parameter p,
-      length-decimal-le 1 1 (omega arith) (omega arith) (omega arith),
-      length-duration d,
-      length-unit p,
-      length-digits 3 0,
-      length-date (day_of_hour hour),
-      length-time hour,
-    )
+value : (p : Pollutant) (v : ℕ) → v ≤ 1599 → Fits 5 (value_text p (Some (pos v)))
+value p v h = record { clean = (value_text_is p (pos v) (value_in_range p v h)).clean; short = length-value p v h }
+  where
+    length-value : (p : Pollutant) (v : ℕ) → v ≤ 1599 → length (value_text p (Some (pos v))) ≤ 5
+    length-value Ozone v h = length-fixed v 3 1 refl (omega arith) (omega (arith, h)) (omega (arith, h))
+    length-value Pm25 v h = length-fixed v 1 3 refl (omega arith) (omega (arith, h)) (omega (arith, h))
+    length-value Pm10 v h = length-fixed v 1 3 refl (omega arith) (omega (arith, h)) (omega (arith, h))
 
 abbrev sample_of : Site → Pollutant → Duration → ℕ → ℕ → ℕ → Wanted
 sample_of s p d hour base span =
     record { monitor = record { site = s; pollutant = p; poc = 1 }; duration = d; hour = hour; base = base; span = span }
 
+-- a sample's line, from what it says of the value on
+sample_line : {n : ℕ} {rest : List (List ℕ)} (s : Site) (p : Pollutant) (d : Duration) (hour : ℕ) → AreFields n rest → n ≤ 14
+    → HasLines 1 (joined (codes "RD" ∷ codes "I" ∷ site_with s (parameter_text p ∷ decimal 1 ∷ duration_text d ∷ unit_text p ∷ last_digits 3 0 ∷ date_text (day_of_hour hour) ∷ time_text hour ∷ rest)) ++ 10 ∷ [])
+sample_line s p d hour rest few =
+    a_line (codes "RD") _
+    (field (literal (codes "RD") refl) (field (literal (codes "I") refl) (at_site s (field (parameter p) (field (digit 1 (omega arith)) (field (duration d)
+    (field (unit p) (field (digits 3 0) (field (date (day_of_hour hour)) (field (time hour) rest))))))))))
+    (omega (arith, few))
+
 null_line : (s : Site) (p : Pollutant) (d : Duration) (hour base span : ℕ)
     → HasLines 1 (sample_text (sample_of s p d hour base span) (record { value = None; null = Some null_an; quals = []; method = Some 0 }))
 unfolding rd_texts
-null_line s p d hour base span =
-    a_line (codes "RD") (front s p d hour ([] ∷ codes "AN" ∷ []))
-    (clean-front s p d hour ([] ∷ codes "AN" ∷ []) refl)
-    (omega (arith, room-front s p d hour ([] ∷ codes "AN" ∷ [])))
+null_line s p d hour base span = sample_line s p d hour (field (literal [] refl) (field (literal (codes "AN") refl) last)) (omega arith)
 
 value_line : (s : Site) (p : Pollutant) (d : Duration) (hour base span v : ℕ) → v ≤ 1599
     → HasLines 1 (sample_text (sample_of s p d hour base span) (record { value = Some (pos v); null = None; quals = []; method = Some 0 }))
 unfolding rd_texts
-value_line s p d hour base span v h =
-    let text = value_text p (Some (pos v)) in
-    a_line (codes "RD") (front s p d hour (text ∷ []))
-    (clean-front s p d hour (text ∷ []) (one text (value_text_is p (pos v) (value_in_range p v h)).clean))
-    (omega (arith, room-front s p d hour (text ∷ []), length-value p v h))
+value_line s p d hour base span v h = sample_line s p d hour (field (value p v h) last) (omega arith)
 
 either : (b : Bool) (w : Wanted) (here there : Drawn) → HasLines 1 (sample_text w here.content) → HasLines 1 (sample_text w there.content)
     → HasLines 1 (sample_text w (cond b here there).content)
@@ -267,49 +247,28 @@ year-lines n year x =
 
 -- ---- the office
 
-abbrev of_record : List ℕ → Site → List (List ℕ) → List (List ℕ)
-of_record tag s rest = tag ∷ codes "I" ∷ site_with s rest
-
-record_line : (tag : List ℕ) (s : Site) (rest : List (List ℕ)) → is_clean tag ≡ true → length tag ≡ 2 → list_all is_clean rest ≡ true → room rest ≤ 47
-    → HasLines 1 (joined (of_record tag s rest) ++ 10 ∷ [])
-record_line tag s rest clean two clean-rest short =
-    a_line tag (codes "I" ∷ site_with s rest) (also tag (codes "I" ∷ site_with s rest) clean (also (codes "I") (site_with s rest) refl (clean-site s rest clean-rest)))
-    (omega (arith, two, short, room-site s rest))
-
-one_digit : (n : ℕ) → n < 10 → length (decimal n) ≤ 1
-one_digit n h = length-decimal-le 1 n (omega arith) (omega (arith, h)) (omega (arith, h))
+record_line : {n : ℕ} {rest : List (List ℕ)} (tag : List ℕ) (s : Site) → is_clean tag ≡ true → length tag ≡ 2 → AreFields n rest → n ≤ 47
+    → HasLines 1 (joined (tag ∷ codes "I" ∷ site_with s rest) ++ 10 ∷ [])
+record_line tag s clean two rest few =
+    a_line tag _ (field (literal tag clean) (field (literal (codes "I") refl) (at_site s rest))) (omega (arith, two, few))
 
 monitor_line : (s : Site) (p : Pollutant) (d : Duration) → HasLines 1 (record_text (Monitor (record { site = s; pollutant = p; poc = 1 }) d true))
 unfolding office_texts
 monitor_line s p d =
-    record_line (codes "XM") s (parameter_text p ∷ decimal 1 ∷ duration_text d ∷ codes "Y" ∷ []) refl refl
-    (also (parameter_text p) (decimal 1 ∷ duration_text d ∷ codes "Y" ∷ []) (clean-parameter p)
-    (also (decimal 1) (duration_text d ∷ codes "Y" ∷ []) (clean-decimal 1 (omega arith)) (also (duration_text d) (codes "Y" ∷ []) (clean-duration d) refl)))
-    (omega (arith, length-parameter p, one_digit 1 (omega arith), length-duration d))
+    record_line (codes "XM") s refl refl (field (parameter p) (field (digit 1 (omega arith)) (field (duration d) (field (literal (codes "Y") refl) last)))) (omega arith)
 
 primary_line : (s : Site) (p : Pollutant) (from : ℕ) → HasLines 1 (record_text (Primary s p from 1))
 unfolding office_texts
-primary_line s p from =
-    record_line (codes "XP") s (parameter_text p ∷ date_text from ∷ decimal 1 ∷ []) refl refl
-    (also (parameter_text p) (date_text from ∷ decimal 1 ∷ []) (clean-parameter p)
-    (also (date_text from) (decimal 1 ∷ []) (clean-date from) (one (decimal 1) (clean-decimal 1 (omega arith)))))
-    (omega (arith, length-parameter p, one_digit 1 (omega arith), length-date from))
+primary_line s p from = record_line (codes "XP") s refl refl (field (parameter p) (field (date from) (field (digit 1 (omega arith)) last))) (omega arith)
 
 schedule_line : (s : Site) (p : Pollutant) (from interval : ℕ) → interval < 10 → HasLines 1 (record_text (Schedule s p from interval from))
 unfolding office_texts
 schedule_line s p from interval small =
-    record_line (codes "XS") s (parameter_text p ∷ date_text from ∷ decimal interval ∷ date_text from ∷ []) refl refl
-    (also (parameter_text p) (date_text from ∷ decimal interval ∷ date_text from ∷ []) (clean-parameter p)
-    (also (date_text from) (decimal interval ∷ date_text from ∷ []) (clean-date from)
-    (also (decimal interval) (date_text from ∷ []) (clean-decimal interval (omega (arith, small))) (one (date_text from) (clean-date from)))))
-    (omega (arith, length-parameter p, one_digit interval small, length-date from))
+    record_line (codes "XS") s refl refl (field (parameter p) (field (date from) (field (digit interval small) (field (date from) last)))) (omega arith)
 
-season_line : (s : Site) (year first last : ℕ) → HasLines 1 (record_text (Season s year first last))
+season_line : (s : Site) (year first last_day : ℕ) → HasLines 1 (record_text (Season s year first last_day))
 unfolding office_texts
-season_line s year first last =
-    record_line (codes "XO") s (last_digits 4 year ∷ date_text first ∷ date_text last ∷ []) refl refl
-    (also (last_digits 4 year) (date_text first ∷ date_text last ∷ []) (clean-digits 4 year) (also (date_text first) (date_text last ∷ []) (clean-date first) (one (date_text last) (clean-date last))))
-    (omega (arith, length-digits 4 year, length-date first, length-date last))
+season_line s year first last_day = record_line (codes "XO") s refl refl (field (digits 4 year) (field (date first) (field (date last_day) last))) (omega arith)
 
 seasons-lines : (n : ℕ) (years : List ℕ) → HasLines (length years) (flat_map record_text (map (generated_season n) years))
 seasons-lines n [] = none
@@ -317,26 +276,22 @@ seasons-lines n (year ∷ years) =
     more (1 + length years) (length (year ∷ years)) _ (omega arith)
     (two 1 (length years) (record_text (generated_season n year)) _ (season_line (generated_site n) year _ _) (seasons-lines n years))
 
-site-lines : (years n : ℕ) → years ≤ 10 → HasLines 18 (flat_map record_text (generated_records years n))
+site-lines : (years n : ℕ) → HasLines (8 + years) (flat_map record_text (generated_records years n))
 unfolding generated_years
-site-lines years n few =
+site-lines years n =
     let s = generated_site n in
-    more _ 18 _ (omega (arith, few, length-range_with_len FIRST_GENERATED_YEAR years))
+    more _ (8 + years) _ (omega (arith, length-range_with_len FIRST_GENERATED_YEAR years))
     (two 1 _ _ _ (monitor_line s Ozone Hour) (two 1 _ _ _ (monitor_line s Pm25 Day) (two 1 _ _ _ (monitor_line s Pm10 Day)
     (two 1 _ _ _ (primary_line s Ozone generated_start) (two 1 _ _ _ (primary_line s Pm25 generated_start) (two 1 _ _ _ (primary_line s Pm10 generated_start)
     (two 1 _ _ _ (schedule_line s Pm25 generated_start 3 (omega arith)) (two 1 _ _ _ (schedule_line s Pm10 generated_start 6 (omega arith))
     (seasons-lines n (generated_years years))))))))))
 
-sites-lines : (years first n : ℕ) → years ≤ 10 → HasLines (18 * n) (flat_map record_text (flat_map (generated_records years) (range_with_len first n)))
-sites-lines years first zero few = none
-sites-lines years first (suc n) few =
+sites-lines : (years first n : ℕ) → HasLines (n * (8 + years)) (flat_map record_text (flat_map (generated_records years) (range_with_len first n)))
+sites-lines years first zero = more 0 (0 * (8 + years)) [] (omega arith) none
+sites-lines years first (suc n) =
     let rest = range_with_len (first + 1) n in
-    subst (λ text. HasLines (18 * suc n) text) (sym (flat_map-append record_text (generated_records years first) (flat_map (generated_records years) rest)))
-    (more (18 + 18 * n) (18 * suc n) _ (omega arith) (two 18 (18 * n) _ _ (site-lines years first few) (sites-lines years (first + 1) n few)))
-
-office-lines : (sites years : ℕ) → sites ≤ 32 → years ≤ 10 → HasLines 576 (office_load sites years)
-unfolding office_load
-office-lines sites years few_sites few = more (18 * sites) 576 _ (omega (arith, few_sites)) (sites-lines years 1 sites few)
+    subst (λ text. HasLines (suc n * (8 + years)) text) (sym (flat_map-append record_text (generated_records years first) (flat_map (generated_records years) rest)))
+    (more (8 + years + n * (8 + years)) (suc n * (8 + years)) _ (omega (arith, suc-mul n (8 + years))) (two (8 + years) (n * (8 + years)) _ _ (site-lines years first) (sites-lines years (first + 1) n)))
 
 -- ---- the lines of a body
 
@@ -373,8 +328,11 @@ small n body few h = record {
   lines = omega (arith, few, h.ends, lines_of-ends body);
 }
 
-pub office_small : (sites years : ℕ) (text : List ℕ) → sites ≤ 32 → years ≤ 10 → text ≡ office_load sites years → IsSmall text
-office_small sites years text few_sites few is = subst IsSmall (sym is) (small 576 _ (omega arith) (office-lines sites years few_sites few))
+pub office_small : (sites years : ℕ) (text : List ℕ) → sites ≤ MOST_GENERATED_SITES → years ≤ MOST_GENERATED_YEARS → text ≡ office_load sites years → IsSmall text
+unfolding office_load
+office_small sites years text few_sites few is =
+    let few_lines = mul-le sites (8 + years) MOST_GENERATED_SITES (8 + MOST_GENERATED_YEARS) few_sites (omega (arith, few)) in
+    subst IsSmall (sym is) (small (sites * (8 + years)) _ (omega (arith, few_lines)) (sites-lines years 1 sites))
 
 pub samples_small : (x n year : ℕ) (text : List ℕ) → text ≡ samples_from x (wanted_in n year) → IsSmall text
 samples_small x n year text is = subst IsSmall (sym is) (small 9516 _ (omega arith) (year-lines n year x))

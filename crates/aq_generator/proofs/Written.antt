@@ -6,17 +6,15 @@ use Rattle.std.proofs.lemmas.Bool.Decides.{nat_tests}
 use Rattle.std.proofs.lemmas.Grind.{flat_map-append}
 use Rattle.aq_base.specs.Calendar.{days_of_years, days_of_months, year_first, days_in_year, hour_number}
 use Rattle.aq_base.specs.Site.{Site}
-use Rattle.aq_base.specs.declared.monitor.Pollutant.{Pollutant}
 use Rattle.aq_base.specs.declared.monitor.Pollutant.TheVariants.{Ozone, Pm25, Pm10}
 use Rattle.aq_base.specs.declared.monitor.Duration.{Duration}
 use Rattle.aq_base.specs.declared.monitor.Duration.TheVariants.{Hour, Day}
 use Rattle.aq_base.specs.declared.observation.Observation.{Observation}
-use Rattle.aq_base.specs.declared.office.OfficeRecord.{OfficeRecord}
 use Rattle.aq_base.specs.declared.office.OfficeRecord.TheVariants.{Monitor, Primary, Schedule}
 use Rattle.aq_rules.specs.Lines.Canonical.{canonical_rd}
 use Rattle.aq_rules.specs.Lines.RdForm.{Put as PutSample}
 use Rattle.aq_rules.specs.Ozone.OzoneYear.{days_of}
-use Rattle.aq_rules.specs.Shown.Generator.{next_state, observed, generated_start, generated_site, generated_season, generated_years, generated_records, record_text, Wanted, wanted_in, samples_from}
+use Rattle.aq_rules.specs.Shown.Generator.{next_state, observed, generated_start, generated_site, generated_season, generated_years, generated_records, record_text, Wanted, wanted_in, samples_from, FIRST_GENERATED_YEAR}
 use Rattle.aq_generator.specs.Samples.{wanted, wanted_at_midnight, is_due}
 use Rattle.aq_generator.proofs.Walks.{range-first, range-none}
 
@@ -32,7 +30,7 @@ unfolding samples_from
 sample-written w x least count state duration content old line added ended l c d o s is e f more =
     rw (f, e, is, o, s, d, l, c) (simp append_assoc)
 
-pub start_is : year_first 2021 ≡ generated_start
+pub start_is : year_first FIRST_GENERATED_YEAR ≡ generated_start
 unfolding days_of_years days_of_months
 start_is = refl
 
@@ -94,7 +92,7 @@ days-end f p before whole number end start count more high to is =
 three_parts : (a b c : List Wanted) → a ++ (b ++ (c ++ [])) ≡ (a ++ b) ++ c
 three_parts a b c = simp (append_assoc, append-nil)
 
-pub year-joined : (n year first days start : ℕ) (site : Site) → site ≡ generated_site n → first ≡ year_first year → days ≡ days_in_year year → start ≡ year_first 2021
+pub year-joined : (n year first days start : ℕ) (site : Site) → site ≡ generated_site n → first ≡ year_first year → days ≡ days_in_year year → start ≡ year_first FIRST_GENERATED_YEAR
     → map (wanted site Ozone) (range_with_len (24 * first) (24 * days))
     ++ (map (wanted_at_midnight site Pm25) (filter (is_due 3 start) (range_with_len first days))
     ++ (map (wanted_at_midnight site Pm10) (filter (is_due 6 start) (range_with_len first days)) ++ []))
@@ -115,10 +113,10 @@ years-grow n (suc k) =
     let more : days_of_years (suc k + n) ≡ days_of_years (suc (k + n)) = ap days_of_years e in
     omega (arith, more, years-grow n k)
 
-pub year-later : (year first later : ℕ) → 2021 ≤ year → first ≡ year_first 2021 → later ≡ year_first year → first ≤ later
+pub year-later : (year first later : ℕ) → FIRST_GENERATED_YEAR ≤ year → first ≡ year_first FIRST_GENERATED_YEAR → later ≡ year_first year → first ≤ later
 year-later year first later low f l =
-    let years : (year - 2021) + 31 ≡ year - 1990 = omega (arith, low) in
-    rw (f, l, ← years) (years-grow 31 (year - 2021))
+    let years : (year - FIRST_GENERATED_YEAR) + 31 ≡ year - 1990 = omega (arith, low) in
+    rw (f, l, ← years) (years-grow 31 (year - FIRST_GENERATED_YEAR))
 
 -- what is written, of the three parts of a year
 pub year-written : (state : ℕ) (hours fine coarse whole : List Wanted) (hourly daily last : List Wanted → List ℕ) (before text : List ℕ) → before ≡ []
@@ -135,7 +133,7 @@ text-is text state = sym (append-nil text)
 
 -- ---- the office
 
-pub nine-written : (o0 o1 o2 o3 o4 o5 o6 o7 o8 o9 : List ℕ) (n years from : ℕ) (s : Site) → s ≡ generated_site n → from ≡ year_first 2021
+pub nine-written : (o0 o1 o2 o3 o4 o5 o6 o7 o8 o9 : List ℕ) (n years from : ℕ) (s : Site) → s ≡ generated_site n → from ≡ year_first FIRST_GENERATED_YEAR
     → o1 ≡ o0 ++ record_text (Monitor (record { site = s; pollutant = Ozone; poc = 1 }) Hour true)
     → o2 ≡ o1 ++ record_text (Monitor (record { site = s; pollutant = Pm25; poc = 1 }) Day true)
     → o3 ≡ o2 ++ record_text (Monitor (record { site = s; pollutant = Pm10; poc = 1 }) Day true)

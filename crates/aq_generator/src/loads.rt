@@ -1,7 +1,7 @@
 //! The loads of a simulation, by their numbers.
 ghost use Rattle.std.specs.Prelude.{◌≡◌, ◌≤◌, ◌+◌, ◌-◌, ◌*◌, ◌/◌, ◌%◌, ◌^◌, IfOk, IfSome, length, option_map};
 ghost use Rattle.std.specs.Int.{IsInRange};
-ghost use Rattle.aq_base.specs.declared.limits.TheConstants.{MOST_BYTES, MOST_LINES};
+ghost use Rattle.aq_rules.specs.Limits.{MOST_BYTES, MOST_LINES, MOST_GENERATED_SITES, FEWEST_GENERATED_YEARS, MOST_GENERATED_YEARS};
 ghost use Rattle.aq_rules.specs.Lines.Lines.{line_count};
 ghost use Rattle.aq_rules.specs.Shown.Generator as generator;
 ghost use Rattle.aq_generator.specs.Sizes.{IsSmall};
@@ -18,7 +18,8 @@ pub fn load_count(sites: u8, years: u8) -> u32
     1 + u32::from(sites) * u32::from(years)
 }
 
-/// The body of a load, by its number from 1, of a simulation of 1 to 32 sites and 3 to 10 years (own).
+/// The body of a load, by its number from 1, of a simulation of 1 to `MOST_GENERATED_SITES` sites and
+/// `FEWEST_GENERATED_YEARS` to `MOST_GENERATED_YEARS` years (own).
 /// Load 1 has the records of the office, and the others the samples of the sites and their years in
 /// order, each drawn from the start number plus its own. There is none with the number 0, and none
 /// beyond the count of loads.
@@ -29,8 +30,8 @@ pub fn generate(
     years: u8,
     load: u32,
 ) -> Result<Option<Vec<u8>>, Memory>
-    requires sites { IsInRange 1 32 sites }
-    requires years { IsInRange 3 10 years }
+    requires sites { IsInRange 1 MOST_GENERATED_SITES sites }
+    requires years { IsInRange FEWEST_GENERATED_YEARS MOST_GENERATED_YEARS years }
     ensures body { IfOk result (λ body. option_map (λ text. text.items) body ≡ generator.generate start sites years load) }
     ensures few_bytes { IfOk result (λ body. IfSome body (λ text. length text.items ≤ MOST_BYTES)) }
     ensures few_lines { IfOk result (λ body. IfSome body (λ text. line_count text.items ≤ MOST_LINES)) }
@@ -42,8 +43,8 @@ pub fn generate(
 }
 
 fn text_of(alloc: Global, start: u64, sites: u8, years: u8, load: u32) -> Result<Vec<u8>, Memory>
-    requires sites { IsInRange 1 32 sites }
-    requires years { IsInRange 3 10 years }
+    requires sites { IsInRange 1 MOST_GENERATED_SITES sites }
+    requires years { IsInRange FEWEST_GENERATED_YEARS MOST_GENERATED_YEARS years }
     requires load { IsInRange 1 (1 + sites * years) load }
     ensures text { IfOk result (λ text. text.items ≡ generator.generated_load start sites years load) }
     ensures few { IfOk result (λ text. IsSmall text.items) }

@@ -4,6 +4,7 @@ ghost use Rattle.std.specs.Int.{IsInRange};
 ghost use Rattle.std.specs.List.{range_with_len};
 ghost use Rattle.aq_base.specs.declared.day.TheConstants.{FIRST_YEAR, LAST_YEAR};
 ghost use Rattle.aq_base.specs.declared.office.OfficeRecord.TheVariants.{Monitor, Primary, Schedule};
+ghost use Rattle.aq_rules.specs.Limits.{MOST_GENERATED_YEARS};
 ghost use Rattle.aq_rules.specs.Shown.Generator.{generated_site, generated_records, generated_season, generated_years, office_load, record_text};
 ghost use Rattle.aq_generator.specs.Samples as samples;
 
@@ -18,7 +19,7 @@ pub const FIRST_GENERATED_YEAR: u16 = 2021;
 
 /// The lines of the office: the records of each site in order.
 pub(crate) fn office_of(alloc: Global, sites: u8, years: u8) -> Result<Vec<u8>, Memory>
-    requires { years ≤ 10 }
+    requires { years ≤ MOST_GENERATED_YEARS }
     ensures { IfOk result (λ text. text.items ≡ office_load sites years) }
 {
     let mut text = Vec::new(alloc);
@@ -39,7 +40,7 @@ pub(crate) fn site_of(number: u16) -> SiteId
 // The records of a site.
 fn add_site(alloc: Global, text: &mut Vec<u8>, number: u16, years: u8) -> Result<(), Memory>
     requires number { number ≤ 9999 }
-    requires years { years ≤ 10 }
+    requires years { years ≤ MOST_GENERATED_YEARS }
     ensures { OnOk result (text.new.items ≡ text.old.items ++ flat_map record_text (generated_records years number)) }
 {
     let site = site_of(number);
@@ -118,7 +119,7 @@ fn add_schedule(
 // The ozone seasons of a site, from March 1 to October 31.
 fn add_seasons(alloc: Global, text: &mut Vec<u8>, number: u16, years: u8) -> Result<(), Memory>
     requires number { number ≤ 9999 }
-    requires years { years ≤ 10 }
+    requires years { years ≤ MOST_GENERATED_YEARS }
     ensures { OnOk result (text.new.items ≡ text.old.items ++ flat_map record_text (map (generated_season number) (generated_years years))) }
 {
     for year in FIRST_GENERATED_YEAR..FIRST_GENERATED_YEAR + u16::from(years) {

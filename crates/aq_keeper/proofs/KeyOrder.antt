@@ -13,8 +13,8 @@ use lib.Pointwise.{pointwise}
 use Rattle.aq_keeper.specs.contracts.key.KeyViewOrd.TheImpl as derived
 use Rattle.aq_keeper.specs.declared.key.KeyView.{KeyView}
 use Rattle.aq_keeper.specs.declared.key.KeyView.TheVariants.{Office, Observation, Load, Second}
-use Rattle.aq_keeper.specs.KeyView.{key_seen, key_order}
-use Rattle.aq_rules.specs.Kept.RowChanges.{RowKey, columns, columns_before, key_before, is_same_row_key}
+use Rattle.aq_keeper.specs.KeyView.{key_seen, key_order, is_load}
+use Rattle.aq_rules.specs.Kept.RowChanges.{RowKey, OfficeRowKey, ObsRowKey, LoadRowKey, SecondRowKey, batch_before, columns, columns_before, key_before, is_same_row_key}
 
 key_total : IsTotalOrder key_order
 key_total = on_total columns (lists_total int_cmp_total)
@@ -46,6 +46,14 @@ same-columns (x ∷ xs) (y ∷ ys) = is_eq-then (int_cmp x y) (slice_cmp int_cmp
 
 pub same_key : (a b : RowKey) → is_eq (key_order a b) ≡ is_same_row_key a b
 same_key a b = same-columns (columns a) (columns b)
+
+-- in a batch loads come last
+pub batch_by_load : (a b : RowKey) → batch_before a b ≡ cond (is_load a) (is_load b && key_before a b) (is_load b || key_before a b)
+batch_by_load (LoadRowKey number) (LoadRowKey other) = refl
+batch_by_load (OfficeRowKey kind key) (LoadRowKey other) = refl
+batch_by_load (ObsRowKey site pollutant poc hour) (LoadRowKey other) = refl
+batch_by_load (SecondRowKey site pollutant poc hour) (LoadRowKey other) = refl
+batch_by_load a b = refl
 
 -- ---- the derived order of lent keys
 

@@ -1,13 +1,13 @@
 -- Rows that rise: a change made between those before its key and the others, and where a key stands.
-use Rattle.std.proofs.Common.{◌≡◌, ℕ, zero, suc, ◌+◌, ◌<◌, Bool, true, false, not, cond, ◌&&◌, List, [], ◌∷◌, ◌++◌, length, refl, ap, sym, ◌∙◌, subst, arith}
-use Rattle.std.specs.Prelude.{◌-◌, take, reverse, get_or, slice_get, slice_index_or, option_to_list, Option, Some, None, IfSome}
+use Rattle.std.proofs.Common.{◌≡◌, ℕ, zero, suc, ◌+◌, Bool, true, false, not, cond, ◌&&◌, List, [], ◌∷◌, ◌++◌, length, refl, ap, sym, ◌∙◌, subst, arith}
+use Rattle.std.specs.Prelude.{◌-◌, reverse, get_or, slice_get, option_to_list, Option, Some, None, IfSome}
 use Rattle.std.proofs.lemmas.Bool.{false≢true}
 use Rattle.std.proofs.lemmas.List.{append_assoc, append-nil, reverse-append, length-append}
 use Rattle.std.proofs.lemmas.Option.{get_or_from_slice_get}
 use Rattle.std.proofs.Math.Seq.{get_or-append_seam}
 use Rattle.aq_rules.specs.Kept.Rows.{Row}
 use Rattle.aq_rules.specs.Kept.RowChanges.{RowKey, RowChange, PutRow, DropRow, row_key, changed_key, key_before, is_same_row_key, keys_rise, keys_rise_from, put_row, drop_row, with_row_change}
-use Rattle.aq_keeper.specs.Rising.{AreBefore, AreBehind, AreBeforeFirst, StartsFrom, Rise, keys_of_rows, keys_of_changes, without_first, put_rows}
+use Rattle.aq_keeper.specs.Rising.{AreBefore, AreBehind, StartsFrom, Rise, keys_of_rows, without_first, put_rows}
 use Rattle.aq_keeper.proofs.KeyOrder.{before-trans, before-not_behind, before-not_same, behind-not_same, same-before, neither-same}
 
 both : (a b : Bool) → (a && b) ≡ true → (a ≡ true) × (b ≡ true)
@@ -35,27 +35,34 @@ pub rise-keys : (keys : List RowKey) → keys_rise keys ≡ true → Rise keys
 rise-keys [] h = tt
 rise-keys (key ∷ keys) h = rise-from key keys h
 
-pub before-trans_rows : (key next : RowKey) (rows : List Row) → key_before key next ≡ true → AreBefore key rows → AreBefore next rows
-before-trans_rows key next [] h before = tt
-before-trans_rows key next (row ∷ rows) h before =
-    (before-trans (row_key row) key next before.0 h, before-trans_rows key next rows h before.1)
+-- ---- rows that are cut
 
-pub before-more : (key : RowKey) (rows : List Row) (row : Row) → AreBefore key rows → key_before (row_key row) key ≡ true → AreBefore key (rows ++ row ∷ [])
-before-more key [] row before h = (h, tt)
-before-more key (first ∷ rows) row before h = (before.0, before-more key rows row before.1 h)
+pub rise-front : (front back : List Row) → Rise (keys_of_rows (front ++ back)) → Rise (keys_of_rows front)
+rise-front [] back rise = tt
+rise-front (row ∷ front) back rise = (behind-front (row_key row) front back rise.0, rise-front front back rise.1)
+  where
+    behind-front : (key : RowKey) (front back : List Row) → AreBehind key (keys_of_rows (front ++ back)) → AreBehind key (keys_of_rows front)
+    behind-front key [] back behind = tt
+    behind-front key (row ∷ front) back behind = (behind.0, behind-front key front back behind.1)
 
--- ---- where a key stands
+before-place : (key : RowKey) (rows : List Row) (i : ℕ) (last : Row) → i + 1 ≡ length rows → slice_get rows i ≡ Some last → Rise (keys_of_rows rows) → key_before (row_key last) key ≡ true → AreBefore key rows
+before-place key [] i last long is rise before = tt
+before-place key (row ∷ []) zero last long is rise before = (ap (λ r. key_before (row_key r) key) (some-same row last is) ∙ before, tt)
+  where
+    some-same : (row last : Row) → Some row ≡ Some last → row ≡ last
+    some-same row last is = cc
+before-place key (row ∷ []) (suc i) last long is rise before = absurd (omega arith)
+before-place key (row ∷ next ∷ rows) zero last long is rise before = absurd (omega arith)
+before-place key (row ∷ next ∷ rows) (suc i) last long is rise before =
+    let rest = before-place key (next ∷ rows) i last (omega arith) is rise.1 before in
+    (before-trans (row_key row) (row_key next) key rise.0.0 rest.0, rest)
 
-behind-at : (key : RowKey) (rows : List Row) (i : ℕ) (d : Row) → i < length rows → AreBehind key (keys_of_rows rows) → key_before key (row_key (slice_index_or rows i d)) ≡ true
-behind-at key [] i d h behind = absurd (omega arith)
-behind-at key (row ∷ rows) zero d h behind = behind.0
-behind-at key (row ∷ rows) (suc i) d h behind = behind-at key rows i d (omega arith) behind.1
-
-pub before-place : (key : RowKey) (rows : List Row) (i : ℕ) (d : Row) → i < length rows → Rise (keys_of_rows rows) → key_before (row_key (slice_index_or rows i d)) key ≡ true → AreBefore key (take (suc i) rows)
-before-place key [] i d h rise before = tt
-before-place key (row ∷ rows) zero d h rise before = (before, tt)
-before-place key (row ∷ rows) (suc i) d h rise before =
-    (before-trans (row_key row) (row_key (slice_index_or rows i d)) key (behind-at (row_key row) rows i d (omega arith) rise.0) before, before-place key rows i d (omega arith) rise.1 before)
+-- if the last of rising rows comes before a key, all do
+pub before-last : (key : RowKey) (rows : List Row) (last : Row) → slice_get rows (length rows - 1) ≡ Some last → Rise (keys_of_rows rows) → key_before (row_key last) key ≡ true → AreBefore key rows
+before-last key [] last is rise before = tt
+before-last key (row ∷ rows) last is rise before =
+    let place : length (row ∷ rows) - 1 ≡ length rows = omega arith in
+    before-place key (row ∷ rows) (length rows) last (omega arith) (ap (slice_get (row ∷ rows)) (sym place) ∙ is) rise before
 
 -- ---- a row that is put
 
@@ -91,7 +98,7 @@ drop-none key (first ∷ back) behind =
     ap (λ b. cond (not b) (first ∷ drop_row key back) (drop_row key back)) (behind-not_same key (row_key first) behind.0)
     ∙ ap (λ (rows : List Row). first ∷ rows) (drop-none key back behind.1)
 
--- a key that does not come behind the first of rising rows is that of the first, or comes before all
+-- a key that does not come after the first of rising rows is that of the first, or comes before all
 behind-others : (key : RowKey) (first : Row) (back : List Row) → key_before (row_key first) key ≡ false → AreBehind (row_key first) (keys_of_rows back) → AreBehind key (keys_of_rows back)
 behind-others key first back starts behind = choose (key_before key (row_key first)) refl
   where
@@ -122,14 +129,6 @@ make-change (DropRow key) front back rise before starts =
     ap (λ (rows : List Row). rows ++ without_first key back) (append-nil front)
     ∙ sym (drop-past key front back before ∙ ap (λ (rows : List Row). front ++ rows) (drop-at key back starts (rise-back front back rise)))
 
-before-put : (change : RowChange) (next : RowKey) (front : List Row) → AreBefore (changed_key change) front → key_before (changed_key change) next ≡ true → AreBefore next (front ++ put_rows change)
-before-put (PutRow row) next front before h = before-more next front row (before-trans_rows (row_key row) next front h before) h
-before-put (DropRow key) next front before h = subst (AreBefore next) (sym (append-nil front)) (before-trans_rows key next front h before)
-
-pub before_first-put : (change : RowChange) (changes : List RowChange) (front : List Row) → AreBehind (changed_key change) (keys_of_changes changes) → AreBefore (changed_key change) front → AreBeforeFirst (front ++ put_rows change) changes
-before_first-put change [] front behind before = tt
-before_first-put change (next ∷ changes) front behind before = before-put change (changed_key next) front before behind.0
-
 -- ---- the rows rise still
 
 behind-without_first : (key first : RowKey) (back : List Row) → AreBehind first (keys_of_rows back) → AreBehind first (keys_of_rows (without_first key back))
@@ -142,7 +141,7 @@ rise-without_first key [] rise = tt
 rise-without_first key (row ∷ back) rise =
     elim (is_same_row_key (row_key row) key) as (λ b. Rise (keys_of_rows (cond b back (row ∷ back)))) [ true ↦ rise.1 | false ↦ rise ]
 
--- what is put at the place of a change comes behind a key that comes before it
+-- what is put at the place of a change comes after a key that comes before it
 behind-change : (change : RowChange) (first : RowKey) (front back : List Row) → key_before first (changed_key change) ≡ true → AreBehind first (keys_of_rows (front ++ back)) → AreBehind first (keys_of_rows (front ++ (put_rows change ++ without_first (changed_key change) back)))
 behind-change (PutRow row) first [] back h behind = (h, behind-without_first (row_key row) first back behind)
 behind-change (DropRow key) first [] back h behind = behind-without_first key first back behind
@@ -177,11 +176,6 @@ reverse-more rows row = reverse-append rows (row ∷ [])
 
 -- ---- what the code finds
 
-pub before-found : (key : RowKey) (rows : List Row) (i : ℕ) (row : Row) → i < length rows → Rise (keys_of_rows rows) → row ≡ slice_index_or rows i row → key_before (row_key row) key ≡ true → AreBefore key (take (i + 1) rows)
-before-found key rows i row within rise is before =
-    let next : suc i ≡ i + 1 = omega arith in
-    subst (λ n. AreBefore key (take n rows)) next (before-place key rows i row within rise (ap (λ r. key_before (row_key r) key) (sym is) ∙ before))
-
 last-is : (later rest : List Row) (row last : Row) → later ≡ rest ++ row ∷ [] → slice_get later (length later - 1) ≡ Some last → row ≡ last
 last-is later rest row last is found =
     let long = ap length is ∙ length-append rest (row ∷ []) in
@@ -191,7 +185,7 @@ last-is later rest row last is found =
     ∙ ap (λ n. get_or later n row) (sym at)
     ∙ get_or_from_slice_get later (length later - 1) last row found
 
--- the last of rows that stand last first is taken, where it comes before a key
+-- the last of rows that stand last first is taken, if it comes before a key
 pub popped : (key : RowKey) (later rest : List Row) (result : Option Row) (last : Row) → later ≡ rest ++ option_to_list result → slice_get later (length later - 1) ≡ Some last → key_before (row_key last) key ≡ true → IfSome result (λ row. (reverse later ≡ row ∷ reverse rest) × (key_before (row_key row) key ≡ true))
 popped key later rest None last is found before = tt
 popped key later rest (Some row) last is found before =

@@ -1,8 +1,8 @@
--- Rows and changes whose keys rise, by recursion.
+-- Rows whose keys rise, by recursion.
 use Rattle.std.specs.Prelude.{◌≡◌, true, false, if◌then◌else◌, List, [], ◌∷◌, map}
 use Rattle.std.specs.List.{AllByRecursion}
 use Rattle.aq_rules.specs.Kept.Rows.{Row}
-use Rattle.aq_rules.specs.Kept.RowChanges.{RowKey, RowChange, row_key, changed_key, key_before, is_same_row_key, PutRow, DropRow}
+use Rattle.aq_rules.specs.Kept.RowChanges.{RowKey, RowChange, row_key, key_before, is_same_row_key, PutRow, DropRow}
 
 -- all rows come before a key
 abbrev pub AreBefore : RowKey → List Row → Type 0
@@ -21,19 +21,10 @@ Rise (key ∷ keys) = AreBehind key keys × Rise keys
 abbrev pub keys_of_rows : List Row → List RowKey
 keys_of_rows rows = map row_key rows
 
--- keys of changes
-abbrev pub keys_of_changes : List RowChange → List RowKey
-keys_of_changes changes = map changed_key changes
-
 -- the first row, if there is one, does not come before a key
 abbrev pub StartsFrom : RowKey → List Row → Type 0
 StartsFrom key [] = Unit {0}
 StartsFrom key (row ∷ rows) = key_before (row_key row) key ≡ false
-
--- the rows come before the first change, if there is one
-abbrev pub AreBeforeFirst : List Row → List RowChange → Type 0
-AreBeforeFirst rows [] = Unit {0}
-AreBeforeFirst rows (change ∷ changes) = AreBefore (changed_key change) rows
 
 -- the rows without the first, if it has this key
 abbrev pub without_first : RowKey → List Row → List Row

@@ -19,9 +19,9 @@ pub struct RowChange {
 }
 
 impl Model for RowChange {
-    ghost use Rattle.aq_rules.specs.Kept.RowChanges as book;
+    ghost use Rattle.aq_rules.specs.Kept.RowChanges as row_changes;
 
-    ghost Value = { book.RowChange };
+    ghost Value = { row_changes.RowChange };
 
     ghost use Rattle.aq_keeper.specs.ChangeView.{change_of};
 
@@ -30,12 +30,12 @@ impl Model for RowChange {
 
 impl RowChange {
     ghost use Rattle.std.specs.Prelude.{◌≡◌, IfOk};
-    ghost use Rattle.aq_rules.specs.Kept.RowChanges as book;
+    ghost use Rattle.aq_rules.specs.Kept.RowChanges as row_changes;
     ghost use Rattle.aq_keeper.specs.KeyView.{key_seen};
 
     /// A row is put.
     pub fn put(row: Row) -> RowChange
-        ensures { result ≡ book.PutRow row }
+        ensures { result ≡ row_changes.PutRow row }
     {
         RowChange {
             content: ChangeContent::Put(row),
@@ -44,7 +44,7 @@ impl RowChange {
 
     /// The row of a key is dropped.
     pub fn drop(key: RowKey) -> RowChange
-        ensures { result ≡ book.DropRow key }
+        ensures { result ≡ row_changes.DropRow key }
     {
         RowChange {
             content: ChangeContent::Drop(key),
@@ -62,7 +62,7 @@ impl RowChange {
     }
 
     pub(crate) fn key(&self) -> KeyView<'_>
-        ensures { key_seen result ≡ book.changed_key self.now }
+        ensures { key_seen result ≡ row_changes.changed_key self.now }
     {
         match &self.content {
             ChangeContent::Put(row) => row.key(),

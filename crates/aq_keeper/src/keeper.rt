@@ -3,8 +3,8 @@
 //! counts as risen. Want of memory is no fault, and may come at any call.
 ghost use Rattle.std.specs.Prelude.{◌≡◌, ℕ, List, true, map, Option, IfSome, IfOk, OnOk, OnErr};
 ghost use Rattle.std.specs.Option.{option_map};
-ghost use Rattle.aq_rules.specs.Kept.Rows as book;
-ghost use Rattle.aq_rules.specs.Kept.RowChanges.{changed_key, keys_rise, with_row_changes};
+ghost use Rattle.aq_rules.specs.Kept.Rows as the_rows;
+ghost use Rattle.aq_rules.specs.Kept.RowChanges.{batch_rises, changed_key, with_row_changes};
 ghost use Rattle.aq_keeper.specs.Told.{HasCause};
 
 use crate::change::RowChange;
@@ -48,7 +48,7 @@ impl Error for KeeperFault {}
 /// Keeps the rows of the four tables.
 pub trait Keeper {
     /// The rows of its tables in the order of tables and keys, if the keeper tells them.
-    ghost tables: { Self → Option (List book.Row) };
+    ghost tables: { Self → Option (List the_rows.Row) };
 
     /// How often it has failed.
     ghost faults: { Self → ℕ };
@@ -59,10 +59,10 @@ pub trait Keeper {
         ensures kept { tables self.new ≡ tables self.old }
         ensures cause { HasCause (faults self.old) (faults self.new) result };
 
-    /// Changes the rows by a batch, of which the keys rise in the order of tables and keys, as those
-    /// of a load's batch do. After a fault the tables are as before.
+    /// Changes the rows by a batch, of which the keys rise in the order of a batch: that of tables and
+    /// keys, but for the loads, which come last. After a fault the tables are as before.
     fn commit(&mut self, alloc: Global, batch: &[RowChange]) -> Result<(), KeeperFault>
-        requires rising { keys_rise (map changed_key batch.now) ≡ true }
+        requires rising { batch_rises (map changed_key batch.now) ≡ true }
         ensures done { OnOk result (tables self.new ≡ option_map (λ told. with_row_changes told batch.now) (tables self.old)) }
         ensures kept { OnErr result (tables self.new ≡ tables self.old) }
         ensures cause { HasCause (faults self.old) (faults self.new) result };

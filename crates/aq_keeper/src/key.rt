@@ -1,7 +1,7 @@
 //! Keys of rows, and their order.
 ghost use Rattle.std.specs.Prelude.{◌≡◌};
-ghost use Rattle.aq_rules.specs.Kept.RowChanges.{key_before, is_same_row_key};
-ghost use Rattle.aq_keeper.specs.KeyView.{key_seen, key_order};
+ghost use Rattle.aq_rules.specs.Kept.RowChanges.{batch_before, key_before, is_same_row_key};
+ghost use Rattle.aq_keeper.specs.KeyView.{is_load, key_seen, key_order};
 
 use crate::row::copy_of;
 use aq_base::{Bytes, Memory};
@@ -40,9 +40,9 @@ pub struct RowKey {
 }
 
 impl Model for RowKey {
-    ghost use Rattle.aq_rules.specs.Kept.RowChanges as book;
+    ghost use Rattle.aq_rules.specs.Kept.RowChanges as row_changes;
 
-    ghost Value = { book.RowKey };
+    ghost Value = { row_changes.RowKey };
 
     ghost use Rattle.aq_keeper.specs.KeyView.{key_of};
 
@@ -76,12 +76,12 @@ pub(crate) enum KeyView<'a> {
 
 impl RowKey {
     ghost use Rattle.std.specs.Prelude.{◌≡◌, IfOk};
-    ghost use Rattle.aq_rules.specs.Kept.RowChanges as book;
+    ghost use Rattle.aq_rules.specs.Kept.RowChanges as row_changes;
     ghost use Rattle.aq_keeper.specs.KeyView.{key_seen};
 
     /// The key of a record.
     pub fn office(kind: i64, key: Bytes) -> RowKey
-        ensures { result ≡ book.OfficeRowKey kind key }
+        ensures { result ≡ row_changes.OfficeRowKey kind key }
     {
         RowKey {
             content: KeyContent::Office { kind, key },
@@ -90,7 +90,7 @@ impl RowKey {
 
     /// The key of an observation of version 1.
     pub fn observation(site: i64, pollutant: i64, poc: i64, hour: i64) -> RowKey
-        ensures { result ≡ book.ObsRowKey site pollutant poc hour }
+        ensures { result ≡ row_changes.ObsRowKey site pollutant poc hour }
     {
         RowKey {
             content: KeyContent::Observation {
@@ -104,7 +104,7 @@ impl RowKey {
 
     /// The key of a load.
     pub fn load(number: i64) -> RowKey
-        ensures { result ≡ book.LoadRowKey number }
+        ensures { result ≡ row_changes.LoadRowKey number }
     {
         RowKey {
             content: KeyContent::Load { number },
@@ -113,7 +113,7 @@ impl RowKey {
 
     /// The key of an observation.
     pub fn second(site: i64, pollutant: i64, poc: i64, hour: i64) -> RowKey
-        ensures { result ≡ book.SecondRowKey site pollutant poc hour }
+        ensures { result ≡ row_changes.SecondRowKey site pollutant poc hour }
     {
         RowKey {
             content: KeyContent::Second {
@@ -195,6 +195,25 @@ pub(crate) fn comes_before(a: KeyView<'_>, b: KeyView<'_>) -> bool
     ensures { result ≡ key_before (key_seen a.entry) (key_seen b.entry) }
 {
     compare(a, b).is_lt()
+}
+
+/// Whether a key comes before another in a batch, where loads come last.
+#[tactic(auto, using(crate::proofs::KeyOrder::batch_by_load))]
+pub(crate) fn comes_before_in_batch(a: KeyView<'_>, b: KeyView<'_>) -> bool
+    ensures { result ≡ batch_before (key_seen a.entry) (key_seen b.entry) }
+{
+    if is_load(a) {
+        is_load(b) && comes_before(a, b)
+    } else {
+        is_load(b) || comes_before(a, b)
+    }
+}
+
+/// Whether a key is that of a load.
+fn is_load(key: KeyView<'_>) -> bool
+    ensures { result ≡ is_load (key_seen key.entry) }
+{
+    matches!(key, KeyView::Load { .. })
 }
 
 /// Whether two keys are the same.

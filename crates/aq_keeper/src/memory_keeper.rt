@@ -58,7 +58,7 @@ impl MemoryKeeper {
 
 impl Keeper for MemoryKeeper {
     ghost use Rattle.std.specs.Prelude.{◌≡◌, true, map, IfOk, OnOk, OnErr, Some};
-    ghost use Rattle.aq_rules.specs.Kept.RowChanges.{changed_key, keys_rise, with_row_changes};
+    ghost use Rattle.aq_rules.specs.Kept.RowChanges.{batch_rises, changed_key, with_row_changes};
     ghost use Rattle.aq_base.specs.Faults.{is_listed, next};
     ghost use Rattle.aq_keeper.specs.Told.{HasCause, faults_after};
     ghost use Rattle.aq_keeper.specs.Memories.{has_failed};
@@ -85,7 +85,7 @@ impl Keeper for MemoryKeeper {
     }
 
     fn commit(&mut self, alloc: Global, batch: &[RowChange]) -> Result<(), KeeperFault>
-        requires rising { keys_rise (map changed_key batch.now) ≡ true }
+        requires rising { batch_rises (map changed_key batch.now) ≡ true }
         ensures done { OnOk result (self.new.tables ≡ with_row_changes self.old.tables batch.now) }
         ensures kept { OnErr result (self.new.tables ≡ self.old.tables) }
         ensures cause { HasCause self.old.faults self.new.faults result }

@@ -1,9 +1,9 @@
-//! Whether rows, and changes of rows, are in the order of tables and keys.
+//! Whether rows are in the order of tables and keys, and changes of rows in that of a batch.
 ghost use Rattle.std.specs.Prelude.{◌≡◌, map};
-ghost use Rattle.aq_rules.specs.Kept.RowChanges.{row_key, changed_key, keys_rise};
+ghost use Rattle.aq_rules.specs.Kept.RowChanges.{batch_rises, row_key, changed_key, keys_rise};
 
 use crate::change::RowChange;
-use crate::key::comes_before;
+use crate::key::{comes_before, comes_before_in_batch};
 use crate::row::Row;
 
 /// Whether rows are in the order of tables and keys, and no two have one key.
@@ -23,16 +23,16 @@ pub fn are_in_order(rows: &[Row]) -> bool
     true
 }
 
-/// Whether the keys of changes rise in the order of tables and keys, and no two are the same.
+/// Whether the keys of changes rise in the order of a batch, and no two are the same.
 pub fn do_keys_rise(batch: &[RowChange]) -> bool
-    ensures { result ≡ keys_rise (map changed_key batch.now) }
+    ensures { result ≡ batch_rises (map changed_key batch.now) }
 {
     let Some((first, rest)) = batch.split_first() else {
         return true;
     };
     let mut before = first;
     for change in rest {
-        if !comes_before(before.key(), change.key()) {
+        if !comes_before_in_batch(before.key(), change.key()) {
             return false;
         }
         before = change;

@@ -16,9 +16,9 @@ pub struct OfficeRow {
 }
 
 impl Model for OfficeRow {
-    ghost use Rattle.aq_rules.specs.Kept.Rows as book;
+    ghost use Rattle.aq_rules.specs.Kept.Rows as rows;
 
-    ghost Value = { book.OfficeRow };
+    ghost Value = { rows.OfficeRow };
 
     ghost view = { λ row. record { kind = row.kind; key = row.key; line = row.line } };
 }
@@ -41,9 +41,9 @@ pub struct ObsRow {
 }
 
 impl Model for ObsRow {
-    ghost use Rattle.aq_rules.specs.Kept.Rows as book;
+    ghost use Rattle.aq_rules.specs.Kept.Rows as rows;
 
-    ghost Value = { book.ObsRow };
+    ghost Value = { rows.ObsRow };
 
     ghost view = { λ row. record { site = row.site; pollutant = row.pollutant; poc = row.poc; hour = row.hour; value = row.value; null = row.null; quals = row.quals } };
 }
@@ -66,9 +66,9 @@ pub struct ObsRow2 {
 }
 
 impl Model for ObsRow2 {
-    ghost use Rattle.aq_rules.specs.Kept.Rows as book;
+    ghost use Rattle.aq_rules.specs.Kept.Rows as rows;
 
-    ghost Value = { book.ObsRow2 };
+    ghost Value = { rows.ObsRow2 };
 
     ghost view = { λ row. record { site = row.site; pollutant = row.pollutant; poc = row.poc; hour = row.hour; value = row.value; method = row.method; null = row.null; quals = row.quals } };
 }
@@ -87,9 +87,9 @@ pub struct LoadRow {
 }
 
 impl Model for LoadRow {
-    ghost use Rattle.aq_rules.specs.Kept.Rows as book;
+    ghost use Rattle.aq_rules.specs.Kept.Rows as rows;
 
-    ghost Value = { book.LoadRow };
+    ghost Value = { rows.LoadRow };
 
     ghost view = { λ row. record { number = row.number; digest = row.digest; lines = row.lines; accepted = row.accepted; listed = row.listed; rest = row.rest } };
 }
@@ -110,9 +110,9 @@ pub struct Row {
 }
 
 impl Model for Row {
-    ghost use Rattle.aq_rules.specs.Kept.Rows as book;
+    ghost use Rattle.aq_rules.specs.Kept.Rows as rows;
 
-    ghost Value = { book.Row };
+    ghost Value = { rows.Row };
 
     ghost use Rattle.aq_keeper.specs.RowView.{row_of};
 
@@ -199,13 +199,13 @@ impl ObsRow2 {
 
 impl Row {
     ghost use Rattle.std.specs.Prelude.{◌≡◌, IfOk};
-    ghost use Rattle.aq_rules.specs.Kept.Rows as book;
+    ghost use Rattle.aq_rules.specs.Kept.Rows as rows;
     ghost use Rattle.aq_rules.specs.Kept.RowChanges.{row_key};
     ghost use Rattle.aq_keeper.specs.KeyView.{key_seen};
 
     /// A row of the table `records`.
     pub fn office(row: OfficeRow) -> Row
-        ensures { result ≡ book.OfOfficeRow row }
+        ensures { result ≡ rows.OfOfficeRow row }
     {
         Row {
             content: RowContent::Office(row),
@@ -214,7 +214,7 @@ impl Row {
 
     /// A row of the table `observations`.
     pub fn observation(row: ObsRow) -> Row
-        ensures { result ≡ book.OfObsRow row }
+        ensures { result ≡ rows.OfObsRow row }
     {
         Row {
             content: RowContent::Observation(row),
@@ -223,7 +223,7 @@ impl Row {
 
     /// A row of the table `loads`.
     pub fn load(row: LoadRow) -> Row
-        ensures { result ≡ book.OfLoadRow row }
+        ensures { result ≡ rows.OfLoadRow row }
     {
         Row {
             content: RowContent::Load(row),
@@ -232,7 +232,7 @@ impl Row {
 
     /// A row of the table `observations2`.
     pub fn second(row: ObsRow2) -> Row
-        ensures { result ≡ book.OfSecondRow row }
+        ensures { result ≡ rows.OfSecondRow row }
     {
         Row {
             content: RowContent::Second(row),

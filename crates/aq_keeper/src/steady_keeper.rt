@@ -13,9 +13,9 @@ pub struct SteadyKeeper {
 
 impl Model for SteadyKeeper {
     ghost use Rattle.std.specs.Prelude.{List};
-    ghost use Rattle.aq_rules.specs.Kept.Rows as book;
+    ghost use Rattle.aq_rules.specs.Kept.Rows as rows;
 
-    ghost Value = { List book.Row };
+    ghost Value = { List rows.Row };
 
     ghost view = { λ keeper. keeper.tables };
 }
@@ -35,7 +35,7 @@ impl SteadyKeeper {
 
 impl Keeper for SteadyKeeper {
     ghost use Rattle.std.specs.Prelude.{◌≡◌, true, map, IfOk, IfErr, OnOk, OnErr, Some};
-    ghost use Rattle.aq_rules.specs.Kept.RowChanges.{changed_key, keys_rise, with_row_changes};
+    ghost use Rattle.aq_rules.specs.Kept.RowChanges.{batch_rises, changed_key, with_row_changes};
     ghost use Rattle.aq_keeper.specs.declared.keeper.KeeperFault.TheVariants.{Memory};
 
     ghost tables = { λ keeper. Some keeper };
@@ -51,7 +51,7 @@ impl Keeper for SteadyKeeper {
     }
 
     fn commit(&mut self, alloc: Global, batch: &[RowChange]) -> Result<(), KeeperFault>
-        requires rising { keys_rise (map changed_key batch.now) ≡ true }
+        requires rising { batch_rises (map changed_key batch.now) ≡ true }
         ensures done { OnOk result (self.new ≡ with_row_changes self.old batch.now) }
         ensures kept { OnErr result (self.new ≡ self.old) }
         ensures memory { IfErr result (λ fault. fault ≡ Memory) }

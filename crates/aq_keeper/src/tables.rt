@@ -1,8 +1,8 @@
 //! The rows of the tables in memory.
-ghost use Rattle.std.specs.Prelude.{◌≡◌, ◌+◌, ◌≤◌, true, [], ◌∷◌, ◌++◌, length, reverse, take, map, vec_len, vec_capacity, IfSome, IfNone, MatchOption, IfOk, OnOk, OnErr};
-ghost use Rattle.aq_rules.specs.Kept.RowChanges.{row_key, changed_key, keys_rise, key_before, with_row_change, with_row_changes};
+ghost use Rattle.std.specs.Prelude.{◌≡◌, ◌+◌, ◌≤◌, true, [], ◌∷◌, ◌++◌, reverse, vec_len, vec_capacity, IfSome, IfNone, MatchOption, IfOk, OnOk, OnErr};
+ghost use Rattle.aq_rules.specs.Kept.RowChanges.{row_key, changed_key, key_before, with_row_change, with_row_changes};
 ghost use Rattle.aq_keeper.specs.KeyView.{key_seen};
-ghost use Rattle.aq_keeper.specs.Rising.{AreBefore, AreBeforeFirst, StartsFrom, without_first, put_rows, Rise, keys_of_rows, keys_of_changes};
+ghost use Rattle.aq_keeper.specs.Rising.{AreBefore, StartsFrom, without_first, put_rows, Rise, keys_of_rows};
 
 use crate::change::{ChangeContent, RowChange};
 use crate::key::{KeyView, comes_before, is_same};
@@ -19,10 +19,10 @@ pub(crate) struct Tables {
 
 impl Model for Tables {
     ghost use Rattle.std.specs.Prelude.{List};
-    ghost use Rattle.aq_rules.specs.Kept.Rows as book;
+    ghost use Rattle.aq_rules.specs.Kept.Rows as the_rows;
     ghost use Rattle.aq_keeper.specs.Rising.{Rise, keys_of_rows};
 
-    ghost Value = { List book.Row };
+    ghost Value = { List the_rows.Row };
 
     ghost view = { λ tables. tables.rows.items };
 
@@ -31,7 +31,7 @@ impl Model for Tables {
 
 impl Tables {
     ghost use Rattle.std.specs.Prelude.{◌≡◌, true, [], map, IfOk, OnOk, OnErr};
-    ghost use Rattle.aq_rules.specs.Kept.RowChanges.{row_key, changed_key, keys_rise, with_row_changes};
+    ghost use Rattle.aq_rules.specs.Kept.RowChanges.{row_key, keys_rise, with_row_changes};
 
     /// Tables without rows. It takes no memory.
     pub(crate) fn empty(alloc: Global) -> Tables
@@ -63,15 +63,13 @@ impl Tables {
         Ok(Rows::from_vec(copies))
     }
 
-    /// Makes the changes of a batch, of which the keys rise. After want of memory the rows are as
-    /// before.
+    /// Makes the changes of a batch. After want of memory the rows are as before.
     pub(crate) fn change(&mut self, alloc: Global, batch: &[RowChange]) -> Result<(), Memory>
-        requires { keys_rise (map changed_key batch.now) ≡ true }
         ensures ok { OnOk result (self.new ≡ with_row_changes self.old batch.now) }
         ensures err { OnErr result (self.new ≡ self.old) }
     {
         let changes = copies_of(alloc, batch)?;
-        change_rows(&mut self.rows, changes)
+        change_rows(alloc, &mut self.rows, changes)
     }
 }
 
@@ -87,71 +85,86 @@ fn copies_of(alloc: Global, batch: &[RowChange]) -> Result<Vec<RowChange>, Memor
     Ok(copies)
 }
 
-/// Makes changes in one pass, which begins at the first changed key. What memory that needs is taken
-/// before a row moves.
-fn change_rows(rows: &mut Vec<Row>, changes: Vec<RowChange>) -> Result<(), Memory>
-    requires rows { Rise (keys_of_rows rows.old.items) }
-    requires changes { Rise (keys_of_changes changes.items) }
+/// Makes changes. What memory that needs is taken before a row moves.
+fn change_rows(alloc: Global, rows: &mut Vec<Row>, changes: Vec<RowChange>) -> Result<(), Memory>
+    requires { Rise (keys_of_rows rows.old.items) }
     ensures ok { OnOk result (rows.new.items ≡ with_row_changes rows.old.items changes.items) }
     ensures err { OnErr result (rows.new.items ≡ rows.old.items) }
     ensures rise { Rise (keys_of_rows rows.new.items) }
 {
-    let place = first_place(rows.as_slice(), changes.as_slice());
     rows.reserve(changes.len())?;
-    let later = rows.split_off(place)?;
+    let later = Vec::with_capacity(alloc, rows.capacity())?;
     make_all(rows, later, changes);
     Ok(())
 }
 
-/// How many rows come before the first change.
-fn first_place(rows: &[Row], changes: &[RowChange]) -> usize
-    requires { Rise (keys_of_rows rows.now) }
-    ensures within { result ≤ length rows.now }
-    ensures before { AreBeforeFirst (take result rows.now) changes.now }
-{
-    match changes.first() {
-        Some(change) => place_of(rows, change.key()),
-        None => rows.len(),
-    }
-}
-
-/// How many rows come before a key.
-fn place_of(rows: &[Row], key: KeyView<'_>) -> usize
-    requires { Rise (keys_of_rows rows.now) }
-    ensures within { result ≤ length rows.now }
-    ensures before { AreBefore (key_seen key.entry) (take result rows.now) }
-{
-    let mut low = 0;
-    let mut high = rows.len();
-    while low < high {
-        let middle = low + (high - low) / 2;
-        let row = &rows[middle];
-        if comes_before(row.key(), key) {
-            low = middle + 1;
-        } else {
-            high = middle;
-        }
-    }
-    low
-}
-
-/// Makes changes of rows that come after those before the first change.
+/// Makes changes one after the other. The rows are cut at each change's place, and the cut moves to the
+/// place of the next: once over the rows if keys rise, and twice in the order of a batch.
 fn make_all(rows: &mut Vec<Row>, later: Vec<Row>, changes: Vec<RowChange>)
-    requires room { vec_len rows.old + vec_len later + vec_len changes ≤ vec_capacity rows.old }
-    requires rows { Rise (keys_of_rows (rows.old.items ++ later.items)) }
-    requires changes { Rise (keys_of_changes changes.items) }
-    requires before { AreBeforeFirst rows.old.items changes.items }
-    ensures made { rows.new.items ≡ with_row_changes (rows.old.items ++ later.items) changes.items }
+    requires none { later.items ≡ [] }
+    requires room { vec_len rows.old + vec_len changes ≤ vec_capacity rows.old }
+    requires later_room { vec_len rows.old + vec_len changes ≤ vec_capacity later }
+    requires rise { Rise (keys_of_rows rows.old.items) }
+    ensures made { rows.new.items ≡ with_row_changes rows.old.items changes.items }
     ensures rise { Rise (keys_of_rows rows.new.items) }
 {
     let mut later = later;
-    later.reverse();
     for change in changes {
-        move_earlier(rows, &mut later, change.key());
+        cut_at(rows, &mut later, change.key());
         make(rows, &mut later, change);
     }
     later.reverse();
     append(rows, later);
+}
+
+/// Cuts the rows at a key: those before it, and the later ones, which stand last first.
+fn cut_at(rows: &mut Vec<Row>, later: &mut Vec<Row>, key: KeyView<'_>)
+    requires room { vec_len rows.old + vec_len later.old ≤ vec_capacity rows.old }
+    requires later_room { vec_len rows.old + vec_len later.old ≤ vec_capacity later.old }
+    requires rise { Rise (keys_of_rows (rows.old.items ++ reverse later.old.items)) }
+    ensures whole { rows.new.items ++ reverse later.new.items ≡ rows.old.items ++ reverse later.old.items }
+    ensures before { AreBefore (key_seen key.entry) rows.new.items }
+    ensures later { StartsFrom (key_seen key.entry) (reverse later.new.items) }
+    ensures count { vec_len rows.new + vec_len later.new ≡ vec_len rows.old + vec_len later.old }
+    ensures capacity { vec_capacity rows.old ≤ vec_capacity rows.new }
+    ensures later_capacity { vec_capacity later.old ≤ vec_capacity later.new }
+{
+    move_later(rows, later, key);
+    move_earlier(rows, later, key);
+}
+
+/// Moves the rows that do not come before a key to the later ones, which stand last first.
+fn move_later(rows: &mut Vec<Row>, later: &mut Vec<Row>, key: KeyView<'_>)
+    requires room { vec_len rows.old + vec_len later.old ≤ vec_capacity later.old }
+    requires rise { Rise (keys_of_rows rows.old.items) }
+    ensures whole { rows.new.items ++ reverse later.new.items ≡ rows.old.items ++ reverse later.old.items }
+    ensures before { AreBefore (key_seen key.entry) rows.new.items }
+    ensures count { vec_len rows.new + vec_len later.new ≡ vec_len rows.old + vec_len later.old }
+    ensures capacity { vec_capacity rows.new ≡ vec_capacity rows.old }
+    ensures later_capacity { vec_capacity later.old ≤ vec_capacity later.new }
+{
+    for _ in 0..rows.len() {
+        match next_later(rows, key) {
+            Some(row) => push(later, row),
+            None => return,
+        }
+    }
+}
+
+/// Takes the last row if it does not come before a key.
+fn next_later(rows: &mut Vec<Row>, key: KeyView<'_>) -> Option<Row>
+    requires { Rise (keys_of_rows rows.old.items) }
+    ensures some { IfSome result (λ row. rows.old.items ≡ rows.new.items ++ row ∷ []) }
+    ensures none { IfNone result ((rows.new.items ≡ rows.old.items) × AreBefore (key_seen key.entry) rows.old.items) }
+    ensures count { MatchOption result (vec_len rows.new ≡ vec_len rows.old) (λ _. vec_len rows.new + 1 ≡ vec_len rows.old) }
+    ensures capacity { vec_capacity rows.new ≡ vec_capacity rows.old }
+{
+    let row = rows.last()?;
+    if comes_before(row.key(), key) {
+        None
+    } else {
+        rows.pop()
+    }
 }
 
 /// Moves the rows that come before a key to those that do. The later ones stand last first.
@@ -163,6 +176,7 @@ fn move_earlier(rows: &mut Vec<Row>, later: &mut Vec<Row>, key: KeyView<'_>)
     ensures later { StartsFrom (key_seen key.entry) (reverse later.new.items) }
     ensures count { vec_len rows.new + vec_len later.new ≡ vec_len rows.old + vec_len later.old }
     ensures capacity { vec_capacity rows.old ≤ vec_capacity rows.new }
+    ensures later_capacity { vec_capacity later.new ≡ vec_capacity later.old }
 {
     for _ in 0..later.len() {
         match next_earlier(later, key) {
@@ -177,6 +191,7 @@ fn next_earlier(later: &mut Vec<Row>, key: KeyView<'_>) -> Option<Row>
     ensures some { IfSome result (λ row. (reverse later.old.items ≡ row ∷ reverse later.new.items) × (key_before (row_key row) (key_seen key.entry) ≡ true)) }
     ensures none { IfNone result ((later.new.items ≡ later.old.items) × StartsFrom (key_seen key.entry) (reverse later.old.items)) }
     ensures count { MatchOption result (vec_len later.new ≡ vec_len later.old) (λ _. vec_len later.new + 1 ≡ vec_len later.old) }
+    ensures capacity { vec_capacity later.new ≡ vec_capacity later.old }
 {
     let row = later.last()?;
     if comes_before(row.key(), key) {
@@ -186,8 +201,7 @@ fn next_earlier(later: &mut Vec<Row>, key: KeyView<'_>) -> Option<Row>
     }
 }
 
-/// Makes a change where the rows are in order, between those before its key and the later ones, which
-/// stand last first.
+/// Makes a change in rows that are cut at its key. The later ones stand last first.
 fn make(rows: &mut Vec<Row>, later: &mut Vec<Row>, change: RowChange)
     requires room { vec_len rows.old + 1 ≤ vec_capacity rows.old }
     requires rise { Rise (keys_of_rows (rows.old.items ++ reverse later.old.items)) }
@@ -195,9 +209,9 @@ fn make(rows: &mut Vec<Row>, later: &mut Vec<Row>, change: RowChange)
     requires later { StartsFrom (changed_key change) (reverse later.old.items) }
     ensures made { rows.new.items ++ reverse later.new.items ≡ with_row_change (rows.old.items ++ reverse later.old.items) change }
     ensures rise { Rise (keys_of_rows (rows.new.items ++ reverse later.new.items)) }
-    ensures rows { rows.new.items ≡ rows.old.items ++ put_rows change }
     ensures count { vec_len rows.new + vec_len later.new ≤ vec_len rows.old + vec_len later.old + 1 }
     ensures capacity { vec_capacity rows.old ≤ vec_capacity rows.new }
+    ensures later_capacity { vec_capacity later.new ≡ vec_capacity later.old }
 {
     drop_same(later, change.key());
     put(rows, change);
@@ -220,6 +234,7 @@ fn put(rows: &mut Vec<Row>, change: RowChange)
 fn drop_same(later: &mut Vec<Row>, key: KeyView<'_>)
     ensures rest { reverse later.new.items ≡ without_first (key_seen key.entry) (reverse later.old.items) }
     ensures len { vec_len later.new ≤ vec_len later.old }
+    ensures capacity { vec_capacity later.new ≡ vec_capacity later.old }
 {
     let Some(row) = later.last() else {
         return;

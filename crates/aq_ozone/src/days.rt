@@ -1,6 +1,6 @@
 //! The days of a site, one after another.
 ghost use Rattle.std.specs.Prelude.{◌≡◌, ◌<◌};
-ghost use Rattle.aq_rules.specs.Ozone.OzoneDay as book;
+ghost use Rattle.aq_rules.specs.Ozone.OzoneDay as ozone_day;
 ghost use Rattle.aq_series.specs.OfficeView.{office_of};
 
 use crate::day_span::DaySpan;
@@ -25,7 +25,7 @@ pub struct Days {
 impl Days {
     ghost use Rattle.std.specs.Prelude.{◌≡◌, ◌+◌, ◌*◌, ◌≤◌};
     ghost use Rattle.aq_base.specs.declared.day.TheConstants.{LAST_DAY};
-    ghost use Rattle.aq_rules.specs.Ozone.OzoneDay as book;
+    ghost use Rattle.aq_rules.specs.Ozone.OzoneDay as ozone_day;
     ghost use Rattle.aq_ozone.specs.DayHours.{AreNetOzone};
     ghost use Rattle.aq_ozone.specs.DaySpans.{days_read, IsAt};
     ghost use Rattle.aq_series.specs.OfficeView.{office_of};
@@ -61,7 +61,7 @@ impl Days {
     ) -> DayWindows
         requires at { IsAt (office_of registry.now shelf.now) site self.old.day self.old }
         requires profile { self.old.day ≤ LAST_DAY }
-        ensures windows { result ≡ book.windows (office_of registry.now shelf.now) site self.old.day }
+        ensures windows { result ≡ ozone_day.windows (office_of registry.now shelf.now) site self.old.day }
         ensures range { AreNetOzone result }
         ensures at { IsAt (office_of registry.now shelf.now) site (self.old.day + 1) self.new }
         ensures steps { steps.new + 193 * days_read self.old ≤ steps.old + 193 * days_read self.new }
@@ -79,7 +79,7 @@ impl Days {
 /// The seventeen averages of a day of a site, for callers that count no steps. The hours are read by a walk,
 /// which looks each monitor up once.
 pub fn uncounted_windows(shelf: &Shelf, registry: &Registry, site: SiteId, day: Day) -> DayWindows
-    ensures { result ≡ book.windows (office_of registry.now shelf.now) site day }
+    ensures { result ≡ ozone_day.windows (office_of registry.now shelf.now) site day }
 {
     counted::<Brand>(shelf, registry, site, day, Blank::new(1))
 }
@@ -95,7 +95,7 @@ fn counted<L: Ledger>(
     requires name { blank.name ≡ L.name }
     requires parts { blank.parts ≡ L.parts }
     requires some { 0 < L.parts }
-    ensures { result ≡ book.windows (office_of registry.now shelf.now) site day }
+    ensures { result ≡ ozone_day.windows (office_of registry.now shelf.now) site day }
 {
     let mut steps = Steps::<L>::new(blank);
     let mut days = Days::new(shelf, registry, site, day, &mut steps);

@@ -1,6 +1,6 @@
 //! The 8-hour averages (40 CFR Part 50, Appendix U, 3(a) and (b)).
 ghost use Rattle.std.specs.Prelude.{◌≡◌, ◌≤◌, ◌*◌, unsigned_abs};
-ghost use Rattle.aq_rules.specs.Ozone.EightHour as book;
+ghost use Rattle.aq_rules.specs.Ozone.EightHour as eight_hour;
 
 use aq_base::Standard;
 use std::marker::Model;
@@ -22,9 +22,9 @@ pub struct WindowRow {
 }
 
 impl Model for WindowRow {
-    ghost use Rattle.aq_rules.specs.Ozone.EightHour as book;
+    ghost use Rattle.aq_rules.specs.Ozone.EightHour as eight_hour;
 
-    ghost Value = { book.WindowRow };
+    ghost Value = { eight_hour.WindowRow };
 
     ghost view = { λ row. record { net = row.net; net_hours = row.net_hours; full = row.full; full_hours = row.full_hours } };
 
@@ -39,10 +39,10 @@ pub struct DayWindows {
 
 impl Model for DayWindows {
     ghost use Rattle.std.specs.Prelude.{◌≡◌, List, length};
-    ghost use Rattle.aq_rules.specs.Ozone.EightHour as book;
+    ghost use Rattle.aq_rules.specs.Ozone.EightHour as eight_hour;
     ghost use Rattle.aq_ozone.specs.declared.eight_hour.TheConstants.{WINDOWS};
 
-    ghost Value = { List book.WindowRow };
+    ghost Value = { List eight_hour.WindowRow };
 
     ghost view = { λ windows. windows.rows };
 
@@ -68,7 +68,7 @@ impl DayWindows {
 pub fn average(count: u8, sum: i32) -> Option<i32>
     requires count { count ≤ 8 }
     requires sum { unsigned_abs sum ≤ 9999 * count }
-    ensures { result ≡ book.average count sum }
+    ensures { result ≡ eight_hour.average count sum }
 {
     if count >= ENOUGH_HOURS {
         Some(sum / i32::from(count))

@@ -3,7 +3,7 @@ ghost use Rattle.std.specs.Prelude.{◌≡◌, fold};
 ghost use Rattle.std.specs.Option.{option_to_list};
 ghost use Rattle.aq_base.specs.declared.standard.Standard.TheVariants.{Ozone2015};
 ghost use Rattle.aq_rules.specs.Lists as lists;
-ghost use Rattle.aq_rules.specs.Ozone.OzoneDay as book;
+ghost use Rattle.aq_rules.specs.Ozone.OzoneDay as ozone_day;
 ghost use Rattle.aq_rules.specs.Standards.{is_above, level_of};
 
 use crate::eight_hour::DayWindows;
@@ -23,9 +23,9 @@ pub struct OzoneDay {
 }
 
 impl Model for OzoneDay {
-    ghost use Rattle.aq_rules.specs.Ozone.OzoneDay as book;
+    ghost use Rattle.aq_rules.specs.Ozone.OzoneDay as ozone_day;
 
-    ghost Value = { book.OzoneDay };
+    ghost Value = { ozone_day.OzoneDay };
 
     ghost view = { λ day. record { averages = day.averages; valid = day.valid; maximum = day.maximum } };
 
@@ -35,7 +35,7 @@ impl Model for OzoneDay {
 /// The day of these averages. It is valid with thirteen full averages or more, and also if the
 /// greatest one is above the level; what is excluded counts for that, and not for the maximum.
 pub fn day_of_windows(windows: &DayWindows) -> OzoneDay
-    ensures { result ≡ book.day_of_windows windows.now }
+    ensures { result ≡ ozone_day.day_of_windows windows.now }
 {
     let mut averages = 0;
     let mut greatest = None;

@@ -1,6 +1,6 @@
 //! The ozone year of a site (40 CFR Part 50, Appendix U, 3(e) and 4(b)).
 ghost use Rattle.std.specs.Prelude.{◌≡◌, ◌+◌, ◌*◌, ◌≤◌, List, IfSome};
-ghost use Rattle.aq_rules.specs.Ozone.OzoneDay as book;
+ghost use Rattle.aq_rules.specs.Ozone.OzoneDay as ozone_day;
 ghost use Rattle.aq_rules.specs.Ozone.OzoneYear.{ozone_year, ranked_maximum};
 ghost use Rattle.aq_base.specs.declared.day.TheConstants.{FIRST_YEAR, LAST_YEAR};
 ghost use Rattle.aq_base.specs.declared.observation.ObsKey.{ObsKey};
@@ -80,7 +80,7 @@ fn day_of_year(
     windows: &DayWindows,
 ) -> DayOfYear
     requires { AreNetOzone windows.now }
-    ensures day { (rows : List (ObsKey × Observation)) → windows.now ≡ book.windows (office_of registry.now rows) site day → result ≡ day_in (office_of registry.now rows) site (record { first = season.now.0; last = season.now.1 }) day }
+    ensures day { (rows : List (ObsKey × Observation)) → windows.now ≡ ozone_day.windows (office_of registry.now rows) site day → result ≡ day_in (office_of registry.now rows) site (record { first = season.now.0; last = season.now.1 }) day }
     ensures range { IfSome result.maximum (λ value. IsOzone value) }
 {
     let ozone = day_of_windows(windows);

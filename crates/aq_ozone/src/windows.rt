@@ -3,7 +3,7 @@ ghost use Rattle.std.specs.Prelude.{◌≡◌, ℕ, ◌+◌, ◌*◌, ◌<◌, �
 ghost use Rattle.aq_base.specs.Site.{Site};
 ghost use Rattle.aq_rules.specs.Office.Office.{Office};
 ghost use Rattle.aq_rules.specs.Ozone.EightHour.{row_of};
-ghost use Rattle.aq_rules.specs.Ozone.OzoneDay as book;
+ghost use Rattle.aq_rules.specs.Ozone.OzoneDay as ozone_day;
 ghost use Rattle.aq_ozone.specs.DayHours.{cells_in, AreNetOzone};
 ghost use Rattle.aq_ozone.specs.DayHours as hours;
 ghost use Rattle.aq_series.specs.DayStates.{hour_at};
@@ -36,7 +36,7 @@ pub fn day_windows<L: Ledger>(
     day: Day,
     steps: &mut Steps<L>,
 ) -> DayWindows
-    ensures windows { result ≡ book.windows (office_of registry.now shelf.now) site day }
+    ensures windows { result ≡ ozone_day.windows (office_of registry.now shelf.now) site day }
     ensures range { AreNetOzone result }
     ensures steps { steps.new ≤ steps.old + 192 }
 {
@@ -46,7 +46,7 @@ pub fn day_windows<L: Ledger>(
 /// The seventeen averages of the hours that they read, from that of 07:00 on.
 pub(crate) fn windows_of(cells: &[Option<Cell>; DAY_HOURS]) -> DayWindows
     requires { AreOzone cells.now }
-    ensures windows { (office : Office) (site : Site) (day : ℕ) → cells.now ≡ hours.day_hours office site day → result ≡ book.windows office site day }
+    ensures windows { (office : Office) (site : Site) (day : ℕ) → cells.now ≡ hours.day_hours office site day → result ≡ ozone_day.windows office site day }
     ensures range { AreNetOzone result }
 {
     let hours = &cells[..];

@@ -4,7 +4,7 @@ ghost use Rattle.std.specs.List.{list_any};
 ghost use Rattle.std.specs.Map.{values_of};
 ghost use Rattle.aq_rules.specs.Office.Monitors.{is_same_site};
 ghost use Rattle.aq_rules.specs.Office.Office.{sites_of, IsOffice};
-ghost use Rattle.aq_rules.specs.Office.Questions as book;
+ghost use Rattle.aq_rules.specs.Office.Questions as questions;
 ghost use Rattle.aq_rules.specs.Office.Designation as designations;
 ghost use Rattle.aq_rules.specs.Office.Schedule as schedules;
 ghost use Rattle.aq_rules.specs.Office.Season as seasons;
@@ -87,7 +87,7 @@ impl Registry {
 
     /// The record of a key, by one search of the map.
     pub fn get(&self, key: OfficeKey) -> Option<OfficeRecord>
-        ensures { result ≡ book.record_of self.now key }
+        ensures { result ≡ questions.record_of self.now key }
     {
         self.records.get(&key)
     }
@@ -102,7 +102,7 @@ impl Registry {
     /// The record that follows a key, whether or not one has the key, and of none the first, by one search
     /// of the map.
     pub fn following(&self, after: Option<OfficeKey>) -> Option<OfficeRecord>
-        ensures { result ≡ book.following self.now after }
+        ensures { result ≡ questions.following self.now after }
     {
         self.records.following(&after)
     }
@@ -111,7 +111,7 @@ impl Registry {
     /// map.
     #[tactic(auto, using(crate::proofs::QuestionLemmas::registration_found))]
     pub fn monitor(&self, id: MonitorId) -> Option<(Duration, bool)>
-        ensures { result ≡ option_map pair_of (book.registration_of self.now id) }
+        ensures { result ≡ option_map pair_of (questions.registration_of self.now id) }
     {
         facts::registration(&self.records.get(&OfficeKey::Monitor { id }))
     }
@@ -119,7 +119,7 @@ impl Registry {
     /// The least registered POC of a site and pollutant above the given one, by one search of the map.
     #[tactic(auto, using(crate::proofs::QuestionLemmas::poc_found))]
     pub fn next_poc(&self, site: SiteId, pollutant: Pollutant, after: u8) -> Option<u8>
-        ensures value { result ≡ book.next_poc self.now site pollutant after }
+        ensures value { result ≡ questions.next_poc self.now site pollutant after }
         ensures valid { IsOffice (office_with self.now) }
     {
         let from = u32::from(after) + 1;
@@ -143,7 +143,7 @@ impl Registry {
     /// The registered site that comes after the given one, and of none the first, by one search of the map.
     #[tactic(auto, using(crate::proofs::SiteLemmas::next_site_found, crate::proofs::SiteLemmas::IsSpan_sites))]
     pub fn next_site(&self, after: Option<SiteId>) -> Option<SiteId>
-        ensures { result ≡ book.next_site self.now after }
+        ensures { result ≡ questions.next_site self.now after }
     {
         let start = behind_sites(&after);
         facts::site(&self.records.first_between(start, Place::of_kind(2)))
@@ -206,7 +206,7 @@ impl Registry {
     /// The day of the sample that makes up for a missed day of a site, by one search of the map.
     #[tactic(auto, using(crate::proofs::QuestionLemmas::makeup_found))]
     pub fn makeup_of(&self, site: SiteId, missed: Day) -> Option<Day>
-        ensures { result ≡ book.makeup_of self.now site missed }
+        ensures { result ≡ questions.makeup_of self.now site missed }
     {
         facts::makeup(&self.records.get(&OfficeKey::Makeup { site, missed }))
     }
@@ -215,7 +215,7 @@ impl Registry {
     /// of the seven days before alone.
     #[tactic(auto, using(crate::proofs::ScheduleLemmas::missed_found))]
     pub fn missed_of(&self, site: SiteId, makeup: Day) -> Option<Day>
-        ensures { result ≡ book.missed_of self.now site makeup }
+        ensures { result ≡ questions.missed_of self.now site makeup }
     {
         let end = u32::from(makeup.number());
         let start = Place::of_site(5, &site, 0, end.saturating_sub(7));
@@ -227,7 +227,7 @@ impl Registry {
     /// site is not the first one of a combination of the pollutant (own). By one search of the map.
     #[tactic(auto, using(crate::proofs::QuestionLemmas::combined_found))]
     pub fn combined(&self, site: SiteId, pollutant: Pollutant) -> Option<(SiteId, Day)>
-        ensures { result ≡ option_map joined_from (book.combined self.now site pollutant) }
+        ensures { result ≡ option_map joined_from (questions.combined self.now site pollutant) }
     {
         facts::joined(&self.records.get(&OfficeKey::Combined { site, pollutant }))
     }
@@ -236,7 +236,7 @@ impl Registry {
     /// of the map.
     #[tactic(auto, using(crate::proofs::QuestionLemmas::event_found))]
     pub fn covers(&self, number: u32, hour: Hour) -> Option<bool>
-        ensures { result ≡ book.covers self.now number hour }
+        ensures { result ≡ questions.covers self.now number hour }
     {
         facts::coverage(&self.records.get(&OfficeKey::Event { number }), hour)
     }
@@ -274,7 +274,7 @@ fn behind_sites(after: &Option<SiteId>) -> Place
 
 /// The first missed day of a part of the map for which the sample of a day makes up.
 fn first_missed(part: Range<'_, Place, OfficeRecord>, makeup: Day) -> Option<Day>
-    ensures { result ≡ book.first_given (missed_by makeup) (values_of part.entry) }
+    ensures { result ≡ questions.first_given (missed_by makeup) (values_of part.entry) }
 {
     for (_, row) in part {
         let missed = facts::missed(row, makeup);

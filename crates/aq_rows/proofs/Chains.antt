@@ -4,7 +4,7 @@ use Rattle.std.specs.Prelude.{Option, Some, None}
 use Rattle.aq_rules.specs.Lines.Spellings.{◌>>=◌}
 use Rattle.aq_rules.specs.Kept.Rows.{only_if}
 
--- a test that the end makes may be made at once, where it fails there
+-- a test that the end makes may be made at once, if it fails there
 pub tested : {A B C : Type 0} (m : Option A) (test : A → Bool) (k : A → Option B) (g : B → Option C) (next : A → Option C)
     → ((x : A) → m ≡ Some x → test x ≡ false → (k x >>= g) ≡ None)
     → ((x : A) → m ≡ Some x → test x ≡ true → (k x >>= g) ≡ next x)

@@ -23,7 +23,7 @@ use Rattle.aq_rows.specs.declared.walk.Walk.{Walk}
 use Rattle.aq_rows.specs.OneMoreRow.{has_none, is_in_turn, may_follow, with_last, EndsAt}
 use Rattle.aq_rows.specs.Standing.{can_stand}
 use Rattle.aq_rows.specs.Walking.{office_with, standing, AreRecordsAlone, IsLast, IsWalk, Follows, IsRowFault, IsFault}
-use Rattle.aq_rows.proofs.LastObservation.{ends-at, observation-taken, observation-rises, observation-fits, observation-room, observation-stands, load-taken, load-rises, load-fits, load-room}
+use Rattle.aq_rows.proofs.LastObservation.{ends-at, observation-taken, observation-rises, observation-fits, observation-room, observation-stands, load-taken, load-rises, load-fits}
 
 -- ---- the test of a row
 
@@ -55,7 +55,7 @@ module _ (office : Office) (row : Row) where
 one-said : {X : Type 0} (read : Row → Option X) (row : Row) (x : X) → read row ≡ Some x → filter_map read (row ∷ []) ≡ x ∷ []
 one-said read row x e = rw e refl
 
--- what is said where its test passes
+-- what is said if its test passes
 said : {X : Type 0} (o : Option X) (test : X → Bool) (x : X) → Some x ≡ (o >>- only_if test) → (o ≡ Some x) × (test x ≡ true)
 said None test x h = cc
 said (Some y) test x h = choose (test y) refl h
@@ -224,10 +224,6 @@ module _ (office : Office) (row : LoadRow) where
         choose true e k =
             no-office office (OfLoadRow row) (λ valid. false≢true (sym k ∙ load-rises office entry (subst IsOffice (load-office entry words.0) valid)))
         choose false e k = out-of-turn office (OfLoadRow row) e
-
-    pub load-full : (fault : RowFault) → IsFault (length office.loads < MOST_LOADS) fault → IsRowFault (may_follow office (OfLoadRow row)) fault
-    load-full Damaged full = no-office office (OfLoadRow row) (λ valid. full (load-room office entry (subst IsOffice (load-office entry words.0) valid)))
-    load-full Memory full = tt
 
 module _ (walk : Walk) (row : LoadRow) (entry : StoredLoad) (now : List StoredLoad) where
   pub load-follows : IsWalk walk → Some entry ≡ (load_of_row row >>- only_if is_load) → (has_none walk.shelf && rises load_rank (walk.loads ++ entry ∷ [])) ≡ true

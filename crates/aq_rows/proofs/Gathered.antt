@@ -7,12 +7,12 @@ use Rattle.aq_rules.specs.Lines.Spellings.{◌>>=◌}
 use Rattle.aq_rules.specs.Kept.Rows.{each, only_if}
 use Rattle.aq_rows.specs.Ranges.{gathered}
 
--- what fits still fits with less behind it
+-- what fits still fits with less after it
 abbrev pub FitsInFront : {X : Type 0} → (List X → Bool) → Type 0
 FitsInFront {X} fits = (xs ys : List X) → fits xs ≡ false → fits (xs ++ ys) ≡ false
 
 module _ {X : Type 0} (read : List ℕ → Option X) (fits : List X → Bool) (front : FitsInFront fits) where
-  -- all words behind what was said
+  -- all words after what was said
   abbrev pub behind : List X → List (List ℕ) → Option (List X)
   behind xs words = each read words >>= (λ ys. only_if fits (xs ++ ys))
 

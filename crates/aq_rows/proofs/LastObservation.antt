@@ -1,4 +1,4 @@
--- An observation or a load behind the others: where it leaves the office valid, and where it does not.
+-- An observation or a load after the others: if it leaves the office valid, and if it does not.
 use Rattle.std.proofs.Common.{◌≡◌, ℕ, ◌<◌, Bool, true, false, List, [], ◌∷◌, ◌++◌, length, refl, arith, length-append}
 use Rattle.std.specs.List.{list_all}
 use Rattle.std.proofs.lemmas.Bool.{and_from, and_parts}
@@ -85,6 +85,3 @@ module _ (office : Office) (load : StoredLoad) where
 
   pub load-fits : IsOffice with_it → is_load load ≡ true
   load-fits is = last-passes is_load office.loads load is.loads_fit
-
-  pub load-room : IsOffice with_it → length office.loads < MOST_LOADS
-  load-room is = let few = is.few_loads in let long = length-append office.loads (load ∷ []) in omega arith

@@ -1,4 +1,4 @@
--- A record behind the others, in the order of keys: where it breaks no rule of the office, and where it does.
+-- A record after the others, in the order of keys: if it breaks no rule of the office, and if it does.
 use Rattle.std.proofs.Common.{◌≡◌, ℕ, ◌+◌, ◌≤◌, Bool, true, false, cond, not, ◌&&◌, ◌||◌, List, [], ◌∷◌, ◌++◌, length, refl, sym, ap, ◌∙◌, arith, append-nil, subst}
 use Rattle.std.specs.Prelude.{Some, None, is_some, find, count_by, nat_le, nat_lt, ◌==◌}
 use Rattle.std.specs.List.{list_all, list_any}
@@ -19,7 +19,7 @@ use Rattle.aq_rules.specs.Limits.{MOST_SITES}
 use Rattle.aq_rules.specs.Lines.Canonical.{record_line, is_line_value}
 use Rattle.aq_rules.specs.Lines.Reading.{OfOffice}
 use Rattle.aq_rules.specs.Lines.Spellings.{◌>>=◌}
-use Rattle.aq_rules.specs.Office.Office.{Office, IsOffice, key_of, key_numbers, record_rank, is_same, rises, site_numbers, with_site, sites_of, monitor_duration, registers, event_stands, group_of, group_size, most_in_group, makes_up_on, makeups_on, combines_either, combinations_of, has_monitor, has_its_monitor, has_its_event, is_record, fits_records, is_alone}
+use Rattle.aq_rules.specs.Office.Office.{Office, IsOffice, key_of, key_numbers, record_rank, is_same, rises, site_numbers, with_site, sites_of, monitor_duration, registers, event_stands, group_of, group_size, most_in_group, makes_up_on, makeups_on, combines_either, combinations_of, has_its_monitor, has_its_event, is_record, fits_records, is_alone}
 use Rattle.aq_rules.specs.Office.Refusal.{broken, breaks_office, key_stands, is_taken, is_combined}
 use Rattle.aq_rules.specs.Office.Load.{changed, with_record}
 use Rattle.aq_rules.proofs.RowsPlaced.{is_same-refl, find_passed, count_joined}
@@ -71,7 +71,7 @@ module _ (records : List OfficeRecord) where
       let second = any-before (registers joined pollutant) x refl in
       λ i. first i && second i
 
--- what a record meets behind the others of a valid office
+-- what a record meets after the others of a valid office
 record Last (records : List OfficeRecord) (x : OfficeRecord) : Type 0 where
   new : key_stands (office_of records) (key_of x) ≡ false
   monitor : has_its_monitor (office_of records) x ≡ true
@@ -207,7 +207,7 @@ unbroken records (Combined site pollutant from joined) last =
     (passed p AlreadyThere (PairTaken ∷ []) (there-none (key_stands (office_of records) (key_of x)) false last.new refl)
     (passed p PairTaken [] (none-combined records site joined pollutant from last.day) refl))
 
--- ---- what the office tells
+-- ---- what the office says
 
 line-changed : (office : Office) (x : OfficeRecord) → changed office (OfOffice (record_line x)) ≡ with_record x office
 line-changed office (Monitor id duration eligible) = refl
@@ -220,7 +220,7 @@ line-changed office (Concurrence number agreed) = refl
 line-changed office (Approved site day) = refl
 line-changed office (Combined site pollutant from joined) = refl
 
--- a record that is applied behind the others is the last one
+-- a record that is applied after the others is the last one
 pub record-last : (records : List OfficeRecord) (x : OfficeRecord) → rises record_rank (records ++ x ∷ []) ≡ true
     → (changed (office_of records) (OfOffice (record_line x))).records ≡ records ++ x ∷ []
 record-last records x rising = ap (λ (o : Office). o.records) (line-changed (office_of records) x) ∙ with_row-last record_rank x records rising

@@ -1,4 +1,4 @@
--- A load that is read column by column is the one that the row says, where it can stand.
+-- A load that is read column by column is the one that the row says, if it can stand.
 use Rattle.std.proofs.Common.{◌≡◌, ℕ, ◌+◌, ◌≤◌, Bool, true, false, ◌&&◌, ◌||◌, cond, List, [], ◌∷◌, length, refl, sym, ap, ◌∙◌, arith, length-append}
 use Rattle.std.specs.Prelude.{Option, Some, None, ◌==◌, nat_le, nat_lt, sum_by}
 use Rattle.std.specs.List.{list_all, before_first, after_first}

@@ -1,4 +1,4 @@
--- One more row behind rows that are an office's.
+-- One more row after rows that are an office's.
 use Rattle.std.proofs.Common.{◌≡◌, ℕ, Bool, true, false, ◌&&◌, List, [], ◌∷◌, ◌++◌, refl, sym, ap, ◌∙◌, arith}
 use Rattle.std.specs.Prelude.{Option, Some, None, is_some, nat_le, filter_map}
 use Rattle.std.specs.List.{list_all}

@@ -1,4 +1,4 @@
--- An observation that is read column by column is the one that the row says, where it can stand.
+-- An observation that is read column by column is the one that the row says, if it can stand.
 use Rattle.std.proofs.Common.{◌≡◌, ℕ, Bool, true, false, ◌&&◌, cond, List, [], length, refl, sym, ap, subst, ◌∙◌, arith}
 use Rattle.std.specs.Prelude.{Option, Some, None, ◌==◌, nat_le, ℤ, pos, negsuc, bytes_eq, option_map, ◌+ℤ◌}
 use Rattle.std.specs.List.{list_all}

@@ -1,4 +1,4 @@
--- What is put behind the others comes last.
+-- What is put after the others comes last.
 use Rattle.std.proofs.Common.{◌≡◌, Bool, true, false, not, ◌&&◌, List, [], ◌∷◌, ◌++◌, refl, sym, ap, ◌∙◌, subst}
 use Rattle.std.specs.Prelude.{Option, Some, None, is_some, is_none, option_map, IsSome}
 use Rattle.aq_base.specs.declared.observation.ObsKey.{ObsKey}

@@ -52,7 +52,7 @@ module _ {X : Type 0} (rank : X → List ℕ) where
       passed (follows (rank row)) first rows (not-both (rank first) (rank row) (before-last first rows row h))
       (none-follows row rows (rises-rest rank first (rows ++ row ∷ []) h))
 
-  -- the row behind a last one
+  -- the row after a last one
   next-from : (first : X) (rows : List X) (last row : X) → rises_from rank first (rows ++ last ∷ []) ≡ true
       → rises_from rank first ((rows ++ last ∷ []) ++ row ∷ []) ≡ comes_before (rank last) (rank row)
   next-from first [] last row h =
@@ -95,7 +95,7 @@ module _ {X : Type 0} (rank : X → List ℕ) where
       ] in
       behind-from first rows row less h follow.1 at.1
 
-  -- the two questions that tell whether a row may come last
+  -- the two questions that say whether a row may come last
   pub last-test : (rows : List X) (row : X) → rises rank rows ≡ true → (is_none (find (follows (rank row)) rows) && is_none (row_at rank (rank row) rows)) ≡ rises rank (rows ++ row ∷ [])
   last-test rows row h = choose (find (follows (rank row)) rows) (row_at rank (rank row) rows) (rises rank (rows ++ row ∷ [])) refl refl refl
     where

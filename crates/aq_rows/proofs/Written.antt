@@ -6,7 +6,7 @@ use Rattle.std.proofs.lemmas.List.Folds.{flat_map-map}
 use Rattle.std.proofs.lemmas.Grind.{flat_map-append}
 use Rattle.aq_rules.proofs.Joined.{join-cons}
 
--- further words, each behind a space
+-- further words, each after a space
 abbrev pub behind_spaces : {X : Type 0} → (X → List ℕ) → List X → List ℕ
 behind_spaces write xs = flat_map (λ x. 32 ∷ write x) xs
 

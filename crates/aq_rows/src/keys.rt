@@ -1,6 +1,6 @@
 //! The keys of rows.
 ghost use Rattle.std.specs.Prelude.{◌≡◌, IfOk, pos};
-ghost use Rattle.aq_rules.specs.Kept.RowChanges as book;
+ghost use Rattle.aq_rules.specs.Kept.RowChanges as row_changes;
 ghost use Rattle.aq_rules.specs.Kept.Rows.{site_key};
 ghost use Rattle.aq_rules.specs.Office.Office.{kind_of, pollutant_number};
 
@@ -12,7 +12,7 @@ use std::alloc::Global;
 
 /// The key of a record's row: its kind, and its printed key.
 pub fn office_key(alloc: Global, key: &OfficeKey) -> Result<RowKey, Memory>
-    ensures { IfOk result (λ found. found ≡ book.office_row_key key.now) }
+    ensures { IfOk result (λ found. found ≡ row_changes.office_row_key key.now) }
 {
     let text = print_key(alloc, key)?;
     Ok(RowKey::office(kind_of(key), Bytes::from_vec(text)))
@@ -37,7 +37,7 @@ pub(crate) fn kind_of(key: &OfficeKey) -> i64
 
 /// The key of an observation's row.
 pub fn observation_key(key: &ObsKey) -> RowKey
-    ensures { result ≡ book.obs_row_key key.now }
+    ensures { result ≡ row_changes.obs_row_key key.now }
 {
     let monitor = &key.monitor;
     RowKey::second(

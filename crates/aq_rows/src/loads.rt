@@ -5,7 +5,7 @@ ghost use Rattle.std.specs.Ordering.{int_eq};
 ghost use Rattle.aq_rules.specs.Limits.{MOST_LINES, MOST_LISTED};
 ghost use Rattle.aq_rules.specs.Lines.Spellings.{◌>>=◌ as ◌>>-◌};
 ghost use Rattle.aq_rules.specs.Office.Office.{is_load, is_listed, is_rest, listed_rank, rest_rank, rises};
-ghost use Rattle.aq_rules.specs.Kept.Rows as book;
+ghost use Rattle.aq_rules.specs.Kept.Rows as rows;
 ghost use Rattle.aq_rows.specs.KeptLoads.{stored_as, stored_entry};
 ghost use Rattle.aq_rows.specs.Loaded.{count_of, digest_in, fits_reply, listed_words, load_in, rest_words};
 
@@ -27,7 +27,7 @@ pub fn load_row(
     digest: &[u8; 32],
     reply: &LoadReply,
 ) -> Result<LoadRow, Memory>
-    ensures { IfOk result (λ row. row ≡ book.load_row (stored_as number digest.now reply.now)) }
+    ensures { IfOk result (λ row. row ≡ rows.load_row (stored_as number digest.now reply.now)) }
 {
     let mut listed = Vec::new(alloc);
     write_listed(&mut listed, reply.listed.as_slice())?;
@@ -47,7 +47,7 @@ pub fn load_row(
 /// its number is in its range, its digest of 32 bytes, and its reply one that a load has.
 #[tactic(auto, using(crate::proofs::Loaded::read_in_turn))]
 pub fn load_of(alloc: Global, row: &LoadRow) -> Result<Option<(u32, KeptLoad)>, Memory>
-    ensures { IfOk result (λ found. option_map stored_entry found ≡ (book.load_of_row row.now >>- book.only_if is_load)) }
+    ensures { IfOk result (λ found. option_map stored_entry found ≡ (rows.load_of_row row.now >>- rows.only_if is_load)) }
 {
     load_in(alloc, row)
 }
@@ -98,7 +98,7 @@ fn is_row_of(
     reply: &LoadReply,
     row: &LoadRow,
 ) -> Result<bool, Memory>
-    ensures { IfOk result (λ is. is ≡ (fits_reply reply.now && book.is_load_row (book.load_row (stored_as number digest.now reply.now)) row.now)) }
+    ensures { IfOk result (λ is. is ≡ (fits_reply reply.now && rows.is_load_row (rows.load_row (stored_as number digest.now reply.now)) row.now)) }
 {
     if !fits_reply(reply) {
         return Ok(false);
@@ -109,7 +109,7 @@ fn is_row_of(
 
 /// Whether two rows are the same.
 fn is_same(a: &LoadRow, b: &LoadRow) -> bool
-    ensures { result ≡ book.is_load_row a.now b.now }
+    ensures { result ≡ rows.is_load_row a.now b.now }
 {
     has_same_front(a, b)
         && a.listed.as_slice() == b.listed.as_slice()

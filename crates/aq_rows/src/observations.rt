@@ -5,7 +5,7 @@ ghost use Rattle.aq_base.specs.declared.observation.ObsKey as key;
 ghost use Rattle.aq_base.specs.declared.observation.Observation as content;
 ghost use Rattle.aq_rules.specs.Lines.Spellings.{◌>>=◌ as ◌>>-◌, is_code_byte, is_in_range, qualifier_in};
 ghost use Rattle.aq_rules.specs.Office.Office.{Office, fits_monitors, fits_records, is_measured, is_null_code};
-ghost use Rattle.aq_rules.specs.Kept.Rows as book;
+ghost use Rattle.aq_rules.specs.Kept.Rows as rows;
 ghost use Rattle.aq_rows.specs.Standing.{can_stand};
 ghost use Rattle.aq_rows.specs.Observed.{observation_in, site_in, pollutant_in, method_in, quals_in, content_in};
 
@@ -27,7 +27,7 @@ pub fn observation_row(
     key: &ObsKey,
     content: &Observation,
 ) -> Result<ObsRow2, Memory>
-    ensures { IfOk result (λ row. row ≡ book.obs_row (key.now, content.now)) }
+    ensures { IfOk result (λ row. row ≡ rows.obs_row (key.now, content.now)) }
 {
     let mut null = Vec::new(alloc);
     write_null(&mut null, &content.null)?;
@@ -69,7 +69,7 @@ fn wide_method(method: Option<u16>) -> Option<i64>
 /// null code, at most ten distinct qualifiers, and a method from 0 to 999 or none. It takes no memory.
 #[tactic(auto, using(crate::proofs::Observed::read_in_turn))]
 pub fn observation_of(row: &ObsRow2) -> Option<(ObsKey, Observation)>
-    ensures { result ≡ (book.observation_of_row row.now >>- book.only_if can_stand) }
+    ensures { result ≡ (rows.observation_of_row row.now >>- rows.only_if can_stand) }
 {
     observation_in(row)
 }
@@ -133,13 +133,13 @@ fn method_in(number: Option<i64>) -> Option<Option<u16>>
     let Some(number) = number else {
         return Some(None);
     };
-    let method = between(0, i64::from(LAST_METHOD), number)?;
+    let method = between(0, u32::from(LAST_METHOD), number)?;
     Some(Some(method as u16))
 }
 
 /// The null code of a row, or none if the text is empty.
 fn null_of(text: &[u8]) -> Option<Option<Code>>
-    ensures { result ≡ book.null_of text.now }
+    ensures { result ≡ rows.null_of text.now }
 {
     if text.is_empty() {
         return Some(None);

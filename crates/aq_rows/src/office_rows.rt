@@ -1,6 +1,6 @@
 //! The rows of an office.
 ghost use Rattle.std.specs.Prelude.{◌≡◌, ◌++◌, map, IfOk, OnOk};
-ghost use Rattle.aq_rules.specs.Kept.Rows as book;
+ghost use Rattle.aq_rules.specs.Kept.Rows as the_rows;
 ghost use Rattle.aq_rows.specs.OfficeRows.{load_row, observation_row, record_row};
 ghost use Rattle.aq_rows.specs.Walking.{office_with};
 
@@ -23,7 +23,7 @@ pub fn rows_of(
     shelf: &Shelf,
     loads: &Loads,
 ) -> Result<Rows, Memory>
-    ensures { IfOk result (λ rows. rows ≡ book.rows_of (office_with registry.now shelf.now loads.now)) }
+    ensures { IfOk result (λ rows. rows ≡ the_rows.rows_of (office_with registry.now shelf.now loads.now)) }
 {
     let mut rows = Rows::new(alloc);
     add_records(alloc, &mut rows, registry)?;

@@ -1,6 +1,6 @@
 //! An office opened from its rows.
 ghost use Rattle.std.specs.Prelude.{◌≡◌, Some, IfErr, IfOk};
-ghost use Rattle.aq_rules.specs.Kept.Rows as book;
+ghost use Rattle.aq_rules.specs.Kept.Rows as the_rows;
 ghost use Rattle.aq_rows.specs.Opening.{IsOpenFault};
 
 use crate::kept_loads::Loads;
@@ -32,8 +32,8 @@ impl Model for Opened {
     ghost invariant = { λ opened. IsOffice (office_with opened.registry opened.shelf opened.loads) };
 }
 
-/// A row by its table, records 0, observations of version 1 1, loads 2 and observations 3, and its place
-/// among the rows of that table from 0. Contracts see the book's place.
+/// A row by its table, and its place among the rows of that table from 0. Tables are records (0),
+/// observations of version 1 (1), loads (2) and observations (3). Contracts see the book's place.
 #[derive(Clone, Copy, Debug, PartialEq, Eq)]
 pub struct Place {
     pub table: u8,
@@ -41,9 +41,9 @@ pub struct Place {
 }
 
 impl Model for Place {
-    ghost use Rattle.aq_rules.specs.Kept.Rows as book;
+    ghost use Rattle.aq_rules.specs.Kept.Rows as the_rows;
 
-    ghost Value = { book.Place };
+    ghost Value = { the_rows.Place };
 
     ghost view = { λ place. record { table = place.table; index = place.index } };
 
@@ -75,7 +75,7 @@ impl Error for OpenFault {}
 /// observation the last stretch of the shelf. If a row is damaged, the rows of its table before it are
 /// counted.
 pub fn open(alloc: Global, rows: &[Row]) -> Result<Opened, OpenFault>
-    ensures office { IfOk result (λ opened. book.office_of_rows rows.now ≡ Some opened) }
+    ensures office { IfOk result (λ opened. the_rows.office_of_rows rows.now ≡ Some opened) }
     ensures damaged { IfErr result (IsOpenFault rows.now) }
 {
     let mut walk = Walk::new(alloc);
@@ -98,7 +98,7 @@ pub fn open(alloc: Global, rows: &[Row]) -> Result<Opened, OpenFault>
 
 /// The place of a row after others.
 fn place_of(before: &[Row], row: &Row) -> Place
-    ensures { result ≡ book.place_of before.now row.now }
+    ensures { result ≡ the_rows.place_of before.now row.now }
 {
     let table = table_of(row);
     let index = before
@@ -113,7 +113,7 @@ fn place_of(before: &[Row], row: &Row) -> Place
 
 /// The table of a row by its number, in the order of tables.
 fn table_of(row: &Row) -> u8
-    ensures { result ≡ book.table_of row.now }
+    ensures { result ≡ the_rows.table_of row.now }
 {
     match &row.content {
         RowContent::Office(_) => 0,

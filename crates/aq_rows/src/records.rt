@@ -3,7 +3,7 @@ ghost use Rattle.std.specs.Prelude.{◌≡◌, IfOk, IfSome, IsTrue};
 ghost use Rattle.aq_rules.specs.Lines.Canonical.{is_office_line, record_line};
 ghost use Rattle.aq_rules.specs.Lines.Spellings.{◌>>=◌ as ◌>>-◌};
 ghost use Rattle.aq_rules.specs.Lines.Reading.{line_value, OfOffice};
-ghost use Rattle.aq_rules.specs.Kept.Rows as book;
+ghost use Rattle.aq_rules.specs.Kept.Rows as rows;
 
 use crate::keys::kind_of;
 use aq_base::{Bytes, Memory, OfficeLine, OfficeRecord};
@@ -14,7 +14,7 @@ use std::alloc::Global;
 
 /// The row of a record: its kind, its printed key and its canonical line.
 pub fn office_row(alloc: Global, entry: &OfficeRecord) -> Result<OfficeRow, Memory>
-    ensures { IfOk result (λ row. row ≡ book.office_row entry.now) }
+    ensures { IfOk result (λ row. row ≡ rows.office_row entry.now) }
 {
     let key = entry.key();
     let line = record_line(entry);
@@ -28,7 +28,7 @@ pub fn office_row(alloc: Global, entry: &OfficeRecord) -> Result<OfficeRow, Memo
 /// The record that a row says, if the row is the row of that record.
 #[tactic(auto, unfolding(aq_rules::specs::Kept::Rows::record_of_row))]
 pub fn record_of(alloc: Global, row: &OfficeRow) -> Result<Option<OfficeRecord>, Memory>
-    ensures value { IfOk result (λ found. found ≡ book.record_of_row row.now) }
+    ensures value { IfOk result (λ found. found ≡ rows.record_of_row row.now) }
     // it is one that a line can spell
     ensures spelled { IfOk result (λ found. IfSome found (λ entry. IsTrue (is_office_line (record_line entry)))) }
 {
@@ -45,7 +45,7 @@ pub fn record_of(alloc: Global, row: &OfficeRow) -> Result<Option<OfficeRecord>,
 
 /// The record that a line spells.
 fn record_in(line: &[u8]) -> Option<OfficeRecord>
-    ensures value { result ≡ (line_value line.now >>- book.record_in) }
+    ensures value { result ≡ (line_value line.now >>- rows.record_in) }
     ensures spelled { IfSome result (λ entry. IsTrue (is_office_line (record_line entry))) }
 {
     if !has_office_tag(line) {
@@ -59,7 +59,7 @@ fn record_in(line: &[u8]) -> Option<OfficeRecord>
 
 /// The record that a line puts; of changes only that of a concurrence puts one.
 fn record_put(line: &OfficeLine) -> Option<OfficeRecord>
-    ensures value { result ≡ book.record_in (OfOffice line.now) }
+    ensures value { result ≡ rows.record_in (OfOffice line.now) }
     ensures spelled { IsTrue (is_office_line line.now) → IfSome result (λ entry. IsTrue (is_office_line (record_line entry))) }
 {
     match *line {
@@ -83,7 +83,7 @@ pub(crate) fn record_line(entry: &OfficeRecord) -> OfficeLine
 
 /// Whether two rows are the same.
 fn is_same(a: &OfficeRow, b: &OfficeRow) -> bool
-    ensures { result ≡ book.is_office_row a.now b.now }
+    ensures { result ≡ rows.is_office_row a.now b.now }
 {
     a.kind == b.kind
         && a.key.as_slice() == b.key.as_slice()

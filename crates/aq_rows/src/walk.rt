@@ -3,7 +3,7 @@ ghost use Rattle.std.specs.Prelude.{◌≡◌, ◌<◌, ◌++◌, ◌∷◌, ◌
 ghost use Rattle.aq_base.specs.declared.observation.Observation.{Observation};
 ghost use Rattle.aq_rows.specs.KeptLoads.{stored_entry};
 ghost use Rattle.aq_rows.specs.declared.kept_loads.KeptLoad.{KeptLoad};
-ghost use Rattle.aq_rules.specs.Kept.Rows as book;
+ghost use Rattle.aq_rules.specs.Kept.Rows as rows;
 ghost use Rattle.aq_rules.specs.Lines.Canonical.{is_office_line, record_line};
 ghost use Rattle.aq_rules.specs.Limits.{MOST_LOADS, MOST_OBSERVATIONS};
 ghost use Rattle.aq_rules.specs.Office.Office as offices;
@@ -94,8 +94,8 @@ impl Walk {
 
     fn take_record(&mut self, alloc: Global, row: &OfficeRow) -> Result<(), RowFault>
         requires { IsWalk self.old }
-        ensures taken { OnOk result (Follows self.old (book.OfOfficeRow row.now) self.new) }
-        ensures refused { IfErr result (IsRowFault (may_follow (standing self.old) (book.OfOfficeRow row.now))) }
+        ensures taken { OnOk result (Follows self.old (rows.OfOfficeRow row.now) self.new) }
+        ensures refused { IfErr result (IsRowFault (may_follow (standing self.old) (rows.OfOfficeRow row.now))) }
     {
         let Some(entry) = record_of(alloc, row)? else {
             return Err(RowFault::Damaged);
@@ -108,8 +108,8 @@ impl Walk {
 
     fn take_observation(&mut self, row: &ObsRow2) -> Result<(), RowFault>
         requires { IsWalk self.old }
-        ensures taken { OnOk result (Follows self.old (book.OfSecondRow row.now) self.new) }
-        ensures refused { IfErr result (IsRowFault (may_follow (standing self.old) (book.OfSecondRow row.now))) }
+        ensures taken { OnOk result (Follows self.old (rows.OfSecondRow row.now) self.new) }
+        ensures refused { IfErr result (IsRowFault (may_follow (standing self.old) (rows.OfSecondRow row.now))) }
     {
         let Some((key, content)) = observation_of(row) else {
             return Err(RowFault::Damaged);
@@ -130,8 +130,8 @@ impl Walk {
 
     fn take_load(&mut self, alloc: Global, row: &LoadRow) -> Result<(), RowFault>
         requires { IsWalk self.old }
-        ensures taken { OnOk result (Follows self.old (book.OfLoadRow row.now) self.new) }
-        ensures refused { IfErr result (IsRowFault (may_follow (standing self.old) (book.OfLoadRow row.now))) }
+        ensures taken { OnOk result (Follows self.old (rows.OfLoadRow row.now) self.new) }
+        ensures refused { IfErr result (IsRowFault (may_follow (standing self.old) (rows.OfLoadRow row.now))) }
     {
         let Some((number, kept)) = load_of(alloc, row)? else {
             return Err(RowFault::Damaged);

@@ -24,7 +24,7 @@ use Rattle.aq_rules.specs.Office.Questions.{registration_by, registration_of}
 use Rattle.aq_rules.specs.Office.Sameness.{same_monitor, number_itself}
 use Rattle.aq_rules.specs.Ozone.SiteHour.{Cell}
 use Rattle.aq_rules.specs.Particles.ParticleDay.{day_cell, monitor_day, starts_on}
-use Rattle.aq_rules.specs.Particles.ParticleDay as book
+use Rattle.aq_rules.specs.Particles.ParticleDay as particle_day
 use Rattle.aq_registry.specs.Registry.{office_with, pair_of}
 use Rattle.aq_series.specs.OfficeView.{office_of}
 use Rattle.aq_series.specs.DayCells.{cell_at, cell_of, cells_in, hours_of, key_at}
@@ -289,13 +289,13 @@ module _ (records : List OfficeRecord) (rows : List Entry) (monitor : MonitorId)
       → None ≡ monitor_day (office_of records rows) monitor day
   unfolding monitor_day
   uncounted-day o is none =
-      sym (ap (λ b. cond b (option_and_then (λ duration. book.day_of_samples (office_of records rows) monitor duration day) (duration_at (office_of records rows) monitor)) None) (eligible o is ∙ none))
+      sym (ap (λ b. cond b (option_and_then (λ duration. particle_day.day_of_samples (office_of records rows) monitor duration day) (duration_at (office_of records rows) monitor)) None) (eligible o is ∙ none))
 
   counted_day : (duration : Duration) → Some (duration, true) ≡ option_map pair_of (registration_of records monitor)
-      → monitor_day (office_of records rows) monitor day ≡ book.day_of_samples (office_of records rows) monitor duration day
+      → monitor_day (office_of records rows) monitor day ≡ particle_day.day_of_samples (office_of records rows) monitor duration day
   unfolding monitor_day
   counted_day duration is =
-      (λ i. cond (eligible (Some (duration, true)) is i) (option_and_then (λ duration. book.day_of_samples (office_of records rows) monitor duration day) (lasts monitor records (Some (duration, true)) is i)) None)
+      (λ i. cond (eligible (Some (duration, true)) is i) (option_and_then (λ duration. particle_day.day_of_samples (office_of records rows) monitor duration day) (lasts monitor records (Some (duration, true)) is i)) None)
 
   pub hourly-day : Some (Hour, true) ≡ option_map pair_of (registration_of records monitor)
       → day_cell monitor.pollutant Hour (cells_in records rows monitor (hours_of day)) ≡ monitor_day (office_of records rows) monitor day

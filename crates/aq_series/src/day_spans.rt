@@ -7,7 +7,7 @@ ghost use Rattle.aq_base.specs.declared.monitor.Duration.TheVariants.{Hour as Ho
 ghost use Rattle.aq_rules.specs.Office.Office.{IsOffice};
 ghost use Rattle.aq_rules.specs.Office.Questions.{registration_of};
 ghost use Rattle.aq_rules.specs.Ozone.SiteHour.{Cell};
-ghost use Rattle.aq_rules.specs.Particles.ParticleDay as book;
+ghost use Rattle.aq_rules.specs.Particles.ParticleDay as particle_day;
 ghost use Rattle.aq_rules.specs.Particles.ParticleDay.{day_cell};
 ghost use Rattle.aq_registry.specs.Registry.{office_with, pair_of};
 ghost use Rattle.aq_series.specs.DayCells.{cell_at, cell_of, cells_in, hours_of, key_at, IsOfParticles, IsParticle, IsParticulate, IsTallyOf};
@@ -128,7 +128,7 @@ pub(crate) fn monitor_days<L: Ledger>(
     requires few { count ≤ 92 }
     requires in_profile { first + count ≤ LAST_DAY + 1 }
     ensures many { length result ≡ 92 }
-    ensures days { (k : ℕ) → k < count → get_or result k None ≡ book.monitor_day (office_of registry.now shelf.now) monitor.now (first + k) }
+    ensures days { (k : ℕ) → k < count → get_or result k None ≡ particle_day.monitor_day (office_of registry.now shelf.now) monitor.now (first + k) }
     ensures range { (k : ℕ) → IfSome (get_or result k None) (λ cell. IsParticle cell.value) }
 {
     // The proof learns that the observations are in order.

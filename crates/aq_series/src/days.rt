@@ -6,7 +6,7 @@ ghost use Rattle.aq_base.specs.declared.day.TheConstants.{LAST_HOUR};
 ghost use Rattle.aq_base.specs.declared.monitor.Pollutant.TheVariants.{Pm25, Pm10};
 ghost use Rattle.aq_rules.specs.Office.Designation.{primary_on};
 ghost use Rattle.aq_rules.specs.Office.Office.{IsOffice};
-ghost use Rattle.aq_rules.specs.Particles.ParticleDay as book;
+ghost use Rattle.aq_rules.specs.Particles.ParticleDay as particle_day;
 ghost use Rattle.aq_registry.specs.Registry.{office_with};
 ghost use Rattle.aq_series.specs.OfficeView.{office_of};
 ghost use Rattle.aq_series.specs.DayCells.{cell_at, cells_in, cells_on, hours_of, mean_of, monitor_at, monitor_steps, pocs_of, site_steps, steps_beside, IsOfParticles, IsParticle, IsParticulate, IsTallyOf};
@@ -32,7 +32,7 @@ pub fn monitor_day<L: Ledger>(
     steps: &mut Steps<L>,
 ) -> Option<Cell>
     requires particles { IsParticulate monitor.pollutant }
-    ensures value { result ≡ book.monitor_day (office_of registry.now shelf.now) monitor day }
+    ensures value { result ≡ particle_day.monitor_day (office_of registry.now shelf.now) monitor day }
     ensures range { IfSome result (λ cell. IsParticle cell.value) }
     ensures steps { steps.new ≤ steps.old + monitor_steps registry.now monitor }
 {
@@ -51,7 +51,7 @@ fn measured_day<L: Ledger>(
 ) -> Option<Cell>
     requires particles { IsParticulate monitor.now.pollutant }
     requires valid { IsOffice (office_with registry.now) }
-    ensures value { result ≡ book.monitor_day (office_of registry.now shelf.now) monitor.now day }
+    ensures value { result ≡ particle_day.monitor_day (office_of registry.now shelf.now) monitor.now day }
     ensures range { IfSome result (λ cell. IsParticle cell.value) }
     ensures steps { steps.new ≤ steps.old + monitor_steps registry.now monitor.now }
 {
@@ -89,7 +89,7 @@ pub fn site_day<L: Ledger>(
     steps: &mut Steps<L>,
 ) -> Option<Cell>
     requires particles { IsParticulate pollutant }
-    ensures value { result ≡ book.site_day (office_of registry.now shelf.now) site pollutant day }
+    ensures value { result ≡ particle_day.site_day (office_of registry.now shelf.now) site pollutant day }
     ensures range { IfSome result (λ cell. IsParticle cell.value) }
     ensures steps { steps.new ≤ steps.old + site_steps registry.now site pollutant }
     ensures most_steps { steps.new ≤ steps.old + 192 }
@@ -112,7 +112,7 @@ fn pm25_day<L: Ledger>(
     steps: &mut Steps<L>,
 ) -> Option<Cell>
     requires { IsOffice (office_with registry.now) }
-    ensures value { result ≡ book.site_day (office_of registry.now shelf.now) site.now Pm25 day }
+    ensures value { result ≡ particle_day.site_day (office_of registry.now shelf.now) site.now Pm25 day }
     ensures range { IfSome result (λ cell. IsParticle cell.value) }
     ensures steps { steps.new ≤ steps.old + site_steps registry.now site.now Pm25 }
 {
@@ -133,7 +133,7 @@ fn pm10_day<L: Ledger>(
     steps: &mut Steps<L>,
 ) -> Option<Cell>
     requires { IsOffice (office_with registry.now) }
-    ensures value { result ≡ book.site_day (office_of registry.now shelf.now) site.now Pm10 day }
+    ensures value { result ≡ particle_day.site_day (office_of registry.now shelf.now) site.now Pm10 day }
     ensures range { IfSome result (λ cell. IsParticle cell.value) }
     ensures steps { steps.new ≤ steps.old + site_steps registry.now site.now Pm10 }
 {
@@ -143,7 +143,7 @@ fn pm10_day<L: Ledger>(
 
 /// The POC of the PM10 monitor that counts on a day.
 fn counting_poc(registry: &Registry, site: &SiteId, day: Day) -> Option<u8>
-    ensures { result ≡ option_or (primary_on registry.now site.now Pm10 day) (book.lowest_poc (book.eligible_pocs registry.now site.now Pm10)) }
+    ensures { result ≡ option_or (primary_on registry.now site.now Pm10 day) (particle_day.lowest_poc (particle_day.eligible_pocs registry.now site.now Pm10)) }
 {
     match registry.primary_on(*site, Pollutant::Pm10, day) {
         Some(poc) => Some(poc),
@@ -163,7 +163,7 @@ fn day_of_poc<L: Ledger>(
 ) -> Option<Cell>
     requires particles { IsParticulate pollutant }
     requires valid { IsOffice (office_with registry.now) }
-    ensures value { result ≡ option_and_then (λ poc. book.monitor_day (office_of registry.now shelf.now) (monitor_at site.now pollutant poc) day) poc }
+    ensures value { result ≡ option_and_then (λ poc. particle_day.monitor_day (office_of registry.now shelf.now) (monitor_at site.now pollutant poc) day) poc }
     ensures range { IfSome result (λ cell. IsParticle cell.value) }
     ensures steps { steps.new ≤ steps.old + option_map_or (λ poc. monitor_steps registry.now (monitor_at site.now pollutant poc)) poc 0 }
 {
@@ -183,7 +183,7 @@ fn mean_of_others<L: Ledger>(
     steps: &mut Steps<L>,
 ) -> Option<Cell>
     requires particles { IsParticulate pollutant }
-    requires without { IfSome primary (λ poc. book.monitor_day (office_of registry.now shelf.now) (monitor_at site.now pollutant poc) day ≡ None) }
+    requires without { IfSome primary (λ poc. particle_day.monitor_day (office_of registry.now shelf.now) (monitor_at site.now pollutant poc) day ≡ None) }
     ensures value { result ≡ mean_of (cells_on (office_of registry.now shelf.now) site.now pollutant day (pocs_of registry.now site.now pollutant)) }
     ensures range { IfSome result (λ cell. IsParticle cell.value) }
     ensures steps { steps.new ≤ steps.old + sum_by (steps_beside registry.now site.now pollutant primary) (pocs_of registry.now site.now pollutant) }
@@ -202,7 +202,7 @@ fn mean_of_others<L: Ledger>(
 
 /// The lowest POC of the monitors of a site and pollutant whose values count, if there is one.
 fn lowest_eligible(registry: &Registry, site: &SiteId, pollutant: Pollutant) -> Option<u8>
-    ensures { result ≡ book.lowest_poc (book.eligible_pocs registry.now site.now pollutant) }
+    ensures { result ≡ particle_day.lowest_poc (particle_day.eligible_pocs registry.now site.now pollutant) }
 {
     let mut after = 0;
     while let Some(poc) = registry.next_poc(*site, pollutant, after) {

@@ -4,7 +4,7 @@ ghost use Rattle.aq_base.specs.Values.{HasValueInRange};
 ghost use Rattle.aq_base.specs.declared.monitor.Pollutant.TheVariants.{Ozone};
 ghost use Rattle.aq_rules.specs.Office.Monitors as monitors;
 ghost use Rattle.aq_rules.specs.Office.Office.{IsOffice};
-ghost use Rattle.aq_rules.specs.Ozone.SiteHour as book;
+ghost use Rattle.aq_rules.specs.Ozone.SiteHour as site_hour;
 ghost use Rattle.aq_registry.specs.Registry.{office_with};
 ghost use Rattle.aq_series.specs.OfficeView.{office_of};
 ghost use Rattle.aq_series.specs.Samples.{cell_at, cell_of, IsOzone};
@@ -26,9 +26,9 @@ pub struct Cell {
 }
 
 impl Model for Cell {
-    ghost use Rattle.aq_rules.specs.Ozone.SiteHour as book;
+    ghost use Rattle.aq_rules.specs.Ozone.SiteHour as site_hour;
 
-    ghost Value = { book.Cell };
+    ghost Value = { site_hour.Cell };
 
     ghost view = { λ cell. record { value = cell.value; excluded = cell.excluded } };
 
@@ -45,7 +45,7 @@ pub fn site_hour<L: Ledger>(
     hour: Hour,
     steps: &mut Steps<L>,
 ) -> Option<Cell>
-    ensures value { result ≡ book.site_hour (office_of registry.now shelf.now) site hour }
+    ensures value { result ≡ site_hour.site_hour (office_of registry.now shelf.now) site hour }
     ensures range { IfSome result (λ cell. IsOzone cell.value) }
     ensures steps { steps.new ≤ steps.old + 8 }
 {

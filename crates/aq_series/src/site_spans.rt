@@ -5,7 +5,7 @@ ghost use Rattle.aq_base.specs.declared.monitor.Pollutant.TheVariants.{Pm25};
 ghost use Rattle.aq_rules.specs.Office.Designation.{primary_on};
 ghost use Rattle.aq_rules.specs.Office.Office.{IsOffice};
 ghost use Rattle.aq_rules.specs.Ozone.SiteHour as sites;
-ghost use Rattle.aq_rules.specs.Particles.ParticleDay as book;
+ghost use Rattle.aq_rules.specs.Particles.ParticleDay as particle_day;
 ghost use Rattle.aq_registry.specs.Registry.{office_with};
 ghost use Rattle.aq_series.specs.DayCells.{mean_of, IsOfParticles, IsParticle, IsParticulate, IsTallyOf};
 ghost use Rattle.aq_series.specs.DaySums.{AddsDay, HasDayRoom, IsNew};
@@ -80,7 +80,7 @@ pub fn site_days<L: Ledger>(
     requires few { count ≤ 92 }
     requires in_profile { first + count ≤ LAST_DAY + 1 }
     ensures many { length result ≡ 92 }
-    ensures days { (k : ℕ) → k < count → get_or result k None ≡ book.site_day (office_of registry.now shelf.now) site Pm25 (first + k) }
+    ensures days { (k : ℕ) → k < count → get_or result k None ≡ particle_day.site_day (office_of registry.now shelf.now) site Pm25 (first + k) }
     ensures range { (k : ℕ) → IfSome (get_or result k None) (λ cell. IsParticle cell.value) }
 {
     let site = &site;
@@ -133,7 +133,7 @@ fn add_monitor<L: Ledger>(
     requires in_profile { first + count ≤ LAST_DAY + 1 }
     requires room { (k : ℕ) (d : DayState) → k < 92 → HasDayRoom (get_or states.old k d) }
     ensures many { length states.new ≡ 92 }
-    ensures days { (k : ℕ) (d : DayState) → k < count → AddsDay monitor.now.poc (book.monitor_day (office_of registry.now shelf.now) monitor.now (first + k)) (get_or states.old k d) (get_or states.new k d) }
+    ensures days { (k : ℕ) (d : DayState) → k < count → AddsDay monitor.now.poc (particle_day.monitor_day (office_of registry.now shelf.now) monitor.now (first + k)) (get_or states.old k d) (get_or states.new k d) }
     ensures values { (k : ℕ) (d : DayState) → k < 92 → IsOfParticles (get_or states.new k d).others }
     ensures others { (k : ℕ) (d : DayState) → count ≤ k → get_or states.new k d ≡ get_or states.old k d }
 {

@@ -8,7 +8,7 @@ use Rattle.aq_rules.proofs.Lookups.{found-with, same-itself}
 use Rattle.aq_rules.specs.Limits.{LAST_LOAD_NUMBER, MOST_LINES, MOST_LOADS}
 use Rattle.aq_rules.specs.Lines.Lines.{line_count, body_lines}
 use Rattle.aq_rules.specs.Office.Load.{Repeat, Conflict, Full, New, TooManyLines, Repeated, Differing, NoRoom, Taken, after_all, decide, decide_known, load, office_after, post, posted, posted_anew, posted_beside, reply, stored}
-use Rattle.aq_rules.specs.Office.Load as book
+use Rattle.aq_rules.specs.Office.Load as loads
 use Rattle.aq_rules.specs.Office.Office.{Office, StoredLoad, load_at, load_rank, row_at, with_row}
 use Rattle.aq_rules.specs.Shown.Answer.{is_load_number}
 use Rattle.aq_serve.specs.Service.{ServiceView}
@@ -52,7 +52,7 @@ IsKept P None = ⊥
 IsKept P (Some kept) = P kept
 
 -- an answer, by the load that is kept under the number
-abbrev pub Tells : Office → ℕ → List ℕ → List ℕ → book.Posted → Type 0
+abbrev pub Tells : Office → ℕ → List ℕ → List ℕ → loads.Posted → Type 0
 Tells office number digest body TooManyLines = Unit {0}
 Tells office number digest body (Repeated r) = IsKept (λ kept. kept.reply ≡ r) (load_at office number)
 Tells office number digest body (Differing d sent) = IsKept (λ kept. (kept.digest ≡ d) × (sent ≡ digest)) (load_at office number)

@@ -7,7 +7,7 @@ use Rattle.aq_base.specs.declared.monitor.Pollutant.{Pollutant}
 use Rattle.aq_base.specs.declared.reply.LoadReply.{LoadReply}
 use Rattle.aq_rules.specs.Kept.Rows.{rows_of}
 use Rattle.aq_rules.specs.Office.Load.{TooManyLines, Repeated, Differing, NoRoom, Taken, load, office_after, post, posted, reply, stored}
-use Rattle.aq_rules.specs.Office.Load as book
+use Rattle.aq_rules.specs.Office.Load as loads
 use Rattle.aq_rules.specs.Office.Office.{Office, StoredLoad, load_at}
 use Rattle.aq_rules.specs.Shown.Answer.{OfExport, NoSite, Export, answer, is_registered}
 use Rattle.aq_rules.specs.Shown.Export.{export_answer}
@@ -58,7 +58,7 @@ is-kept P None kept = absurd kept
 is-kept P (Some load) kept = refl
 
 module _ (number : ℕ) (digest body : List ℕ) (some : (number == 0) ≡ false) (lines : ℕ) (close : Bool) (before : ServiceView) where
-  abbrev By : book.Posted → Bool → Answered
+  abbrev By : loads.Posted → Bool → Answered
   By p fails = to_load number before.office fails p
 
   -- a known load
@@ -74,7 +74,7 @@ module _ (number : ℕ) (digest body : List ℕ) (some : (number == 0) ≡ false
   differing d sent bytes (Some load) kept is = is ∙ ap (λ x. reply_of (shown 409 (conflict_sheet number x sent) before.office) close) kept.0
 
   -- where the answer is this one, and nothing changed
-  moved : (p : book.Posted) (bytes : List ℕ) (after : ServiceView) (answer x : Posted) → answer ≡ x → after ≡ before
+  moved : (p : loads.Posted) (bytes : List ℕ) (after : ServiceView) (answer x : Posted) → answer ≡ x → after ≡ before
       → (IsLoadReply x number before.office close bytes → AnswersBy (By p) close bytes before before)
       → IsLoadReply answer number after.office close bytes → AnswersBy (By p) close bytes before after
   moved p bytes after answer x e same make reply =
@@ -105,7 +105,7 @@ module _ (number : ℕ) (digest body : List ℕ) (some : (number == 0) ≡ false
   taken-by r now bytes after (answers.Conflict sent) t is reply = absurd is
   taken-by r now bytes after answers.Full t is reply = absurd is
 
-  answered-by : (p : book.Posted) (bytes : List ℕ) (after : ServiceView) (answer : Posted) → Tells before.office number digest body p → IsPosted p lines before after answer
+  answered-by : (p : loads.Posted) (bytes : List ℕ) (after : ServiceView) (answer : Posted) → Tells before.office number digest body p → IsPosted p lines before after answer
       → IsLoadReply answer number after.office close bytes → AnswersBy (By p) close bytes before after
   answered-by TooManyLines bytes after answer t is reply =
       moved TooManyLines bytes after answer (answers.Lines lines) is.0 is.1 (λ r. unchanged (By TooManyLines) close bytes before r refl refl) reply
@@ -137,7 +137,7 @@ module _ (number : ℕ) (digest body : List ℕ) (some : (number == 0) ≡ false
   stands-taken now after (answers.Conflict sent) t is = absurd is
   stands-taken now after answers.Full t is = absurd is
 
-  stands-by : (p : book.Posted) (after : ServiceView) (answer : Posted) → Tells before.office number digest body p → IsPosted p lines before after answer → Stands answer (load_at after.office number)
+  stands-by : (p : loads.Posted) (after : ServiceView) (answer : Posted) → Tells before.office number digest body p → IsPosted p lines before after answer → Stands answer (load_at after.office number)
   stands-by TooManyLines after answer t is = subst (λ (y : Posted). Stands y (load_at after.office number)) (sym is.0) tt
   stands-by (Repeated k) after answer t is = stands-same (λ kept. kept.reply ≡ k) after answer answers.Done is.0 is.1 t (λ s. s)
   stands-by (Differing d sent) after answer t is = stands-same (λ kept. (kept.digest ≡ d) × (sent ≡ digest)) after answer (answers.Conflict sent) is.0 is.1 t (λ s. s)
@@ -159,10 +159,10 @@ module _ (number : ℕ) (digest body : List ℕ) (some : (number == 0) ≡ false
   lost-taken r now after (answers.Conflict sent) is = absurd is
   lost-taken r now after answers.Full is = absurd is
 
-  lost-same : (p : book.Posted) (after : ServiceView) → after ≡ before → LosesBy (By p) before after
+  lost-same : (p : loads.Posted) (after : ServiceView) → after ≡ before → LosesBy (By p) before after
   lost-same p after same = subst (λ (a : ServiceView). LosesBy (By p) before a) (sym same) (nothing_lost (By p) before)
 
-  lost-by : (p : book.Posted) (after : ServiceView) (answer : Posted) → IsPosted p lines before after answer → LosesBy (By p) before after
+  lost-by : (p : loads.Posted) (after : ServiceView) (answer : Posted) → IsPosted p lines before after answer → LosesBy (By p) before after
   lost-by TooManyLines after answer is = lost-same TooManyLines after is.1
   lost-by (Repeated k) after answer is = lost-same (Repeated k) after is.1
   lost-by (Differing d sent) after answer is = lost-same (Differing d sent) after is.1

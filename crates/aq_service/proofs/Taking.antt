@@ -2,7 +2,7 @@
 use Rattle.std.proofs.Common.{◌≡◌, ℕ, ◌≤◌, inl, inr, List, Option, Some, None, sym, ap, ◌∙◌, subst}
 use Rattle.std.specs.Prelude.{IfOk, IfSome, IsTrue, OnErr, Result, Ok, Err, map, true}
 use Rattle.std.specs.Option.{option_map}
-use Rattle.aq_rules.specs.Kept.RowChanges.{GivesRowsAfter, RowChange, changed_key, keys_rise, row_batch, with_row_changes}
+use Rattle.aq_rules.specs.Kept.RowChanges.{GivesRowsAfter, RowChange, batch_rises, changed_key, row_batch, with_row_changes}
 use Rattle.aq_rules.specs.Kept.Rows.{Row, rows_of}
 use Rattle.aq_rules.specs.Limits.{MOST_LINES}
 use Rattle.aq_rules.specs.Lines.Lines.{line_count}
@@ -13,8 +13,8 @@ use Rattle.aq_service.proofs.PostedLoads.{post_new}
 use Rattle.aq_service.specs.Posting.{LosesLoad, TakenBy}
 use Rattle.aq_service.specs.declared.posting.Posted.TheVariants.{Done}
 
-pub in_order : (changes batch : List RowChange) → changes ≡ batch → IsTrue (keys_rise (map changed_key batch)) → keys_rise (map changed_key changes) ≡ true
-in_order changes batch same rises = subst (λ (cs : List RowChange). keys_rise (map changed_key cs) ≡ true) (sym same) rises
+pub in_order : (changes batch : List RowChange) → changes ≡ batch → IsTrue (batch_rises (map changed_key batch)) → batch_rises (map changed_key changes) ≡ true
+in_order changes batch same rises = subst (λ (cs : List RowChange). batch_rises (map changed_key cs) ≡ true) (sym same) rises
 
 rows-after : (office : Office) (number : ℕ) (digest body : List ℕ) → GivesRowsAfter office number digest body → with_row_changes (rows_of office) (row_batch office number digest body) ≡ rows_of (load office number digest body)
 unfolding GivesRowsAfter

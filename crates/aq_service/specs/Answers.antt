@@ -5,15 +5,15 @@ use Rattle.aq_http.specs.declared.verb.Verb.{Verb}
 use Rattle.aq_http.specs.declared.verb.Verb.TheVariants.{Get}
 use Rattle.aq_rules.specs.Office.Office.{Office}
 use Rattle.aq_rules.specs.Shown.Answer.{Answer, Ask, Export}
-use Rattle.aq_rules.specs.Shown.Answer as book
+use Rattle.aq_rules.specs.Shown.Answer as questions
 use Rattle.aq_serve.specs.Answered.{Answered, answered, refused, reply_of}
 use Rattle.aq_service.specs.declared.answers.Unanswered.{Unanswered}
 use Rattle.aq_service.specs.declared.answers.Unanswered.TheVariants.{NoSite, NoLoad, Memory}
 
 -- the site is not registered, or no such load stands; want of memory has no cause that is told
 abbrev pub IsUnanswered : Answer → Unanswered → Type 0
-IsUnanswered answer NoSite = answer ≡ book.NoSite
-IsUnanswered answer NoLoad = answer ≡ book.NoLoad
+IsUnanswered answer NoSite = answer ≡ questions.NoSite
+IsUnanswered answer NoLoad = answer ≡ questions.NoLoad
 IsUnanswered answer Memory = ⊤
 
 -- all but an export are answered by a sheet

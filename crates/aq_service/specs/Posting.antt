@@ -1,7 +1,7 @@
 -- What becomes of a load that is posted over a keeper, by what the book of rules says of it.
 use Rattle.std.specs.Prelude.{◌≡◌, ℕ, ◌⊎◌, List}
 use Rattle.aq_base.specs.Faults.{HasRisen}
-use Rattle.aq_rules.specs.Office.Load as book
+use Rattle.aq_rules.specs.Office.Load as loads
 use Rattle.aq_rules.specs.Office.Load.{TooManyLines, Repeated, Differing, NoRoom, Taken}
 use Rattle.aq_rules.specs.Office.Office.{Office}
 use Rattle.aq_serve.specs.Service.{AreOfOffice, Become, Keeps, ServiceView}
@@ -18,7 +18,7 @@ TakenBy (Conflict sent) now before after = ⊥
 TakenBy Full now before after = ⊥
 
 -- the answer, by what the load would come to
-abbrev pub IsPosted : book.Posted → ℕ → ServiceView → ServiceView → Posted → Type 0
+abbrev pub IsPosted : loads.Posted → ℕ → ServiceView → ServiceView → Posted → Type 0
 IsPosted TooManyLines lines before after answer = (answer ≡ Lines lines) × (after ≡ before)
 IsPosted (Repeated kept) lines before after answer = (answer ≡ Done) × (after ≡ before)
 IsPosted (Differing kept sent) lines before after answer = (answer ≡ Conflict sent) × (after ≡ before)
@@ -28,4 +28,4 @@ IsPosted (Taken reply now) lines before after answer = TakenBy answer now before
 -- memory was not to be had: the tables are as before, or have the load
 pub record LosesLoad (number : ℕ) (digest body : List ℕ) (before after : ServiceView) : Type 0 where
   pub faults : after.faults ≡ before.faults
-  pub tables : AreOfOffice before → Become before before.office after ⊎ Become before (book.post before.office number digest body) after
+  pub tables : AreOfOffice before → Become before before.office after ⊎ Become before (loads.post before.office number digest body) after

@@ -4,7 +4,7 @@ ghost use Rattle.aq_http.specs.Reply.{is_reply_status, reply_text};
 ghost use Rattle.aq_rules.specs.Office.Office.{IsOffice, load_at};
 ghost use Rattle.aq_rules.specs.Shown.Answer.{answer, is_asked};
 ghost use Rattle.aq_rules.specs.Shown.OtherSheets.{conflict_sheet};
-ghost use Rattle.aq_rules.specs.Shown.Json as book;
+ghost use Rattle.aq_rules.specs.Shown.Json as json;
 ghost use Rattle.aq_rules.specs.Shown.Sheets.{load_sheet};
 ghost use Rattle.aq_rules.specs.Shown.WellFormed.{IsWellFormed};
 ghost use Rattle.aq_serve.specs.Answered.{error_body, reply_of, shown, to_question};
@@ -108,7 +108,7 @@ fn conflict_reply(
 fn sheet_reply(alloc: Global, status: u16, sheet: &Sheet, close: bool) -> Result<Vec<u8>, Memory>
     requires status { IsTrue (is_reply_status status) }
     requires well_formed { IsWellFormed sheet.now }
-    ensures { IfOk result (λ bytes. bytes.items ≡ reply_text (record { status = status; allow = []; close = close; body = book.json_of sheet.now })) }
+    ensures { IfOk result (λ bytes. bytes.items ≡ reply_text (record { status = status; allow = []; close = close; body = json.json_of sheet.now })) }
 {
     let body = json_of(alloc, sheet)?;
     reply_bytes(alloc, status, b"", close, &body)

@@ -7,7 +7,7 @@ use Rattle.std.proofs.lemmas.Nat.{mul-le}
 use Rattle.sha2.specs.Sha256.{sha256}
 use Rattle.aq_base.specs.Standard.{standards}
 use Rattle.aq_base.specs.declared.standard.Standard.{Standard}
-use Rattle.aq_rules.specs.Limits.{MOST_LINES}
+use Rattle.aq_rules.specs.Limits.{MOST_LINES, MOST_GENERATED_SITES, MOST_GENERATED_YEARS}
 use Rattle.aq_rules.specs.Lines.Lines.{line_count}
 use Rattle.aq_rules.specs.Office.Office.{Office, nothing}
 use Rattle.aq_rules.specs.Office.Load.{post}
@@ -60,8 +60,8 @@ has_report office standard year none = no-sheet (report_answer standard office y
 
 -- ---- all of them
 
-pub few_loads : (sites years : ℕ) → sites ≤ 32 → years ≤ 10 → load_count sites years ≤ 321
-few_loads sites years few short = omega (arith, mul-le sites years 32 10 few short)
+pub few_loads : (sites years : ℕ) → sites ≤ MOST_GENERATED_SITES → years ≤ MOST_GENERATED_YEARS → load_count sites years ≤ 321
+few_loads sites years few short = omega (arith, mul-le sites years MOST_GENERATED_SITES MOST_GENERATED_YEARS few short)
 
 module _ (start sites years : ℕ) where
   abbrev step : Office → ℕ → Office
@@ -79,7 +79,7 @@ module _ (start sites years : ℕ) where
     pub taken : fold step office (range_with_len load (load_count sites years + 1 - load)) ≡ generated_office sha256 start sites years
     pub count : fold add lines (range_with_len load (load_count sites years + 1 - load)) ≡ generated_lines start sites years
 
-  pub takes_first : (office : Office) → office ≡ nothing → sites ≤ 32 → years ≤ 10 → TakesOn 1 0 office
+  pub takes_first : (office : Office) → office ≡ nothing → sites ≤ MOST_GENERATED_SITES → years ≤ MOST_GENERATED_YEARS → TakesOn 1 0 office
   unfolding generated_office generated_lines loads_to_take
   takes_first office none few short = record {
     first = omega arith;

@@ -1,7 +1,7 @@
 //! Generated loads, taken one after the other.
 ghost use Rattle.std.specs.Prelude.{◌≡◌, ◌+◌, ◌-◌, ◌*◌, ◌≤◌, length, IfOk, OnOk};
 ghost use Rattle.sha2.specs.Sha256.{sha256};
-ghost use Rattle.aq_rules.specs.Limits.{MOST_BYTES, MOST_LINES};
+ghost use Rattle.aq_rules.specs.Limits.{MOST_BYTES, MOST_LINES, MOST_GENERATED_SITES, FEWEST_GENERATED_YEARS, MOST_GENERATED_YEARS};
 ghost use Rattle.aq_rules.specs.Lines.Lines.{line_count};
 ghost use Rattle.aq_rules.specs.Office.Load.{post};
 ghost use Rattle.aq_rules.specs.Shown.Generator.{generated_lines, generated_load, generated_office, load_count};
@@ -25,9 +25,9 @@ pub(crate) struct Taken {
 /// Takes all loads of a simulation.
 pub(crate) fn take_all(alloc: Global, start: u64, sites: u8, years: u8) -> Result<Taken, Memory>
     requires some_sites { 1 ≤ sites }
-    requires few_sites { sites ≤ 32 }
-    requires some_years { 3 ≤ years }
-    requires few_years { years ≤ 10 }
+    requires few_sites { sites ≤ MOST_GENERATED_SITES }
+    requires some_years { FEWEST_GENERATED_YEARS ≤ years }
+    requires few_years { years ≤ MOST_GENERATED_YEARS }
     ensures office { IfOk result (λ taken. taken.book ≡ generated_office sha256 start sites years) }
     ensures lines { IfOk result (λ taken. taken.lines ≡ generated_lines start sites years) }
 {
@@ -56,9 +56,9 @@ fn take_load(
     taken: &mut Taken,
 ) -> Result<(), Memory>
     requires some_sites { 1 ≤ sites }
-    requires few_sites { sites ≤ 32 }
-    requires some_years { 3 ≤ years }
-    requires few_years { years ≤ 10 }
+    requires few_sites { sites ≤ MOST_GENERATED_SITES }
+    requires some_years { FEWEST_GENERATED_YEARS ≤ years }
+    requires few_years { years ≤ MOST_GENERATED_YEARS }
     requires first { 1 ≤ load }
     requires last { load ≤ load_count sites years }
     requires room { taken.old.lines ≤ 400 * MOST_LINES }

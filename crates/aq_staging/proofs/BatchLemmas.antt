@@ -8,8 +8,10 @@ use Rattle.aq_base.specs.declared.observation.ObsKey.{ObsKey}
 use Rattle.aq_base.specs.declared.observation.Observation.{Observation}
 use Rattle.aq_base.specs.declared.office.OfficeKey.{OfficeKey}
 use Rattle.aq_base.specs.declared.office.OfficeRecord.{OfficeRecord}
-use Rattle.aq_rules.proofs.BatchDone.{HasKey, found-key, one_place}
+use Rattle.aq_rules.proofs.BatchDone.{HasKey, found-key}
 use Rattle.aq_rules.proofs.Changes.{either-rises, keys-rise, none-of_first, none-of_second}
+use Rattle.aq_rules.proofs.Lookups.{none-behind, one_list, rises-rest}
+use Rattle.aq_rules.proofs.OneKey.{one_office_key, one_observation_key}
 use Rattle.aq_rules.proofs.SameRows.{content-itself, record-itself}
 use Rattle.aq_rules.specs.Office.Load.{OfficeChange, PutObservation, PutRecord, keys_of_either, observation_change, record_change}
 use Rattle.aq_rules.specs.Office.Office.{comes_before, content_of, is_same, key_numbers, key_of, observation_key, observation_numbers, observation_rank, record_rank, rises, rises_from, row_at}
@@ -21,8 +23,6 @@ use Rattle.aq_staging.specs.Keys.{either_keys, keys_in}
 use Rattle.aq_staging.specs.Staged.{StagedLoad, IsStagedOn}
 use Rattle.aq_staging.specs.Touched.{AreTouched}
 use Rattle.aq_staging.proofs.ChangeLemmas.{found-with_changes, or_else, unless}
-use Rattle.aq_staging.proofs.KeyLemmas.{one_office_key}
-use Rattle.aq_rules.proofs.Lookups.{none-behind, one_list, rises-rest}
 
 -- ---- keys at which nothing changes make no difference
 
@@ -158,7 +158,7 @@ pub observations-same : (rows : List (ObsKey × Observation)) (changes : Changes
     ≡ filter_map (observation_change_at rows (with_changes changes rows)) (keys_of_either observation_numbers (keys_in rows) (keys_in (with_changes changes rows)))
 observations-same rows changes are =
     let after = with_changes changes rows in
-    all-same observation_numbers one_place observation_change observation-idle (λ q. option_map content_of (row_at observation_rank q rows)) (λ q. option_map content_of (row_at observation_rank q after))
+    all-same observation_numbers one_observation_key observation_change observation-idle (λ q. option_map content_of (row_at observation_rank q rows)) (λ q. option_map content_of (row_at observation_rank q after))
     (either_keys (keys_in changes.dropped) (keys_in changes.left)) (keys_of_either observation_numbers (keys_in rows) (keys_in after))
     (λ q none.
     let gone = no-key observation_key observation_numbers q changes.dropped (none-of_first observation_numbers q (keys_in changes.dropped) (keys_in changes.left) none) in

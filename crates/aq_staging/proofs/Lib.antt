@@ -2,7 +2,6 @@ pub mod ChangeLemmas
 pub mod OverlayLemmas
 pub mod LoadLaws
 pub mod StageLemmas
-pub mod KeyLemmas
 pub mod EitherLemmas
 pub mod BatchLemmas
 pub mod TouchLemmas

@@ -5,7 +5,7 @@ use Rattle.aq_base.specs.declared.observation.Observation.{Observation}
 use Rattle.aq_base.specs.declared.office.OfficeRecord.{OfficeRecord}
 use Rattle.aq_base.specs.declared.office.OfficeKey.{OfficeKey}
 use Rattle.aq_rules.specs.Office.Load.{record_change, observation_change, record_changes, observation_changes}
-use Rattle.aq_rules.specs.Office.Load as book
+use Rattle.aq_rules.specs.Office.Load as load
 use Rattle.aq_rules.specs.Office.Office.{Office, StoredLoad}
 use Rattle.aq_rules.specs.Office.Questions.{record_of}
 use Rattle.aq_shelf.specs.Standing.{content_at}
@@ -14,25 +14,25 @@ use Rattle.aq_staging.specs.declared.change.OfficeChange.TheVariants.{PutRecord,
 use Rattle.aq_staging.specs.Staged.{StagedLoad, after_lines}
 
 -- a change as the book of rules has it
-abbrev pub change_in : OfficeChange → book.OfficeChange
-change_in (PutRecord row) = book.PutRecord row
-change_in (DropRecord key) = book.DropRecord key
-change_in (PutObservation key content) = book.PutObservation key content
-change_in (DropObservation key) = book.DropObservation key
+abbrev pub change_in : OfficeChange → load.OfficeChange
+change_in (PutRecord row) = load.PutRecord row
+change_in (DropRecord key) = load.DropRecord key
+change_in (PutObservation key content) = load.PutObservation key content
+change_in (DropObservation key) = load.DropObservation key
 
-abbrev pub changes_in : List OfficeChange → List book.OfficeChange
+abbrev pub changes_in : List OfficeChange → List load.OfficeChange
 changes_in changes = map change_in changes
 
 -- what becomes of the record of a key
-abbrev pub record_change_at : List OfficeRecord → List OfficeRecord → OfficeKey → Option book.OfficeChange
+abbrev pub record_change_at : List OfficeRecord → List OfficeRecord → OfficeKey → Option load.OfficeChange
 record_change_at before after key = record_change key (record_of before key) (record_of after key)
 
 -- what becomes of the observation at a key
-abbrev pub observation_change_at : List (ObsKey × Observation) → List (ObsKey × Observation) → ObsKey → Option book.OfficeChange
+abbrev pub observation_change_at : List (ObsKey × Observation) → List (ObsKey × Observation) → ObsKey → Option load.OfficeChange
 observation_change_at before after key = observation_change key (content_at key before) (content_at key after)
 
 -- the changes of records and of observations between two offices, in the order of their tables and keys
-unfoldable pub changes_between : Office → Office → List book.OfficeChange
+unfoldable pub changes_between : Office → Office → List load.OfficeChange
 changes_between before after = record_changes before after ++ observation_changes before after
 
 -- the office of these records, observations and loads
@@ -40,6 +40,6 @@ abbrev pub office_beside : List StoredLoad → List OfficeRecord → List (ObsKe
 office_beside loads records observations = record { records = records; observations = observations; loads = loads }
 
 -- the changes that the lines of a staged load make to an office of these records and observations, whatever its loads are
-abbrev pub AreChangesOf : List OfficeRecord → List (ObsKey × Observation) → StagedLoad → List book.OfficeChange → Type 0
+abbrev pub AreChangesOf : List OfficeRecord → List (ObsKey × Observation) → StagedLoad → List load.OfficeChange → Type 0
 AreChangesOf records observations staged changes =
     (loads : List StoredLoad) → changes ≡ changes_between (office_beside loads records observations) (after_lines staged (office_beside loads records observations))

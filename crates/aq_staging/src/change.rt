@@ -1,7 +1,7 @@
 //! A change of one record or observation.
 ghost use Rattle.std.specs.Prelude.{◌≡◌, option_map};
 ghost use Rattle.aq_staging.specs.Batch.{change_in};
-ghost use Rattle.aq_rules.specs.Office.Load as book;
+ghost use Rattle.aq_rules.specs.Office.Load as load;
 
 use aq_base::{ObsKey, Observation, OfficeKey, OfficeRecord};
 
@@ -24,7 +24,7 @@ pub(crate) fn record_change(
     before: &Option<OfficeRecord>,
     now: &Option<OfficeRecord>,
 ) -> Option<OfficeChange>
-    ensures { option_map change_in result ≡ book.record_change key.now before.now now.now }
+    ensures { option_map change_in result ≡ load.record_change key.now before.now now.now }
 {
     match (before, now) {
         (None, None) => None,
@@ -42,7 +42,7 @@ pub(crate) fn record_change(
 
 /// Whether two records are equal.
 fn is_same_record(a: &OfficeRecord, b: &OfficeRecord) -> bool
-    ensures { result ≡ book.is_same_record a.now b.now }
+    ensures { result ≡ load.is_same_record a.now b.now }
 {
     a == b
 }
@@ -53,7 +53,7 @@ pub(crate) fn observation_change(
     before: &Option<Observation>,
     now: &Option<Observation>,
 ) -> Option<OfficeChange>
-    ensures { option_map change_in result ≡ book.observation_change key.now before.now now.now }
+    ensures { option_map change_in result ≡ load.observation_change key.now before.now now.now }
 {
     match (before, now) {
         (None, None) => None,
@@ -71,7 +71,7 @@ pub(crate) fn observation_change(
 
 /// Whether two observations have equal values, null codes, qualifiers and methods.
 fn is_same_content(a: &Observation, b: &Observation) -> bool
-    ensures { result ≡ book.is_same_content a.now b.now }
+    ensures { result ≡ load.is_same_content a.now b.now }
 {
     a.value == b.value
         && a.null == b.null

@@ -16,9 +16,9 @@ pub struct OfficeChanges {
 impl Model for OfficeChanges {
     ghost use Rattle.std.specs.Prelude.{List};
     ghost use Rattle.aq_staging.specs.Batch.{changes_in};
-    ghost use Rattle.aq_rules.specs.Office.Load as book;
+    ghost use Rattle.aq_rules.specs.Office.Load as load;
 
-    ghost Value = { List book.OfficeChange };
+    ghost Value = { List load.OfficeChange };
 
     ghost view = { λ changes. changes_in changes.items.items };
 }

@@ -5,7 +5,7 @@ use Rattle.aq_base.specs.Calendar.{is_year}
 use Rattle.aq_base.specs.declared.ask.Ask.{Ask}
 use Rattle.aq_base.specs.declared.ask.Ask.TheVariants.{Value, Report, Export}
 use Rattle.aq_base.specs.declared.standard.Standard.{Standard}
-use Rattle.aq_rules.specs.Limits.{LAST_LOAD_NUMBER}
+use Rattle.aq_rules.specs.Limits.{LAST_LOAD_NUMBER, MOST_GENERATED_SITES, FEWEST_GENERATED_YEARS, MOST_GENERATED_YEARS}
 use Rattle.aq_rules.specs.Lines.Spellings.{◌>>=◌, parameter_in, year_in}
 use Rattle.aq_rules.specs.Shown.Answer.{is_design_year, is_load_number}
 use Rattle.aq_rd.specs.Words.{site_word, day_word, number_to}
@@ -21,15 +21,6 @@ MOST_CONNECTIONS = 1000000
 
 abbrev pub LAST_START : ℕ
 LAST_START = 18446744073709551615
-
-abbrev pub MOST_SITES : ℕ
-MOST_SITES = 32
-
-abbrev pub FEWEST_YEARS : ℕ
-FEWEST_YEARS = 3
-
-abbrev pub MOST_YEARS : ℕ
-MOST_YEARS = 10
 
 -- `scan SITE DAY`
 unfoldable pub scan_of : List (List ℕ) → Option Command
@@ -148,13 +139,13 @@ start_in text = if bytes_eq text (codes "0") then Some 0 else number_to LAST_STA
 
 unfoldable pub years_in : List ℕ → Option ℕ
 years_in text = do
-  years ← number_to MOST_YEARS text
-  if nat_le FEWEST_YEARS years then Some years else None
+  years ← number_to MOST_GENERATED_YEARS text
+  if nat_le FEWEST_GENERATED_YEARS years then Some years else None
 
 unfoldable pub simulate_of : List (List ℕ) → Option Command
 simulate_of (start ∷ sites ∷ years ∷ []) = do
   from ← start_in start
-  count ← number_to MOST_SITES sites
+  count ← number_to MOST_GENERATED_SITES sites
   over ← years_in years
   Some (Simulate from count over)
 simulate_of _ = None
@@ -190,4 +181,4 @@ is_command (Scan site day) = true
 is_command (Load number) = is_load_number number
 is_command (command.Ask ask) = is_question ask
 is_command (Serve port connections) = true
-is_command (Simulate start sites years) = nat_le 1 sites && nat_le sites MOST_SITES && nat_le FEWEST_YEARS years && nat_le years MOST_YEARS
+is_command (Simulate start sites years) = nat_le 1 sites && nat_le sites MOST_GENERATED_SITES && nat_le FEWEST_GENERATED_YEARS years && nat_le years MOST_GENERATED_YEARS

@@ -2,22 +2,18 @@
 ghost use Rattle.std.specs.Prelude.{◌≡◌, ◌≤◌, bytes_eq, find, map, string_bytes, IfSome, IsTrue};
 ghost use Rattle.std.specs.Option.{option_map};
 ghost use Rattle.aq_base.specs.Standard.{standard_name};
+ghost use Rattle.aq_rules.specs.Limits.{FEWEST_GENERATED_YEARS, MOST_GENERATED_YEARS};
 ghost use Rattle.aq_rules.specs.Shown.Answer.{is_design_year};
 ghost use Rattle.aq_words.specs.Words.{command_of, is_command, design_year, load_of, option_of, pair_of, scan_of, serve_of, served_by, show_of, simulate_of, start_in, report_of, export_of, years_in};
 
-use aq_base::{Ask, Day, FIRST_YEAR, LAST_LOAD_NUMBER, SiteId, Standard};
+use aq_base::{
+    Ask, Day, FEWEST_GENERATED_YEARS, FIRST_YEAR, LAST_LOAD_NUMBER, MOST_GENERATED_SITES,
+    MOST_GENERATED_YEARS, SiteId, Standard,
+};
 use aq_rd::{day_word, number_to, parameter_in, site_word, year_in};
 
 /// The most connections that `serve` takes.
 const MOST_CONNECTIONS: u64 = 1_000_000;
-
-/// The most sites of a simulated office.
-const MOST_SITES: u64 = 32;
-
-/// The fewest and the most years of one.
-const FEWEST_YEARS: u64 = 3;
-
-const MOST_YEARS: u64 = 10;
 
 /// What the program is asked to do.
 #[derive(Clone, Copy, Debug, PartialEq, Eq)]
@@ -168,7 +164,7 @@ fn simulate(words: &[String]) -> Option<Command>
         return None;
     };
     let start = start_in(start.as_bytes())?;
-    let sites = number_to(MOST_SITES, sites.as_bytes())?;
+    let sites = number_to(u64::from(MOST_GENERATED_SITES), sites.as_bytes())?;
     let years = years_in(years.as_bytes())?;
     Some(Command::Simulate {
         start,
@@ -193,11 +189,11 @@ fn start_in(text: &[u8]) -> Option<u64>
 #[tactic(auto, unfolding(crate::specs::Words::years_in))]
 fn years_in(text: &[u8]) -> Option<u8>
     ensures years { result ≡ years_in text.now }
-    ensures least { IfSome result (λ years. 3 ≤ years) }
-    ensures most { IfSome result (λ years. years ≤ 10) }
+    ensures least { IfSome result (λ years. FEWEST_GENERATED_YEARS ≤ years) }
+    ensures most { IfSome result (λ years. years ≤ MOST_GENERATED_YEARS) }
 {
-    let years = number_to(MOST_YEARS, text)?;
-    if years >= FEWEST_YEARS {
+    let years = number_to(u64::from(MOST_GENERATED_YEARS), text)?;
+    if years >= u64::from(FEWEST_GENERATED_YEARS) {
         Some(years as u8)
     } else {
         None

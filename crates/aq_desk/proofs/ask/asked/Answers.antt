@@ -5,15 +5,15 @@ use Rattle.aq_desk.proofs.ask.asked.Goals as goal
 
 pub returns-in_err-book-clause-told : goal.returns-in_err-book-clause-told
 returns-in_err-book-clause-told g c =
-    unopened_ask c.args.ask.now _ _ _ _ c.in_err-book.field-0.0 c.from_residual.result c.from_residual.ensures.1 c.in_err-book.ensures.kept c.in_err-book.ensures.stopped
+    unopened_ask c.args.ask.now _ _ _ _ c.in_err-book.field-0.0 c.from_residual.result c.from_residual.ensures.1 c.in_err-book.ensures.stopped
 
 pub returns-in_err-book-clause-keeper_failed : goal.returns-in_err-book-clause-keeper_failed
 returns-in_err-book-clause-keeper_failed g c =
-    unopened_rises _ _ _ c.in_err-book.field-0.0 c.from_residual.result c.from_residual.ensures.1 c.in_err-book.ensures.stopped
+    unopened_rises _ _ _ _ c.in_err-book.field-0.0 c.from_residual.result c.from_residual.ensures.1 c.in_err-book.ensures.stopped
 
 pub returns-clause-told : goal.returns-clause-told
 returns-clause-told g c =
-    answered_over c.args.ask.now c.in_ok-book.book c.text_of_answer.result _ _ c.in_ok-book.ensures.opened c.in_ok-book.ensures.kept c.text_of_answer.ensures.text c.text_of_answer.ensures.refused
+    answered_over c.args.ask.now c.in_ok-book.book c.text_of_answer.result _ _ c.in_ok-book.ensures.opened c.text_of_answer.ensures.text c.text_of_answer.ensures.refused
 
 pub returns-clause-unprinted : goal.returns-clause-unprinted
 returns-clause-unprinted g c = answered_unprinted _ c.text_of_answer.result c.text_of_answer.ensures.refused

@@ -4,35 +4,35 @@ use Rattle.aq_desk.proofs.load.take.Goals as goal
 
 pub returns-in_err-book-clause-told : goal.returns-in_err-book-clause-told
 returns-in_err-book-clause-told g c =
-    unopened_load c.args.number c.args.body.now _ _ _ _ c.in_err-book.field-0.0 c.from_residual.result c.from_residual.ensures.1 c.in_err-book.ensures.kept c.in_err-book.ensures.stopped
+    unopened_load c.args.number c.args.body.now _ _ _ _ c.in_err-book.field-0.0 c.from_residual.result c.from_residual.ensures.1 c.in_err-book.ensures.stopped
 
 pub returns-in_err-book-clause-keeper_failed : goal.returns-in_err-book-clause-keeper_failed
 returns-in_err-book-clause-keeper_failed g c =
-    unopened_rises _ _ _ c.in_err-book.field-0.0 c.from_residual.result c.from_residual.ensures.1 c.in_err-book.ensures.stopped
+    unopened_rises _ _ _ _ c.in_err-book.field-0.0 c.from_residual.result c.from_residual.ensures.1 c.in_err-book.ensures.stopped
 
 pub returns-in_err-book-2-clause-told : goal.returns-in_err-book-2-clause-told
 returns-in_err-book-2-clause-told g c =
-    lost_over c.args.number c.args.body.now c.in_ok-book.book c.in_ok-book.book _ _ _ _ _ c.in_ok-book.ensures.opened c.in_ok-book.ensures.kept
+    lost_over c.args.number c.args.body.now c.in_ok-book.book c.in_ok-book.book _ _ _ _ _ c.in_ok-book.ensures.opened
     c.from_residual-in_err-book-2.result c.from_residual-in_err-book-2.ensures.1 c.requires.number c.in_err-book-2.ensures.lost
 
 pub text_of_posted-requires : goal.text_of_posted-requires
 text_of_posted-requires g c =
-    is_kept c.args.number c.args.body.now c.in_ok-book.book c.in_ok-book-2.book _ _ _ _ _ c.in_ok-book.ensures.opened c.in_ok-book.ensures.kept
+    is_kept c.args.number c.args.body.now c.in_ok-book.book c.in_ok-book-2.book _ _ _ _ _ c.in_ok-book.ensures.opened
     c.in_ok-book-2.posted c.requires.lines c.requires.number c.in_ok-book-2.ensures.posted
 
 pub returns-clause-told : goal.returns-clause-told
 returns-clause-told g c =
-    posted_over c.args.number c.args.body.now c.in_ok-book.book c.in_ok-book-2.book _ _ _ _ _ c.in_ok-book.ensures.opened c.in_ok-book.ensures.kept
+    posted_over c.args.number c.args.body.now c.in_ok-book.book c.in_ok-book-2.book _ _ _ _ _ c.in_ok-book.ensures.opened
     c.in_ok-book-2.posted c.text_of_posted.result c.requires.lines c.requires.number c.in_ok-book-2.ensures.posted c.text_of_posted.ensures
 
 pub returns-clause-unprinted : goal.returns-clause-unprinted
 returns-clause-unprinted g c =
     text_unprinted c.in_ok-book-2.posted c.args.number _ c.text_of_posted.result
-    (is_kept c.args.number c.args.body.now c.in_ok-book.book c.in_ok-book-2.book _ _ _ _ _ c.in_ok-book.ensures.opened c.in_ok-book.ensures.kept
+    (is_kept c.args.number c.args.body.now c.in_ok-book.book c.in_ok-book-2.book _ _ _ _ _ c.in_ok-book.ensures.opened
     c.in_ok-book-2.posted c.requires.lines c.requires.number c.in_ok-book-2.ensures.posted)
     c.text_of_posted.ensures
 
 pub returns-clause-keeper_failed : goal.returns-clause-keeper_failed
 returns-clause-keeper_failed g c =
-    posted_rises c.args.number c.args.body.now c.in_ok-book.book c.in_ok-book-2.book _ _ _ _ _ c.in_ok-book.ensures.opened c.in_ok-book.ensures.kept
+    posted_rises c.args.number c.args.body.now c.in_ok-book.book c.in_ok-book-2.book _ _ _ _ _ c.in_ok-book.ensures.opened
     c.in_ok-book-2.posted c.text_of_posted.result _ c.requires.lines c.requires.number c.in_ok-book.ensures.steady c.in_ok-book-2.ensures.posted c.text_of_posted.ensures

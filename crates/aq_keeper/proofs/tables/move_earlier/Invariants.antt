@@ -10,5 +10,6 @@ invariant-loop l = record {
   before : AreBefore (key_seen l.key) l.rows.items;
   count : vec_len l.rows + vec_len l.later ≡ vec_len l.fn.rows + vec_len l.fn.later;
   capacity : vec_capacity l.fn.rows ≤ vec_capacity l.rows;
+  later_capacity : vec_capacity l.later ≡ vec_capacity l.fn.later;
   left : vec_len l.later + l.counter ≡ l.end;
 }

@@ -6,7 +6,7 @@ use Rattle.aq_rules.specs.Office.Season.{Season}
 use Rattle.aq_registry.specs.Registry.{office_with}
 use Rattle.aq_series.specs.OfficeView.{office_of}
 use Rattle.aq_ozone.specs.declared.ozone_year.DayOfYear.{DayOfYear}
-use Rattle.aq_rules.specs.Ozone.OzoneDay as book
+use Rattle.aq_rules.specs.Ozone.OzoneDay as ozone_day
 use Rattle.aq_ozone.specs.DaySpans.{IsAt}
 use Rattle.aq_ozone.specs.YearDays.{day_in, IsTallyOf}
 use Rattle.aq_ozone.proofs.YearLemmas.{days_more, few, year_is, year_keeps}
@@ -35,7 +35,7 @@ loop-count-preserved g c =
     let at : c.year_span-first.result.0 + c.loop-count.count ≡ c.new-day.result = omega (arith, c.new-day.ensures, c.number.ensures.value) in
     let here = c.loop-count.invariant.at.day_is ∙ at in
     let after : c.loop-count.walk.day + 1 ≡ c.year_span-first.result.0 + (c.loop-count.count + 1) = omega (arith, here, at) in
-    let windows = c.next-windows.ensures.windows ∙ ap (book.windows office c.args.site) here in
+    let windows = c.next-windows.ensures.windows ∙ ap (ozone_day.windows office c.args.site) here in
     record {
       tally =
           subst (λ (days : List DayOfYear). IsTallyOf days c.with-so_far.result)

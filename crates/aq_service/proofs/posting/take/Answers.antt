@@ -6,7 +6,7 @@ use Rattle.aq_service.proofs.posting.take.Goals as goal
 
 pub commit-requires : goal.commit-requires
 commit-requires g c =
-    record { rising = in_order _ _ (c.as_slice.ensures ∙ c.in_ok-batch.ensures c.args.number c.args.digest c.args.body.now c.in_ok-staged.ensures.staged) (c.batch_is_in_order.ensures c.args.book c.args.number c.args.digest c.args.body.now c.requires.valid) }
+    record { rising = in_order _ _ (c.as_slice.ensures ∙ c.in_ok-batch.ensures c.args.number c.args.digest c.args.body.now c.in_ok-staged.ensures.staged) (c.batch_is_in_order.ensures.order c.args.book c.args.number c.args.digest c.args.body.now c.requires.valid) }
 
 pub returns-in_err-batch-clause-lost : goal.returns-in_err-batch-clause-lost
 returns-in_err-batch-clause-lost g c =

@@ -1,4 +1,4 @@
-use Rattle.std.proofs.Common.{◌≡◌, ◌≤◌, ◌-◌, ◌++◌, List, map, filter}
+use Rattle.std.proofs.Common.{◌≡◌, ◌-◌, ◌++◌, List, map, filter}
 use Rattle.std.specs.List.{range_with_len}
 use Rattle.aq_rules.specs.Shown.Generator.{Wanted}
 use Rattle.aq_generator.specs.Samples.{wanted_at_midnight, is_due, completed}

@@ -1,0 +1,8 @@
+use Rattle.std.proofs.Common.{refl}
+use Rattle.aq_desk.proofs.Opening.{office_opened}
+use Rattle.aq_desk.proofs.office.open_rows.Goals as goal
+
+pub returns-in-Ok-clause-opened : goal.returns-in-Ok-clause-opened
+returns-in-Ok-clause-opened g c =
+    office_opened c.rows_are_those_of_their_office.ensures.rows c.rows_are_those_of_their_office.ensures.valid _ _ c.args.rows.now c.in-Ok.book c.migrated_rows_are_an_offices.ensures.once
+    c.requires refl c.in-Ok.ensures.book
