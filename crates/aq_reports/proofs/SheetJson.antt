@@ -18,8 +18,7 @@ use Rattle.aq_base.specs.Decimal.{fixed}
 use Rattle.aq_rules.specs.Office.Office.{comes_before, is_same, with_row}
 use Rattle.aq_rules.specs.Shown.Sheet.{SheetCell, Head, Sheet}
 use Rattle.aq_rules.specs.Shown.Sheet.SheetCell.{Int, Fixed, Text, Missing}
-use Rattle.aq_rules.specs.Shown.Json as book
-use Rattle.aq_rules.specs.Shown.Json.{Member, json_string, json_list, json_cell, json_member, head_member, table_members, members_of}
+use Rattle.aq_rules.specs.Shown.Json.{Member, json_string, json_list, json_cell, json_member, head_member, json_of, table_members, members_of}
 use Rattle.aq_rules.specs.Shown.WellFormed.{is_word_byte, is_word, is_whole, is_cell, is_head, is_row, IsWellFormed}
 use Rattle.aq_reports.specs.JsonView.{data_of, list_of, row_of, with_heads, with_table}
 use Rattle.aq_reports.proofs.Words.{fixed-word}
@@ -286,8 +285,8 @@ sheet-shows sheet formed =
 pub sheet-plain : (sheet : Sheet) → IsWellFormed sheet → has_float (object (members_in sheet)) ≡ false
 sheet-plain sheet formed = (sheet-shows sheet formed).plain
 
-pub sheet-text : (sheet : Sheet) → IsWellFormed sheet → compact_text (object (members_in sheet)) ≡ book.json_of sheet
-unfolding book.json_of
+pub sheet-text : (sheet : Sheet) → IsWellFormed sheet → compact_text (object (members_in sheet)) ≡ json_of sheet
+unfolding json_of
 sheet-text sheet formed =
     let shows = sheet-shows sheet formed in
     object-text (members_in sheet) shows.words ∙ ap (λ (rows : List Member). codes "{" ++ join_with_byte 44 (map json_member rows) ++ codes "}") shows.same

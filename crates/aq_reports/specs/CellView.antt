@@ -1,14 +1,14 @@
 -- The cells of sheets as the book of rules has them.
 use Rattle.std.specs.Prelude.{◌≤◌}
-use Rattle.aq_rules.specs.Shown.Sheet as book
+use Rattle.aq_rules.specs.Shown.Sheet as sheets
 use Rattle.aq_reports.specs.declared.cell.Content.{Content}
 use Rattle.aq_reports.specs.declared.cell.Content.TheVariants.{Int, Fixed, Text, Missing}
 
-abbrev pub cell_of : Content → book.SheetCell
-cell_of (Int value) = book.SheetCell.Int value
-cell_of (Fixed value places) = book.SheetCell.Fixed value places
-cell_of (Text text) = book.SheetCell.Text text
-cell_of Missing = book.SheetCell.Missing
+abbrev pub cell_of : Content → sheets.SheetCell
+cell_of (Int value) = sheets.SheetCell.Int value
+cell_of (Fixed value places) = sheets.SheetCell.Fixed value places
+cell_of (Text text) = sheets.SheetCell.Text text
+cell_of Missing = sheets.SheetCell.Missing
 
 -- a value is printed with at most six places
 abbrev pub HasFewPlaces : Content → Type 0

@@ -19,9 +19,9 @@ pub struct SheetCell {
 }
 
 impl Model for SheetCell {
-    ghost use Rattle.aq_rules.specs.Shown.Sheet as book;
+    ghost use Rattle.aq_rules.specs.Shown.Sheet as sheets;
 
-    ghost Value = { book.SheetCell };
+    ghost Value = { sheets.SheetCell };
 
     ghost use Rattle.aq_reports.specs.CellView.{HasFewPlaces, cell_of};
 
@@ -32,11 +32,11 @@ impl Model for SheetCell {
 
 impl SheetCell {
     ghost use Rattle.std.specs.Prelude.{◌≡◌, ◌≤◌, IfOk};
-    ghost use Rattle.aq_rules.specs.Shown.Sheet as book;
+    ghost use Rattle.aq_rules.specs.Shown.Sheet as sheets;
 
     /// A whole number.
     pub fn int(value: i64) -> SheetCell
-        ensures { result ≡ book.SheetCell.Int value }
+        ensures { result ≡ sheets.SheetCell.Int value }
     {
         SheetCell {
             content: Content::Int(value),
@@ -45,7 +45,7 @@ impl SheetCell {
 
     /// A number of things.
     pub fn count(number: u32) -> SheetCell
-        ensures { result ≡ book.count_cell number }
+        ensures { result ≡ sheets.count_cell number }
     {
         SheetCell::int(i64::from(number))
     }
@@ -53,7 +53,7 @@ impl SheetCell {
     /// The value `value / 10^places`.
     pub fn fixed(value: i64, places: u8) -> SheetCell
         requires { places ≤ 6 }
-        ensures { result ≡ book.SheetCell.Fixed value places }
+        ensures { result ≡ sheets.SheetCell.Fixed value places }
     {
         SheetCell {
             content: Content::Fixed(value, places),
@@ -63,7 +63,7 @@ impl SheetCell {
     /// A value in units of `10^-places`, if there is one.
     fn optional(value: Option<i32>, places: u8) -> SheetCell
         requires { places ≤ 6 }
-        ensures { result ≡ book.fixed_cell places value }
+        ensures { result ≡ sheets.fixed_cell places value }
     {
         match value {
             Some(value) => SheetCell::fixed(i64::from(value), places),
@@ -73,28 +73,28 @@ impl SheetCell {
 
     /// Thousandths of a ppm as ppm, if there are any.
     pub fn ppm(value: Option<i32>) -> SheetCell
-        ensures { result ≡ book.ppm_cell value }
+        ensures { result ≡ sheets.ppm_cell value }
     {
         SheetCell::optional(value, 3)
     }
 
     /// Tenths as whole ones, if there are any.
     pub fn tenths(value: Option<i32>) -> SheetCell
-        ensures { result ≡ book.tenths_cell value }
+        ensures { result ≡ sheets.tenths_cell value }
     {
         SheetCell::optional(value, 1)
     }
 
     /// Hundredths as whole ones, if there are any.
     pub fn hundredths(value: Option<i32>) -> SheetCell
-        ensures { result ≡ book.fixed_cell 2 value }
+        ensures { result ≡ sheets.fixed_cell 2 value }
     {
         SheetCell::optional(value, 2)
     }
 
     /// A whole number, if there is one.
     pub fn whole(value: Option<i32>) -> SheetCell
-        ensures { result ≡ book.whole_cell value }
+        ensures { result ≡ sheets.whole_cell value }
     {
         match value {
             Some(value) => SheetCell::int(i64::from(value)),
@@ -104,14 +104,14 @@ impl SheetCell {
 
     /// `Y` or `N`.
     pub fn truth(alloc: Global, truth: bool) -> Result<SheetCell, Memory>
-        ensures { IfOk result (λ cell. cell ≡ book.SheetCell.Text (book.truth_text truth)) }
+        ensures { IfOk result (λ cell. cell ≡ sheets.SheetCell.Text (sheets.truth_text truth)) }
     {
         SheetCell::text(alloc, if truth { b"Y" } else { b"N" })
     }
 
     /// A text.
     pub fn text(alloc: Global, text: &[u8]) -> Result<SheetCell, Memory>
-        ensures { IfOk result (λ cell. cell ≡ book.SheetCell.Text text.now) }
+        ensures { IfOk result (λ cell. cell ≡ sheets.SheetCell.Text text.now) }
     {
         let text = Bytes::from_vec(text.to_vec(alloc)?);
         Ok(SheetCell {
@@ -121,7 +121,7 @@ impl SheetCell {
 
     /// No value.
     pub fn missing() -> SheetCell
-        ensures { result ≡ book.SheetCell.Missing }
+        ensures { result ≡ sheets.SheetCell.Missing }
     {
         SheetCell {
             content: Content::Missing,

@@ -4,7 +4,7 @@ ghost use Rattle.std.specs.Int.{IsInRange};
 ghost use Rattle.std.specs.List.{enumerate_from};
 ghost use Rattle.aq_base.specs.Calendar.{days_in_year};
 ghost use Rattle.aq_base.specs.declared.day.TheConstants.{FIRST_YEAR, LAST_DAY, LAST_YEAR};
-ghost use Rattle.aq_rules.specs.Shown.Sheets as book;
+ghost use Rattle.aq_rules.specs.Shown.Sheets as sheets;
 
 use crate::cell::SheetCell;
 use crate::list::{add_count, add_head, add_text, list, names};
@@ -30,7 +30,7 @@ pub fn days_sheet(
     requires year { IsInRange FIRST_YEAR LAST_YEAR year }
     requires days { length days.now ≡ days_in_year year }
     requires approved { length approved.now ≡ days_in_year year }
-    ensures { IfOk result (λ sheet. sheet ≡ book.days_sheet site year (record { first = season.0; last = season.1 }) days.now approved.now totals.now) }
+    ensures { IfOk result (λ sheet. sheet ≡ sheets.days_sheet site year (record { first = season.0; last = season.1 }) days.now approved.now totals.now) }
 {
     let heads = days_heads(alloc, site, year, season, totals)?;
     let columns = names(
@@ -51,7 +51,7 @@ fn days_heads(
     season: (Day, Day),
     totals: &OzoneYear,
 ) -> Result<Heads, Memory>
-    ensures { IfOk result (λ heads. heads ≡ (book.days_sheet site year (record { first = season.0; last = season.1 }) [] [] totals.now).heads) }
+    ensures { IfOk result (λ heads. heads ≡ (sheets.days_sheet site year (record { first = season.0; last = season.1 }) [] [] totals.now).heads) }
 {
     let (first, last) = season;
     let mut heads = Heads::new(alloc);
@@ -84,7 +84,7 @@ fn days_heads(
 fn day_rows(alloc: Global, first: Day, days: &[OzoneDay], approved: &[bool]) -> Result<Rows, Memory>
     requires few { first + length days.now ≤ LAST_DAY + 1 }
     requires each { length approved.now ≡ length days.now }
-    ensures { IfOk result (λ rows. rows ≡ map book.day_cells (enumerate_from first (zip days.now approved.now))) }
+    ensures { IfOk result (λ rows. rows ≡ map sheets.day_cells (enumerate_from first (zip days.now approved.now))) }
 {
     let mut rows = Rows::new(alloc);
     for (place, kept) in days.iter().enumerate() {
@@ -95,7 +95,7 @@ fn day_rows(alloc: Global, first: Day, days: &[OzoneDay], approved: &[bool]) -> 
 }
 
 fn day_cells(alloc: Global, day: Day, kept: &OzoneDay, approved: bool) -> Result<Cells, Memory>
-    ensures { IfOk result (λ cells. cells ≡ book.day_cells (day, (kept.now, approved))) }
+    ensures { IfOk result (λ cells. cells ≡ sheets.day_cells (day, (kept.now, approved))) }
 {
     let day = SheetCell::text(alloc, &day_text(day))?;
     let valid = SheetCell::truth(alloc, kept.valid)?;

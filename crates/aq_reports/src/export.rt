@@ -4,7 +4,7 @@ ghost use Rattle.std.specs.List.{join_with_byte};
 ghost use Rattle.aq_base.specs.Calendar.{day_of_hour, hour_of_day};
 ghost use Rattle.aq_base.specs.Decimal.{last_digits};
 ghost use Rattle.aq_rules.specs.Lines.Canonical as line;
-ghost use Rattle.aq_rules.specs.Shown.Export as book;
+ghost use Rattle.aq_rules.specs.Shown.Export as export;
 ghost use Rattle.aq_reports.specs.Written.{IsReady, written};
 
 use crate::text::site_text;
@@ -20,7 +20,7 @@ type Records = Writer<Vec<u8>>;
 /// The text of these observations: a line of column names, and one for each of them.
 #[tactic(auto, unfolding(aq_rules::specs::Shown::Export::export_of))]
 pub fn export_of(alloc: Global, rows: &[Shown]) -> Result<Vec<u8>, Memory>
-    ensures { IfOk result (λ text. text.items ≡ book.export_of rows.now) }
+    ensures { IfOk result (λ text. text.items ≡ export.export_of rows.now) }
 {
     let mut records = records_in(alloc);
     write_record(
@@ -59,7 +59,7 @@ fn write_record(records: &mut Records, fields: &[&[u8]]) -> Result<(), Memory>
     requires ready { IsReady records.old }
     requires some { 2 ≤ length fields.now }
     ensures ready { OnOk result (IsReady records.new) }
-    ensures text { OnOk result (written records.new ≡ written records.old ++ book.csv_record (map (λ field. field.now) fields.now)) }
+    ensures text { OnOk result (written records.new ≡ written records.old ++ export.csv_record (map (λ field. field.now) fields.now)) }
 {
     match records.write_fields(fields) {
         Ok(()) => {}
@@ -82,7 +82,7 @@ fn text_in(records: Records) -> Result<Vec<u8>, Memory>
 fn write_row(alloc: Global, records: &mut Records, row: &Shown) -> Result<(), Memory>
     requires { IsReady records.old }
     ensures ready { OnOk result (IsReady records.new) }
-    ensures text { OnOk result (written records.new ≡ written records.old ++ book.csv_record (book.shown_fields row.now)) }
+    ensures text { OnOk result (written records.new ≡ written records.old ++ export.csv_record (export.shown_fields row.now)) }
 {
     let site = site_text(row.key.monitor.site);
     let pollutant = row.key.monitor.pollutant;
@@ -167,7 +167,7 @@ fn places(pollutant: Pollutant) -> u8
 }
 
 fn null_text(alloc: Global, null: Option<Code>) -> Result<Vec<u8>, Memory>
-    ensures { IfOk result (λ text. text.items ≡ book.null_text null) }
+    ensures { IfOk result (λ text. text.items ≡ export.null_text null) }
 {
     let mut text = Vec::new(alloc);
     if let Some(code) = null {
@@ -178,7 +178,7 @@ fn null_text(alloc: Global, null: Option<Code>) -> Result<Vec<u8>, Memory>
 
 /// The qualifiers, with single spaces between them.
 fn codes_text(alloc: Global, quals: &Quals) -> Result<Vec<u8>, Memory>
-    ensures { IfOk result (λ text. text.items ≡ book.codes_text quals.now) }
+    ensures { IfOk result (λ text. text.items ≡ export.codes_text quals.now) }
 {
     let mut text = Vec::new(alloc);
     write_codes(&mut text, quals.codes())?;
@@ -186,7 +186,7 @@ fn codes_text(alloc: Global, quals: &Quals) -> Result<Vec<u8>, Memory>
 }
 
 fn write_codes(out: &mut Vec<u8>, codes: &[Code]) -> Result<(), Memory>
-    ensures { OnOk result (out.new.items ≡ out.old.items ++ book.codes_text codes.now) }
+    ensures { OnOk result (out.new.items ≡ out.old.items ++ export.codes_text codes.now) }
 {
     let mut space: &[u8] = b"";
     for code in codes {

@@ -5,7 +5,7 @@ ghost use Rattle.std.specs.Prelude.{◌≡◌, ◌≤◌, IfOk, OnOk, map};
 ghost use Rattle.serde.specs.Event.{Logs, text as text_event, field_key};
 ghost use Rattle.serde.specs.declared.name.Case.TheVariants.{AsIs};
 ghost use Rattle.aq_base.specs.Decimal.{fixed};
-ghost use Rattle.aq_rules.specs.Shown.Json as book;
+ghost use Rattle.aq_rules.specs.Shown.Json.{json_of};
 ghost use Rattle.aq_rules.specs.Shown.WellFormed.{IsWellFormed};
 ghost use Rattle.serde_json.specs.Data.{put as with_member, number, object, string};
 ghost use Rattle.serde_json.specs.Events.{SendsValue};
@@ -55,7 +55,7 @@ impl<'a> Serialize for Object<'a> {
 /// The JSON text of a well-formed sheet.
 pub fn json_of(alloc: Global, sheet: &Sheet) -> Result<Vec<u8>, Memory>
     requires { IsWellFormed sheet.now }
-    ensures { IfOk result (λ text. text.items ≡ book.json_of sheet.now) }
+    ensures { IfOk result (λ text. text.items ≡ json_of sheet.now) }
 {
     let mut parts = Parts::new(alloc);
     put_heads(&mut parts, sheet.heads.as_slice())?;

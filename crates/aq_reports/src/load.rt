@@ -1,6 +1,6 @@
 //! The sheet of a load's reply.
 ghost use Rattle.std.specs.Prelude.{◌≡◌, ◌∷◌, [], ◌++◌, IfOk, OnOk, map};
-ghost use Rattle.aq_rules.specs.Shown.Sheets as book;
+ghost use Rattle.aq_rules.specs.Shown.Sheets as sheets;
 
 use crate::cell::SheetCell;
 use crate::list::{list, names};
@@ -10,7 +10,7 @@ use std::alloc::Global;
 
 /// The sheet of a reply: the listed lines in order, and then the further refused lines by their rules.
 pub fn load_sheet(alloc: Global, reply: &LoadReply) -> Result<Sheet, Memory>
-    ensures { IfOk result (λ sheet. sheet ≡ book.load_sheet reply.now) }
+    ensures { IfOk result (λ sheet. sheet ≡ sheets.load_sheet reply.now) }
 {
     let number = Head::new(alloc, b"load", SheetCell::count(reply.number))?;
     let lines = Head::new(alloc, b"lines", SheetCell::count(reply.lines))?;
@@ -26,7 +26,7 @@ pub fn load_sheet(alloc: Global, reply: &LoadReply) -> Result<Sheet, Memory>
 
 /// A row for each refused line that is listed.
 fn add_listed(alloc: Global, rows: &mut Rows, lines: &[ListedLine]) -> Result<(), Memory>
-    ensures { OnOk result (rows.new ≡ rows.old ++ map book.listed_row lines.now) }
+    ensures { OnOk result (rows.new ≡ rows.old ++ map sheets.listed_row lines.now) }
 {
     for listed in lines {
         rows.push(listed_row(alloc, listed)?)?;
@@ -35,7 +35,7 @@ fn add_listed(alloc: Global, rows: &mut Rows, lines: &[ListedLine]) -> Result<()
 }
 
 fn listed_row(alloc: Global, listed: &ListedLine) -> Result<Cells, Memory>
-    ensures { IfOk result (λ cells. cells ≡ book.listed_row listed.now) }
+    ensures { IfOk result (λ cells. cells ≡ sheets.listed_row listed.now) }
 {
     let name = SheetCell::text(alloc, listed.rule.name().as_bytes())?;
     list(
@@ -51,7 +51,7 @@ fn listed_row(alloc: Global, listed: &ListedLine) -> Result<Cells, Memory>
 
 /// A row for each rule that further lines broke.
 fn add_rest(alloc: Global, rows: &mut Rows, rules: &[RestRule]) -> Result<(), Memory>
-    ensures { OnOk result (rows.new ≡ rows.old ++ map book.rest_row rules.now) }
+    ensures { OnOk result (rows.new ≡ rows.old ++ map sheets.rest_row rules.now) }
 {
     for rest in rules {
         rows.push(rest_row(alloc, rest)?)?;
@@ -60,7 +60,7 @@ fn add_rest(alloc: Global, rows: &mut Rows, rules: &[RestRule]) -> Result<(), Me
 }
 
 fn rest_row(alloc: Global, rest: &RestRule) -> Result<Cells, Memory>
-    ensures { IfOk result (λ cells. cells ≡ book.rest_row rest.now) }
+    ensures { IfOk result (λ cells. cells ≡ sheets.rest_row rest.now) }
 {
     let name = SheetCell::text(alloc, rest.rule.name().as_bytes())?;
     list(

@@ -2,7 +2,7 @@
 ghost use Rattle.std.specs.Prelude.{◌≡◌, IfOk, map};
 ghost use Rattle.std.specs.List.{enumerate_from};
 ghost use Rattle.aq_rules.specs.Kept.SummaryVerdicts.{kept_counted};
-ghost use Rattle.aq_rules.specs.Shown.ParticleSheets as book;
+ghost use Rattle.aq_rules.specs.Shown.ParticleSheets as particle_sheets;
 
 use crate::cell::SheetCell;
 use crate::list::{add_count, add_head, add_text, list, names};
@@ -18,7 +18,7 @@ use std::alloc::Global;
 /// The sheet of a PM2.5 year: its counted samples, the rank and the value of its percentile, its mean,
 /// and a row for each quarter.
 pub fn pm25_sheet(alloc: Global, site: SiteId, year: u16, parts: &PmYear) -> Result<Sheet, Memory>
-    ensures { IfOk result (λ sheet. sheet ≡ book.pm25_sheet site year parts.now) }
+    ensures { IfOk result (λ sheet. sheet ≡ particle_sheets.pm25_sheet site year parts.now) }
 {
     let heads = pm25_heads(alloc, site, year, parts)?;
     let columns = names(
@@ -41,7 +41,7 @@ pub fn pm25_sheet(alloc: Global, site: SiteId, year: u16, parts: &PmYear) -> Res
 
 #[tactic(auto, unfolding(aq_rules::specs::Shown::ParticleSheets::pm25_sheet))]
 fn pm25_heads(alloc: Global, site: SiteId, year: u16, parts: &PmYear) -> Result<Heads, Memory>
-    ensures { IfOk result (λ heads. heads ≡ (book.pm25_sheet site year parts.now).heads) }
+    ensures { IfOk result (λ heads. heads ≡ (particle_sheets.pm25_sheet site year parts.now).heads) }
 {
     let mut heads = Heads::new(alloc);
     add_text(alloc, &mut heads, b"site", &site_text(site))?;
@@ -58,7 +58,7 @@ fn pm25_heads(alloc: Global, site: SiteId, year: u16, parts: &PmYear) -> Result<
 /// The rank of the percentile, counted from the greatest value; none without a counted sample (40 CFR
 /// Part 50, Appendix N, 4.5).
 fn rank_cell(parts: &PmYear) -> SheetCell
-    ensures { result ≡ book.rank_cell (kept_counted parts.now.quarters) }
+    ensures { result ≡ particle_sheets.rank_cell (kept_counted parts.now.quarters) }
 {
     let counted = counted_in(parts);
     if counted == 0 {
@@ -68,7 +68,7 @@ fn rank_cell(parts: &PmYear) -> SheetCell
 }
 
 fn pm25_rows(alloc: Global, quarters: &[PmQuarter; 4]) -> Result<Rows, Memory>
-    ensures { IfOk result (λ rows. rows ≡ map book.pm25_cells (enumerate_from 1 quarters.now)) }
+    ensures { IfOk result (λ rows. rows ≡ map particle_sheets.pm25_cells (enumerate_from 1 quarters.now)) }
 {
     let mut rows = Rows::new(alloc);
     let mut number = 1;
@@ -80,7 +80,7 @@ fn pm25_rows(alloc: Global, quarters: &[PmQuarter; 4]) -> Result<Rows, Memory>
 }
 
 fn pm25_cells(alloc: Global, number: u32, quarter: &PmQuarter) -> Result<Cells, Memory>
-    ensures { IfOk result (λ cells. cells ≡ book.pm25_cells (number, quarter.now)) }
+    ensures { IfOk result (λ cells. cells ≡ particle_sheets.pm25_cells (number, quarter.now)) }
 {
     list(
         alloc,
@@ -100,7 +100,7 @@ fn pm25_cells(alloc: Global, number: u32, quarter: &PmQuarter) -> Result<Cells, 
 
 /// The sheet of a PM10 year: its estimated exceedances, and a row for each quarter.
 pub fn pm10_sheet(alloc: Global, site: SiteId, year: u16, parts: &Pm10Year) -> Result<Sheet, Memory>
-    ensures { IfOk result (λ sheet. sheet ≡ book.pm10_sheet site year parts.now) }
+    ensures { IfOk result (λ sheet. sheet ≡ particle_sheets.pm10_sheet site year parts.now) }
 {
     let heads = pm10_heads(alloc, site, year, parts)?;
     let columns = names(
@@ -123,7 +123,7 @@ pub fn pm10_sheet(alloc: Global, site: SiteId, year: u16, parts: &Pm10Year) -> R
 
 #[tactic(auto, unfolding(aq_rules::specs::Shown::ParticleSheets::pm10_sheet))]
 fn pm10_heads(alloc: Global, site: SiteId, year: u16, parts: &Pm10Year) -> Result<Heads, Memory>
-    ensures { IfOk result (λ heads. heads ≡ (book.pm10_sheet site year parts.now).heads) }
+    ensures { IfOk result (λ heads. heads ≡ (particle_sheets.pm10_sheet site year parts.now).heads) }
 {
     let mut heads = Heads::new(alloc);
     add_text(alloc, &mut heads, b"site", &site_text(site))?;
@@ -134,7 +134,7 @@ fn pm10_heads(alloc: Global, site: SiteId, year: u16, parts: &Pm10Year) -> Resul
 }
 
 fn pm10_rows(alloc: Global, quarters: &[Pm10Quarter; 4]) -> Result<Rows, Memory>
-    ensures { IfOk result (λ rows. rows ≡ map book.pm10_cells (enumerate_from 1 quarters.now)) }
+    ensures { IfOk result (λ rows. rows ≡ map particle_sheets.pm10_cells (enumerate_from 1 quarters.now)) }
 {
     let mut rows = Rows::new(alloc);
     let mut number = 1;
@@ -146,7 +146,7 @@ fn pm10_rows(alloc: Global, quarters: &[Pm10Quarter; 4]) -> Result<Rows, Memory>
 }
 
 fn pm10_cells(alloc: Global, number: u32, quarter: &Pm10Quarter) -> Result<Cells, Memory>
-    ensures { IfOk result (λ cells. cells ≡ book.pm10_cells (number, quarter.now)) }
+    ensures { IfOk result (λ cells. cells ≡ particle_sheets.pm10_cells (number, quarter.now)) }
 {
     list(
         alloc,

@@ -1,6 +1,6 @@
 //! The sheet of a standard's report: the design value and verdict of each site.
 ghost use Rattle.std.specs.Prelude.{◌≡◌, [], IfOk, map};
-ghost use Rattle.aq_rules.specs.Shown.OtherSheets as book;
+ghost use Rattle.aq_rules.specs.Shown.OtherSheets as other_sheets;
 ghost use Rattle.aq_reports.specs.Rows.{judged_in};
 
 use crate::cell::SheetCell;
@@ -20,7 +20,7 @@ pub fn report_sheet(
     year: u16,
     rows: &[(SiteId, DesignValue)],
 ) -> Result<Sheet, Memory>
-    ensures { IfOk result (λ sheet. sheet ≡ book.report_sheet standard year (map judged_in rows.now)) }
+    ensures { IfOk result (λ sheet. sheet ≡ other_sheets.report_sheet standard year (map judged_in rows.now)) }
 {
     let heads = report_heads(alloc, standard, year)?;
     let columns = names(alloc, &[b"site", b"value", b"verdict"])?;
@@ -30,7 +30,7 @@ pub fn report_sheet(
 
 #[tactic(auto, unfolding(aq_rules::specs::Shown::OtherSheets::report_sheet))]
 fn report_heads(alloc: Global, standard: Standard, year: u16) -> Result<Heads, Memory>
-    ensures { IfOk result (λ heads. heads ≡ (book.report_sheet standard year []).heads) }
+    ensures { IfOk result (λ heads. heads ≡ (other_sheets.report_sheet standard year []).heads) }
 {
     let mut heads = Heads::new(alloc);
     add_text(alloc, &mut heads, b"standard", standard.name().as_bytes())?;
@@ -44,7 +44,7 @@ fn judged_rows(
     standard: Standard,
     judged: &[(SiteId, DesignValue)],
 ) -> Result<Rows, Memory>
-    ensures { IfOk result (λ rows. rows ≡ map (book.judged_cells standard) (map judged_in judged.now)) }
+    ensures { IfOk result (λ rows. rows ≡ map (other_sheets.judged_cells standard) (map judged_in judged.now)) }
 {
     let mut rows = Rows::new(alloc);
     for row in judged {
@@ -58,7 +58,7 @@ fn judged_cells(
     standard: Standard,
     row: &(SiteId, DesignValue),
 ) -> Result<Cells, Memory>
-    ensures { IfOk result (λ cells. cells ≡ book.judged_cells standard (judged_in row.now)) }
+    ensures { IfOk result (λ cells. cells ≡ other_sheets.judged_cells standard (judged_in row.now)) }
 {
     let (site, value) = row;
     let site = SheetCell::text(alloc, &site_text(*site))?;

@@ -12,20 +12,20 @@ pub struct Head {
 }
 
 impl Model for Head {
-    ghost use Rattle.aq_rules.specs.Shown.Sheet as book;
+    ghost use Rattle.aq_rules.specs.Shown.Sheet as sheets;
 
-    ghost Value = { book.Head };
+    ghost Value = { sheets.Head };
 
     ghost view = { λ head. record { name = head.name; cell = head.cell } };
 }
 
 impl Head {
     ghost use Rattle.std.specs.Prelude.{◌≡◌, IfOk};
-    ghost use Rattle.aq_rules.specs.Shown.Sheet as book;
+    ghost use Rattle.aq_rules.specs.Shown.Sheet as sheets;
 
     /// The head of this name and value.
     pub fn new(alloc: Global, name: &[u8], cell: SheetCell) -> Result<Head, Memory>
-        ensures { IfOk result (λ head. head ≡ book.head_of name.now cell) }
+        ensures { IfOk result (λ head. head ≡ sheets.head_of name.now cell) }
     {
         let name = Bytes::from_vec(name.to_vec(alloc)?);
         Ok(Head { name, cell })
@@ -53,9 +53,9 @@ pub struct Sheet {
 }
 
 impl Model for Sheet {
-    ghost use Rattle.aq_rules.specs.Shown.Sheet as book;
+    ghost use Rattle.aq_rules.specs.Shown.Sheet as sheets;
 
-    ghost Value = { book.Sheet };
+    ghost Value = { sheets.Sheet };
 
     ghost view = { λ sheet. record { heads = sheet.heads; columns = sheet.columns; rows = sheet.rows } };
 }

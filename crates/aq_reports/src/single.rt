@@ -1,7 +1,7 @@
 //! The sheets without columns: of a conflict, an error and a summary.
 ghost use Rattle.std.specs.Prelude.{◌≡◌, ◌<◌, [], ◌∷◌, ◌++◌, IfOk, OnOk, IsTrue, bytes_eq};
 ghost use Rattle.std.specs.List.{list_any};
-ghost use Rattle.aq_rules.specs.Shown.OtherSheets as book;
+ghost use Rattle.aq_rules.specs.Shown.OtherSheets as other_sheets;
 ghost use Rattle.aq_rules.specs.Shown.Sheet.{head_of};
 ghost use Rattle.aq_rules.specs.Shown.Sheet.SheetCell.{Text};
 
@@ -19,7 +19,7 @@ pub fn conflict_sheet(
     kept: &[u8; 32],
     sent: &[u8; 32],
 ) -> Result<Sheet, Memory>
-    ensures { IfOk result (λ sheet. sheet ≡ book.conflict_sheet number kept.now sent.now) }
+    ensures { IfOk result (λ sheet. sheet ≡ other_sheets.conflict_sheet number kept.now sent.now) }
 {
     let mut heads = Heads::new(alloc);
     add_count(alloc, &mut heads, b"load", number)?;
@@ -31,8 +31,8 @@ pub fn conflict_sheet(
 /// The sheet of an error, by its name.
 #[tactic(auto, unfolding(aq_rules::specs::Shown::OtherSheets::error_sheet))]
 pub fn error_sheet(alloc: Global, name: &'static str) -> Result<Sheet, Memory>
-    requires { IsTrue (list_any (bytes_eq name.now) book.error_names) }
-    ensures { IfOk result (λ sheet. sheet ≡ book.error_sheet name.now) }
+    requires { IsTrue (list_any (bytes_eq name.now) other_sheets.error_names) }
+    ensures { IfOk result (λ sheet. sheet ≡ other_sheets.error_sheet name.now) }
 {
     let mut heads = Heads::new(alloc);
     add_text(alloc, &mut heads, b"error", name.as_bytes())?;
@@ -48,7 +48,7 @@ pub fn summary_sheet(
     lines: u32,
     observations: u32,
 ) -> Result<Sheet, Memory>
-    ensures { IfOk result (λ sheet. sheet ≡ book.summary_sheet loads lines observations) }
+    ensures { IfOk result (λ sheet. sheet ≡ other_sheets.summary_sheet loads lines observations) }
 {
     let mut heads = Heads::new(alloc);
     add_count(alloc, &mut heads, b"loads", loads)?;
@@ -71,14 +71,14 @@ fn add_digest(
     name: &[u8],
     digest: &[u8; 32],
 ) -> Result<(), Memory>
-    ensures { OnOk result (heads.new ≡ heads.old ++ head_of name.now (Text (book.digest_text digest.now)) ∷ []) }
+    ensures { OnOk result (heads.new ≡ heads.old ++ head_of name.now (Text (other_sheets.digest_text digest.now)) ∷ []) }
 {
     let text = digest_text(alloc, digest)?;
     add_text(alloc, heads, name, text.as_slice())
 }
 
 fn digest_text(alloc: Global, digest: &[u8; 32]) -> Result<Vec<u8>, Memory>
-    ensures { IfOk result (λ text. text.items ≡ book.digest_text digest.now) }
+    ensures { IfOk result (λ text. text.items ≡ other_sheets.digest_text digest.now) }
 {
     let mut text = Vec::new(alloc);
     for byte in digest {
@@ -89,7 +89,7 @@ fn digest_text(alloc: Global, digest: &[u8; 32]) -> Result<Vec<u8>, Memory>
 
 /// A byte as two lower case hexadecimal digits.
 pub fn hex_digits(byte: u8) -> [u8; 2]
-    ensures { result ≡ book.digest_text (byte ∷ []) }
+    ensures { result ≡ other_sheets.digest_text (byte ∷ []) }
 {
     [hex_digit(byte / 16), hex_digit(byte % 16)]
 }
@@ -97,7 +97,7 @@ pub fn hex_digits(byte: u8) -> [u8; 2]
 /// A lower case hexadecimal digit.
 fn hex_digit(number: u8) -> u8
     requires { number < 16 }
-    ensures { result ≡ book.hex_digit number }
+    ensures { result ≡ other_sheets.hex_digit number }
 {
     if number < 10 {
         b'0' + number

@@ -2,7 +2,7 @@
 //! each row.
 ghost use Rattle.std.specs.Prelude.{◌≡◌, ◌++◌, IfOk, OnOk, flat_map};
 ghost use Rattle.aq_base.specs.Text.{site_text};
-ghost use Rattle.aq_rules.specs.Shown.Sheet as book;
+ghost use Rattle.aq_rules.specs.Shown.Sheet as sheets;
 
 use crate::cell::{Content, SheetCell};
 use crate::sheet::{Cells, Head, Sheet};
@@ -14,7 +14,7 @@ use std::alloc::Global;
 /// The text of a sheet.
 #[tactic(auto, unfolding(aq_rules::specs::Shown::Sheet::text_of))]
 pub fn text_of(alloc: Global, sheet: &Sheet) -> Result<Vec<u8>, Memory>
-    ensures { IfOk result (λ text. text.items ≡ book.text_of sheet.now) }
+    ensures { IfOk result (λ text. text.items ≡ sheets.text_of sheet.now) }
 {
     let mut out = Vec::new(alloc);
     write_heads(&mut out, sheet.heads.as_slice())?;
@@ -24,7 +24,7 @@ pub fn text_of(alloc: Global, sheet: &Sheet) -> Result<Vec<u8>, Memory>
 
 /// A line for each head.
 fn write_heads(out: &mut Vec<u8>, heads: &[Head]) -> Result<(), Memory>
-    ensures { OnOk result (out.new.items ≡ out.old.items ++ flat_map book.head_text heads.now) }
+    ensures { OnOk result (out.new.items ≡ out.old.items ++ flat_map sheets.head_text heads.now) }
 {
     for head in heads {
         out.extend_from_slice(head.name.as_slice())?;
@@ -37,7 +37,7 @@ fn write_heads(out: &mut Vec<u8>, heads: &[Head]) -> Result<(), Memory>
 
 /// The column names and the rows, if there are columns.
 fn write_table(out: &mut Vec<u8>, columns: &[Bytes], rows: &[Cells]) -> Result<(), Memory>
-    ensures { OnOk result (out.new.items ≡ out.old.items ++ book.table_text columns.now rows.now) }
+    ensures { OnOk result (out.new.items ≡ out.old.items ++ sheets.table_text columns.now rows.now) }
 {
     if !columns.is_empty() {
         write_names(out, columns)?;
@@ -50,7 +50,7 @@ fn write_table(out: &mut Vec<u8>, columns: &[Bytes], rows: &[Cells]) -> Result<(
 
 /// A line of names.
 fn write_names(out: &mut Vec<u8>, names: &[Bytes]) -> Result<(), Memory>
-    ensures { OnOk result (out.new.items ≡ out.old.items ++ book.line_of names.now) }
+    ensures { OnOk result (out.new.items ≡ out.old.items ++ sheets.line_of names.now) }
 {
     let mut space: &[u8] = b"";
     for name in names {
@@ -64,7 +64,7 @@ fn write_names(out: &mut Vec<u8>, names: &[Bytes]) -> Result<(), Memory>
 
 /// A line of cells.
 fn write_row(out: &mut Vec<u8>, cells: &[SheetCell]) -> Result<(), Memory>
-    ensures { OnOk result (out.new.items ≡ out.old.items ++ book.row_text cells.now) }
+    ensures { OnOk result (out.new.items ≡ out.old.items ++ sheets.row_text cells.now) }
 {
     let mut space: &[u8] = b"";
     for cell in cells {
@@ -78,7 +78,7 @@ fn write_row(out: &mut Vec<u8>, cells: &[SheetCell]) -> Result<(), Memory>
 
 /// The text of a cell.
 fn write_cell(out: &mut Vec<u8>, cell: &SheetCell) -> Result<(), Memory>
-    ensures { OnOk result (out.new.items ≡ out.old.items ++ book.cell_text cell.now) }
+    ensures { OnOk result (out.new.items ≡ out.old.items ++ sheets.cell_text cell.now) }
 {
     match &cell.content {
         Content::Int(value) => write_fixed(out, *value, 0)?,

@@ -1,7 +1,7 @@
 //! The sheet of a design value of any standard: three years, the oldest first.
 ghost use Rattle.std.specs.Prelude.{◌≡◌, ◌-◌, ◌≤◌, IfOk, map};
 ghost use Rattle.std.specs.List.{enumerate_from};
-ghost use Rattle.aq_rules.specs.Shown.Sheets as book;
+ghost use Rattle.aq_rules.specs.Shown.Sheets as sheets;
 ghost use Rattle.aq_rules.specs.Shown.OtherSheets as other;
 ghost use Rattle.aq_verdict.specs.Designs.{design_of};
 
@@ -45,7 +45,7 @@ fn ozone_value_sheet(
     years: &[OzoneYear; 3],
     design: &OzoneDv,
 ) -> Result<Sheet, Memory>
-    ensures { IfOk result (λ sheet. sheet ≡ book.ozone_value_sheet site year years.now design.now) }
+    ensures { IfOk result (λ sheet. sheet ≡ sheets.ozone_value_sheet site year years.now design.now) }
 {
     let heads = value_heads(
         alloc,
@@ -72,7 +72,7 @@ fn ozone_value_sheet(
 
 fn ozone_rows(alloc: Global, oldest: u32, years: &[OzoneYear; 3]) -> Result<Rows, Memory>
     requires { oldest ≤ 65535 }
-    ensures { IfOk result (λ rows. rows ≡ map book.year_cells (enumerate_from oldest years.now)) }
+    ensures { IfOk result (λ rows. rows ≡ map sheets.year_cells (enumerate_from oldest years.now)) }
 {
     let mut rows = Rows::new(alloc);
     let mut number = oldest;
@@ -84,7 +84,7 @@ fn ozone_rows(alloc: Global, oldest: u32, years: &[OzoneYear; 3]) -> Result<Rows
 }
 
 fn ozone_cells(alloc: Global, number: u32, kept: &OzoneYear) -> Result<Cells, Memory>
-    ensures { IfOk result (λ cells. cells ≡ book.year_cells (number, kept.now)) }
+    ensures { IfOk result (λ cells. cells ≡ sheets.year_cells (number, kept.now)) }
 {
     list(
         alloc,
@@ -108,7 +108,7 @@ pub(crate) fn value_heads(
     test: Option<i32>,
     verdict: Verdict,
 ) -> Result<Heads, Memory>
-    ensures { IfOk result (λ heads. heads ≡ book.value_heads standard site year value test verdict) }
+    ensures { IfOk result (λ heads. heads ≡ sheets.value_heads standard site year value test verdict) }
 {
     let mut heads = Heads::new(alloc);
     add_text(alloc, &mut heads, b"standard", standard.name().as_bytes())?;
@@ -135,7 +135,7 @@ pub(crate) fn oldest_year(year: u16) -> u32
 
 /// A design value or a test's value in its standard's unit.
 pub(crate) fn design_cell(standard: Standard, value: Option<i32>) -> SheetCell
-    ensures { result ≡ book.design_cell standard value }
+    ensures { result ≡ sheets.design_cell standard value }
 {
     match standard {
         Standard::Ozone2015 => SheetCell::ppm(value),
@@ -148,7 +148,7 @@ pub(crate) fn design_cell(standard: Standard, value: Option<i32>) -> SheetCell
 }
 
 pub(crate) fn verdict_name(verdict: Verdict) -> &'static str
-    ensures { result.now ≡ book.verdict_name verdict }
+    ensures { result.now ≡ sheets.verdict_name verdict }
 {
     match verdict {
         Verdict::Met => "Met",

@@ -1,7 +1,7 @@
 //! The sheet of a PM10 design value: three years, the oldest first.
 ghost use Rattle.std.specs.Prelude.{◌≡◌, ◌≤◌, IfOk, map};
 ghost use Rattle.std.specs.List.{enumerate_from};
-ghost use Rattle.aq_rules.specs.Shown.ParticleSheets as book;
+ghost use Rattle.aq_rules.specs.Shown.ParticleSheets as particle_sheets;
 
 use crate::cell::SheetCell;
 use crate::list::{list, names};
@@ -19,7 +19,7 @@ pub(crate) fn pm10_value_sheet(
     years: &[Pm10Year; 3],
     design: &Pm10Dv,
 ) -> Result<Sheet, Memory>
-    ensures { IfOk result (λ sheet. sheet ≡ book.pm10_value_sheet site year years.now design.now) }
+    ensures { IfOk result (λ sheet. sheet ≡ particle_sheets.pm10_value_sheet site year years.now design.now) }
 {
     let heads = value_heads(
         alloc,
@@ -40,7 +40,7 @@ pub(crate) fn pm10_value_sheet(
 
 fn pm10_rows(alloc: Global, oldest: u32, years: &[Pm10Year; 3]) -> Result<Rows, Memory>
     requires { oldest ≤ 65535 }
-    ensures { IfOk result (λ rows. rows ≡ map book.pm10_year_cells (enumerate_from oldest years.now)) }
+    ensures { IfOk result (λ rows. rows ≡ map particle_sheets.pm10_year_cells (enumerate_from oldest years.now)) }
 {
     let mut rows = Rows::new(alloc);
     let mut number = oldest;
@@ -52,7 +52,7 @@ fn pm10_rows(alloc: Global, oldest: u32, years: &[Pm10Year; 3]) -> Result<Rows, 
 }
 
 fn pm10_cells(alloc: Global, number: u32, kept: &Pm10Year) -> Result<Cells, Memory>
-    ensures { IfOk result (λ cells. cells ≡ book.pm10_year_cells (number, kept.now)) }
+    ensures { IfOk result (λ cells. cells ≡ particle_sheets.pm10_year_cells (number, kept.now)) }
 {
     let complete = SheetCell::truth(alloc, is_complete_year(kept))?;
     list(

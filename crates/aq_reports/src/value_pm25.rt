@@ -3,7 +3,7 @@ ghost use Rattle.std.specs.Prelude.{◌≡◌, ◌≤◌, IfOk, map, zip};
 ghost use Rattle.std.specs.List.{enumerate_from};
 ghost use Rattle.aq_rules.specs.Particles.QuarterCounts.{capture};
 ghost use Rattle.aq_rules.specs.Kept.Summaries.{counts_of};
-ghost use Rattle.aq_rules.specs.Shown.ParticleSheets as book;
+ghost use Rattle.aq_rules.specs.Shown.ParticleSheets as particle_sheets;
 ghost use Rattle.aq_rules.specs.Shown.Sheet.{count_cell};
 
 use crate::cell::SheetCell;
@@ -25,7 +25,7 @@ pub(crate) fn annual_value_sheet(
     years: &[PmYear; 3],
     design: &AnnualDv,
 ) -> Result<Sheet, Memory>
-    ensures { IfOk result (λ sheet. sheet ≡ book.annual_value_sheet standard site year years.now design.now) }
+    ensures { IfOk result (λ sheet. sheet ≡ particle_sheets.annual_value_sheet standard site year years.now design.now) }
 {
     let heads = value_heads(
         alloc,
@@ -59,7 +59,7 @@ fn annual_rows(
     valid: &[bool; 3],
 ) -> Result<Rows, Memory>
     requires { oldest ≤ 65535 }
-    ensures { IfOk result (λ rows. rows ≡ map book.annual_cells (enumerate_from oldest (zip years.now valid.now))) }
+    ensures { IfOk result (λ rows. rows ≡ map particle_sheets.annual_cells (enumerate_from oldest (zip years.now valid.now))) }
 {
     let mut rows = Rows::new(alloc);
     for (place, kept) in years.iter().enumerate() {
@@ -70,7 +70,7 @@ fn annual_rows(
 }
 
 fn annual_cells(alloc: Global, number: u32, kept: &PmYear, valid: bool) -> Result<Cells, Memory>
-    ensures { IfOk result (λ cells. cells ≡ book.annual_cells (number, (kept.now, valid))) }
+    ensures { IfOk result (λ cells. cells ≡ particle_sheets.annual_cells (number, (kept.now, valid))) }
 {
     let [first, second, third, fourth] = kept.quarters();
     let valid = SheetCell::truth(alloc, valid)?;
@@ -96,7 +96,7 @@ pub(crate) fn daily_value_sheet(
     years: &[PmYear; 3],
     design: &DailyDv,
 ) -> Result<Sheet, Memory>
-    ensures { IfOk result (λ sheet. sheet ≡ book.daily_value_sheet site year years.now design.now) }
+    ensures { IfOk result (λ sheet. sheet ≡ particle_sheets.daily_value_sheet site year years.now design.now) }
 {
     let heads = value_heads(
         alloc,
@@ -131,7 +131,7 @@ fn daily_rows(
     valid: &[bool; 3],
 ) -> Result<Rows, Memory>
     requires { oldest ≤ 65535 }
-    ensures { IfOk result (λ rows. rows ≡ map book.daily_cells (enumerate_from oldest (zip years.now valid.now))) }
+    ensures { IfOk result (λ rows. rows ≡ map particle_sheets.daily_cells (enumerate_from oldest (zip years.now valid.now))) }
 {
     let mut rows = Rows::new(alloc);
     for (place, kept) in years.iter().enumerate() {
@@ -142,7 +142,7 @@ fn daily_rows(
 }
 
 fn daily_cells(alloc: Global, number: u32, kept: &PmYear, valid: bool) -> Result<Cells, Memory>
-    ensures { IfOk result (λ cells. cells ≡ book.daily_cells (number, (kept.now, valid))) }
+    ensures { IfOk result (λ cells. cells ≡ particle_sheets.daily_cells (number, (kept.now, valid))) }
 {
     let [first, second, third, fourth] = kept.quarters();
     let valid = SheetCell::truth(alloc, valid)?;

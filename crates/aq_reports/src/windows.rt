@@ -2,7 +2,7 @@
 ghost use Rattle.std.specs.Prelude.{◌≡◌, IfOk, map};
 ghost use Rattle.std.specs.List.{enumerate_from};
 ghost use Rattle.aq_base.specs.Text.{hour_text};
-ghost use Rattle.aq_rules.specs.Shown.Sheets as book;
+ghost use Rattle.aq_rules.specs.Shown.Sheets as sheets;
 
 use crate::cell::SheetCell;
 use crate::list::{list, names};
@@ -23,7 +23,7 @@ pub fn windows_sheet(
     day: Day,
     windows: &DayWindows,
 ) -> Result<Sheet, Memory>
-    ensures { IfOk result (λ sheet. sheet ≡ book.windows_sheet site day windows.now) }
+    ensures { IfOk result (λ sheet. sheet ≡ sheets.windows_sheet site day windows.now) }
 {
     let site = Head::new(alloc, b"site", SheetCell::text(alloc, &site_text(site))?)?;
     let day = Head::new(alloc, b"day", SheetCell::text(alloc, &day_text(day))?)?;
@@ -38,7 +38,7 @@ pub fn windows_sheet(
 
 /// The rows of the averages, in the order of their starts.
 fn window_rows(alloc: Global, windows: &DayWindows) -> Result<Rows, Memory>
-    ensures { IfOk result (λ rows. rows ≡ map book.window_cells (enumerate_from 7 windows.now)) }
+    ensures { IfOk result (λ rows. rows ≡ map sheets.window_cells (enumerate_from 7 windows.now)) }
 {
     let mut rows = Rows::new(alloc);
     let mut hour = FIRST_START;
@@ -51,7 +51,7 @@ fn window_rows(alloc: Global, windows: &DayWindows) -> Result<Rows, Memory>
 
 /// The row of the average that starts at an hour.
 fn window_cells(alloc: Global, hour: u16, row: &WindowRow) -> Result<Cells, Memory>
-    ensures { IfOk result (λ cells. cells ≡ book.window_cells (hour, row.now)) }
+    ensures { IfOk result (λ cells. cells ≡ sheets.window_cells (hour, row.now)) }
 {
     let hour = SheetCell::text(alloc, &hour_text(hour))?;
     list(

@@ -1,11 +1,11 @@
 use Rattle.std.proofs.Common.{◌≡◌, ◌++◌, drop, flat_map}
-use Rattle.aq_rules.specs.Shown.Export as book
+use Rattle.aq_rules.specs.Shown.Export as export
 use Rattle.aq_reports.specs.Written.{IsReady, written}
 use Rattle.aq_reports.proofs.export.export_of.Given as goal
 
 abbrev pub invariant-loop-row : goal.invariant-loop-row
 invariant-loop-row l = record {
   ready : IsReady l.records;
-  so_far : written l.records ++ flat_map (λ s. book.csv_record (book.shown_fields s)) (drop l.row-index l.rows)
-      ≡ book.export_header ++ flat_map (λ s. book.csv_record (book.shown_fields s)) l.rows;
+  so_far : written l.records ++ flat_map (λ s. export.csv_record (export.shown_fields s)) (drop l.row-index l.rows)
+      ≡ export.export_header ++ flat_map (λ s. export.csv_record (export.shown_fields s)) l.rows;
 }

@@ -1,9 +1,9 @@
 use Rattle.std.proofs.Common.{◌≡◌, [], ◌∷◌, codes}
-use Rattle.aq_rules.specs.Shown.ParticleSheets as book
+use Rattle.aq_rules.specs.Shown.ParticleSheets as particle_sheets
 use Rattle.aq_reports.proofs.quarters.pm25_sheet.Goals as goal
 
 pub returns : goal.returns
-unfolding book.pm25_sheet
+unfolding particle_sheets.pm25_sheet
 returns c =
     let columns : c.in_ok-columns.columns ≡ codes "quarter" ∷ codes "scheduled" ∷ codes "creditable" ∷ codes "capture" ∷ codes "counted" ∷ codes "days" ∷ codes "sum" ∷ codes "least" ∷ codes "greatest" ∷ [] = c.in_ok-columns.ensures in
     cc (c.new.ensures, c.in_ok-heads.ensures, c.in_ok-rows.ensures, c.quarters.ensures.value, columns)

@@ -1,7 +1,7 @@
 use Rattle.std.proofs.Common.{◌≡◌, ◌++◌, drop, flat_map}
-use Rattle.aq_rules.specs.Shown.Sheet as book
+use Rattle.aq_rules.specs.Shown.Sheet as sheets
 use Rattle.aq_reports.proofs.text.write_table.Given as goal
 
 abbrev pub invariant-loop-row : goal.invariant-loop-row
 invariant-loop-row l =
-    l.out.items ++ flat_map book.row_text (drop l.row-index l.rows) ≡ (l.fn.out.items ++ book.line_of l.columns) ++ flat_map book.row_text l.rows
+    l.out.items ++ flat_map sheets.row_text (drop l.row-index l.rows) ≡ (l.fn.out.items ++ sheets.line_of l.columns) ++ flat_map sheets.row_text l.rows

@@ -1,10 +1,10 @@
 use Rattle.std.proofs.Common.{◌≡◌, ◌+◌, ◌++◌, map, drop}
 use Rattle.std.specs.List.{enumerate_from}
-use Rattle.aq_rules.specs.Shown.ParticleSheets as book
+use Rattle.aq_rules.specs.Shown.ParticleSheets as particle_sheets
 use Rattle.aq_reports.proofs.value_pm10.pm10_rows.Given as goal
 
 abbrev pub invariant-loop-kept : goal.invariant-loop-kept
 invariant-loop-kept l = record {
   number : l.number ≡ l.oldest + l.kept-index;
-  so_far : l.rows ++ map book.pm10_year_cells (enumerate_from l.number (drop l.kept-index l.years)) ≡ map book.pm10_year_cells (enumerate_from l.oldest l.years);
+  so_far : l.rows ++ map particle_sheets.pm10_year_cells (enumerate_from l.number (drop l.kept-index l.years)) ≡ map particle_sheets.pm10_year_cells (enumerate_from l.oldest l.years);
 }

@@ -1,8 +1,8 @@
 use Rattle.std.proofs.Common.{◌≡◌, ◌+◌, ◌++◌, map, drop, zip}
 use Rattle.std.specs.List.{enumerate_from}
-use Rattle.aq_rules.specs.Shown.ParticleSheets as book
+use Rattle.aq_rules.specs.Shown.ParticleSheets as particle_sheets
 use Rattle.aq_reports.proofs.value_pm25.daily_rows.Given as goal
 
 abbrev pub invariant-loop-place : goal.invariant-loop-place
 invariant-loop-place l =
-    l.rows ++ map book.daily_cells (enumerate_from (l.oldest + l.place) (zip (drop l.place l.years) (drop l.place l.valid))) ≡ map book.daily_cells (enumerate_from l.oldest (zip l.years l.valid))
+    l.rows ++ map particle_sheets.daily_cells (enumerate_from (l.oldest + l.place) (zip (drop l.place l.years) (drop l.place l.valid))) ≡ map particle_sheets.daily_cells (enumerate_from l.oldest (zip l.years l.valid))
