@@ -151,7 +151,7 @@ fn changed(alloc: Global) -> Result<Vec<Row>, Fail> {
 }
 
 /// Commits a batch and reads the rows that then stand.
-fn keep<K: Keeper>(
+fn take<K: Keeper>(
     rt: &impl Abort,
     alloc: Global,
     keeper: &mut K,
@@ -161,6 +161,13 @@ fn keep<K: Keeper>(
     assert!(rt; commit(rt, alloc, keeper, batch).is_ok());
     assert!(rt; reads(alloc, keeper, rows)?);
     Ok(())
+}
+
+/// What a keeper of empty tables does with one batch after another.
+fn keep<K: Keeper>(rt: &impl Abort, alloc: Global, keeper: &mut K) -> Result<(), Fail> {
+    take(rt, alloc, keeper, &stored(alloc)?, &before(alloc)?)?;
+    take(rt, alloc, keeper, &migration(alloc)?, &migrated(alloc)?)?;
+    take(rt, alloc, keeper, &changes(alloc)?, &changed(alloc)?)
 }
 
 /// What a keeper does whose tables cannot be reached.
@@ -199,15 +206,7 @@ fn a_file_has_one_keeper_at_a_time(rt: HostRuntime) -> Result<(), Fail> {
     let mut second = at(&rt, PATH)?;
     assert!(rt; reads(alloc, &mut first, &[])?);
     refuse(&rt, alloc, &mut second)?;
-    keep(&rt, alloc, &mut first, &stored(alloc)?, &before(alloc)?)?;
-    keep(
-        &rt,
-        alloc,
-        &mut first,
-        &migration(alloc)?,
-        &migrated(alloc)?,
-    )?;
-    keep(&rt, alloc, &mut first, &changes(alloc)?, &changed(alloc)?)?;
+    keep(&rt, alloc, &mut first)?;
     refuse(&rt, alloc, &mut second)?;
     drop(first);
     // The file stands for itself.
@@ -228,7 +227,6 @@ fn a_file_that_is_no_database_is_refused_and_stays(rt: HostRuntime) -> Result<()
     fs::remove_file(&rt, path)?;
     // The next call tries again, and makes the file.
     assert!(rt; reads(rt.alloc(), &mut keeper, &[])?);
-    drop(keeper);
     fs::remove_file(&rt, path)?;
     fs::remove_file(&rt, "aq_sqlite_no_database-wal")?;
     Ok(())
