@@ -15,6 +15,25 @@ fn bytes(alloc: Global, text: &str) -> Result<Bytes, Fail> {
     Ok(Bytes::from_vec(text.as_bytes().to_vec(alloc)?))
 }
 
+/// A row of each table: the last field of the monitor's line, or of an observation its hour, value,
+/// method and null code.
+#[derive(Clone, Copy)]
+enum Kept {
+    Monitor(&'static str),
+    First(i64, Option<i64>, &'static str),
+    Load,
+    Second(i64, Option<i64>, Option<i64>, &'static str),
+}
+
+fn row_of(alloc: Global, kept: Kept) -> Result<Row, Fail> {
+    match kept {
+        Kept::Monitor(line) => monitor(alloc, line),
+        Kept::First(hour, value, null) => first(alloc, hour, value, null),
+        Kept::Load => load(alloc),
+        Kept::Second(hour, value, method, null) => second(alloc, hour, value, method, null),
+    }
+}
+
 fn monitor(alloc: Global, line: &str) -> Result<Row, Fail> {
     Ok(Row::office(OfficeRow {
         kind: 1,
@@ -23,8 +42,7 @@ fn monitor(alloc: Global, line: &str) -> Result<Row, Fail> {
     }))
 }
 
-/// An observation as version 1 kept it.
-fn of_version_1(alloc: Global, hour: i64, value: Option<i64>, null: &str) -> Result<Row, Fail> {
+fn first(alloc: Global, hour: i64, value: Option<i64>, null: &str) -> Result<Row, Fail> {
     Ok(Row::observation(ObsRow {
         site: 60_371_103,
         pollutant: 1,
@@ -36,8 +54,7 @@ fn of_version_1(alloc: Global, hour: i64, value: Option<i64>, null: &str) -> Res
     }))
 }
 
-/// An observation as it is kept today.
-fn of_today(
+fn second(
     alloc: Global,
     hour: i64,
     value: Option<i64>,
@@ -67,6 +84,40 @@ fn load(alloc: Global) -> Result<Row, Fail> {
     }))
 }
 
+fn rows_of(alloc: Global, kept: &[Kept]) -> Result<Vec<Row>, Fail> {
+    let mut rows = Vec::new(alloc);
+    for kept in kept {
+        rows.push(row_of(alloc, *kept)?)?;
+    }
+    Ok(rows)
+}
+
+/// A row that is put, or the key of a row that is dropped.
+#[derive(Clone, Copy)]
+enum Change {
+    Put(Kept),
+    DropFirst(i64),
+    DropSecond(i64),
+    DropLoad,
+}
+
+fn change_of(alloc: Global, change: Change) -> Result<RowChange, Fail> {
+    Ok(match change {
+        Change::Put(kept) => RowChange::put(row_of(alloc, kept)?),
+        Change::DropFirst(hour) => RowChange::drop(RowKey::observation(60_371_103, 1, 1, hour)),
+        Change::DropSecond(hour) => RowChange::drop(RowKey::second(60_371_103, 1, 1, hour)),
+        Change::DropLoad => RowChange::drop(RowKey::load(5)),
+    })
+}
+
+fn batch_of(alloc: Global, changes: &[Change]) -> Result<Vec<RowChange>, Fail> {
+    let mut batch = Vec::new(alloc);
+    for change in changes {
+        batch.push(change_of(alloc, *change)?)?;
+    }
+    Ok(batch)
+}
+
 /// Commits a batch, of which the keys are seen to rise.
 fn commit<K: Keeper>(
     rt: &impl Abort,
@@ -79,88 +130,85 @@ fn commit<K: Keeper>(
 }
 
 /// Whether a keeper reads these rows, in this order, with all their fields.
-fn reads<K: Keeper>(alloc: Global, keeper: &mut K, rows: &[Row]) -> Result<bool, Fail> {
+fn reads<K: Keeper>(alloc: Global, keeper: &mut K, rows: &[Kept]) -> Result<bool, Fail> {
     let Ok(found) = keeper.read_all(alloc) else {
         return Ok(false);
     };
-    let found = format!(in alloc; "{:?}", found.as_slice())?;
-    let rows = format!(in alloc; "{:?}", rows)?;
-    Ok(found.as_str() == rows.as_str())
+    are_same(alloc, found.as_slice(), &rows_of(alloc, rows)?)
 }
 
-/// Rows in all four tables are put.
-fn stored(alloc: Global) -> Result<Vec<RowChange>, Fail> {
-    Ok(vec![in alloc;
-        RowChange::put(monitor(alloc, "XM|Y")?),
-        RowChange::put(of_version_1(alloc, 214_762, Some(71), "")?),
-        RowChange::put(of_version_1(alloc, 214_763, None, "AN")?),
-        RowChange::put(of_today(alloc, 214_764, Some(72), Some(87), "")?),
-        RowChange::put(load(alloc)?),
-    ]?)
+fn are_same(alloc: Global, a: &[Row], b: &[Row]) -> Result<bool, Fail> {
+    let a = format!(in alloc; "{a:?}")?;
+    let b = format!(in alloc; "{b:?}")?;
+    Ok(a.as_str() == b.as_str())
 }
 
-/// The rows that then stand.
-fn before(alloc: Global) -> Result<Vec<Row>, Fail> {
-    Ok(vec![in alloc;
-        monitor(alloc, "XM|Y")?,
-        of_version_1(alloc, 214_762, Some(71), "")?,
-        of_version_1(alloc, 214_763, None, "AN")?,
-        load(alloc)?,
-        of_today(alloc, 214_764, Some(72), Some(87), "")?,
-    ]?)
-}
+/// Rows of all four tables.
+const STORED: [Change; 5] = [
+    Change::Put(Kept::Monitor("XM|Y")),
+    Change::Put(Kept::First(214_762, Some(71), "")),
+    Change::Put(Kept::First(214_763, None, "AN")),
+    Change::Put(Kept::Second(214_764, Some(72), Some(87), "")),
+    Change::Put(Kept::Load),
+];
 
-/// The batch of a migration: the rows of version 1 are dropped, and then put where rows of today stand.
-fn migration(alloc: Global) -> Result<Vec<RowChange>, Fail> {
-    Ok(vec![in alloc;
-        RowChange::drop(RowKey::observation(60_371_103, 1, 1, 214_762)),
-        RowChange::drop(RowKey::observation(60_371_103, 1, 1, 214_763)),
-        RowChange::put(of_today(alloc, 214_762, Some(71), None, "")?),
-        RowChange::put(of_today(alloc, 214_763, None, None, "AN")?),
-    ]?)
-}
+const BEFORE: [Kept; 5] = [
+    Kept::Monitor("XM|Y"),
+    Kept::First(214_762, Some(71), ""),
+    Kept::First(214_763, None, "AN"),
+    Kept::Load,
+    Kept::Second(214_764, Some(72), Some(87), ""),
+];
 
-/// The rows that then stand.
-fn migrated(alloc: Global) -> Result<Vec<Row>, Fail> {
-    Ok(vec![in alloc;
-        monitor(alloc, "XM|Y")?,
-        load(alloc)?,
-        of_today(alloc, 214_762, Some(71), None, "")?,
-        of_today(alloc, 214_763, None, None, "AN")?,
-        of_today(alloc, 214_764, Some(72), Some(87), "")?,
-    ]?)
-}
+/// The batch of a migration.
+const MIGRATION: [Change; 4] = [
+    Change::DropFirst(214_762),
+    Change::DropFirst(214_763),
+    Change::Put(Kept::Second(214_762, Some(71), None, "")),
+    Change::Put(Kept::Second(214_763, None, None, "AN")),
+];
 
-/// Others are put in the places of rows, and some are dropped.
-fn changes(alloc: Global) -> Result<Vec<RowChange>, Fail> {
-    Ok(vec![in alloc;
-        RowChange::put(monitor(alloc, "XM|N")?),
-        RowChange::drop(RowKey::second(60_371_103, 1, 1, 214_762)),
-        RowChange::put(of_today(alloc, 214_763, Some(70), Some(0), "")?),
-        RowChange::drop(RowKey::second(60_371_103, 1, 1, 214_764)),
-        RowChange::drop(RowKey::load(5)),
-    ]?)
-}
+const MIGRATED: [Kept; 5] = [
+    Kept::Monitor("XM|Y"),
+    Kept::Load,
+    Kept::Second(214_762, Some(71), None, ""),
+    Kept::Second(214_763, None, None, "AN"),
+    Kept::Second(214_764, Some(72), Some(87), ""),
+];
 
-/// The rows that then stand.
-fn changed(alloc: Global) -> Result<Vec<Row>, Fail> {
-    Ok(vec![in alloc;
-        monitor(alloc, "XM|N")?,
-        of_today(alloc, 214_763, Some(70), Some(0), "")?,
-    ]?)
-}
+/// Rows in the places of others, and drops.
+const CHANGES: [Change; 5] = [
+    Change::Put(Kept::Monitor("XM|N")),
+    Change::DropSecond(214_762),
+    Change::Put(Kept::Second(214_763, Some(70), Some(0), "")),
+    Change::DropSecond(214_764),
+    Change::DropLoad,
+];
+
+const CHANGED: [Kept; 2] = [
+    Kept::Monitor("XM|N"),
+    Kept::Second(214_763, Some(70), Some(0), ""),
+];
 
 /// Commits a batch and reads the rows that then stand.
-fn keep<K: Keeper>(
+fn take<K: Keeper>(
     rt: &impl Abort,
     alloc: Global,
     keeper: &mut K,
-    batch: &[RowChange],
-    rows: &[Row],
+    batch: &[Change],
+    rows: &[Kept],
 ) -> Result<(), Fail> {
-    assert!(rt; commit(rt, alloc, keeper, batch).is_ok());
+    let batch = batch_of(alloc, batch)?;
+    assert!(rt; commit(rt, alloc, keeper, &batch).is_ok());
     assert!(rt; reads(alloc, keeper, rows)?);
     Ok(())
+}
+
+/// What a keeper of empty tables does with one batch after another.
+fn keep<K: Keeper>(rt: &impl Abort, alloc: Global, keeper: &mut K) -> Result<(), Fail> {
+    take(rt, alloc, keeper, &STORED, &BEFORE)?;
+    take(rt, alloc, keeper, &MIGRATION, &MIGRATED)?;
+    take(rt, alloc, keeper, &CHANGES, &CHANGED)
 }
 
 /// What a keeper does whose tables cannot be reached.
@@ -199,20 +247,12 @@ fn a_file_has_one_keeper_at_a_time(rt: HostRuntime) -> Result<(), Fail> {
     let mut second = at(&rt, PATH)?;
     assert!(rt; reads(alloc, &mut first, &[])?);
     refuse(&rt, alloc, &mut second)?;
-    keep(&rt, alloc, &mut first, &stored(alloc)?, &before(alloc)?)?;
-    keep(
-        &rt,
-        alloc,
-        &mut first,
-        &migration(alloc)?,
-        &migrated(alloc)?,
-    )?;
-    keep(&rt, alloc, &mut first, &changes(alloc)?, &changed(alloc)?)?;
+    keep(&rt, alloc, &mut first)?;
     refuse(&rt, alloc, &mut second)?;
     drop(first);
     // The file stands for itself.
     fs::remove_file(&rt, "aq_sqlite_test/airdv.sqlite-wal")?;
-    assert!(rt; reads(alloc, &mut second, &changed(alloc)?)?);
+    assert!(rt; reads(alloc, &mut second, &CHANGED)?);
     fs::remove_dir_all(&rt, FOLDER)?;
     Ok(())
 }
@@ -228,7 +268,6 @@ fn a_file_that_is_no_database_is_refused_and_stays(rt: HostRuntime) -> Result<()
     fs::remove_file(&rt, path)?;
     // The next call tries again, and makes the file.
     assert!(rt; reads(rt.alloc(), &mut keeper, &[])?);
-    drop(keeper);
     fs::remove_file(&rt, path)?;
     fs::remove_file(&rt, "aq_sqlite_no_database-wal")?;
     Ok(())
