@@ -1,6 +1,6 @@
 -- The office that a command opens, and one that it does not.
 use Rattle.std.proofs.Common.{◌≡◌, ℕ, ◌⊎◌, inl, inr, Bool, true, false, cond, ◌||◌, List, Option, Some, None, refl, sym, ap, subst, ◌∙◌, arith}
-use Rattle.std.specs.Prelude.{◌↔◌, IfErr, IfOk, IfSome, IsTrue, Result, Ok, Err, IsErrAnd}
+use Rattle.std.specs.Prelude.{◌↔◌, IfErr, IfSome, IsTrue, Result, Err, IsErrAnd}
 use Rattle.std.specs.Option.{option_map}
 use Rattle.std.proofs.Math.Bool.{or-true}
 use Rattle.aq_base.specs.Faults.{HasRisen}
@@ -14,7 +14,7 @@ use Rattle.aq_rows.specs.declared.opening.OpenFault.{OpenFault}
 use Rattle.aq_rows.specs.declared.opening.OpenFault.TheVariants as opening
 use Rattle.aq_desk.proofs.Tables.{cut_gives, keeps_same, keeps_at_most_opened, of_any, stopped_gives}
 use Rattle.aq_desk.proofs.Unread.{stopped_by}
-use Rattle.aq_desk.specs.Command.{AtMostOpened, Outcome, RisesAt, leaving, opened_rows, unwritten}
+use Rattle.aq_desk.specs.Command.{Outcome, RisesAt, leaving, opened_rows, unwritten}
 use Rattle.aq_desk.specs.Ending.{damaged}
 use Rattle.aq_desk.specs.Office.{HasOpened, IsOpened, IsUnopened, over_damage, over_office}
 use Rattle.aq_desk.specs.Outside.{IsAll, Over}

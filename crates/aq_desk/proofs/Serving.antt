@@ -3,7 +3,7 @@ use Rattle.std.proofs.Common.{◌≡◌, ℕ, ◌⊎◌, inl, inr, List, Option,
 use Rattle.std.specs.Prelude.{Result, Ok, Err, IfSome, IsErrAnd}
 use Rattle.std.specs.Option.{option_map}
 use Rattle.aq_rules.specs.Kept.Migration.{opening_damage}
-use Rattle.aq_rules.specs.Kept.Rows.{Row, office_in, rows_of}
+use Rattle.aq_rules.specs.Kept.Rows.{Row, rows_of}
 use Rattle.aq_rules.specs.Office.Office.{Office}
 use Rattle.aq_serve.specs.Door.{DoorView}
 use Rattle.aq_serve.specs.Serving.{Serves, World}
