@@ -1,21 +1,17 @@
 //! Dates and times of the expansions.
 use aq_base::{Day, Hour, LAST_DAY, LAST_HOUR};
-use aq_cal::{civil_of, day_of, hour_of};
+use aq_cal::{civil_of, hour_of};
+use aq_rd::{day_word, time_in};
 use std::alloc::{AllocError, Global};
 
 /// The day of `YYYY-MM-DD`.
 pub fn day_in(text: &str) -> Option<Day> {
-    let (year, rest) = text.split_once('-')?;
-    let (month, day) = rest.split_once('-')?;
-    day_of(year.parse().ok()?, month.parse().ok()?, day.parse().ok()?)
+    day_word(text.as_bytes())
 }
 
 /// The hour of `HH:00` on a day.
 pub fn hour_in(day: Day, text: &str) -> Option<Hour> {
-    let hour: u8 = text.strip_suffix(":00")?.parse().ok()?;
-    if hour > 23 {
-        return None;
-    }
+    let hour = time_in(text.as_bytes())?;
     Some(hour_of(day, hour))
 }
 
