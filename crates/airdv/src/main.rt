@@ -1,13 +1,11 @@
 //! The program: the standard streams, the file of the tables, the door of the network, and the top call.
 #![tactic(auto)]
 
-ghost use Rattle.std.specs.Prelude.{◌≡◌, ◌↔◌, false, IfOk, IfSome, IsNone, OnErr, map, string_bytes};
+ghost use Rattle.std.specs.Prelude.{◌≡◌, ◌↔◌, false, IfOk, IsNone, OnErr, map, string_bytes};
 ghost use Rattle.std.specs.Process.{exit_status};
-ghost use Rattle.aq_desk.specs.Command.{Follows, Tells, message_for};
+ghost use Rattle.aq_desk.specs.Command.{Tells};
 ghost use Rattle.aq_desk.specs.Ending.{no_memory};
-ghost use Rattle.aq_desk.specs.Outside.{Over};
-ghost use Rattle.aq_desk.specs.Run.{connections_for, outcome_for, uses, uses_keeper};
-ghost use Rattle.aq_desk.specs.Serve.{HasServed};
+ghost use Rattle.aq_desk.specs.Run.{Runs, uses, uses_keeper};
 ghost use Rattle.aq_words.specs.Words.{command_of};
 
 mod streams;
@@ -59,9 +57,7 @@ fn obey<K: Keeper, D: Door, S: Source, O: Sink, E: Sink>(
     errors: &mut E,
 ) -> ExitCode
     requires none_open { (D.seen door.old).is_open ≡ false }
-    ensures headline { IfOk words (λ words. IsNone (connections_for (command_of (map string_bytes words.items))) → Over (K.tables keeper.old) (λ rows. Over (S.left input.old) (λ body. Follows (outcome_for (command_of (map string_bytes words.items)) rows body) (exit_status result) (O.written output.old) (O.written output.new) (K.tables keeper.old) (K.tables keeper.new)))) }
-    ensures served { IfOk words (λ words. IfSome (connections_for (command_of (map string_bytes words.items))) (λ connections. Over (K.tables keeper.old) (λ rows. HasServed connections rows (exit_status result) (record { door = D.seen door.old; tables = K.tables keeper.old; faults = K.faults keeper.old }) (record { door = D.seen door.new; tables = K.tables keeper.new; faults = K.faults keeper.new })))) }
-    ensures messages { IfOk words (λ words. Over (K.tables keeper.old) (λ rows. Over (S.left input.old) (λ body. Tells (message_for (outcome_for (command_of (map string_bytes words.items)) rows body) (exit_status result)) (E.faults errors.old) (E.faults errors.new) (E.written errors.old) (E.written errors.new)))) }
+    ensures headline { IfOk words (λ words. Runs (command_of (map string_bytes words.items)) (exit_status result) (record { around = record { door = D.seen door.old; tables = K.tables keeper.old; faults = K.faults keeper.old }; left = S.left input.old; written = O.written output.old; said = E.written errors.old; unsaid = E.faults errors.old }) (record { around = record { door = D.seen door.new; tables = K.tables keeper.new; faults = K.faults keeper.new }; left = S.left input.new; written = O.written output.new; said = E.written errors.new; unsaid = E.faults errors.new })) }
     ensures no_command { IfOk words (λ words. (exit_status result ≡ 2) ↔ IsNone (command_of (map string_bytes words.items))) }
     ensures unused_keeper { IfOk words (λ words. uses uses_keeper (command_of (map string_bytes words.items)) ≡ false → keeper.new ≡ keeper.old) }
     ensures no_memory { OnErr words (exit_status result ≡ 7) }

@@ -1,6 +1,6 @@
 -- The registered sites in rising order, one after another as the records ask for them, and the monitors of a site.
 use Rattle.std.proofs.Common.{◌≡◌, ℕ, Bool, true, false, cond, not, ◌&&◌, ◌||◌, ◌==◌, Option, Some, None, is_some, List, [], ◌∷◌, refl, ap, sym, subst, ◌∙◌, arith, inl, inr}
-use Rattle.std.specs.Prelude.{nat_lt, nat_le, filter, filter_map, slice_get}
+use Rattle.std.specs.Prelude.{nat_lt, filter, filter_map, slice_get}
 use Rattle.std.specs.List.{AllByRecursion, cons_option, list_all, list_any}
 use Rattle.std.proofs.lemmas.Bool.{false≢true, and_from, and_parts, cases_Bool}
 use Rattle.std.proofs.lemmas.Bool.Decides.{nat_tests}
@@ -12,7 +12,7 @@ use Rattle.aq_base.specs.declared.monitor.MonitorId.{MonitorId}
 use Rattle.aq_base.specs.declared.office.OfficeRecord.{OfficeRecord}
 use Rattle.aq_base.specs.declared.office.OfficeRecord.TheVariants.{Monitor}
 use Rattle.aq_rules.specs.Office.Monitors.{is_same_site, is_same_pollutant}
-use Rattle.aq_rules.specs.Office.Office.{Office, IsOffice, comes_before, fits_records, has_monitor, is_poc, is_same, is_site, parameter_number, record_rank, registers, rises, rises_from, row_at, series_numbers, site_numbers, sites_of, with_row, with_site}
+use Rattle.aq_rules.specs.Office.Office.{Office, IsOffice, comes_before, fits_records, has_monitor, is_same, parameter_number, record_rank, registers, rises, rises_from, row_at, series_numbers, site_numbers, sites_of, with_row, with_site}
 use Rattle.aq_rules.specs.Office.Questions.{first_given, is_site_after, next_poc, next_site, poc_above, site_above}
 use Rattle.aq_rules.specs.Office.RowOrder.{before-total, before-trans, with_row-rises}
 use Rattle.aq_rules.specs.Shown.OtherSheets.{rising_sites, sites_with}
@@ -20,6 +20,7 @@ use Rattle.aq_rules.proofs.Lookups.{found-with, one_list, same-is}
 use Rattle.aq_rules.proofs.RowsPlaced.{with_row-all}
 use Rattle.aq_rules.proofs.SitesCounted.{lists}
 use Rattle.aq_rules.proofs.Spans.{before-itself}
+use Rattle.aq_series.proofs.SitePocs.{some_poc}
 
 -- ---- filters
 
@@ -291,23 +292,12 @@ same-series a b p q =
     four-tests (a.state == b.state) (a.county == b.county) (a.number == b.number) (parameter_number p == parameter_number q)
     ∙ ap (λ c. is_same_site a b && c) (same-parameter p q)
 
--- a registered POC is no zero
-pub some-poc : (id : MonitorId) (duration : Duration) (eligible : Bool) (office : Office) → fits_records office (Monitor id duration eligible) ≡ true → nat_lt 0 id.poc ≡ true
-some-poc id duration eligible office fits =
-    let a = and_parts _ _ fits in
-    let b = and_parts _ _ a.0 in
-    let c = and_parts _ _ b.0 in
-    let d = and_parts _ _ c.0 in
-    let e = and_parts (is_site id.site) (is_poc id.poc) d.0 in
-    let f = and_parts (nat_le 1 id.poc) (nat_le id.poc 99) e.1 in
-    grind (arith, nat_tests, f.0)
-
 module _ (site : Site) (pollutant : Pollutant) (office : Office) where
   first-poc : (records : List OfficeRecord) → list_all (fits_records office) records ≡ true
       → is_some (first_given (poc_above site pollutant 0) records) ≡ list_any (registers site pollutant) records
   first-poc [] fits = refl
   first-poc (Monitor id duration eligible ∷ records) fits =
-      choose (is_same_site id.site site && is_same_pollutant id.pollutant pollutant) (nat_lt 0 id.poc) (some-poc id duration eligible office parts.0) (first-poc records parts.1)
+      choose (is_same_site id.site site && is_same_pollutant id.pollutant pollutant) (nat_lt 0 id.poc) (some_poc id duration eligible office parts.0) (first-poc records parts.1)
       ∙ ap (λ b. b || list_any (registers site pollutant) records) (sym (same-series id.site site id.pollutant pollutant))
     where
       parts : (fits_records office (Monitor id duration eligible) ≡ true) × (list_all (fits_records office) records ≡ true)

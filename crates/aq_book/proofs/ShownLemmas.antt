@@ -33,8 +33,8 @@ use Rattle.aq_book.specs.Questions.{shown_at}
 use Rattle.aq_registry.specs.Registry.{office_with}
 use Rattle.aq_series.specs.DayCells.{monitor_at, pocs_after}
 use Rattle.aq_series.specs.OfficeView.{office_of}
-use Rattle.aq_series.proofs.SitePocs.{pocs-end, pocs-next, same_rank}
-use Rattle.aq_book.proofs.RisingSites.{Above, above-first, rises-behind, some-poc}
+use Rattle.aq_series.proofs.SitePocs.{pocs-end, pocs-next, same_rank, some_poc}
+use Rattle.aq_book.proofs.RisingSites.{Above, above-first, rises-behind}
 
 abbrev Entry : Type 0
 Entry = ObsKey × Observation
@@ -130,7 +130,7 @@ numbered m office (Monitor id duration eligible ∷ records) fits there =
     parts = and_parts _ _ fits
 
     choose : (b : Bool) → is_same_monitor id m ≡ b → (b || list_any (is_of m) records) ≡ true → (list_any (is_of m) records ≡ true → nat_lt 0 m.poc ≡ true) → nat_lt 0 m.poc ≡ true
-    choose true same there rest = subst (λ (k : MonitorId). nat_lt 0 k.poc ≡ true) (same_monitor id m same) (some-poc id duration eligible office parts.0)
+    choose true same there rest = subst (λ (k : MonitorId). nat_lt 0 k.poc ≡ true) (same_monitor id m same) (some_poc id duration eligible office parts.0)
     choose false other there rest = rest there
 numbered m office (r ∷ records) fits there = numbered m office records (and_parts _ _ fits).1 there
 

@@ -1,14 +1,14 @@
 //! The migration of rows of version 1, which kept no methods.
 ghost use Rattle.std.specs.Prelude.{◌≡◌, false, Some, IfErr, IfOk};
-ghost use Rattle.aq_rules.specs.Kept.Rows.{are_office_rows, place_of, table_of};
+ghost use Rattle.aq_rules.specs.Kept.Rows.{are_office_rows};
 ghost use Rattle.aq_rules.specs.Kept.Migration.{can_be_opened, opening_damage};
 ghost use Rattle.aq_book.specs.Migrating.{IsFound, IsMigrationFault, Migrates, is_opened};
 
 use crate::batch::RowChanges;
-use crate::version_1::{has_old_tables, migrated, migration_batch, table_of};
+use crate::version_1::{has_old_tables, migrated, migration_batch};
 use aq_base::Memory;
 use aq_keeper::{Row, RowChange, Rows};
-use aq_rows::{OpenFault, Place, open};
+use aq_rows::{OpenFault, Place, open, place_of};
 use std::alloc::Global;
 
 /// What has to be changed where rows of version 1 are kept, and the rows as they are then.
@@ -42,22 +42,7 @@ pub fn migrate(alloc: Global, rows: &[Row]) -> Result<Option<Migration>, OpenFau
     ensures migrated { IfOk result (Migrates rows.now) }
     ensures damaged { IfErr result (IsMigrationFault rows.now) }
 {
-    match migration_or_place(alloc, rows) {
-        Ok(Ok(migration)) => Ok(migration),
-        Ok(Err(place)) => Err(OpenFault::Damaged(place)),
-        Err(Memory) => Err(OpenFault::Memory),
-    }
-}
-
-/// The same, with want of memory apart.
-fn migration_or_place(
-    alloc: Global,
-    rows: &[Row],
-) -> Result<Result<Option<Migration>, Place>, Memory>
-    ensures migrated { IfOk result (λ answer. IfOk answer (Migrates rows.now)) }
-    ensures damaged { IfOk result (λ answer. IfErr answer (λ place. opening_damage rows.now ≡ Some place)) }
-{
-    Ok(match find(alloc, rows)? {
+    match find(alloc, rows)? {
         Found::Office => Ok(None),
         Found::Version1(office) => {
             let batch = migration_batch(alloc, rows)?;
@@ -66,8 +51,8 @@ fn migration_or_place(
                 batch,
             }))
         }
-        Found::Neither => Err(first_unopened(alloc, rows)?),
-    })
+        Found::Neither => Err(OpenFault::Damaged(first_unopened(alloc, rows)?)),
+    }
 }
 
 /// What rows are.
@@ -143,19 +128,4 @@ fn can_be_opened(alloc: Global, rows: &[Row]) -> Result<bool, Memory>
 {
     let found = find(alloc, rows)?;
     Ok(found.can_be_opened())
-}
-
-/// The place of a row after others.
-fn place_of(before: &[Row], row: &Row) -> Place
-    ensures { result ≡ place_of before.now row.now }
-{
-    let table = table_of(row);
-    let index = before
-        .iter()
-        .filter(|other| table_of(other) == table)
-        .count();
-    Place {
-        table,
-        index: index as u64,
-    }
 }

@@ -5,9 +5,9 @@ ghost use Rattle.aq_rules.specs.Ozone.OzoneVerdict as verdicts;
 ghost use Rattle.aq_rules.specs.Ozone.OzoneYear as years;
 ghost use Rattle.aq_series.specs.OfficeView.{office_of};
 
-use aq_base::{Day, Items, Memory, SiteId, Steps};
+use aq_base::{Items, Memory, SiteId, Steps};
 use aq_cal::year_span;
-use aq_ozone::{OzoneDay, day_of_windows, day_windows, year};
+use aq_ozone::{Days, OzoneDay, day_of_windows, year};
 use aq_registry::Registry;
 use aq_shelf::Shelf;
 use aq_verdict::OzoneYear;
@@ -17,7 +17,7 @@ use std::sync::ledger::Ledger;
 /// Ozone days, in order. Contracts see the list of them.
 pub type OzoneDays = Items<OzoneDay>;
 
-/// The ozone days of a year, one by one.
+/// The ozone days of a year, by one walk over its hours.
 pub(crate) fn days_of_year<L: Ledger>(
     alloc: Global,
     shelf: &Shelf,
@@ -29,13 +29,13 @@ pub(crate) fn days_of_year<L: Ledger>(
     requires first { FIRST_YEAR ≤ year }
     requires last { year ≤ LAST_YEAR }
     ensures days { IfOk result (λ days. days ≡ years.ozone_days (office_of registry.now shelf.now) site year) }
-    ensures steps { steps.new ≤ steps.old + 192 * 366 }
+    ensures steps { steps.new ≤ steps.old + 200 * 367 }
 {
     let (first, count) = year_span(year);
+    let mut walk = Days::new(shelf, registry, site, first, steps);
     let mut days = Items::new(alloc);
-    for i in 0..count {
-        let day = Day::new(first.number() + i);
-        days.push(day_of_windows(&day_windows(shelf, registry, site, day, steps)))?;
+    for _i in 0..count {
+        days.push(day_of_windows(&walk.next(shelf, registry, site, steps)))?;
     }
     Ok(days)
 }

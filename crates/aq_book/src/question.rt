@@ -17,7 +17,7 @@ use crate::export::{ShownRows, shown_of};
 use crate::fault::{AskFault, UnknownSite};
 use crate::ozone::{OzoneDays, days_of_year};
 use aq_base::{Day, Pollutant, SiteId, Steps};
-use aq_ozone::{DayWindows, day_windows, uncounted_windows};
+use aq_ozone::{DayWindows, day_windows};
 use aq_verdict::{OzoneYear, Pm10Year, PmYear};
 use std::alloc::Global;
 use std::sync::ledger::Ledger;
@@ -46,15 +46,6 @@ impl Book {
         Ok(day_windows(&self.shelf, &self.registry, site, day, steps))
     }
 
-    /// The seventeen 8-hour averages of a day of a site, for callers that count no steps.
-    pub fn uncounted_windows(&self, site: SiteId, day: Day) -> Result<DayWindows, UnknownSite>
-        ensures windows { IfOk result (λ windows. windows ≡ ozone.windows self.now site day) }
-        ensures registered { is_ok result ≡ is_registered self.now site }
-    {
-        self.find(site)?;
-        Ok(uncounted_windows(&self.shelf, &self.registry, site, day))
-    }
-
     /// The first and the last day of the ozone season of a site and year (40 CFR Part 50, Appendix U,
     /// 4(b)), by two searches of the records. It takes no memory. The year is 1990 to 2059.
     pub fn season(&self, site: SiteId, year: u16) -> Result<(Day, Day), UnknownSite>
@@ -78,7 +69,7 @@ impl Book {
     }
 
     /// The ozone days of a site and year, one for each day of the year (40 CFR Part 50, Appendix U, 3(c)
-    /// and (d)), in at most 192 steps a day. The year is 1990 to 2059.
+    /// and (d)), in at most 200 steps a day. The year is 1990 to 2059.
     pub fn ozone_days<L: Ledger>(
         &self,
         alloc: Global,
@@ -91,7 +82,7 @@ impl Book {
         ensures days { IfOk result (λ days. days ≡ years.ozone_days self.now site year) }
         ensures registered { OnOk result (is_registered self.now site ≡ true) }
         ensures refused { IfErr result (λ fault. IsAskFault fault (is_registered self.now site)) }
-        ensures steps { steps.new ≤ steps.old + 192 * 366 }
+        ensures steps { steps.new ≤ steps.old + 200 * 367 }
     {
         self.find(site)?;
         let days = days_of_year(alloc, &self.shelf, &self.registry, site, year, steps)?;

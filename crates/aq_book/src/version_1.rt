@@ -1,7 +1,7 @@
 //! Rows of version 1, and the rows of today that they become.
 ghost use Rattle.std.specs.Prelude.{◌≡◌, ◌++◌, not, filter, map, IfOk, OnOk};
 ghost use Rattle.std.specs.List.{list_any};
-ghost use Rattle.aq_rules.specs.Kept.Rows.{OfObsRow, table_of, tables_follow};
+ghost use Rattle.aq_rules.specs.Kept.Rows.{OfObsRow, tables_follow};
 ghost use Rattle.aq_rules.specs.Kept.RowChanges.{DropRow, PutRow, row_key};
 ghost use Rattle.aq_rules.specs.Kept.Migration.{is_first, is_second, migrated, migrated_row, migration_batch, second_row};
 ghost use Rattle.aq_book.specs.Migrating.{has_old_tables};
@@ -9,6 +9,7 @@ ghost use Rattle.aq_book.specs.Migrating.{has_old_tables};
 use crate::batch::RowChanges;
 use aq_base::{Bytes, Memory};
 use aq_keeper::{ObsRow, ObsRow2, Row, RowChange, RowContent, RowKey, Rows};
+use aq_rows::table_of;
 use std::alloc::Global;
 
 /// Whether rows stand in the tables of version 1: some observation has no place for a method, none has one,
@@ -57,18 +58,6 @@ fn do_tables_follow(rows: &[Row]) -> bool
         before = row;
     }
     true
-}
-
-/// The table of a row by its number, in the order of tables.
-pub(crate) fn table_of(row: &Row) -> u8
-    ensures { result ≡ table_of row.now }
-{
-    match &row.content {
-        RowContent::Office(_) => 0,
-        RowContent::Observation(_) => 1,
-        RowContent::Load(_) => 2,
-        RowContent::Second(_) => 3,
-    }
 }
 
 /// The rows with each observation of version 1 in the last table, without a method.

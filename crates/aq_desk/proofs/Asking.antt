@@ -2,6 +2,7 @@
 use Rattle.std.proofs.Common.{◌≡◌, ℕ, Bool, true, false, List, Option, sym, ap, subst, ◌∙◌, arith}
 use Rattle.std.specs.Prelude.{Result, Ok, Err, IfErr, IfOk, IsErrAnd, IsTrue, if◌then◌else◌}
 use Rattle.aq_base.specs.declared.ask.Ask.{Ask}
+use Rattle.aq_keeper.specs.Told.{told_through}
 use Rattle.aq_rules.specs.Kept.Rows.{Row, rows_of}
 use Rattle.aq_rules.specs.Office.Office.{Office}
 use Rattle.aq_rules.specs.Shown.Answer.{Answer, OfSheet, OfExport, NoSite, NoLoad, Reply, Windows, Days, Pm25, Pm10, Value, Report, Export, of_site}
@@ -16,7 +17,7 @@ use Rattle.aq_desk.proofs.Tables.{cut_gives, keeps_opened, printed_gives, stoppe
 use Rattle.aq_desk.specs.Ask.{IsNoSite, IsStopOf, IsUnanswered, MayBe, answered, ask_outcome}
 use Rattle.aq_desk.specs.Command.{Keeps, Outcome, Printout, leaving, printed, unwritten}
 use Rattle.aq_desk.specs.Office.{HasOpened, IsOpened, IsUnopened}
-use Rattle.aq_desk.specs.Outside.{Over}
+use Rattle.aq_desk.specs.Outside.{OfTold}
 use Rattle.aq_desk.specs.Stop.{Gives, IsUnprinted, ending_at, status_of}
 use Rattle.aq_desk.specs.declared.stop.Stop.{Stop}
 use Rattle.aq_desk.specs.declared.stop.Stop.TheVariants as stops
@@ -85,7 +86,7 @@ ask_opened : (ask : Ask) (rows : List Row) (office : Office) → IsOpened rows o
 unfolding ask_outcome
 ask_opened ask rows office opened = over_opened rows office (λ o. leaving (rows_of o) (answered ask (questions.answer o ask))) opened
 
-pub unopened_ask : (ask : Ask) (before after : Option (List Row)) (m n : ℕ) (stop : Stop) (answer : Result (List ℕ) Stop) → IsErrAnd answer (λ why. why ≡ stop) → IsUnopened before after m n stop → Over before (λ rows. Gives (ask_outcome ask rows) answer before after)
+pub unopened_ask : (ask : Ask) (before after : Option (List Row)) (m n : ℕ) (stop : Stop) (answer : Result (List ℕ) Stop) → IsErrAnd answer (λ why. why ≡ stop) → IsUnopened before after m n stop → OfTold (told_through before after) (λ rows. Gives (ask_outcome ask rows) answer before after)
 unfolding ask_outcome
 unopened_ask ask before after m n stop answer is cause =
     unopened_gives before after m n stop (λ office. leaving (rows_of office) (answered ask (questions.answer office ask))) answer is cause
@@ -114,7 +115,7 @@ module _ (rows : List Row) (before after : Option (List Row)) (keeps : (status :
 
 pub answered_over : (ask : Ask) (office : Office) (answer : Result (List ℕ) Stop) (before after : Option (List Row)) → HasOpened office before after
     → IfOk answer (λ text. answered ask (questions.answer office ask) ≡ printed text) → IfErr answer (IsUnanswered (answered ask (questions.answer office ask)))
-    → Over before (λ rows. Gives (ask_outcome ask rows) answer before after)
+    → OfTold (told_through before after) (λ rows. Gives (ask_outcome ask rows) answer before after)
 answered_over ask office answer before after has text refused =
     let over = has.opened in
     let P = λ (o : Outcome). Gives o answer before after in

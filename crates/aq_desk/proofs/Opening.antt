@@ -1,10 +1,13 @@
 -- The office that a command opens, and one that it does not.
 use Rattle.std.proofs.Common.{◌≡◌, ℕ, ◌⊎◌, inl, inr, Bool, true, false, cond, ◌||◌, List, Option, Some, None, refl, sym, ap, subst, ◌∙◌, arith}
-use Rattle.std.specs.Prelude.{◌↔◌, IfErr, IfSome, IsTrue, Result, Err, IsErrAnd}
+use Rattle.std.specs.Prelude.{◌↔◌, IfErr, IfOk, IfSome, IsSome, IsTrue, Result, Ok, Err, IsErrAnd}
 use Rattle.std.specs.Option.{option_map}
 use Rattle.std.proofs.Math.Bool.{or-true}
 use Rattle.aq_base.specs.Faults.{HasRisen}
 use Rattle.aq_book.proofs.OpenedFronts.{no-opening_damage}
+use Rattle.aq_book.specs.Migrating.{IsMigrationFault}
+use Rattle.aq_keeper.proofs.Telling.{stays, stays_as, stays_join, stays_still}
+use Rattle.aq_keeper.specs.Told.{Stays, told_through}
 use Rattle.aq_rules.specs.Kept.Migration.{are_version_1, can_be_opened, migrated, migration_batch, opening_damage}
 use Rattle.aq_rules.specs.Kept.RowChanges.{RowChange, with_row_changes}
 use Rattle.aq_rules.specs.Kept.Rows.{Place, Row, are_office_rows, damage, office_in, office_of_rows, rows_of}
@@ -12,12 +15,12 @@ use Rattle.aq_rules.specs.Office.Office.{IsOffice, Office}
 use Rattle.aq_rows.specs.Opening.{IsOpenFault}
 use Rattle.aq_rows.specs.declared.opening.OpenFault.{OpenFault}
 use Rattle.aq_rows.specs.declared.opening.OpenFault.TheVariants as opening
-use Rattle.aq_desk.proofs.Tables.{cut_gives, keeps_same, keeps_at_most_opened, of_any, stopped_gives}
+use Rattle.aq_desk.proofs.Tables.{cut_gives, keeps_at_most_opened, keeps_still, of_any, stopped_gives, tells_before, tells_still, told_since}
 use Rattle.aq_desk.proofs.Unread.{stopped_by}
-use Rattle.aq_desk.specs.Command.{Outcome, RisesAt, leaving, opened_rows, unwritten}
+use Rattle.aq_desk.specs.Command.{AtMostOpened, Outcome, RisesAt, leaving, opened_rows, unwritten}
 use Rattle.aq_desk.specs.Ending.{damaged}
 use Rattle.aq_desk.specs.Office.{HasOpened, IsOpened, IsUnopened, over_damage, over_office}
-use Rattle.aq_desk.specs.Outside.{IsAll, Over}
+use Rattle.aq_desk.specs.Outside.{IsAll, OfTold}
 use Rattle.aq_desk.specs.Stop.{Gives, IsUnprinted, ending_at, status_of, stop_of_book}
 use Rattle.aq_desk.specs.declared.stop.Stop.{Stop}
 use Rattle.aq_desk.specs.declared.stop.Stop.TheVariants.{InputFailed, OutputFailed, KeeperFailed, DoorFailed, Damaged, Memory, Conflict, TooManyBytes, TooManyLines, LoadsFull, NoSite}
@@ -56,13 +59,14 @@ no_office rows place undamaged at = by_test (are_office_rows rows) refl
     by_test true is = absurd (some-none place (sym at ∙ (undamaged rows).1 is))
     by_test false is = is
 
-told-rows : (tables : Option (List Row)) (rows : List Row) → IfSome tables (λ told. rows ≡ told) → IsAll tables rows
-told-rows None rows told = tt
-told-rows (Some all) rows told = sym told
+told-rows : (before after : Option (List Row)) (rows : List Row) → IfSome before (λ told. rows ≡ told) → IsAll (told_through before after) rows
+told-rows (Some all) (Some later) rows told = sym told
+told-rows None (Some later) rows told = tt
+told-rows before None rows told = tt
 
-become : (tables : Option (List Row)) (rows : List Row) → IfSome tables (λ told. rows ≡ told) → opened_rows rows ≡ rows → tables ≡ option_map opened_rows tables
-become None rows told stays = refl
-become (Some all) rows told stays = ap Some (sym (ap opened_rows (sym told) ∙ stays ∙ told))
+become : (tables : Option (List Row)) (rows : List Row) → IfSome tables (λ told. rows ≡ told) → opened_rows rows ≡ rows → Stays (option_map opened_rows tables) tables
+become None rows told same = tt
+become (Some all) rows told same = ap Some (ap opened_rows (sym told) ∙ same ∙ told)
 
 module _ (are : (rs : List Row) → IsTrue (are_office_rows rs) → rows_of (office_in rs) ≡ rs) (valid : (rs : List Row) → IsTrue (are_office_rows rs) → IsOffice (office_in rs)) where
   -- rows, and the office's that they become
@@ -78,31 +82,79 @@ module _ (are : (rs : List Row) → IsTrue (are_office_rows rs) → rows_of (off
       }
 
   -- of an office's rows the tables stay as they are
-  pub office_opened : (before after : Option (List Row)) (rows : List Row) (office : Office) → ((rs : List Row) → IsTrue (are_office_rows rs) → are_version_1 rs ≡ false)
-      → IfSome before (λ told. rows ≡ told) → after ≡ before → office_of_rows rows ≡ Some office → HasOpened office before after
+  pub office_opened : (tables : Option (List Row)) (rows : List Row) (office : Office) → ((rs : List Row) → IsTrue (are_office_rows rs) → are_version_1 rs ≡ false)
+      → IfSome tables (λ told. rows ≡ told) → office_of_rows rows ≡ Some office → HasOpened office tables tables
   unfolding office_of_rows
-  office_opened before after rows office once told same found =
+  office_opened tables rows office once told found =
       let is = office-found (are_office_rows rows) (office_in rows) office found in
-      let stays = opened-office rows (once rows is.0) in
+      let same = opened-office rows (once rows is.0) in
       record {
-        opened = record { all = rows; is_all = told-rows before rows told; says = opened-as rows rows office (office-undamaged rows is.0) stays found };
-        tables = same ∙ become before rows told stays;
+        opened = record { all = rows; is_all = told-rows tables tables rows told; says = opened-as rows rows office (office-undamaged rows is.0) same found };
+        tables = become tables rows told same;
       }
 
   -- and those of version 1 are migrated
   pub old_opened : (before after : Option (List Row)) (rows standing : List Row) (office : Office) → are_version_1 rows ≡ true → standing ≡ migrated rows
-      → IfSome before (λ told. rows ≡ told) → after ≡ option_map opened_rows before → office_of_rows standing ≡ Some office → HasOpened office before after
+      → IfSome before (λ told. rows ≡ told) → Stays (option_map opened_rows before) after → office_of_rows standing ≡ Some office → HasOpened office before after
   old_opened before after rows standing office old is told now found = record {
-    opened = record { all = rows; is_all = told-rows before rows told; says = opened-as rows standing office (old-undamaged rows old) (opened-old rows old ∙ sym is) found };
+    opened = record { all = rows; is_all = told-rows before after rows told; says = opened-as rows standing office (old-undamaged rows old) (opened-old rows old ∙ sym is) found };
     tables = now;
   }
 
 -- the tables after the commit of a migration
 pub committed : (before after : Option (List Row)) (rows : List Row) (batch : List RowChange) → are_version_1 rows ≡ true → batch ≡ migration_batch rows → with_row_changes rows (migration_batch rows) ≡ migrated rows
-    → IfSome before (λ told. rows ≡ told) → after ≡ option_map (λ told. with_row_changes told batch) before → after ≡ option_map opened_rows before
+    → IfSome before (λ told. rows ≡ told) → Stays (option_map (λ told. with_row_changes told batch) before) after → Stays (option_map opened_rows before) after
 committed None after rows batch old is gives told done = done
 committed (Some all) after rows batch old is gives told done =
-    done ∙ ap Some (ap (λ (rs : List Row). with_row_changes rs batch) (sym told) ∙ ap (with_row_changes rows) is ∙ gives ∙ sym (opened-old rows old) ∙ ap opened_rows told)
+    let same = ap (λ (rs : List Row). with_row_changes rs batch) (sym told) ∙ ap (with_row_changes rows) is ∙ gives ∙ sym (opened-old rows old) ∙ ap opened_rows told in
+    stays_as (Some (with_row_changes all batch)) (Some (opened_rows all)) after (ap Some (sym same)) done
+
+-- ---- the keeper was not asked again
+
+pub not_remembered : (tables : Option (List Row)) (m : ℕ) → IsUnopened tables tables m m Memory
+not_remembered tables m = (inl (stays tables), refl)
+
+pub not_migrated : {A : Type 0} (answer : Result A Stop) (tables : Option (List Row)) (m : ℕ) (rows : List Row) (why : OpenFault) → IsErrAnd answer (λ stop. stop ≡ stop_of_book why) → IsMigrationFault rows why
+    → IfSome tables (λ told. rows ≡ told) → IfErr answer (IsUnopened tables tables m m)
+not_migrated answer tables m rows why is fault told =
+    subst (λ r. IfErr r (IsUnopened tables tables m m)) (sym (stopped_by answer (stop_of_book why) is)) (by why fault)
+  where
+    by : (w : OpenFault) → IsMigrationFault rows w → IsUnopened tables tables m m (stop_of_book w)
+    by (opening.Damaged place) at = (stays tables, refl, record { all = rows; is_all = told-rows tables tables rows told; says = at })
+    by opening.Memory at = not_remembered tables m
+
+-- ---- the rows were read before, by a call that changes nothing
+
+over-since : (before read after : Option (List Row)) (Says : List Row → Type 0) → (IsSome after → IsSome read) → Stays before read → OfTold (told_through read after) Says → OfTold (told_through before after) Says
+over-since before read after Says tells stays over = record { all = over.all; is_all = told_since before read after over.all tells stays over.is_all; says = over.says }
+
+pub read_opened : (before read after : Option (List Row)) (office : Office) → Stays before read → HasOpened office read after → HasOpened office before after
+read_opened before read after office stays has = record {
+  opened = over-since before read after (λ rows. IsOpened rows office) (tells_before opened_rows read after has.tables) stays has.opened;
+  tables = stays_join opened_rows before read after stays has.tables;
+}
+
+pub read_unopened : (before read after : Option (List Row)) (m k n : ℕ) (stop : Stop) → Stays before read → k ≡ m → IsUnopened read after k n stop → IsUnopened before after m n stop
+read_unopened before read after m k n KeeperFailed stays steady cause =
+    (stays_still before read after stays cause.0, subst (λ (j : ℕ). HasRisen j n) steady cause.1)
+read_unopened before read after m k n Memory stays steady cause = (by cause.0, cause.1 ∙ steady)
+  where
+    by : AtMostOpened read after → AtMostOpened before after
+    by (inl same) = inl (stays_still before read after stays same)
+    by (inr opened) = inr (stays_join opened_rows before read after stays opened)
+read_unopened before read after m k n (Damaged place) stays steady cause = (
+  stays_still before read after stays cause.0,
+  cause.1 ∙ steady,
+  over-since before read after (λ rows. opening_damage rows ≡ Some (record { table = place.table; index = place.index })) (tells_still read after cause.0) stays cause.2,
+)
+read_unopened before read after m k n InputFailed stays steady cause = absurd cause
+read_unopened before read after m k n OutputFailed stays steady cause = absurd cause
+read_unopened before read after m k n DoorFailed stays steady cause = absurd cause
+read_unopened before read after m k n (Conflict number kept sent) stays steady cause = absurd cause
+read_unopened before read after m k n TooManyBytes stays steady cause = absurd cause
+read_unopened before read after m k n (TooManyLines lines) stays steady cause = absurd cause
+read_unopened before read after m k n LoadsFull stays steady cause = absurd cause
+read_unopened before read after m k n (NoSite site) stays steady cause = absurd cause
 
 -- migrated rows are an office's, so none is damaged
 pub undamaged_old : (rows standing : List Row) (place : Place) → ((rs : List Row) → (damage rs ≡ None) ↔ IsTrue (are_office_rows rs)) → ((rs : List Row) → IsTrue (are_version_1 rs) → IsTrue (are_office_rows (migrated rs)))
@@ -118,13 +170,22 @@ only_old rows old new = absurd (cc)
 
 -- so nothing but memory stops them from being opened
 pub old_stops : {A : Type 0} (answer : Result A Stop) (before after : Option (List Row)) (m n : ℕ) (standing : List Row) (why : OpenFault) → IsErrAnd answer (λ stop. stop ≡ stop_of_book why) → IsOpenFault standing why
-    → ((place : Place) → damage standing ≡ Some place → ⊥) → after ≡ option_map opened_rows before → n ≡ m → IfErr answer (IsUnopened before after m n)
+    → ((place : Place) → damage standing ≡ Some place → ⊥) → Stays (option_map opened_rows before) after → n ≡ m → IfErr answer (IsUnopened before after m n)
 old_stops answer before after m n standing why is fault undamaged now steady =
     subst (λ r. IfErr r (IsUnopened before after m n)) (sym (stopped_by answer (stop_of_book why) is)) (by why fault)
   where
     by : (w : OpenFault) → IsOpenFault standing w → IsUnopened before after m n (stop_of_book w)
     by (opening.Damaged place) at = absurd (undamaged place at)
     by opening.Memory at = (inr now, steady)
+
+-- what holds of an answer, for any that it may be
+pub if_ok : {A E : Type 0} {P Q : A → Type 0} (r : Result A E) → ((a : A) → P a → Q a) → IfOk r P → IfOk r Q
+if_ok (Ok value) implies holds = implies value holds
+if_ok (Err fault) implies holds = tt
+
+pub if_err : {A E : Type 0} {P Q : E → Type 0} (r : Result A E) → ((e : E) → P e → Q e) → IfErr r P → IfErr r Q
+if_err (Ok value) implies holds = tt
+if_err (Err fault) implies holds = implies fault holds
 
 -- ---- what follows over the office
 
@@ -138,12 +199,12 @@ over_damaged rows place next found = ap (λ place. over_damage place rows next) 
 
 -- ---- an office that is not opened
 
-unopened-gives : (before after : Option (List Row)) (m n : ℕ) (stop : Stop) (next : Office → Outcome) → IsUnopened before after m n stop → Over before (λ rows. Gives (over_office rows next) (Err stop) before after)
+unopened-gives : (before after : Option (List Row)) (m n : ℕ) (stop : Stop) (next : Office → Outcome) → IsUnopened before after m n stop → OfTold (told_through before after) (λ rows. Gives (over_office rows next) (Err stop) before after)
 unopened-gives before after m n KeeperFailed next cause =
-    of_any before (λ rows. Gives (over_office rows next) (Err KeeperFailed) before after) (λ rows.
+    of_any (told_through before after) (λ rows. Gives (over_office rows next) (Err KeeperFailed) before after) (λ rows.
     cut_gives (over_office rows next) KeeperFailed before after (λ kept. omega (arith, kept)) (keeps_at_most_opened (over_office rows next).rows 5 before after (λ kept. omega (arith, kept)) (λ three. omega (arith, three)) (inl cause.0)))
 unopened-gives before after m n Memory next cause =
-    of_any before (λ rows. Gives (over_office rows next) (Err Memory) before after) (λ rows.
+    of_any (told_through before after) (λ rows. Gives (over_office rows next) (Err Memory) before after) (λ rows.
     cut_gives (over_office rows next) Memory before after (λ kept. omega (arith, kept)) (keeps_at_most_opened (over_office rows next).rows 7 before after (λ kept. omega (arith, kept)) (λ three. omega (arith, three)) cause.0))
 unopened-gives before after m n (Damaged place) next cause =
     let rows = cause.2.all in
@@ -151,7 +212,7 @@ unopened-gives before after m n (Damaged place) next cause =
     record {
       all = rows;
       is_all = cause.2.is_all;
-      says = subst P (sym (over_damaged rows (record { table = place.table; index = place.index }) next cause.2.says)) (stopped_gives rows before after (Damaged place) (keeps_same rows 6 before after cause.2.is_all cause.0));
+      says = subst P (sym (over_damaged rows (record { table = place.table; index = place.index }) next cause.2.says)) (stopped_gives rows before after (Damaged place) (keeps_still rows 6 before after (λ three. omega (arith, three)) cause.2.is_all cause.0));
     }
 unopened-gives before after m n InputFailed next cause = absurd cause
 unopened-gives before after m n OutputFailed next cause = absurd cause
@@ -162,9 +223,9 @@ unopened-gives before after m n (TooManyLines lines) next cause = absurd cause
 unopened-gives before after m n LoadsFull next cause = absurd cause
 unopened-gives before after m n (NoSite site) next cause = absurd cause
 
-pub unopened_gives : (before after : Option (List Row)) (m n : ℕ) (stop : Stop) (next : Office → Outcome) (answer : Result (List ℕ) Stop) → IsErrAnd answer (λ why. why ≡ stop) → IsUnopened before after m n stop → Over before (λ rows. Gives (over_office rows next) answer before after)
+pub unopened_gives : (before after : Option (List Row)) (m n : ℕ) (stop : Stop) (next : Office → Outcome) (answer : Result (List ℕ) Stop) → IsErrAnd answer (λ why. why ≡ stop) → IsUnopened before after m n stop → OfTold (told_through before after) (λ rows. Gives (over_office rows next) answer before after)
 unopened_gives before after m n stop next answer is cause =
-    let P = λ (r : Result (List ℕ) Stop). Over before (λ rows. Gives (over_office rows next) r before after) in
+    let P = λ (r : Result (List ℕ) Stop). OfTold (told_through before after) (λ rows. Gives (over_office rows next) r before after) in
     subst P (sym (stopped_by answer stop is)) (unopened-gives before after m n stop next cause)
 
 -- the statuses of an office that is not opened, with the keeper's count

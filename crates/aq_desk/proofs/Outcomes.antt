@@ -11,12 +11,10 @@ use Rattle.aq_rules.specs.Limits.{MOST_BYTES, MOST_LINES}
 use Rattle.aq_rules.specs.Lines.Lines.{line_count}
 use Rattle.aq_rules.specs.Office.Load.{load, reply}
 use Rattle.aq_rules.specs.Office.Office.{Office, nothing}
-use Rattle.aq_rules.specs.Ozone.EightHour.{WindowRow}
-use Rattle.aq_rules.specs.Ozone.OzoneDay.{windows}
-use Rattle.aq_rules.specs.Shown.Answer.{OfSheet, NoSite, Windows, is_registered}
+use Rattle.aq_rules.specs.Shown.Answer.{Answer, OfSheet, NoSite, Windows, is_registered}
 use Rattle.aq_rules.specs.Shown.Answer as questions
-use Rattle.aq_rules.specs.Shown.Sheet.{Sheet, text_of}
-use Rattle.aq_rules.specs.Shown.Sheets.{load_sheet, windows_answer, windows_sheet}
+use Rattle.aq_rules.specs.Shown.Sheet.{text_of}
+use Rattle.aq_rules.specs.Shown.Sheets.{load_sheet, windows_answer}
 use Rattle.aq_desk.proofs.Fronts.{behind_nothing}
 use Rattle.aq_desk.specs.Body.{excess, is_within}
 use Rattle.aq_desk.specs.Command.{IsWhole, Printout, after_text, printed, unwritten}
@@ -115,25 +113,19 @@ scan_beyond site day body is = ap (λ (few : Bool). if few then scan_answer site
 
 -- ---- the answer to a body
 
--- the answer by whether the site is registered
-answered : (office : Office) (site : Site) (day : ℕ) (there : Bool) (answer : Result Unit Stop) (before after : Option (List ℕ)) → is_registered office site ≡ there
-    → Obeys (sheet_or_no_site site (if there then OfSheet (windows_answer office site day) else NoSite)) answer before after
-    → Obeys (sheet_or_no_site site (questions.answer office (Windows site day))) answer before after
+-- windows are of a site, and of no load
+pub has_windows : (office : Office) (site : Site) (day : ℕ) → questions.answer office (Windows site day) ≡ questions.NoLoad → ⊥
 unfolding questions.answer
-answered office site day there answer before after is obeys =
-    let P = λ (b : Bool). Obeys (sheet_or_no_site site (if b then OfSheet (windows_answer office site day) else NoSite)) answer before after in
-    subst P (sym is) obeys
+has_windows office site day h = by_site (is_registered office site) h
+  where
+    by_site : (there : Bool) → (if there then OfSheet (windows_answer office site day) else NoSite) ≡ questions.NoLoad → ⊥
+    by_site true h = cc
+    by_site false h = cc
 
-pub registered_answer : (office : Office) (site : Site) (day : ℕ) (rows : List WindowRow) (sheet : Sheet) (answer : Result Unit Stop) (before after : Option (List ℕ)) → is_registered office site ≡ true → rows ≡ windows office site day → sheet ≡ windows_sheet site day rows
-    → Obeys (printed (text_of sheet)) answer before after → Obeys (sheet_or_no_site site (questions.answer office (Windows site day))) answer before after
-unfolding windows_answer
-registered_answer office site day rows sheet answer before after registered same_rows same_sheet obeys =
-    let P = λ (s : Sheet). Obeys (printed (text_of s)) answer before after in
-    answered office site day true answer before after registered (subst P (same_sheet ∙ ap (windows_sheet site day) same_rows) obeys)
-
-pub unregistered_answer : (office : Office) (site : Site) (day : ℕ) (written : Option (List ℕ)) → is_registered office site ≡ false → Obeys (sheet_or_no_site site (questions.answer office (Windows site day))) (Err (stops.NoSite site)) written written
-unregistered_answer office site day written unregistered =
-    answered office site day false (Err (stops.NoSite site)) written written unregistered (writes_nothing (no_site site) (Err (stops.NoSite site)) written refl (λ four. absurd (omega (arith, four))))
+pub unregistered_answer : (site : Site) (given : Answer) (written : Option (List ℕ)) → given ≡ NoSite → Obeys (sheet_or_no_site site given) (Err (stops.NoSite site)) written written
+unregistered_answer site given written is =
+    subst (λ (a : Answer). Obeys (sheet_or_no_site site a) (Err (stops.NoSite site)) written written) (sym is)
+    (writes_nothing (no_site site) (Err (stops.NoSite site)) written refl (λ four. absurd (omega (arith, four))))
 
 pub more_bytes : (first second : List ℕ) → 0 < length first → 0 < length (first ++ second)
 more_bytes first second some = omega (arith, some, length-append first second)

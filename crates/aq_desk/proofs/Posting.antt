@@ -1,6 +1,8 @@
 -- A load over the office of the tables.
 use Rattle.std.proofs.Common.{◌≡◌, ℕ, ◌≤◌, ◌⊎◌, inl, inr, Bool, true, false, cond, List, Option, Some, None, refl, sym, ap, subst, ◌∙◌, arith}
 use Rattle.std.specs.Prelude.{⊤, Result, Ok, Err, IfErr, IfSome, IsSome, IsErrAnd, IsTrue, ◌==◌}
+use Rattle.aq_keeper.proofs.Telling.{stays_still}
+use Rattle.aq_keeper.specs.Told.{Stays, told_through}
 use Rattle.std.specs.Option.{option_map}
 use Rattle.sha2.specs.Sha256.{sha256}
 use Rattle.aq_base.specs.Faults.{HasRisen}
@@ -15,20 +17,20 @@ use Rattle.aq_rules.specs.Office.Office.{Office, StoredLoad, load_at}
 use Rattle.aq_rules.specs.Shown.Answer.{is_load_number}
 use Rattle.aq_rules.specs.Shown.Sheet.{text_of}
 use Rattle.aq_rules.specs.Shown.Sheets.{load_sheet}
-use Rattle.aq_serve.specs.Service.{Become, Keeps, ServiceView}
+use Rattle.aq_serve.specs.Service.{AreOfOffice, Become, Keeps, ServiceView}
 use Rattle.aq_service.proofs.PostedLoads.{IsKept, Tells, is_numbered, load_stands, tells}
 use Rattle.aq_service.specs.Posting.{IsPosted, LosesLoad, TakenBy}
 use Rattle.aq_service.specs.declared.posting.Posted as answers
 use Rattle.aq_service.specs.declared.posting.Posted.TheVariants as answered
 use Rattle.aq_desk.proofs.Opening.{over_opened, unopened_gives}
-use Rattle.aq_desk.proofs.Tables.{cut_gives, keeps_opened, keeps_at_most_opened, opened_tables, stopped_gives}
+use Rattle.aq_desk.proofs.Tables.{become_through, cut_gives, keeps_opened, keeps_at_most_opened, of_opened, opened_still, stopped_gives, tells_before, tells_still, told_until}
 use Rattle.aq_desk.proofs.Unread.{stays_at_from, stopped_by}
-use Rattle.aq_desk.specs.Command.{AtMostOpened, Outcome, RisesAt, leaving, opened_rows, printed, unwritten}
+use Rattle.aq_desk.specs.Command.{AtMostOpened, BecomeRows, Outcome, RisesAt, leaving, opened_rows, printed, unwritten}
 use Rattle.aq_desk.specs.Command as commands
 use Rattle.aq_desk.specs.Ending.{loads_full}
 use Rattle.aq_desk.specs.Load.{IsAnswered, IsKeptText, IsTextOf, load_answer, posted_outcome}
 use Rattle.aq_desk.specs.Office.{HasOpened, IsOpened, IsUnopened}
-use Rattle.aq_desk.specs.Outside.{IsAll, Over}
+use Rattle.aq_desk.specs.Outside.{IsAll, OfTold}
 use Rattle.aq_desk.specs.Stop.{Gives, IsUnprinted, ending_at, status_of}
 use Rattle.aq_desk.specs.declared.stop.Stop.{Stop}
 use Rattle.aq_desk.specs.declared.stop.Stop.TheVariants as stops
@@ -40,7 +42,7 @@ unfolding load_answer
 load_opened number body rows office opened =
     over_opened rows office (λ o. posted_outcome number o body (posted o number (sha256 body) body)) opened
 
-pub unopened_load : (number : ℕ) (body : List ℕ) (before after : Option (List Row)) (m n : ℕ) (stop : Stop) (answer : Result (List ℕ) Stop) → IsErrAnd answer (λ why. why ≡ stop) → IsUnopened before after m n stop → Over before (λ rows. Gives (load_answer number body rows) answer before after)
+pub unopened_load : (number : ℕ) (body : List ℕ) (before after : Option (List Row)) (m n : ℕ) (stop : Stop) (answer : Result (List ℕ) Stop) → IsErrAnd answer (λ why. why ≡ stop) → IsUnopened before after m n stop → OfTold (told_through before after) (λ rows. Gives (load_answer number body rows) answer before after)
 unfolding load_answer
 unopened_load number body before after m n stop answer is cause =
     unopened_gives before after m n stop (λ office. posted_outcome number office body (posted office number (sha256 body) body)) answer is cause
@@ -62,14 +64,6 @@ rows-after number body office (Repeated kept) = refl
 rows-after number body office (Differing kept sent) = refl
 rows-after number body office NoRoom = refl
 rows-after number body office (Taken reply now) = refl
-
-of-office : (start : Option (List Row)) (office : Office) → IfSome (option_map (λ _. rows_of office) start) (λ told. told ≡ rows_of office)
-of-office None office = tt
-of-office (Some all) office = refl
-
-mapped-again : (start : Option (List Row)) (one two : List Row) → option_map (λ _. two) (option_map (λ _. one) start) ≡ option_map (λ _. two) start
-mapped-again None one two = refl
-mapped-again (Some all) one two = refl
 
 is-few : (office : Office) (number : ℕ) (digest body : List ℕ) → line_count body ≤ MOST_LINES → IsFew (posted office number digest body)
 is-few office number digest body few = subst IsFew (sym (posted-few office number digest body few)) (by_found (load_at office number))
@@ -125,19 +119,16 @@ conflict-gives (Some load) number kept digest sent rows answer before after keep
 
 -- ---- and over the office that was opened: what its tables were at the start
 
-module _ (number : ℕ) (rows : List Row) (body : List ℕ) (start : Option (List Row)) (before after : ServiceView) (told : IsAll start rows) (are : rows_of before.office ≡ opened_rows rows) (opened : before.tables ≡ option_map opened_rows start) (some : (number == 0) ≡ false) where
+module _ (number : ℕ) (rows : List Row) (body : List ℕ) (start : Option (List Row)) (before after : ServiceView) (told : IsAll (told_through start before.tables) rows) (are : rows_of before.office ≡ opened_rows rows) (opened : Stays (option_map opened_rows start) before.tables) (some : (number == 0) ≡ false) where
   abbrev digest : List ℕ
   digest = sha256 body
 
   -- the tables are those of the office
-  its-own : before.tables ≡ option_map (λ _. rows_of before.office) start
-  its-own = opened ∙ opened_tables start rows before.office told are
+  of-its-office : AreOfOffice before
+  of-its-office = of_opened start before.tables rows before.office told are opened
 
-  of-its-office : IfSome before.tables (λ told. told ≡ rows_of before.office)
-  of-its-office = subst (λ (t : Option (List Row)). IfSome t (λ told. told ≡ rows_of before.office)) (sym its-own) (of-office start before.office)
-
-  becomes : (office : Office) → Become before office after → after.tables ≡ option_map (λ _. rows_of office) start
-  becomes office become = become ∙ ap (option_map (λ _. rows_of office)) its-own ∙ mapped-again start (rows_of before.office) (rows_of office)
+  becomes : (office : Office) → Become before office after → BecomeRows (rows_of office) start after.tables
+  becomes office become = become_through start before.tables after.tables (rows_of office) opened become
 
   stored-reply : (made : LoadReply) (now : Office) → (made ≡ reply before.office number body) × (now ≡ load before.office number digest body) → after.office ≡ now → IsKept (λ kept. kept.reply ≡ made) (load_at after.office number)
   stored-reply made now is same =
@@ -146,7 +137,7 @@ module _ (number : ℕ) (rows : List Row) (body : List ℕ) (start : Option (Lis
 
   taken-keeps : (now : Office) → after.office ≡ now → Keeps before after → commands.Keeps (rows_of now) 0 start after.tables
   taken-keeps now same keeps =
-      let become = becomes after.office (keeps of-its-office) ∙ ap (λ o. option_map (λ _. rows_of o) start) same in
+      let become = subst (λ (o : Office). BecomeRows (rows_of o) start after.tables) same (becomes after.office (keeps of-its-office)) in
       record { kept = λ _. become; unread = λ three. absurd (omega (arith, three)); failed = λ five. absurd (omega (arith, five)); one = inr become }
 
   -- if nothing changed
@@ -157,7 +148,9 @@ module _ (number : ℕ) (rows : List Row) (body : List ℕ) (start : Option (Lis
       subst P is.0 (subst Q is.1 text)
 
   same-keeps : (status : ℕ) → (status ≡ 3 → ⊥) → after ≡ before → commands.Keeps (rows_of before.office) status start after.tables
-  same-keeps status three is = keeps_opened rows before.office status start after.tables three told are (ap (λ (v : ServiceView). v.tables) is ∙ opened)
+  same-keeps status three is =
+      subst (λ (v : ServiceView). commands.Keeps (rows_of before.office) status start v.tables) (sym is)
+      (keeps_opened rows before.office status start before.tables three told are opened)
 
   taken-gives : (ans : answers.Posted) (answer : Result (List ℕ) Stop) (made : LoadReply) (now : Office) → (made ≡ reply before.office number body) × (now ≡ load before.office number digest body) → TakenBy ans now before after → IsTextOf ans number (load_at after.office number) answer → Gives (leaving (rows_of now) (printed (text_of (load_sheet made)))) answer start after.tables
   taken-gives answered.Done answer made now is taken text =
@@ -167,7 +160,7 @@ module _ (number : ℕ) (rows : List Row) (body : List ℕ) (start : Option (Lis
       let P = λ (r : Result (List ℕ) Stop). Gives outcome r start after.tables in
       subst P (sym text)
       (cut_gives outcome stops.KeeperFailed start after.tables (λ kept. omega (arith, kept))
-      (keeps_at_most_opened (rows_of now) 5 start after.tables (λ kept. omega (arith, kept)) (λ three. omega (arith, three)) (inr (taken.1 ∙ opened))))
+      (keeps_at_most_opened (rows_of now) 5 start after.tables (λ kept. omega (arith, kept)) (λ three. omega (arith, three)) (inr (stays_still (option_map opened_rows start) before.tables after.tables opened taken.1))))
   taken-gives (answered.Lines lines) answer made now is taken text = absurd taken
   taken-gives (answered.Conflict sent) answer made now is taken text = absurd taken
   taken-gives answered.Full answer made now is taken text = absurd taken
@@ -201,9 +194,40 @@ module _ (number : ℕ) (rows : List Row) (body : List ℕ) (start : Option (Lis
         };
       })
     where
-      one : Become before before.office after ⊎ Become before (loads.post before.office number digest body) after → AtMostOpened start after.tables ⊎ (after.tables ≡ option_map (λ _. (posted_outcome number before.office body (posted before.office number digest body)).rows) start)
-      one (inl same) = inl (inr (becomes before.office same ∙ sym (opened_tables start rows before.office told are)))
-      one (inr load) = inr (becomes (loads.post before.office number digest body) load ∙ ap (λ rs. option_map (λ _. rs) start) (rows-after number body before.office (posted before.office number digest body)))
+      one : Become before before.office after ⊎ Become before (loads.post before.office number digest body) after → AtMostOpened start after.tables ⊎ BecomeRows (posted_outcome number before.office body (posted before.office number digest body)).rows start after.tables
+      one (inl same) = inl (inr (opened_still start before.tables after.tables rows before.office told are opened same))
+      one (inr load) =
+          inr (subst (λ (rs : List Row). BecomeRows rs start after.tables) (rows-after number body before.office (posted before.office number digest body)) (becomes (loads.post before.office number digest body) load))
+
+-- ---- what is told to the end was told as the load was posted
+
+module _ (before after : ServiceView) (its-own : AreOfOffice before) where
+  become-tells : (office : Office) → Become before office after → IsSome after.tables → IsSome before.tables
+  become-tells office become = tells_before (λ _. rows_of office) before.tables after.tables become
+
+  same-tells : after ≡ before → IsSome after.tables → IsSome before.tables
+  same-tells same = subst (λ (v : ServiceView). IsSome after.tables → IsSome v.tables) same (λ tells. tells)
+
+  taken-tells : (ans : answers.Posted) (now : Office) → TakenBy ans now before after → IsSome after.tables → IsSome before.tables
+  taken-tells answered.Done now taken = become-tells after.office (taken.2 its-own)
+  taken-tells answered.Failed now taken = tells_still before.tables after.tables taken.1
+  taken-tells (answered.Lines count) now taken = absurd taken
+  taken-tells (answered.Conflict sent) now taken = absurd taken
+  taken-tells answered.Full now taken = absurd taken
+
+  posted-tells : (p : loads.Posted) (ans : answers.Posted) (lines : ℕ) → IsPosted p lines before after ans → IsSome after.tables → IsSome before.tables
+  posted-tells TooManyLines ans lines posted = same-tells posted.1
+  posted-tells (Repeated made) ans lines posted = same-tells posted.1
+  posted-tells (Differing kept sent) ans lines posted = same-tells posted.1
+  posted-tells NoRoom ans lines posted = same-tells posted.1
+  posted-tells (Taken made now) ans lines posted = taken-tells ans now posted
+
+  lost-tells : (number : ℕ) (digest body : List ℕ) → LosesLoad number digest body before after → IsSome after.tables → IsSome before.tables
+  lost-tells number digest body lost = by (lost.tables its-own)
+    where
+      by : Become before before.office after ⊎ Become before (loads.post before.office number digest body) after → IsSome after.tables → IsSome before.tables
+      by (inl same) = become-tells before.office same
+      by (inr load) = become-tells (loads.post before.office number digest body) load
 
 -- ---- what it is answered with
 
@@ -297,25 +321,29 @@ module _ (number : ℕ) (body : List ℕ) (office now : Office) (before between 
   abbrev later : ServiceView
   later = record { office = now; tables = after; faults = n }
 
+  -- the tables as the load is posted
+  its-own : AreOfOffice view
+  its-own = let over = has.opened in of_opened before between over.all office over.is_all over.says.are_rows has.tables
+
   -- a fact over the rows of before
-  over-load : (answer : Result (List ℕ) Stop) → Gives (posted_outcome number office body (posted office number (sha256 body) body)) answer before after → Over before (λ rows. Gives (load_answer number body rows) answer before after)
-  over-load answer gives =
+  over-load : (answer : Result (List ℕ) Stop) → (IsSome after → IsSome between) → Gives (posted_outcome number office body (posted office number (sha256 body) body)) answer before after → OfTold (told_through before after) (λ rows. Gives (load_answer number body rows) answer before after)
+  over-load answer tells gives =
       let over = has.opened in
       let P = λ (o : Outcome). Gives o answer before after in
-      record { all = over.all; is_all = over.is_all; says = subst P (sym (load_opened number body over.all office over.says)) gives }
+      record { all = over.all; is_all = told_until before between after over.all tells over.is_all; says = subst P (sym (load_opened number body over.all office over.says)) gives }
 
   pub posted_over : (ans : answers.Posted) (answer : Result (List ℕ) Stop) → line_count body ≤ MOST_LINES → IsTrue (is_load_number number)
-      → IsPosted (posted office number (sha256 body) body) (line_count body) view later ans → IsTextOf ans number (load_at now number) answer → Over before (λ rows. Gives (load_answer number body rows) answer before after)
+      → IsPosted (posted office number (sha256 body) body) (line_count body) view later ans → IsTextOf ans number (load_at now number) answer → OfTold (told_through before after) (λ rows. Gives (load_answer number body rows) answer before after)
   posted_over ans answer few some is text =
       let over = has.opened in
-      over-load answer
+      over-load answer (posted-tells view later its-own (posted office number (sha256 body) body) ans (line_count body) is)
       (posted_gives number over.all body before view later over.is_all over.says.are_rows has.tables (is_numbered number some) (posted office number (sha256 body) body) ans answer (is-few office number (sha256 body) body few) (tells office number (sha256 body) body) is text)
 
   pub lost_over : (answer : Result (List ℕ) Stop) → IsErrAnd answer (λ stop. stop ≡ stops.Memory) → IsTrue (is_load_number number)
-      → LosesLoad number (sha256 body) body view later → Over before (λ rows. Gives (load_answer number body rows) answer before after)
+      → LosesLoad number (sha256 body) body view later → OfTold (told_through before after) (λ rows. Gives (load_answer number body rows) answer before after)
   lost_over answer is some lost =
       let over = has.opened in
-      over-load answer
+      over-load answer (lost-tells view later its-own number (sha256 body) body lost)
       (lost_gives number over.all body before view later over.is_all over.says.are_rows has.tables (is_numbered number some) answer is lost)
 
   pub is_kept : (ans : answers.Posted) → line_count body ≤ MOST_LINES → IsTrue (is_load_number number) → IsPosted (posted office number (sha256 body) body) (line_count body) view later ans → IsAnswered ans (load_at now number)

@@ -2,6 +2,7 @@
 use Rattle.std.proofs.Common.{◌≡◌, ℕ, ◌<◌, ◌⊎◌, inl, inr, true, false, List, Option, refl, sym, ap, subst, ◌∙◌, arith}
 use Rattle.std.specs.Prelude.{Result, Ok, Err, IfErr, IsErrAnd, if◌then◌else◌}
 use Rattle.aq_base.specs.Faults.{HasRisen}
+use Rattle.aq_keeper.specs.Told.{told_through}
 use Rattle.aq_base.specs.Site.{Site}
 use Rattle.aq_rules.specs.Kept.Rows.{Row}
 use Rattle.aq_rules.specs.Limits.{MOST_LINES}
@@ -11,9 +12,9 @@ use Rattle.aq_desk.specs.Body.{HasTooManyBytes, HasTooManyLines, IsBodyFault, ex
 use Rattle.aq_desk.specs.Command.{Keeps, Outcome, Printout, RisesAt, leaving, printout_of, unwritten}
 use Rattle.aq_desk.specs.Ending.{too_many_lines}
 use Rattle.aq_desk.specs.Load.{load_answer, load_outcome}
-use Rattle.aq_desk.specs.Outside.{IsAll, Over}
+use Rattle.aq_desk.specs.Outside.{IsAll, OfTold}
 use Rattle.aq_desk.specs.Scan.{scan_answer, scan_outcome}
-use Rattle.aq_desk.specs.Stop.{HasCauses, Obeys, Performs, ending_at, status_of, stop_of}
+use Rattle.aq_desk.specs.Stop.{HasCauses, IsMeasured, Obeys, Performs, ending_at, status_of, stop_of}
 use Rattle.aq_desk.specs.declared.body.BodyFault.{BodyFault}
 use Rattle.aq_desk.specs.declared.body.BodyFault.TheVariants as fault
 use Rattle.aq_desk.specs.declared.stop.Stop.{Stop}
@@ -50,7 +51,7 @@ unfilled m n bytes lines why (Err other) is cause =
 abbrev IsUnread : Stop → List ℕ → Type 0
 IsUnread stop body = (stop ≡ InputFailed) ⊎ ((stop ≡ Memory) ⊎ ((is_within body ≡ false) × ((ending_at stop ≡ excess body) × ((ending_at stop).status ≡ 10))))
 
-unread : (left : Option (List ℕ)) (m n : ℕ) (why : BodyFault) → IsBodyFault m n (HasTooManyBytes left) (HasTooManyLines left) why → Over left (IsUnread (stop_of why))
+unread : (left : Option (List ℕ)) (m n : ℕ) (why : BodyFault) → IsBodyFault m n (HasTooManyBytes left) (HasTooManyLines left) why → OfTold left (IsUnread (stop_of why))
 unread left m n fault.InputFailed cause = of_any left (IsUnread InputFailed) (λ body. inl refl)
 unread left m n fault.Memory cause = of_any left (IsUnread Memory) (λ body. inr (inl refl))
 unread left m n fault.TooManyBytes cause =
@@ -70,7 +71,7 @@ unread_obeys printout stop body written beyond (inr (inr cause)) =
     let P = λ (p : Printout). Obeys p (Err stop) written written in
     subst P (sym (beyond cause.0)) (writes_nothing (excess body) (Err stop) written cause.1.0 (λ four. absurd (omega (arith, four, cause.1.1))))
 
-unread_keeps : (outcome : Outcome) (rows : List Row) (stop : Stop) (body : List ℕ) (tables : Option (List Row)) → IsAll tables rows → (is_within body ≡ false → outcome ≡ leaving rows (unwritten (excess body))) → IsUnread stop body → Keeps outcome.rows (ending_at stop).status tables tables
+unread_keeps : (outcome : Outcome) (rows : List Row) (stop : Stop) (body : List ℕ) (tables : Option (List Row)) → IsAll (told_through tables tables) rows → (is_within body ≡ false → outcome ≡ leaving rows (unwritten (excess body))) → IsUnread stop body → Keeps outcome.rows (ending_at stop).status tables tables
 unread_keeps outcome rows stop body tables told beyond (inl input) =
     let P = λ (s : Stop). Keeps outcome.rows (ending_at s).status tables tables in
     subst P (sym input) (keeps_before outcome.rows 3 tables (λ kept. omega (arith, kept)))
@@ -79,19 +80,43 @@ unread_keeps outcome rows stop body tables told beyond (inr (inl memory)) =
     subst P (sym memory) (keeps_before outcome.rows 7 tables (λ kept. omega (arith, kept)))
 unread_keeps outcome rows stop body tables told beyond (inr (inr cause)) =
     let P = λ (o : Outcome). Keeps o.rows (ending_at stop).status tables tables in
-    subst P (sym (beyond cause.0)) (keeps_same rows (ending_at stop).status tables tables told refl)
+    subst P (sym (beyond cause.0)) (keeps_same rows (ending_at stop).status tables told)
 
-pub unread_told : (site : Site) (day : ℕ) (left written : Option (List ℕ)) (m n : ℕ) (why : BodyFault) (answer : Result Unit Stop) → IsErrAnd answer (λ stop. stop ≡ stop_of why) → IsBodyFault m n (HasTooManyBytes left) (HasTooManyLines left) why → Over left (λ body. Obeys (scan_outcome site day body) answer written written)
+-- a body that is beyond a limit ends a command with 10
+unread_measured : (stop : Stop) (body : List ℕ) → IsUnread stop body → IsMeasured true body (ending_at stop).status
+unread_measured stop body (inl input) =
+    let P = λ (s : Stop). IsMeasured true body (ending_at s).status in
+    subst P (sym input) (record { too_many = λ ten. absurd (omega (arith, ten)); whole = λ _ reads. absurd (omega (arith, reads)) })
+unread_measured stop body (inr (inl memory)) =
+    let P = λ (s : Stop). IsMeasured true body (ending_at s).status in
+    subst P (sym memory) (record { too_many = λ ten. absurd (omega (arith, ten)); whole = λ _ reads. absurd (omega (arith, reads)) })
+unread_measured stop body (inr (inr cause)) = record { too_many = λ _. cause.0; whole = λ _ reads. absurd (omega (arith, reads, cause.1.1)) }
+
+-- one within the limits ends it with another status
+read_measured : (body : List ℕ) (status : ℕ) → is_within body ≡ true → (status ≡ 10 → ⊥) → IsMeasured true body status
+read_measured body status within no_excess = record { too_many = λ ten. absurd (no_excess ten); whole = λ _ _. within }
+
+pub unread_told : (site : Site) (day : ℕ) (left written : Option (List ℕ)) (m n : ℕ) (why : BodyFault) (answer : Result Unit Stop) → IsErrAnd answer (λ stop. stop ≡ stop_of why) → IsBodyFault m n (HasTooManyBytes left) (HasTooManyLines left) why
+    → OfTold left (λ body. Obeys (scan_outcome site day body) answer written written × IsMeasured true body (status_of answer))
 unread_told site day left written m n why answer is cause =
-    let P = λ (r : Result Unit Stop). Over left (λ body. Obeys (scan_outcome site day body) r written written) in
+    let P = λ (r : Result Unit Stop). OfTold left (λ body. Obeys (scan_outcome site day body) r written written × IsMeasured true body (status_of r)) in
     let over = unread left m n why cause in
     subst P (sym (stopped_by answer (stop_of why) is))
-    (record { all = over.all; is_all = over.is_all; says = unread_obeys (scan_outcome site day over.all) (stop_of why) over.all written (scan_beyond site day over.all) over.says })
+    (record {
+      all = over.all;
+      is_all = over.is_all;
+      says = (unread_obeys (scan_outcome site day over.all) (stop_of why) over.all written (scan_beyond site day over.all) over.says, unread_measured (stop_of why) over.all over.says);
+    })
 
-pub read_scan : (site : Site) (day : ℕ) (left : Option (List ℕ)) (body seen : List ℕ) (answer : Result Unit Stop) (before after : Option (List ℕ)) → IsAll left body → seen ≡ body → is_within body ≡ true → Obeys (scan_answer site day seen) answer before after → Over left (λ body. Obeys (scan_outcome site day body) answer before after)
-read_scan site day left body seen answer before after told same within obeys =
+pub read_scan : (site : Site) (day : ℕ) (left : Option (List ℕ)) (body seen : List ℕ) (answer : Result Unit Stop) (before after : Option (List ℕ)) → IsAll left body → seen ≡ body → is_within body ≡ true → (status_of answer ≡ 10 → ⊥) → Obeys (scan_answer site day seen) answer before after
+    → OfTold left (λ body. Obeys (scan_outcome site day body) answer before after × IsMeasured true body (status_of answer))
+read_scan site day left body seen answer before after told same within no_excess obeys =
     let P = λ (p : Printout). Obeys p answer before after in
-    record { all = body; is_all = told; says = subst P (ap (scan_answer site day) same ∙ sym (scan_within site day body within)) obeys }
+    record {
+      all = body;
+      is_all = told;
+      says = (subst P (ap (scan_answer site day) same ∙ sym (scan_within site day body within)) obeys, read_measured body (status_of answer) within no_excess);
+    }
 
 -- ---- loads
 
@@ -101,56 +126,61 @@ load_within number rows body is = ap (λ few. if few then load_answer number bod
 load_beyond : (number : ℕ) (rows : List Row) (body : List ℕ) → is_within body ≡ false → load_outcome number rows body ≡ leaving rows (unwritten (excess body))
 load_beyond number rows body is = ap (λ few. if few then load_answer number body rows else leaving rows (unwritten (excess body))) is
 
-pub unread_load : (number : ℕ) (left written : Option (List ℕ)) (tables : Option (List Row)) (m n : ℕ) (why : BodyFault) (answer : Result Unit Stop) → IsErrAnd answer (λ stop. stop ≡ stop_of why) → IsBodyFault m n (HasTooManyBytes left) (HasTooManyLines left) why → Over tables (λ rows. Over left (λ body. Performs (load_outcome number rows body) answer written written tables tables))
+pub unread_load : (number : ℕ) (left written : Option (List ℕ)) (tables : Option (List Row)) (m n : ℕ) (why : BodyFault) (answer : Result Unit Stop) → IsErrAnd answer (λ stop. stop ≡ stop_of why) → IsBodyFault m n (HasTooManyBytes left) (HasTooManyLines left) why
+    → OfTold (told_through tables tables) (λ rows. OfTold left (λ body. Performs (load_outcome number rows body) answer written written tables tables × IsMeasured true body (status_of answer)))
 unread_load number left written tables m n why answer is cause =
-    let P = λ (r : Result Unit Stop). Over tables (λ rows. Over left (λ body. Performs (load_outcome number rows body) r written written tables tables)) in
+    let P = λ (r : Result Unit Stop). OfTold (told_through tables tables) (λ rows. OfTold left (λ body. Performs (load_outcome number rows body) r written written tables tables × IsMeasured true body (status_of r))) in
     let over = unread left m n why cause in
     subst P (sym (stopped_by answer (stop_of why) is))
-    (of_told tables (λ rows. Over left (λ body. Performs (load_outcome number rows body) (Err (stop_of why)) written written tables tables)) (λ rows told. record {
+    (of_told (told_through tables tables) (λ rows. OfTold left (λ body. Performs (load_outcome number rows body) (Err (stop_of why)) written written tables tables × IsMeasured true body (ending_at (stop_of why)).status)) (λ rows told. record {
+      all = over.all;
+      is_all = over.is_all;
+      says = (
+        record {
+          obeys = unread_obeys (printout_of (load_outcome number rows over.all)) (stop_of why) over.all written (λ few. ap printout_of (load_beyond number rows over.all few)) over.says;
+          tables = unread_keeps (load_outcome number rows over.all) rows (stop_of why) over.all tables told (load_beyond number rows over.all) over.says;
+        },
+        unread_measured (stop_of why) over.all over.says,
+      );
+    }))
+
+pub read_load : (number : ℕ) (left : Option (List ℕ)) (body seen : List ℕ) (answer : Result Unit Stop) (before after : Option (List ℕ)) (tables_before tables_after : Option (List Row)) → IsAll left body → seen ≡ body → is_within body ≡ true → (status_of answer ≡ 10 → ⊥) → OfTold (told_through tables_before tables_after) (λ rows. Performs (load_answer number seen rows) answer before after tables_before tables_after)
+    → OfTold (told_through tables_before tables_after) (λ rows. OfTold left (λ body. Performs (load_outcome number rows body) answer before after tables_before tables_after × IsMeasured true body (status_of answer)))
+read_load number left body seen answer before after tables_before tables_after told same within no_excess over =
+    let P = λ (o : Outcome). Performs o answer before after tables_before tables_after in
+    record {
       all = over.all;
       is_all = over.is_all;
       says = record {
-        obeys = unread_obeys (printout_of (load_outcome number rows over.all)) (stop_of why) over.all written (λ few. ap printout_of (load_beyond number rows over.all few)) over.says;
-        tables = unread_keeps (load_outcome number rows over.all) rows (stop_of why) over.all tables told (load_beyond number rows over.all) over.says;
+        all = body;
+        is_all = told;
+        says = (subst P (ap (λ b. load_answer number b over.all) same ∙ sym (load_within number over.all body within)) over.says, read_measured body (status_of answer) within no_excess);
       };
-    }))
-
-pub read_load : (number : ℕ) (left : Option (List ℕ)) (body seen : List ℕ) (answer : Result Unit Stop) (before after : Option (List ℕ)) (tables_before tables_after : Option (List Row)) → IsAll left body → seen ≡ body → is_within body ≡ true → Over tables_before (λ rows. Performs (load_answer number seen rows) answer before after tables_before tables_after) → Over tables_before (λ rows. Over left (λ body. Performs (load_outcome number rows body) answer before after tables_before tables_after))
-read_load number left body seen answer before after tables_before tables_after told same within over =
-    let P = λ (o : Outcome). Performs o answer before after tables_before tables_after in
-    record { all = over.all; is_all = over.is_all; says = record { all = body; is_all = told; says = subst P (ap (λ b. load_answer number b over.all) same ∙ sym (load_within number over.all body within)) over.says } }
+    }
 
 -- ---- causes
 
-unread_caused : (left : Option (List ℕ)) (m n count : ℕ) (why : BodyFault) → IsBodyFault m n (HasTooManyBytes left) (HasTooManyLines left) why → HasCauses left (ending_at (stop_of why)).status m n count count
+unread_caused : (left : Option (List ℕ)) (m n count : ℕ) (why : BodyFault) → IsBodyFault m n (HasTooManyBytes left) (HasTooManyLines left) why → HasCauses (ending_at (stop_of why)).status m n count count
 unread_caused left m n count fault.InputFailed cause = record {
   input = rises_at 3 m n cause;
   output = stays_at 4 3 count (λ same. omega arith);
-  too_many = λ same. absurd (omega arith);
-  whole = λ same. absurd (omega arith);
 }
 unread_caused left m n count fault.Memory cause = record {
   input = record { rises = λ same. absurd (omega arith); stays = λ _. cause };
   output = stays_at 4 7 count (λ same. omega arith);
-  too_many = λ same. absurd (omega arith);
-  whole = λ same. absurd (omega arith);
 }
 unread_caused left m n count fault.TooManyBytes cause = record {
   input = record { rises = λ same. absurd (omega arith); stays = λ _. cause.0 };
   output = stays_at 4 10 count (λ same. omega arith);
-  too_many = λ _. record { all = cause.1.all; is_all = cause.1.is_all; says = is_within-bytes cause.1.all cause.1.says };
-  whole = λ same. absurd (omega arith);
 }
 unread_caused left m n count (fault.TooManyLines lines) cause = record {
   input = record { rises = λ same. absurd (omega arith); stays = λ _. cause.0 };
   output = stays_at 4 10 count (λ same. omega arith);
-  too_many = λ _. record { all = cause.1.all; is_all = cause.1.is_all; says = is_within-lines cause.1.all (subst (λ (k : ℕ). MOST_LINES < k) cause.1.says.counted cause.1.says.many) };
-  whole = λ same. absurd (omega arith);
 }
 
-pub unread_causes : (left : Option (List ℕ)) (m n count : ℕ) (why : BodyFault) (answer : Result Unit Stop) → IsErrAnd answer (λ stop. stop ≡ stop_of why) → IsBodyFault m n (HasTooManyBytes left) (HasTooManyLines left) why → HasCauses left (status_of answer) m n count count
+pub unread_causes : (left : Option (List ℕ)) (m n count : ℕ) (why : BodyFault) (answer : Result Unit Stop) → IsErrAnd answer (λ stop. stop ≡ stop_of why) → IsBodyFault m n (HasTooManyBytes left) (HasTooManyLines left) why → HasCauses (status_of answer) m n count count
 unread_causes left m n count why answer is cause =
-    let P = λ (r : Result Unit Stop). HasCauses left (status_of r) m n count count in
+    let P = λ (r : Result Unit Stop). HasCauses (status_of r) m n count count in
     subst P (sym (stopped_by answer (stop_of why) is)) (unread_caused left m n count why cause)
 
 unread_other : (why : BodyFault) → (ending_at (stop_of why)).status ≡ 5 → ⊥
@@ -170,10 +200,8 @@ unread_keeper count why answer is =
     let P = λ (r : Result Unit Stop). RisesAt 5 (status_of r) count count in
     subst P (sym (stopped_by answer (stop_of why) is)) (stays_at 5 (ending_at (stop_of why)).status count (unread_other why))
 
-pub read_causes : (left : Option (List ℕ)) (body : List ℕ) (status m n count after : ℕ) → IsAll left body → is_within body ≡ true → n ≡ m → (status ≡ 3 → ⊥) → (status ≡ 10 → ⊥) → RisesAt 4 status count after → HasCauses left status m n count after
-read_causes left body status m n count after told within steady no_fault no_excess output = record {
+pub read_causes : (status m n count after : ℕ) → n ≡ m → (status ≡ 3 → ⊥) → RisesAt 4 status count after → HasCauses status m n count after
+read_causes status m n count after steady no_fault output = record {
   input = record { rises = λ same. absurd (no_fault same); stays = λ _. steady };
   output = output;
-  too_many = λ same. absurd (no_excess same);
-  whole = λ _. record { all = body; is_all = told; says = within };
 }

@@ -4,7 +4,7 @@ use Rattle.std.specs.Option.{option_map}
 use Rattle.aq_rules.specs.Limits.{MOST_BYTES, MOST_LINES}
 use Rattle.aq_rules.specs.Lines.Lines.{line_count}
 use Rattle.aq_desk.specs.Ending.{Ending, too_many_bytes, too_many_lines}
-use Rattle.aq_desk.specs.Outside.{Over}
+use Rattle.aq_desk.specs.Outside.{OfTold}
 use Rattle.aq_base.specs.Faults.{HasRisen}
 use Rattle.aq_desk.specs.declared.body.BodyFault.{BodyFault}
 use Rattle.aq_desk.specs.declared.body.BodyFault.TheVariants.{InputFailed, Memory, TooManyBytes, TooManyLines}
@@ -28,7 +28,7 @@ pub record Extends (before after : Option (List ℕ)) (body longer : List ℕ) (
 
 -- there are more bytes than a body may have
 abbrev pub HasTooManyBytes : Option (List ℕ) → Type 0
-HasTooManyBytes left = Over left (λ body. MOST_BYTES < length body)
+HasTooManyBytes left = OfTold left (λ body. MOST_BYTES < length body)
 
 -- there are so many lines, more than a body may have
 pub record IsTooLong (lines : ℕ) (body : List ℕ) : Type 0 where
@@ -37,7 +37,7 @@ pub record IsTooLong (lines : ℕ) (body : List ℕ) : Type 0 where
   pub many : MOST_LINES < lines
 
 abbrev pub HasTooManyLines : Option (List ℕ) → ℕ → Type 0
-HasTooManyLines left lines = Over left (IsTooLong lines)
+HasTooManyLines left lines = OfTold left (IsTooLong lines)
 
 -- why a body is not read: the source's count rose, or, if it did not, there are too many bytes or lines; want of memory has no cause that is told
 abbrev pub IsBodyFault : ℕ → ℕ → Type 0 → (ℕ → Type 0) → BodyFault → Type 0

@@ -1,6 +1,7 @@
 -- What a command is: how it ends, what it writes, and what it leaves in the keeper's tables, over its words, these tables and its input; and what a run may do with it (own).
 use Rattle.std.specs.Prelude.{◌≡◌, ℕ, ◌<◌, ◌⊎◌, ◌==◌, if◌then◌else◌, List, [], ◌++◌, length, Option}
 use Rattle.std.specs.Option.{option_map}
+use Rattle.aq_keeper.specs.Told.{Stays}
 use Rattle.aq_rules.specs.Kept.Migration.{are_version_1, migrated}
 use Rattle.aq_rules.specs.Kept.Rows.{Row}
 use Rattle.aq_desk.specs.Ending.{Ending, done, input_failed, output_failed, keeper_failed, door_failed, no_memory}
@@ -51,16 +52,20 @@ IsKept status = IsWhole status ⊎ (status ≡ 4)
 unfoldable pub opened_rows : List Row → List Row
 opened_rows rows = if are_version_1 rows then migrated rows else rows
 
--- the tables are as before, or, at most, as they are once the office is opened
+-- the tables, if they are told still, are as before, or, at most, as they are once the office is opened
 abbrev pub AtMostOpened : Option (List Row) → Option (List Row) → Type 0
-AtMostOpened before after = (after ≡ before) ⊎ (after ≡ option_map opened_rows before)
+AtMostOpened before after = Stays before after ⊎ Stays (option_map opened_rows before) after
 
--- the tables after a run, if they are told: those of the command; if the input failed they are as before, and if the keeper did, as before the call that failed; and if memory ran out, one of these
+-- the tables, if they are told still, are these
+abbrev pub BecomeRows : List Row → Option (List Row) → Option (List Row) → Type 0
+BecomeRows rows before after = Stays (option_map (λ _. rows) before) after
+
+-- the tables after a run, if they are told still: those of the command; if the input failed they are as before, and if the keeper did, as before the call that failed; and if memory ran out, one of these
 pub record Keeps (rows : List Row) (status : ℕ) (before after : Option (List Row)) : Type 0 where
-  pub kept : IsKept status → after ≡ option_map (λ _. rows) before
+  pub kept : IsKept status → BecomeRows rows before after
   pub unread : status ≡ 3 → after ≡ before
   pub failed : status ≡ 5 → AtMostOpened before after
-  pub one : AtMostOpened before after ⊎ (after ≡ option_map (λ _. rows) before)
+  pub one : AtMostOpened before after ⊎ BecomeRows rows before after
 
 -- a run does all of the command, or, if a count rose or memory ran out, a front of its output; the output fails only if there is something to write
 pub record Follows (outcome : Outcome) (status : ℕ) (before after : Option (List ℕ)) (tables_before tables_after : Option (List Row)) : Type 0 where

@@ -1,27 +1,17 @@
 -- What contracts see of the outside: bytes that an object tells or does not tell, and its count of faults (own).
-use Rattle.std.specs.Prelude.{◌≡◌, ℕ, ◌<◌, ◌≤◌, List, [], ◌++◌, length, take, Option, Result, Ok, Err, IfSome}
+use Rattle.std.specs.Prelude.{◌≡◌, ℕ, ◌<◌, ◌≤◌, List, [], ◌++◌, length, take, Option, IfSome}
 use Rattle.std.specs.Option.{option_map}
-use Rattle.aq_base.specs.Faults.{HasRisen, next}
+pub use Rattle.aq_serve.specs.Door.{HasCause, faults_after}
 
 -- all that an object tells
 abbrev pub IsAll : {A : Type 0} → Option (List A) → List A → Type 0
 IsAll told all = IfSome told (λ items. items ≡ all)
 
 -- a fact about all that an object tells, if it tells it, and else about some
-pub record Over {A : Type 0} (told : Option (List A)) (Says : List A → Type 0) : Type 0 where
+pub record OfTold {A : Type 0} (told : Option (List A)) (Says : List A → Type 0) : Type 0 where
   pub all : List A
   pub is_all : IsAll told all
   pub says : Says all
-
--- a count rises at a call that answers with a fault, and at no other
-abbrev pub HasCause : {A E : Type 0} → ℕ → ℕ → Result A E → Type 0
-HasCause before after (Ok answer) = after ≡ before
-HasCause before after (Err fault) = HasRisen before after
-
--- how many faults are counted after a call: one more if it answers with a fault, and else as many as before
-abbrev pub faults_after : {A E : Type 0} → ℕ → Result A E → ℕ
-faults_after before (Ok answer) = before
-faults_after before (Err fault) = next before
 
 -- the first n bytes that were left went into the buffer; none of a buffer with room is the end
 pub record Moves (before after : Option (List ℕ)) (buffer : List ℕ) (n : ℕ) : Type 0 where

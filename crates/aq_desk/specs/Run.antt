@@ -1,17 +1,21 @@
 -- What the program does for its words, the keeper's tables and its input (own).
-use Rattle.std.specs.Prelude.{◌≡◌, ℕ, Bool, true, false, List, Option, Some, None, IsNone}
+use Rattle.std.specs.Prelude.{◌≡◌, ℕ, Bool, true, false, List, Option, Some, None, IfSome, IsNone, Result}
 use Rattle.aq_base.specs.Faults.{HasRisen}
+use Rattle.aq_keeper.specs.Told.{told_through}
 use Rattle.aq_rules.specs.Kept.Rows.{Row}
 use Rattle.aq_words.specs.declared.words.Command.{Command}
 use Rattle.aq_words.specs.declared.words.Command.TheVariants.{Scan, Load, Serve, Simulate}
 use Rattle.aq_words.specs.declared.words.Command.TheVariants as command
 use Rattle.aq_desk.specs.Ask.{ask_outcome}
-use Rattle.aq_desk.specs.Command.{Outcome, leaving, unwritten}
+use Rattle.aq_desk.specs.Command.{Follows, Outcome, Tells, leaving, message_for, unwritten}
 use Rattle.aq_desk.specs.Ending.{no_command}
 use Rattle.aq_desk.specs.Load.{load_outcome}
+use Rattle.aq_desk.specs.Outside.{IsAll}
 use Rattle.aq_desk.specs.Scan.{scan_outcome}
-use Rattle.aq_desk.specs.Serve.{serve_outcome}
+use Rattle.aq_desk.specs.Serve.{Around, HasServed, serve_outcome}
 use Rattle.aq_desk.specs.Simulate.{simulate_outcome}
+use Rattle.aq_desk.specs.Stop.{EndsAs, IsMeasured, Performs, status_of}
+use Rattle.aq_desk.specs.declared.stop.Stop.{Stop}
 
 -- what a command gives over the tables' rows and an input; what `serve` does at the door is said separately
 abbrev pub outcome_of : Command → List Row → List ℕ → Outcome
@@ -70,3 +74,39 @@ connections_for (Some command) = connections_in command
 pub record KeeperRises (connections : Option ℕ) (status before after : ℕ) : Type 0 where
   pub rises : status ≡ 5 → HasRisen before after
   pub stays : IsNone connections → (status ≡ 5 → ⊥) → after ≡ before
+
+-- ---- what a run does
+
+-- what is around a run: the door and the keeper, the bytes left of the input, those on the output, and those on the errors stream with its count of faults
+pub record Surroundings : Type 0 where
+  pub around : Around
+  pub left : Option (List ℕ)
+  pub written : Option (List ℕ)
+  pub said : Option (List ℕ)
+  pub unsaid : ℕ
+
+-- The headline. All of a run is said over the same rows and the same body: over the rows of the tables, if these are told throughout, and the bytes of the input, if these are told; and else over some.
+pub record Runs (command : Option Command) (status : ℕ) (before after : Surroundings) : Type 0 where
+  pub rows : List Row
+  pub body : List ℕ
+  pub are_told : IsAll (told_through before.around.tables after.around.tables) rows
+  pub is_told : IsAll before.left body
+  -- of a command that prints, what is answered and written, and the tables after it, are what its definition gives
+  pub prints : IsNone (connections_for command) → Follows (outcome_for command rows body) status before.written after.written before.around.tables after.around.tables
+  -- of the one that serves, the replies are those of each connection's session, and the tables after it those of the last office
+  pub serves : IfSome (connections_for command) (λ connections. HasServed connections rows status before.around after.around)
+  -- the message is that of the status: of a status that the definition gives, the definition's
+  pub tells : Tells (message_for (outcome_for command rows body) status) before.unsaid after.unsaid before.said after.said
+  -- a body of too many bytes or lines, and no other, ends with 10, unless the input or memory failed first
+  pub measured : IsMeasured (uses reads_input command) body status
+
+-- the same of a command, before anything is said of it
+pub record Acts (command : Command) (answer : Result Unit Stop) (left written_before written_after : Option (List ℕ)) (before after : Around) : Type 0 where
+  pub rows : List Row
+  pub body : List ℕ
+  pub are_told : IsAll (told_through before.tables after.tables) rows
+  pub is_told : IsAll left body
+  pub performs : IsNone (connections_in command) → Performs (outcome_of command rows body) answer written_before written_after before.tables after.tables
+  pub serves : IfSome (connections_in command) (λ connections. HasServed connections rows (status_of answer) before after)
+  pub ends : EndsAs (outcome_of command rows body) answer
+  pub measured : IsMeasured (reads_input command) body (status_of answer)

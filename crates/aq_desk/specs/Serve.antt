@@ -2,6 +2,7 @@
 use Rattle.std.specs.Prelude.{◌≡◌, ℕ, ◌⊎◌, true, List, Option, None, Result, Ok, Err}
 use Rattle.std.specs.Option.{option_map}
 use Rattle.aq_base.specs.Faults.{HasRisen}
+use Rattle.aq_keeper.specs.Told.{Stays}
 use Rattle.aq_rules.specs.Kept.Migration.{opening_damage}
 use Rattle.aq_rules.specs.Kept.Rows.{Row, office_in, rows_of}
 use Rattle.aq_rules.specs.Office.Office.{Office}
@@ -26,9 +27,9 @@ pub record Around : Type 0 where
   pub tables : Option (List Row)
   pub faults : ℕ
 
--- the same once the office is opened
-abbrev pub once_opened : Around → Around
-once_opened around = record { door = around.door; tables = option_map opened_rows around.tables; faults = around.faults }
+-- the same with these tables
+abbrev pub holding : Option (List Row) → Around → Around
+holding tables around = record { door = around.door; tables = tables; faults = around.faults }
 
 -- the same with the office that is served
 abbrev pub serving : Office → Around → ServiceView
@@ -49,8 +50,8 @@ pub record IsUnserved (rows : List Row) (status : ℕ) (before after : Around) :
   pub damaged : status ≡ 6 → opening_damage rows ≡ None → ⊥
   pub undamaged : status ≡ 8 → opening_damage rows ≡ None
   pub wire : after.door.wire ≡ before.door.wire
-  pub unopened : (status ≡ 5) ⊎ (status ≡ 6) → after.tables ≡ before.tables
-  pub opened : status ≡ 8 → after.tables ≡ option_map opened_rows before.tables
+  pub unopened : (status ≡ 5) ⊎ (status ≡ 6) → Stays before.tables after.tables
+  pub opened : status ≡ 8 → Stays (option_map opened_rows before.tables) after.tables
   pub tables : AtMostOpened before.tables after.tables
   pub faults : RisesAt 5 status before.faults after.faults
   pub accepts : RisesAt 8 status before.door.accepts after.door.accepts
@@ -63,16 +64,18 @@ status_served (Ok nothing) = 0
 status_served (Err DoorFailed) = 8
 status_served (Err Memory) = 7
 
--- connections were served over the office of the tables, once it was opened
+-- connections were served over the office of the tables, once it was opened; these then are its own, if they are told still
 pub record IsServed (n : ℕ) (rows : List Row) (status : ℕ) (before after : Around) : Type 0 where
   pub undamaged : opening_damage rows ≡ None
-  pub of_office : AreOfOffice (serving (office_in (opened_rows rows)) (once_opened before))
+  pub opened : Option (List Row)
+  pub tables : Stays (option_map opened_rows before.tables) opened
+  pub of_office : AreOfOffice (serving (office_in (opened_rows rows)) (holding opened before))
   pub listening : DoorView
   pub listens : IsListening before.door listening
   pub office : Office
   pub ending : Result Unit ServeFault
   pub ended : status ≡ status_served ending
-  pub serves : Serves n (record { door = listening; service = serving (office_in (opened_rows rows)) (once_opened before) }) (record { door = after.door; service = serving office after }) ending
+  pub serves : Serves n (record { door = listening; service = serving (office_in (opened_rows rows)) (holding opened before) }) (record { door = after.door; service = serving office after }) ending
 
 abbrev pub HasServed : ℕ → List Row → ℕ → Around → Around → Type 0
 HasServed n rows status before after = IsUnserved rows status before after ⊎ IsServed n rows status before after

@@ -1,11 +1,10 @@
 -- What stops a command, the ending of each cause, and what a command does that was stopped so.
-use Rattle.std.specs.Prelude.{◌≡◌, ◌⊎◌, ℕ, ◌<◌, true, false, List, [], ◌++◌, length, Option, Result, Ok, Err, IfOk, IsErr}
+use Rattle.std.specs.Prelude.{◌≡◌, ◌⊎◌, ℕ, ◌<◌, Bool, true, false, List, [], ◌++◌, length, Option, Result, Ok, Err, IfOk, IsErr}
 use Rattle.std.specs.Option.{option_map}
 use Rattle.aq_rules.specs.Kept.Rows.{Row}
 use Rattle.aq_desk.specs.Body.{is_within}
 use Rattle.aq_desk.specs.Command.{IsWhole, Keeps, Outcome, Printout, ReadsWhole, RisesAt, printout_of}
 use Rattle.aq_desk.specs.Ending.{Ending, done, input_failed, output_failed, keeper_failed, damaged, no_memory, door_failed, conflict, too_many_bytes, too_many_lines, loads_full, no_site}
-use Rattle.aq_desk.specs.Outside.{Over}
 use Rattle.aq_desk.specs.Writing.{WritesFront}
 use Rattle.aq_rows.specs.declared.opening.OpenFault.{OpenFault}
 use Rattle.aq_rows.specs.declared.opening.OpenFault.TheVariants as opening
@@ -88,9 +87,12 @@ IsUnprinted stop =
     let status = (ending_at stop).status in
     (status ≡ 5) ⊎ (status ≡ 6) ⊎ (status ≡ 7) ⊎ (status ≡ 9) ⊎ (status ≡ 11) ⊎ (status ≡ 12)
 
--- why it ended so: a count of faults rose, or the input is beyond the limits or within them
-pub record HasCauses (left : Option (List ℕ)) (status input_before input_after output_before output_after : ℕ) : Type 0 where
+-- why it ended so: a count of faults rose
+pub record HasCauses (status input_before input_after output_before output_after : ℕ) : Type 0 where
   pub input : RisesAt 3 status input_before input_after
   pub output : RisesAt 4 status output_before output_after
-  pub too_many : status ≡ 10 → Over left (λ body. is_within body ≡ false)
-  pub whole : ReadsWhole status → Over left (λ body. is_within body ≡ true)
+
+-- the body is beyond the limits if a command ends with 10, and within them if one that reads it ends otherwise, having read it to its end
+pub record IsMeasured (reads : Bool) (body : List ℕ) (status : ℕ) : Type 0 where
+  pub too_many : status ≡ 10 → is_within body ≡ false
+  pub whole : reads ≡ true → ReadsWhole status → is_within body ≡ true

@@ -1,6 +1,7 @@
 //! The commands that ask: `show`, `report` and `export`.
 ghost use Rattle.std.specs.Prelude.{◌≡◌, ◌≤◌, ◌⊎◌, IfErr, IfOk, IsTrue};
 ghost use Rattle.aq_base.specs.declared.day.TheConstants.{FIRST_YEAR, LAST_YEAR};
+ghost use Rattle.aq_keeper.specs.Told.{told_through};
 ghost use Rattle.aq_rules.specs.Shown.Answer as questions;
 ghost use Rattle.aq_rules.specs.Shown.Answer.{Export};
 ghost use Rattle.aq_service.specs.Answers as service;
@@ -9,7 +10,7 @@ ghost use Rattle.aq_words.specs.Words.{is_question};
 ghost use Rattle.aq_desk.specs.Ask.{HasSite, IsStopOf, IsUnanswered, MayBe, answered, ask_outcome, without_answer};
 ghost use Rattle.aq_desk.specs.Command.{RisesAt, WritesNothing, printed};
 ghost use Rattle.aq_desk.specs.Ending.{no_site};
-ghost use Rattle.aq_desk.specs.Outside.{Over};
+ghost use Rattle.aq_desk.specs.Outside.{OfTold};
 ghost use Rattle.aq_desk.specs.Stop.{Gives, IsUnprinted, Performs, status_of};
 
 use crate::office::open;
@@ -31,7 +32,7 @@ pub(crate) fn ask<K: Keeper, O: Sink>(
     output: &mut O,
 ) -> Result<(), Stop>
     requires { IsTrue (is_question ask.now) }
-    ensures told { Over (K.tables keeper.old) (λ rows. Performs (ask_outcome ask.now rows) result (O.written output.old) (O.written output.new) (K.tables keeper.old) (K.tables keeper.new)) }
+    ensures told { OfTold (told_through (K.tables keeper.old) (K.tables keeper.new)) (λ rows. Performs (ask_outcome ask.now rows) result (O.written output.old) (O.written output.new) (K.tables keeper.old) (K.tables keeper.new)) }
     ensures no_input { (status_of result ≡ 3 → ⊥) × (status_of result ≡ 10 → ⊥) }
     ensures no_door { status_of result ≡ 8 → ⊥ }
     ensures output_failed { RisesAt 4 (status_of result) (O.faults output.old) (O.faults output.new) }
@@ -45,7 +46,7 @@ pub(crate) fn ask<K: Keeper, O: Sink>(
 /// The text of the answer over the office of the tables.
 fn asked<K: Keeper>(alloc: Global, ask: &Ask, keeper: &mut K) -> Result<Bytes, Stop>
     requires { IsTrue (is_question ask.now) }
-    ensures told { Over (K.tables keeper.old) (λ rows. Gives (ask_outcome ask.now rows) result (K.tables keeper.old) (K.tables keeper.new)) }
+    ensures told { OfTold (told_through (K.tables keeper.old) (K.tables keeper.new)) (λ rows. Gives (ask_outcome ask.now rows) result (K.tables keeper.old) (K.tables keeper.new)) }
     ensures unprinted { IfErr result IsUnprinted }
     ensures keeper_failed { RisesAt 5 (status_of result) (K.faults keeper.old) (K.faults keeper.new) }
 {

@@ -1,12 +1,9 @@
 //! The top call: it picks the command of the words.
-ghost use Rattle.std.specs.Prelude.{◌≡◌, ◌↔◌, true, false, IsNone, IsTrue, IfSome, IsSome, map, string_bytes};
-ghost use Rattle.aq_desk.specs.Body.{is_within};
-ghost use Rattle.aq_desk.specs.Command.{Follows, IsStatus, ReadsWhole, RisesAt, Tells, WritesNothing, message_for};
+ghost use Rattle.std.specs.Prelude.{◌≡◌, ◌↔◌, false, IsNone, IsTrue, IsSome, map, string_bytes};
+ghost use Rattle.aq_desk.specs.Command.{IsStatus, RisesAt, Tells, WritesNothing};
 ghost use Rattle.aq_desk.specs.Ending.{no_memory};
-ghost use Rattle.aq_desk.specs.Outside.{Over};
-ghost use Rattle.aq_desk.specs.Run.{KeeperRises, connections_for, connections_in, outcome_for, outcome_of, reads_input, uses, uses_keeper, writes_output};
-ghost use Rattle.aq_desk.specs.Serve.{HasServed};
-ghost use Rattle.aq_desk.specs.Stop.{EndsAs, Performs, ending_at, status_of};
+ghost use Rattle.aq_desk.specs.Run.{Acts, KeeperRises, Runs, connections_for, connections_in, reads_input, uses, uses_keeper, writes_output};
+ghost use Rattle.aq_desk.specs.Stop.{ending_at, status_of};
 ghost use Rattle.aq_words.specs.Words.{command_of, is_command};
 
 use crate::ask::ask;
@@ -45,20 +42,15 @@ pub fn run<K: Keeper, D: Door, S: Source, O: Sink, E: Sink>(
 ) -> u8
     requires none_open { (D.seen door.old).is_open ≡ false }
 
-    // The headline of the commands that print: what is answered and written, and the tables after it, are
-    // what the command's definition gives for the words, the tables and the input, all of it or, if a
-    // count rose or memory ran out, a front of its output. Tables of version 1 are migrated as the office
-    // is opened. With 3 the tables are as before the run, and with 5 as before the call that failed.
-    ensures headline { IsNone (connections_for (command_of (map string_bytes words.now))) → Over (K.tables keeper.old) (λ rows. Over (S.left input.old) (λ body. Follows (outcome_for (command_of (map string_bytes words.now)) rows body) result (O.written output.old) (O.written output.new) (K.tables keeper.old) (K.tables keeper.new))) }
-
-    // The headline of the command that serves: each connection's replies are those of its session over the
-    // office that the connections before left, from the office of the migrated tables on, and the tables
-    // after it are those of the last office; a connection is cut only if a count of the door rose. Tables of
-    // version 1 are migrated before the door listens.
-    ensures served { IfSome (connections_for (command_of (map string_bytes words.now))) (λ connections. Over (K.tables keeper.old) (λ rows. HasServed connections rows result (record { door = D.seen door.old; tables = K.tables keeper.old; faults = K.faults keeper.old }) (record { door = D.seen door.new; tables = K.tables keeper.new; faults = K.faults keeper.new }))) }
-
-    // The message is that of the status: of a status that the definition gives, the definition's.
-    ensures messages { Over (K.tables keeper.old) (λ rows. Over (S.left input.old) (λ body. Tells (message_for (outcome_for (command_of (map string_bytes words.now)) rows body) result) (E.faults errors.old) (E.faults errors.new) (E.written errors.old) (E.written errors.new))) }
+    // The headline. Of a command that prints, what is answered and written, and the tables after it, are
+    // what the command's definition gives for the words, the tables and the input, all of it or, if a count
+    // rose or memory ran out, a front of its output. Of the one that serves, each connection's replies are
+    // those of its session over the office that the connections before left, from the office of the
+    // migrated tables on, and the tables after it are those of the last office; a connection is cut only if
+    // a count of the door rose. Tables of version 1 are migrated as the office is opened. With 3 the tables
+    // are as before the run, and with 5 as before the call that failed. The message is that of the status.
+    // All this is over the rows that the keeper tells, if it tells them to the end, and the bytes of the input.
+    ensures headline { Runs (command_of (map string_bytes words.now)) result (record { around = record { door = D.seen door.old; tables = K.tables keeper.old; faults = K.faults keeper.old }; left = S.left input.old; written = O.written output.old; said = E.written errors.old; unsaid = E.faults errors.old }) (record { around = record { door = D.seen door.new; tables = K.tables keeper.new; faults = K.faults keeper.new }; left = S.left input.new; written = O.written output.new; said = E.written errors.new; unsaid = E.faults errors.new }) }
 
     ensures statuses { IsStatus result }
     ensures no_command { (result ≡ 2) ↔ IsNone (command_of (map string_bytes words.now)) }
@@ -66,12 +58,6 @@ pub fn run<K: Keeper, D: Door, S: Source, O: Sink, E: Sink>(
     ensures output_failed { RisesAt 4 result (O.faults output.old) (O.faults output.new) }
     ensures keeper_failed { KeeperRises (connections_for (command_of (map string_bytes words.now))) result (K.faults keeper.old) (K.faults keeper.new) }
     ensures door_failed { RisesAt 8 result (D.seen door.old).accepts (D.seen door.new).accepts }
-
-    // A body of too many bytes or lines, and no other, ends with 10, unless the input or memory failed
-    // first.
-    ensures too_many { result ≡ 10 → Over (S.left input.old) (λ body. is_within body ≡ false) }
-    ensures whole { uses reads_input (command_of (map string_bytes words.now)) ≡ true → ReadsWhole result → Over (S.left input.old) (λ body. is_within body ≡ true) }
-
     ensures silent { WritesNothing result → output.new ≡ output.old }
 
     // What a command does not use stays as it was.
@@ -102,15 +88,11 @@ fn perform<K: Keeper, D: Door, S: Source, O: Sink>(
 ) -> Result<(), Stop>
     requires command { IsTrue (is_command command.now) }
     requires none_open { (D.seen door.old).is_open ≡ false }
-    ensures told { IsNone (connections_in command.now) → Over (K.tables keeper.old) (λ rows. Over (S.left input.old) (λ body. Performs (outcome_of command.now rows body) result (O.written output.old) (O.written output.new) (K.tables keeper.old) (K.tables keeper.new))) }
-    ensures served { IfSome (connections_in command.now) (λ connections. Over (K.tables keeper.old) (λ rows. HasServed connections rows (status_of result) (record { door = D.seen door.old; tables = K.tables keeper.old; faults = K.faults keeper.old }) (record { door = D.seen door.new; tables = K.tables keeper.new; faults = K.faults keeper.new }))) }
-    ensures ends { Over (K.tables keeper.old) (λ rows. Over (S.left input.old) (λ body. EndsAs (outcome_of command.now rows body) result)) }
+    ensures acts { Acts command.now result (S.left input.old) (O.written output.old) (O.written output.new) (record { door = D.seen door.old; tables = K.tables keeper.old; faults = K.faults keeper.old }) (record { door = D.seen door.new; tables = K.tables keeper.new; faults = K.faults keeper.new }) }
     ensures input_failed { RisesAt 3 (status_of result) (S.faults input.old) (S.faults input.new) }
     ensures output_failed { RisesAt 4 (status_of result) (O.faults output.old) (O.faults output.new) }
     ensures keeper_failed { KeeperRises (connections_in command.now) (status_of result) (K.faults keeper.old) (K.faults keeper.new) }
     ensures door_failed { RisesAt 8 (status_of result) (D.seen door.old).accepts (D.seen door.new).accepts }
-    ensures too_many { status_of result ≡ 10 → Over (S.left input.old) (λ body. is_within body ≡ false) }
-    ensures whole { reads_input command.now ≡ true → ReadsWhole (status_of result) → Over (S.left input.old) (λ body. is_within body ≡ true) }
     ensures silent { WritesNothing (status_of result) → output.new ≡ output.old }
     ensures unused_input { reads_input command.now ≡ false → input.new ≡ input.old }
     ensures unused_keeper { uses_keeper command.now ≡ false → keeper.new ≡ keeper.old }

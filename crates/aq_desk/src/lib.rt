@@ -14,6 +14,7 @@ mod scan;
 mod serve;
 mod simulate;
 mod stop;
+mod told;
 mod writing;
 
 pub use aq_serve::{Door, MemoryDoor};
@@ -23,3 +24,4 @@ pub use command::{end_without_memory, run};
 pub use memory_sink::MemorySink;
 pub use memory_source::MemorySource;
 pub use outside::{Sink, Source};
+pub use told::told_runs_are_exact;

@@ -1,13 +1,14 @@
 //! The command `load`.
-ghost use Rattle.std.specs.Prelude.{◌≡◌, ◌≤◌, length, IfErr, IfSome, IsSome, IsTrue};
+ghost use Rattle.std.specs.Prelude.{◌≡◌, ◌≤◌, length, true, IfErr, IfSome, IsSome, IsTrue};
+ghost use Rattle.aq_keeper.specs.Told.{told_through};
 ghost use Rattle.aq_rules.specs.Limits.{MOST_BYTES, MOST_LINES};
 ghost use Rattle.aq_rules.specs.Lines.Lines.{line_count};
 ghost use Rattle.aq_rules.specs.Office.Office.{load_at};
 ghost use Rattle.aq_rules.specs.Shown.Answer.{is_load_number};
 ghost use Rattle.aq_desk.specs.Command.{RisesAt, WritesNothing};
 ghost use Rattle.aq_desk.specs.Load.{IsAnswered, IsKeptText, IsTextOf, load_answer, load_outcome};
-ghost use Rattle.aq_desk.specs.Outside.{Over};
-ghost use Rattle.aq_desk.specs.Stop.{Gives, HasCauses, IsUnprinted, Performs, status_of};
+ghost use Rattle.aq_desk.specs.Outside.{OfTold};
+ghost use Rattle.aq_desk.specs.Stop.{Gives, HasCauses, IsMeasured, IsUnprinted, Performs, status_of};
 ghost use Rattle.aq_desk.specs.declared.stop.Stop.TheVariants.{Conflict};
 
 use crate::body::read_body;
@@ -30,8 +31,8 @@ pub(crate) fn load<K: Keeper, S: Source, O: Sink>(
     output: &mut O,
 ) -> Result<(), Stop>
     requires number { IsTrue (is_load_number number) }
-    ensures told { Over (K.tables keeper.old) (λ rows. Over (S.left input.old) (λ body. Performs (load_outcome number rows body) result (O.written output.old) (O.written output.new) (K.tables keeper.old) (K.tables keeper.new))) }
-    ensures causes { HasCauses (S.left input.old) (status_of result) (S.faults input.old) (S.faults input.new) (O.faults output.old) (O.faults output.new) }
+    ensures told { OfTold (told_through (K.tables keeper.old) (K.tables keeper.new)) (λ rows. OfTold (S.left input.old) (λ body. Performs (load_outcome number rows body) result (O.written output.old) (O.written output.new) (K.tables keeper.old) (K.tables keeper.new) × IsMeasured true body (status_of result))) }
+    ensures causes { HasCauses (status_of result) (S.faults input.old) (S.faults input.new) (O.faults output.old) (O.faults output.new) }
     ensures keeper_failed { RisesAt 5 (status_of result) (K.faults keeper.old) (K.faults keeper.new) }
     ensures no_door { status_of result ≡ 8 → ⊥ }
     ensures silent { WritesNothing (status_of result) → output.new ≡ output.old }
@@ -51,7 +52,7 @@ fn answer<K: Keeper, O: Sink>(
     requires number { IsTrue (is_load_number number) }
     requires bytes { length body.now ≤ MOST_BYTES }
     requires lines { line_count body.now ≤ MOST_LINES }
-    ensures told { Over (K.tables keeper.old) (λ rows. Performs (load_answer number body.now rows) result (O.written output.old) (O.written output.new) (K.tables keeper.old) (K.tables keeper.new)) }
+    ensures told { OfTold (told_through (K.tables keeper.old) (K.tables keeper.new)) (λ rows. Performs (load_answer number body.now rows) result (O.written output.old) (O.written output.new) (K.tables keeper.old) (K.tables keeper.new)) }
     ensures no_input { (status_of result ≡ 3 → ⊥) × (status_of result ≡ 10 → ⊥) }
     ensures no_door { status_of result ≡ 8 → ⊥ }
     ensures output_failed { RisesAt 4 (status_of result) (O.faults output.old) (O.faults output.new) }
@@ -67,7 +68,7 @@ fn take<K: Keeper>(alloc: Global, number: u32, body: &[u8], keeper: &mut K) -> R
     requires number { IsTrue (is_load_number number) }
     requires bytes { length body.now ≤ MOST_BYTES }
     requires lines { line_count body.now ≤ MOST_LINES }
-    ensures told { Over (K.tables keeper.old) (λ rows. Gives (load_answer number body.now rows) result (K.tables keeper.old) (K.tables keeper.new)) }
+    ensures told { OfTold (told_through (K.tables keeper.old) (K.tables keeper.new)) (λ rows. Gives (load_answer number body.now rows) result (K.tables keeper.old) (K.tables keeper.new)) }
     ensures unprinted { IfErr result IsUnprinted }
     ensures keeper_failed { RisesAt 5 (status_of result) (K.faults keeper.old) (K.faults keeper.new) }
 {

@@ -1,5 +1,5 @@
 //! The command `scan`.
-ghost use Rattle.std.specs.Prelude.{◌≡◌, ◌≤◌, length, IfErr};
+ghost use Rattle.std.specs.Prelude.{◌≡◌, ◌≤◌, length, true, IfErr};
 ghost use Rattle.aq_book.specs.Staged.{office_with, Fits};
 ghost use Rattle.aq_rules.specs.Limits.{MOST_BYTES, MOST_LINES};
 ghost use Rattle.aq_rules.specs.Lines.Lines.{line_count};
@@ -8,17 +8,18 @@ ghost use Rattle.aq_rules.specs.Shown.Answer.{Windows};
 ghost use Rattle.aq_rules.specs.Shown.Sheet.{text_of};
 ghost use Rattle.aq_rules.specs.Shown.Sheets.{load_sheet};
 ghost use Rattle.aq_desk.specs.Command.{after_text, printed, RisesAt, WritesNothing};
-ghost use Rattle.aq_desk.specs.Outside.{Over};
+ghost use Rattle.aq_desk.specs.Outside.{OfTold};
 ghost use Rattle.aq_desk.specs.Scan.{scan_answer, scan_outcome, sheet_or_no_site};
-ghost use Rattle.aq_desk.specs.Stop.{HasCauses, IsCutShort, IsTaken, Obeys, status_of};
+ghost use Rattle.aq_desk.specs.Stop.{HasCauses, IsCutShort, IsMeasured, IsTaken, Obeys, status_of};
 
 use crate::body::read_body;
 use crate::outside::{Sink, Source};
 use crate::stop::Stop;
 use crate::writing::print_sheet;
-use aq_base::{Day, SiteId};
+use aq_base::{Ask, Day, SiteId};
 use aq_book::{Book, Staged};
-use aq_reports::{load_sheet, windows_sheet};
+use aq_reports::load_sheet;
+use aq_service::{Unanswered, sheet_of};
 use std::alloc::Global;
 
 /// Takes the input as a load over an office of which nothing stands, and prints the reply and then the
@@ -30,8 +31,8 @@ pub(crate) fn scan<S: Source, O: Sink>(
     input: &mut S,
     output: &mut O,
 ) -> Result<(), Stop>
-    ensures told { Over (S.left input.old) (λ body. Obeys (scan_outcome site day body) result (O.written output.old) (O.written output.new)) }
-    ensures causes { HasCauses (S.left input.old) (status_of result) (S.faults input.old) (S.faults input.new) (O.faults output.old) (O.faults output.new) }
+    ensures told { OfTold (S.left input.old) (λ body. Obeys (scan_outcome site day body) result (O.written output.old) (O.written output.new) × IsMeasured true body (status_of result)) }
+    ensures causes { HasCauses (status_of result) (S.faults input.old) (S.faults input.new) (O.faults output.old) (O.faults output.new) }
     ensures no_keeper { status_of result ≡ 5 → ⊥ }
     ensures no_door { status_of result ≡ 8 → ⊥ }
     ensures silent { WritesNothing (status_of result) → output.new ≡ output.old }
@@ -118,9 +119,10 @@ fn print_windows<O: Sink>(
     ensures taken { IsTaken (status_of result) }
     ensures output_failed { RisesAt 4 (status_of result) (O.faults output.old) (O.faults output.new) }
 {
-    let Ok(windows) = book.uncounted_windows(site, day) else {
-        return Err(Stop::NoSite(site));
-    };
-    let sheet = windows_sheet(alloc, site, day, &windows)?;
-    print_sheet(alloc, &sheet, output)
+    match sheet_of(alloc, book, &Ask::Windows(site, day)) {
+        Ok(sheet) => print_sheet(alloc, &sheet, output),
+        Err(Unanswered::Memory) => Err(Stop::Memory),
+        Err(Unanswered::NoSite) => Err(Stop::NoSite(site)),
+        Err(Unanswered::NoLoad) => unreachable!(),
+    }
 }

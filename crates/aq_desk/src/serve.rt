@@ -1,8 +1,8 @@
 //! The command `serve`.
 ghost use Rattle.std.specs.Prelude.{◌≡◌, ◌⊎◌, false};
 ghost use Rattle.aq_base.specs.Faults.{HasRisen};
-ghost use Rattle.aq_desk.specs.Command.{RisesAt};
-ghost use Rattle.aq_desk.specs.Outside.{Over};
+ghost use Rattle.aq_keeper.specs.Told.{told_through};
+ghost use Rattle.aq_desk.specs.Outside.{OfTold};
 ghost use Rattle.aq_desk.specs.Serve.{HasAttended, HasServed, serve_outcome};
 ghost use Rattle.aq_desk.specs.Stop.{EndsAs, status_of};
 
@@ -23,8 +23,7 @@ pub(crate) fn serve<K: Keeper, D: Door>(
     door: &mut D,
 ) -> Result<(), Stop>
     requires none_open { (D.seen door.old).is_open ≡ false }
-    ensures served { Over (K.tables keeper.old) (λ rows. HasServed connections rows (status_of result) (record { door = D.seen door.old; tables = K.tables keeper.old; faults = K.faults keeper.old }) (record { door = D.seen door.new; tables = K.tables keeper.new; faults = K.faults keeper.new })) }
-    ensures ends { Over (K.tables keeper.old) (λ rows. EndsAs (serve_outcome rows) result) }
+    ensures served { OfTold (told_through (K.tables keeper.old) (K.tables keeper.new)) (λ rows. HasServed connections rows (status_of result) (record { door = D.seen door.old; tables = K.tables keeper.old; faults = K.faults keeper.old }) (record { door = D.seen door.new; tables = K.tables keeper.new; faults = K.faults keeper.new }) × EndsAs (serve_outcome rows) result) }
 {
     let book = open(alloc, keeper)?;
     let mut service = OfficeService::new(alloc, book)?;

@@ -8,7 +8,7 @@ use Rattle.aq_http.specs.declared.limits.TheConstants.{MOST_HEAD}
 use Rattle.aq_http.specs.Head.{Head, HeadStep, IsHeadStep, head_in, WholeHead, head_step, window}
 use Rattle.aq_http.specs.Head as head
 use Rattle.aq_http.specs.Places.{HeadPlaces, IsHeadPlaces}
-use Rattle.aq_http.specs.Step.{Request, Step, More, Refuse, Whole, IsStep, step_behind, with_body}
+use Rattle.aq_http.specs.Step.{Request, Step, More, Refuse, Whole, IsStep, step_behind, with_body, request_in}
 use Rattle.aq_http.specs.Reply.{is_reply_status}
 use Rattle.aq_http.proofs.Fronts.{NotMore, head_is_within, head_refusal, head_step_stays, one_front, open_is_short, whole_front}
 
@@ -61,13 +61,7 @@ step_stays a b s due is = by_head is.head_step is.stands is.is
         by_length false short = absurd (due (sym (sym (more_if short) ∙ e)))
           where
             more_if : leb (h.head_bytes + h.body_bytes) (length a) ≡ false → with_body a h ≡ More
-            more_if none = ap (λ t. cond t (Whole (record {
-              used = h.head_bytes + h.body_bytes;
-              verb = h.verb;
-              target = h.target;
-              body = take h.body_bytes (drop h.head_bytes a);
-              close = h.close;
-            })) More) none
+            more_if none = ap (λ t. cond t (Whole (request_in a h)) More) none
 
 -- ---- one whole request
 
@@ -101,13 +95,7 @@ whole_within input r is = by_head is.head_step is.stands is.is
     by_head (head.Refuse status) stands e = absurd (subst (OnWholeStep (λ _. ⊥)) e tt)
     by_head (head.Whole h) stands e = subst (OnWholeStep (IsWithin input)) e (by_length (leb (h.head_bytes + h.body_bytes) (length input)) refl)
       where
-        by_length : (t : Bool) → leb (h.head_bytes + h.body_bytes) (length input) ≡ t → OnWholeStep (IsWithin input) (cond t (Whole (record {
-          used = h.head_bytes + h.body_bytes;
-          verb = h.verb;
-          target = h.target;
-          body = take h.body_bytes (drop h.head_bytes input);
-          close = h.close;
-        })) More)
+        by_length : (t : Bool) → leb (h.head_bytes + h.body_bytes) (length input) ≡ t → OnWholeStep (IsWithin input) (cond t (Whole (request_in input h)) More)
         by_length true fits = record {
           used = leb-true _ _ fits;
           body = omega (arith, (head_is_within input h stands).body, length-take h.body_bytes (drop h.head_bytes input));
@@ -127,13 +115,7 @@ more_is_short input is = by_head is.head_step is.stands is.is
     by_head (head.Refuse status) stands e = absurd (subst (OnMore ⊥) e tt)
     by_head (head.Whole h) stands e = subst (OnMore (length input < MOST_HEAD + MOST_BYTES)) e (by_length (leb (h.head_bytes + h.body_bytes) (length input)) refl)
       where
-        by_length : (t : Bool) → leb (h.head_bytes + h.body_bytes) (length input) ≡ t → OnMore (length input < MOST_HEAD + MOST_BYTES) (cond t (Whole (record {
-          used = h.head_bytes + h.body_bytes;
-          verb = h.verb;
-          target = h.target;
-          body = take h.body_bytes (drop h.head_bytes input);
-          close = h.close;
-        })) More)
+        by_length : (t : Bool) → leb (h.head_bytes + h.body_bytes) (length input) ≡ t → OnMore (length input < MOST_HEAD + MOST_BYTES) (cond t (Whole (request_in input h)) More)
         by_length true fits = tt
         by_length false short =
             let bounds = head_is_within input h stands in
@@ -157,13 +139,7 @@ refusal_has_reply input status is = by_head is.head_step is.stands is.is
     by_head (head.Refuse code) stands e = subst (OnRefuse P) e (head_refusal input code stands)
     by_head (head.Whole h) stands e = subst (OnRefuse P) e (by_length (leb (h.head_bytes + h.body_bytes) (length input)))
       where
-        by_length : (t : Bool) → OnRefuse P (cond t (Whole (record {
-          used = h.head_bytes + h.body_bytes;
-          verb = h.verb;
-          target = h.target;
-          body = take h.body_bytes (drop h.head_bytes input);
-          close = h.close;
-        })) More)
+        by_length : (t : Bool) → OnRefuse P (cond t (Whole (request_in input h)) More)
         by_length true = tt
         by_length false = tt
 

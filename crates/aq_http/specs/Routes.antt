@@ -1,5 +1,5 @@
 -- The routes of the server, and what a request's verb and target ask by them (own).
-use Rattle.std.specs.Prelude.{ℕ, zero, suc, ◌==◌, Bool, true, false, if◌then◌else◌, List, [], ◌∷◌, Option, Some, None, option_map, Result, Ok, Err, codes, bytes_eq, find, IsTrue, ◌≡◌, ◌⊎◌}
+use Rattle.std.specs.Prelude.{ℕ, zero, suc, ◌==◌, Bool, true, false, if◌then◌else◌, List, [], ◌∷◌, Option, Some, None, option_map, Result, Ok, Err, codes, IsTrue, ◌≡◌, ◌⊎◌}
 use Rattle.std.specs.List.{before_first, after_first}
 use Rattle.std.specs.Option.{ok_or}
 use Rattle.std.specs.Str.{is_utf8}
@@ -9,14 +9,12 @@ use Rattle.matchit.specs.Router.{RouteOf, route_from}
 use Rattle.matchit.specs.Rows.{RowsOf}
 use Rattle.matchit.specs.Seek.{first, slash}
 use Rattle.aq_base.specs.Site.{Site}
-use Rattle.aq_base.specs.Standard.{standards, standard_name}
-use Rattle.aq_base.specs.declared.standard.Standard.{Standard}
 use Rattle.aq_base.specs.declared.ask.Ask.{Ask}
 use Rattle.aq_base.specs.declared.ask.Ask.TheVariants as ask
 use Rattle.aq_rules.specs.Limits.{LAST_LOAD_NUMBER}
 use Rattle.aq_rules.specs.Lines.Spellings.{year_in}
 use Rattle.aq_rules.specs.Shown.Answer.{is_asked, is_design_year, is_load_number}
-use Rattle.aq_rd.specs.Words.{site_word, day_word, number_to}
+use Rattle.aq_rd.specs.Words.{site_word, day_word, number_to, standard_word}
 use Rattle.aq_http.specs.declared.routes.Found.{Found}
 use Rattle.aq_http.specs.declared.routes.Found.TheVariants.{Ask as Asks, Load, Status, NotAllowed}
 use Rattle.aq_http.specs.declared.route.Route.{Route}
@@ -91,9 +89,6 @@ design_year text = do
   year ← year_asked text
   if is_design_year year then Ok year else Err 400
 
-abbrev pub standard_in : List ℕ → Option Standard
-standard_in text = find (λ standard. bytes_eq (standard_name standard) text) standards
-
 unfoldable pub windows_asked : List ℕ → Result Ask ℕ
 windows_asked path = do
   site ← site_asked (part 2 path)
@@ -111,13 +106,13 @@ unfoldable pub value_asked : List ℕ → Result Ask ℕ
 value_asked path = do
   site ← site_asked (part 3 path)
   year ← design_year (part 4 path)
-  standard ← ok_or (standard_in (part 2 path)) 404
+  standard ← ok_or (standard_word (part 2 path)) 404
   Ok (ask.Value standard site year)
 
 unfoldable pub report_asked : List ℕ → Result Ask ℕ
 report_asked path = do
   year ← design_year (part 3 path)
-  standard ← ok_or (standard_in (part 2 path)) 404
+  standard ← ok_or (standard_word (part 2 path)) 404
   Ok (ask.Report standard year)
 
 abbrev pub asked : Route → List ℕ → Result Ask ℕ

@@ -20,18 +20,19 @@ pub data Step : Type 0 where
   Refuse : (status : ℕ) → Step
   Whole : (request : Request) → Step
 
+-- the request of a head and the body after it
+abbrev pub request_in : List ℕ → Head → Request
+request_in input h = record {
+  used = h.head_bytes + h.body_bytes;
+  verb = h.verb;
+  target = h.target;
+  body = take h.body_bytes (drop h.head_bytes input);
+  close = h.close;
+}
+
 -- a request is whole as soon as all of its body is there
 abbrev pub with_body : List ℕ → Head → Step
-with_body input h =
-    if nat_le (h.head_bytes + h.body_bytes) (length input)
-    then Whole (record {
-      used = h.head_bytes + h.body_bytes;
-      verb = h.verb;
-      target = h.target;
-      body = take h.body_bytes (drop h.head_bytes input);
-      close = h.close;
-    })
-    else More
+with_body input h = if nat_le (h.head_bytes + h.body_bytes) (length input) then Whole (request_in input h) else More
 
 abbrev pub step_behind : List ℕ → HeadStep → Step
 step_behind input head.More = More

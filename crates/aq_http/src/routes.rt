@@ -1,16 +1,15 @@
 //! What a request's verb and target ask.
-ghost use Rattle.std.specs.Prelude.{◌≡◌, ◌==◌, map, find, option_map, bytes_eq, IfOk, IfErr, IsTrue, OnOk};
+ghost use Rattle.std.specs.Prelude.{◌≡◌, ◌==◌, map, option_map, IfOk, IfErr, IsTrue, OnOk};
 ghost use Rattle.std.specs.List.{before_first, after_first};
 ghost use Rattle.matchit.specs.Seek.{first};
 ghost use Rattle.aq_base.specs.Calendar.{is_year};
-ghost use Rattle.aq_base.specs.Standard.{standard_name};
 ghost use Rattle.aq_rules.specs.Shown.Answer.{is_asked, is_design_year, is_load_number};
-ghost use Rattle.aq_http.specs.Routes.{IsFound, IsFoundStatus, all_routes, asked, design_year, found, found_at, load_number, part, report_asked, route_of, site_and_year, site_asked, standard_in, value_asked, windows_asked, with_routes, year_asked};
+ghost use Rattle.aq_http.specs.Routes.{IsFound, IsFoundStatus, all_routes, asked, design_year, found, found_at, load_number, part, report_asked, route_of, site_and_year, site_asked, value_asked, windows_asked, with_routes, year_asked};
 
 use crate::route::Route;
 use crate::verb::Verb;
-use aq_base::{Ask, FIRST_YEAR, LAST_LOAD_NUMBER, Memory, SiteId, Standard};
-use aq_rd::{day_word, number_to, site_word, year_in};
+use aq_base::{Ask, FIRST_YEAR, LAST_LOAD_NUMBER, Memory, SiteId};
+use aq_rd::{day_word, number_to, site_word, standard_word, year_in};
 use matchit::Router;
 use std::alloc::Global;
 use std::marker::Model;
@@ -195,7 +194,7 @@ fn value_asked(path: &[u8]) -> Result<Ask, u16>
 {
     let site = site_asked(part(3, path))?;
     let year = design_year(part(4, path))?;
-    let standard = standard_in(part(2, path)).ok_or(NOT_FOUND)?;
+    let standard = standard_word(part(2, path)).ok_or(NOT_FOUND)?;
     Ok(Ask::Value(standard, site, year))
 }
 
@@ -206,7 +205,7 @@ fn report_asked(path: &[u8]) -> Result<Ask, u16>
     ensures status { IfErr result IsFoundStatus }
 {
     let year = design_year(part(3, path))?;
-    let standard = standard_in(part(2, path)).ok_or(NOT_FOUND)?;
+    let standard = standard_word(part(2, path)).ok_or(NOT_FOUND)?;
     Ok(Ask::Report(standard, year))
 }
 
@@ -250,24 +249,6 @@ fn design_year(text: &[u8]) -> Result<u16, u16>
     } else {
         Err(BAD_REQUEST)
     }
-}
-
-/// The standard of this name.
-fn standard_in(text: &[u8]) -> Option<Standard>
-    ensures { result ≡ standard_in text.now }
-{
-    first_named(&Standard::all(), text)
-}
-
-fn first_named(standards: &[Standard], name: &[u8]) -> Option<Standard>
-    ensures { result ≡ find (λ standard. bytes_eq (standard_name standard) name.now) standards.now }
-{
-    for standard in standards {
-        if standard.name().as_bytes() == name {
-            return Some(*standard);
-        }
-    }
-    None
 }
 
 /// The part of a path after so many slashes, up to the next.

@@ -1,8 +1,18 @@
 -- What contracts see of a keeper: tables that it tells or does not tell, and its count of faults (own).
-use Rattle.std.specs.Prelude.{◌≡◌, ℕ, Result, Ok, Err}
+use Rattle.std.specs.Prelude.{◌≡◌, ℕ, Option, Some, None, IfSome, Result, Ok, Err}
 use Rattle.aq_base.specs.Faults.{HasRisen, next}
 use Rattle.aq_keeper.specs.declared.keeper.KeeperFault.{KeeperFault}
 use Rattle.aq_keeper.specs.declared.keeper.KeeperFault.TheVariants.{Failed, Memory}
+
+-- A store may fail within a call, and its keeper then tells no more; it never begins to tell. So what a call
+-- promises of what is told is said of what is told as it ends: it is as expected, and what was expected was told.
+abbrev pub Stays : {A : Type 0} → Option A → Option A → Type 0
+Stays expected after = IfSome after (λ told. expected ≡ Some told)
+
+-- what was told before, if something is told still
+abbrev pub told_through : {A : Type 0} → Option A → Option A → Option A
+told_through before (Some told) = before
+told_through before None = None
 
 -- a count rises at a call that fails, and at no other: want of memory is no fault
 abbrev pub HasCause : {A : Type 0} → ℕ → ℕ → Result A KeeperFault → Type 0

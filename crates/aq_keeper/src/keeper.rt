@@ -1,25 +1,27 @@
 //! A keeper: where the tables of an office stand from run to run. It tells its tables or does not, and
-//! counts its faults. A count rises at a call that fails, and at no other; one at its greatest value
-//! counts as risen. Want of memory is no fault, and may come at any call.
+//! counts its faults. It may stop telling within any call, and never begins to: so each call speaks of what
+//! is told as it ends. A count rises at a call that fails, and at no other; one at its greatest value counts
+//! as risen. Want of memory is no fault, and may come at any call.
 ghost use Rattle.std.specs.Prelude.{◌≡◌, ℕ, List, true, map, Option, IfSome, IfOk, OnOk, OnErr};
 ghost use Rattle.std.specs.Option.{option_map};
 ghost use Rattle.aq_rules.specs.Kept.Rows as the_rows;
 ghost use Rattle.aq_rules.specs.Kept.RowChanges.{batch_rises, changed_key, with_row_changes};
-ghost use Rattle.aq_keeper.specs.Told.{HasCause};
+ghost use Rattle.aq_keeper.specs.Told.{HasCause, Stays};
 
 use crate::change::RowChange;
 use crate::row::Rows;
 use aq_base::Memory;
 use std::alloc::Global;
-use std::error::Error;
-use std::fmt;
+use thiserror::Error;
 
 /// Why a keeper refused a call.
-#[derive(Clone, Copy, Debug, PartialEq, Eq)]
+#[derive(Clone, Copy, Debug, PartialEq, Eq, Error)]
 pub enum KeeperFault {
     /// The keeper failed, and its count of faults rose.
+    #[error("failed")]
     Failed,
     /// Memory could not be had.
+    #[error("memory")]
     Memory,
 }
 
@@ -34,17 +36,6 @@ impl From<Memory> for KeeperFault {
     }
 }
 
-impl fmt::Display for KeeperFault {
-    fn fmt<W: fmt::Write>(&self, f: &mut fmt::Formatter<W>) -> fmt::Result {
-        f.write_str(match self {
-            KeeperFault::Failed => "failed",
-            KeeperFault::Memory => "memory",
-        })
-    }
-}
-
-impl Error for KeeperFault {}
-
 /// Keeps the rows of the four tables.
 pub trait Keeper {
     /// The rows of its tables in the order of tables and keys, if the keeper tells them.
@@ -55,15 +46,15 @@ pub trait Keeper {
 
     /// All rows in the order of tables and keys. The tables stay as they are.
     fn read_all(&mut self, alloc: Global) -> Result<Rows, KeeperFault>
-        ensures rows { IfOk result (λ rows. IfSome (tables self.old) (λ told. rows ≡ told)) }
-        ensures kept { tables self.new ≡ tables self.old }
+        ensures rows { IfOk result (λ rows. IfSome (tables self.new) (λ told. rows ≡ told)) }
+        ensures kept { Stays (tables self.old) (tables self.new) }
         ensures cause { HasCause (faults self.old) (faults self.new) result };
 
     /// Changes the rows by a batch, of which the keys rise in the order of a batch: that of tables and
     /// keys, but for the loads, which come last. After a fault the tables are as before.
     fn commit(&mut self, alloc: Global, batch: &[RowChange]) -> Result<(), KeeperFault>
         requires rising { batch_rises (map changed_key batch.now) ≡ true }
-        ensures done { OnOk result (tables self.new ≡ option_map (λ told. with_row_changes told batch.now) (tables self.old)) }
-        ensures kept { OnErr result (tables self.new ≡ tables self.old) }
+        ensures done { OnOk result (Stays (option_map (λ told. with_row_changes told batch.now) (tables self.old)) (tables self.new)) }
+        ensures kept { OnErr result (Stays (tables self.old) (tables self.new)) }
         ensures cause { HasCause (faults self.old) (faults self.new) result };
 }

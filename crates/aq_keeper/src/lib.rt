@@ -10,6 +10,7 @@ mod order;
 mod row;
 mod steady_keeper;
 mod tables;
+mod told;
 
 pub use change::{ChangeContent, RowChange};
 pub use keeper::{Keeper, KeeperFault};
@@ -18,3 +19,4 @@ pub use memory_keeper::MemoryKeeper;
 pub use order::{are_in_order, do_keys_rise};
 pub use row::{LoadRow, ObsRow, ObsRow2, OfficeRow, Row, RowContent, Rows};
 pub use steady_keeper::SteadyKeeper;
+pub use told::told_tables_are_exact;

@@ -1,8 +1,4 @@
 //! The days of a site, one after another.
-ghost use Rattle.std.specs.Prelude.{◌≡◌, ◌<◌};
-ghost use Rattle.aq_rules.specs.Ozone.OzoneDay as ozone_day;
-ghost use Rattle.aq_series.specs.OfficeView.{office_of};
-
 use crate::day_span::DaySpan;
 use crate::eight_hour::DayWindows;
 use crate::windows::{DAY_HOURS, hours_of, windows_of};
@@ -10,8 +6,7 @@ use aq_base::{Day, SiteId, Steps};
 use aq_registry::Registry;
 use aq_series::Cell;
 use aq_shelf::Shelf;
-use std::marker::Brand;
-use std::sync::ledger::{Blank, Ledger};
+use std::sync::ledger::Ledger;
 
 /// A walk over the days of a site, from a day on. Each hour is read once, those of eight calendar days
 /// together; the shelf and the registry are the same all the way.
@@ -74,30 +69,4 @@ impl Days {
         self.today = tomorrow;
         windows
     }
-}
-
-/// The seventeen averages of a day of a site, for callers that count no steps. The hours are read by a walk,
-/// which looks each monitor up once.
-pub fn uncounted_windows(shelf: &Shelf, registry: &Registry, site: SiteId, day: Day) -> DayWindows
-    ensures { result ≡ ozone_day.windows (office_of registry.now shelf.now) site day }
-{
-    counted::<Brand>(shelf, registry, site, day, Blank::new(1))
-}
-
-/// The averages of a day on a counter of their own, which nobody reads.
-fn counted<L: Ledger>(
-    shelf: &Shelf,
-    registry: &Registry,
-    site: SiteId,
-    day: Day,
-    blank: Blank,
-) -> DayWindows
-    requires name { blank.name ≡ L.name }
-    requires parts { blank.parts ≡ L.parts }
-    requires some { 0 < L.parts }
-    ensures { result ≡ ozone_day.windows (office_of registry.now shelf.now) site day }
-{
-    let mut steps = Steps::<L>::new(blank);
-    let mut days = Days::new(shelf, registry, site, day, &mut steps);
-    days.next(shelf, registry, site, &mut steps)
 }

@@ -10,7 +10,7 @@ mod ozone_year;
 mod top_four;
 mod windows;
 
-pub use days::{Days, uncounted_windows};
+pub use days::Days;
 pub use eight_hour::{DayWindows, WINDOWS, WindowRow, average};
 pub use ozone_day::{OzoneDay, day_of_windows};
 pub use ozone_year::year;

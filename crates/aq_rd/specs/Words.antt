@@ -1,9 +1,11 @@
--- Sites, days and numbers as words of a command or a path (own).
-use Rattle.std.specs.Prelude.{ℕ, ◌&&◌, nat_le, if◌then◌else◌, Option, Some, None, List, take, drop, codes, bytes_eq, slice_index}
+-- Sites, days, standards and numbers as words of a command or a path (own).
+use Rattle.std.specs.Prelude.{ℕ, ◌&&◌, nat_le, if◌then◌else◌, Option, Some, None, List, take, drop, codes, bytes_eq, find, slice_index}
 use Rattle.std.specs.Str.Parse.{digits_value}
 use Rattle.aq_base.specs.Calendar.{day_of_date}
 use Rattle.aq_base.specs.Decimal.{are_digits}
 use Rattle.aq_base.specs.Site.{Site}
+use Rattle.aq_base.specs.Standard.{standards, standard_name}
+use Rattle.aq_base.specs.declared.standard.Standard.{Standard}
 use Rattle.aq_rules.specs.Lines.Spellings.{◌>>=◌, digits_in, site_in}
 
 -- what stands after a hyphen
@@ -31,6 +33,10 @@ day_word word = do
   month ← behind_hyphen (drop 4 word)
   day ← behind_hyphen (drop 2 month)
   date_of (take 4 word) (take 2 month) day
+
+-- a standard by its name
+abbrev pub standard_word : List ℕ → Option Standard
+standard_word text = find (λ standard. bytes_eq (standard_name standard) text) standards
 
 -- a number from 1 to a last one, of digits without a leading zero
 abbrev pub number_to : ℕ → List ℕ → Option ℕ

@@ -23,7 +23,8 @@ pub use line::RdLine;
 pub use print::print_rd;
 pub use read::read_rd;
 pub use spellings::{
-    date_in, duration_in, null_in, parameter_in, poc_in, site_in, time_in, truth_in, year_in,
+    date_in, duration_in, is_code_byte, null_in, parameter_in, poc_in, qualifier_in, site_in,
+    time_in, truth_in, year_in,
 };
 pub use tag::{Tag, has_office_tag, tag_in, tag_of};
-pub use words::{day_word, site_word};
+pub use words::{day_word, site_word, standard_word};

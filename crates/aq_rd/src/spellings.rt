@@ -196,7 +196,7 @@ pub fn null_in(text: &[u8]) -> Option<Code>
 }
 
 /// A qualifier code, of one character or two.
-fn qualifier_in(text: &[u8]) -> Option<Code>
+pub fn qualifier_in(text: &[u8]) -> Option<Code>
     ensures { result ≡ qualifier_in text.now }
 {
     match text {
@@ -205,7 +205,8 @@ fn qualifier_in(text: &[u8]) -> Option<Code>
     }
 }
 
-fn is_code_byte(byte: u8) -> bool
+/// A letter or a digit, as codes have them.
+pub fn is_code_byte(byte: u8) -> bool
     ensures { result ≡ is_code_byte byte }
 {
     byte.is_ascii_uppercase() || byte.is_ascii_digit()

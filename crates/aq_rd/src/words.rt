@@ -1,10 +1,11 @@
-//! Sites and days as words of a command or a path.
-ghost use Rattle.std.specs.Prelude.{◌≡◌};
+//! Sites, days and standards as words of a command or a path.
+ghost use Rattle.std.specs.Prelude.{◌≡◌, bytes_eq, find};
 ghost use Rattle.std.specs.Option.{option_map};
-ghost use Rattle.aq_rd.specs.Words.{site_word, day_word, behind_hyphen};
+ghost use Rattle.aq_base.specs.Standard.{standard_name};
+ghost use Rattle.aq_rd.specs.Words.{site_word, day_word, standard_word, behind_hyphen};
 
 use crate::spellings::{date_of, front, site_in};
-use aq_base::{Day, SiteId};
+use aq_base::{Day, SiteId, Standard};
 
 /// A site as `SS-CCC-NNNN`, in digits.
 #[tactic(auto, unfolding(crate::specs::Words::site_word))]
@@ -32,4 +33,22 @@ fn behind_hyphen(text: &[u8]) -> Option<&[u8]>
     ensures { option_map (λ rest. rest.now) result ≡ behind_hyphen text.now }
 {
     text.strip_prefix(b"-")
+}
+
+/// A standard by its name.
+pub fn standard_word(word: &[u8]) -> Option<Standard>
+    ensures { result ≡ standard_word word.now }
+{
+    first_named(&Standard::all(), word)
+}
+
+fn first_named(standards: &[Standard], name: &[u8]) -> Option<Standard>
+    ensures { result ≡ find (λ standard. bytes_eq (standard_name standard) name.now) standards.now }
+{
+    for standard in standards {
+        if standard.name().as_bytes() == name {
+            return Some(*standard);
+        }
+    }
+    None
 }

@@ -71,7 +71,7 @@ five_tests true true false d e = refl
 five_tests true false c d e = refl
 five_tests false b c d e = refl
 
-same-monitors : (a b : MonitorId) → is_same_monitor a b ≡ ((a.site.state == b.site.state) && ((a.site.county == b.site.county) && ((a.site.number == b.site.number) && ((parameter_number a.pollutant == parameter_number b.pollutant) && ((a.poc == b.poc) && true)))))
+pub same-monitors : (a b : MonitorId) → is_same_monitor a b ≡ ((a.site.state == b.site.state) && ((a.site.county == b.site.county) && ((a.site.number == b.site.number) && ((parameter_number a.pollutant == parameter_number b.pollutant) && ((a.poc == b.poc) && true)))))
 same-monitors a b =
     ap (λ p. is_same_site a.site b.site && p && (a.poc == b.poc)) (same-parameters a.pollutant b.pollutant)
     ∙ five_tests (a.site.state == b.site.state) (a.site.county == b.site.county) (a.site.number == b.site.number) (parameter_number a.pollutant == parameter_number b.pollutant) (a.poc == b.poc)

@@ -21,5 +21,5 @@ pub use keys::{observation_key, office_key};
 pub use loads::{load_of, load_row};
 pub use observations::{fitting_observations_can_stand, observation_of, observation_row};
 pub use office_rows::rows_of;
-pub use opening::{OpenFault, Opened, Place, open};
+pub use opening::{OpenFault, Opened, Place, open, place_of, table_of};
 pub use records::{office_row, record_of};

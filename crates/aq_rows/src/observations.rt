@@ -3,7 +3,7 @@ ghost use Rattle.std.specs.Prelude.{◌≡◌, true, IfOk, option_map, pos};
 ghost use Rattle.std.specs.List.{list_all};
 ghost use Rattle.aq_base.specs.declared.observation.ObsKey as key;
 ghost use Rattle.aq_base.specs.declared.observation.Observation as content;
-ghost use Rattle.aq_rules.specs.Lines.Spellings.{◌>>=◌ as ◌>>-◌, is_code_byte, is_in_range, qualifier_in};
+ghost use Rattle.aq_rules.specs.Lines.Spellings.{◌>>=◌ as ◌>>-◌, is_in_range};
 ghost use Rattle.aq_rules.specs.Office.Office.{Office, fits_monitors, fits_records, is_measured, is_null_code};
 ghost use Rattle.aq_rules.specs.Kept.Rows as rows;
 ghost use Rattle.aq_rows.specs.Standing.{can_stand};
@@ -18,7 +18,7 @@ use aq_base::{
     Quals, SiteId,
 };
 use aq_keeper::ObsRow2;
-use aq_rd::null_in;
+use aq_rd::{is_code_byte, qualifier_in};
 use std::alloc::Global;
 
 /// The row of an observation.
@@ -166,22 +166,6 @@ fn quals_in(text: &[u8]) -> Option<Quals>
         }
     }
     Some(quals)
-}
-
-/// A code of one character or two.
-fn qualifier_in(text: &[u8]) -> Option<Code>
-    ensures { result ≡ qualifier_in text.now }
-{
-    match text {
-        &[first] if is_code_byte(first) => Some(Code { first, second: 0 }),
-        _ => null_in(text),
-    }
-}
-
-fn is_code_byte(byte: u8) -> bool
-    ensures { result ≡ is_code_byte byte }
-{
-    byte.is_ascii_uppercase() || byte.is_ascii_digit()
 }
 
 /// What an observation has beside its key: a value in its pollutant's range, or a null code of two

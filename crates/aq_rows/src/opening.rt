@@ -5,13 +5,13 @@ ghost use Rattle.aq_rows.specs.Opening.{IsOpenFault};
 
 use crate::kept_loads::Loads;
 use crate::walk::{RowFault, Walk};
+use aq_base::Memory;
 use aq_keeper::{Row, RowContent};
 use aq_registry::Registry;
 use aq_shelf::Shelf;
 use std::alloc::Global;
-use std::error::Error;
-use std::fmt;
 use std::marker::Model;
+use thiserror::Error;
 
 /// The parts of an office that was opened. Contracts see the valid office of the book of rules.
 #[derive(Drop)]
@@ -51,24 +51,26 @@ impl Model for Place {
 }
 
 /// Why an office was not opened.
-#[derive(Clone, Copy, Debug, PartialEq, Eq)]
+#[derive(Clone, Copy, Debug, PartialEq, Eq, Error)]
 pub enum OpenFault {
     /// The first damaged row: the rows before it are an office's, and those up to it are no office's.
+    #[error("a row is damaged")]
     Damaged(Place),
     /// Memory could not be had.
+    #[error("memory")]
     Memory,
 }
 
-impl fmt::Display for OpenFault {
-    fn fmt<W: fmt::Write>(&self, f: &mut fmt::Formatter<W>) -> fmt::Result {
-        f.write_str(match self {
-            OpenFault::Damaged(_) => "a row is damaged",
-            OpenFault::Memory => "memory",
-        })
+impl From<Memory> for OpenFault {
+    ghost use Rattle.std.specs.Prelude.{◌≡◌};
+    ghost use Rattle.aq_rows.specs.declared.opening.OpenFault.TheVariants as faults;
+
+    ghost from_gives = { λ _ fault. fault ≡ faults.Memory };
+
+    fn from(_: Memory) -> Self {
+        OpenFault::Memory
     }
 }
-
-impl Error for OpenFault {}
 
 /// Opens the office whose rows these are, or names the first damaged row. It reads the rows once, in
 /// order, and keeps what each one says: for each record it searches the records a few times, and for each
@@ -97,7 +99,7 @@ pub fn open(alloc: Global, rows: &[Row]) -> Result<Opened, OpenFault>
 }
 
 /// The place of a row after others.
-fn place_of(before: &[Row], row: &Row) -> Place
+pub fn place_of(before: &[Row], row: &Row) -> Place
     ensures { result ≡ the_rows.place_of before.now row.now }
 {
     let table = table_of(row);
@@ -112,7 +114,7 @@ fn place_of(before: &[Row], row: &Row) -> Place
 }
 
 /// The table of a row by its number, in the order of tables.
-fn table_of(row: &Row) -> u8
+pub fn table_of(row: &Row) -> u8
     ensures { result ≡ the_rows.table_of row.now }
 {
     match &row.content {

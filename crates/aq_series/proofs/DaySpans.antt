@@ -23,7 +23,7 @@ use Rattle.aq_series.specs.declared.day_tally.DayTally.{DayTally}
 use Rattle.aq_series.specs.DayCells.{cell_of, cells_in, hours_of, key_at, IsOfParticles, IsParticle, IsTallyOf}
 use Rattle.aq_series.proofs.DaySteps.{Within}
 use Rattle.aq_series.proofs.MonitorDay.{cells-of_day, give_cell}
-use Rattle.aq_series.proofs.Rising.{Later}
+use Rattle.aq_series.proofs.Rising.{Later, same_number}
 use Rattle.aq_series.proofs.Spans.{Item, hour_of}
 
 abbrev as_cell : ℤ → Bool → Cell
@@ -136,9 +136,6 @@ module _ (records : List OfficeRecord) (monitor : MonitorId) (first : ℕ) where
   abbrev pub AreOfParticles : List DayTally → Type 0
   AreOfParticles now = (k : ℕ) (d : DayTally) → k < 92 → IsOfParticles (get_or now k d)
 
-  number_is : (m n : ℕ) → (m == n) ≡ true → m ≡ n
-  number_is m n h = grind (arith, nat_tests)
-
   apart : (m n : ℕ) → (m == n) ≡ false → m ≡ n → ⊥
   apart m n h e = grind (arith, nat_tests)
 
@@ -155,7 +152,7 @@ module _ (records : List OfficeRecord) (monitor : MonitorId) (first : ℕ) where
             subst (λ (t : DayTally). Read k all items t) (sym (get_or-set_other now place k after d (λ e. apart (item.0 / 24) (first + k) other (omega (arith, at, e)))))
             (read-other item items all later k (get_or now k d) (reads k d within) other)
         by_test true same =
-            let is = number_is (item.0 / 24) (first + k) same in
+            let is = same_number (item.0 / 24) (first + k) same in
             let there : k ≡ place = omega (arith, is, at) in
             let read = reads k d within in
             subst (λ (t : DayTally). Read k all items t) (sym (get_or-set_at now place k after d there many))
@@ -167,7 +164,7 @@ module _ (records : List OfficeRecord) (monitor : MonitorId) (first : ℕ) where
     particles-next after are is k d within = by_test (k == place) refl
       where
         by_test : (b : Bool) → (k == place) ≡ b → IsOfParticles (get_or (set now place after) k d)
-        by_test true same = subst IsOfParticles (sym (get_or-set_at now place k after d (number_is k place same) many)) is
+        by_test true same = subst IsOfParticles (sym (get_or-set_at now place k after d (same_number k place same) many)) is
         by_test false other = subst IsOfParticles (sym (get_or-set_other now place k after d (λ e. apart k place other e))) (are k d within)
 
   -- ---- the end

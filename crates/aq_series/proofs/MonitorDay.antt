@@ -10,7 +10,6 @@ use Rattle.aq_base.specs.declared.monitor.Duration.{Duration}
 use Rattle.aq_base.specs.declared.monitor.Duration.TheVariants.{Hour, Day}
 use Rattle.aq_base.specs.declared.monitor.MonitorId.{MonitorId}
 use Rattle.aq_base.specs.declared.monitor.Pollutant.{Pollutant}
-use Rattle.aq_base.specs.declared.monitor.Pollutant.TheVariants.{Ozone, Pm25, Pm10}
 use Rattle.aq_base.specs.declared.observation.ObsKey.{ObsKey}
 use Rattle.aq_base.specs.declared.observation.Observation.{Observation}
 use Rattle.aq_base.specs.declared.office.OfficeRecord.{OfficeRecord}
@@ -18,7 +17,7 @@ use Rattle.aq_base.specs.declared.office.OfficeRecord.TheVariants.{Monitor}
 use Rattle.aq_base.specs.declared.office.OfficeKey.TheVariants.{Monitor as MonitorKey}
 use Rattle.aq_rules.specs.Lines.Spellings.{◌>>=◌}
 use Rattle.aq_rules.specs.Office.Exclusion.{excluded}
-use Rattle.aq_rules.specs.Office.Monitors.{is_same_site, is_same_pollutant, is_same_monitor, is_eligible}
+use Rattle.aq_rules.specs.Office.Monitors.{is_same_site, is_same_monitor, is_eligible}
 use Rattle.aq_rules.specs.Office.Office.{IsOffice, comes_before, content_of, duration_at, is_same, key_numbers, monitor_duration, observation_numbers, observation_rank, pollutant_number, record_rank, rises, row_at}
 use Rattle.aq_rules.specs.Office.Questions.{registration_by, registration_of}
 use Rattle.aq_rules.specs.Office.Sameness.{same_monitor, number_itself}
@@ -28,9 +27,10 @@ use Rattle.aq_rules.specs.Particles.ParticleDay as particle_day
 use Rattle.aq_registry.specs.Registry.{office_with, pair_of}
 use Rattle.aq_series.specs.OfficeView.{office_of}
 use Rattle.aq_series.specs.DayCells.{cell_at, cell_of, cells_in, hours_of, key_at}
-use Rattle.aq_series.proofs.Rising.{Rising, Later, found, found-given, found-under, rising-given, rising-under, same_list}
+use Rattle.aq_series.proofs.Rising.{Rising, Later, found, found-given, found-under, rising-given, rising-under, same_list, below, last_decides, not_below_itself, row_at-is}
 use Rattle.aq_series.proofs.Pocs.{eligible_is}
 use Rattle.aq_series.proofs.SitePocs.{same_rank}
+use Rattle.aq_series.proofs.Spans.{and_true, pollutants, regroup}
 
 -- a cell and its hour
 pub record Timed : Type 0 where
@@ -45,9 +45,6 @@ as_cell value excluded = record { value = value; excluded = excluded }
 
 abbrev Entry : Type 0
 Entry = ObsKey × Observation
-
-not_below_itself : (n : ℕ) → nat_lt n n ≡ false
-not_below_itself n = grind (arith, nat_tests)
 
 module _ (records : List OfficeRecord) (rows : List Entry) (monitor : MonitorId) (starts : ℕ → Bool) where
   -- what a row gives, with its hour
@@ -89,69 +86,31 @@ module _ (records : List OfficeRecord) (rows : List Entry) (monitor : MonitorId)
       let parts = given row t h in
       ap observation_numbers (key_is row.0 parts.0) ∙ ap numbers parts.1
 
-  last_decides : (s t : ℕ) → (nat_lt s t || ((s == t) && false)) ≡ nat_lt s t
-  last_decides s t = grind (arith, nat_tests)
-
   before_hour : (s t : ℕ) → comes_before (numbers s) (numbers t) ≡ nat_lt s t
   before_hour s t =
       rw (number_itself monitor.site.state, number_itself monitor.site.county, number_itself monitor.site.number, number_itself (pollutant_number monitor.pollutant), number_itself monitor.poc, not_below_itself monitor.site.state, not_below_itself monitor.site.county, not_below_itself monitor.site.number, not_below_itself (pollutant_number monitor.pollutant), not_below_itself monitor.poc)
       (last_decides s t)
 
-  below : (s t : ℕ) → nat_lt s t ≡ true → s < t
-  below s t h = grind (arith, nat_tests)
-
   in_order : (a b : Entry) (s t : Timed) → give a ≡ Some s → give b ≡ Some t → comes_before (observation_rank a) (observation_rank b) ≡ true → s.hour < t.hour
   in_order a b s t first second before =
       below s.hour t.hour (sym (before_hour s.hour t.hour) ∙ (λ i. comes_before (sym (ranked a s first) i) (sym (ranked b t second) i)) ∙ before)
 
-  last_test : (b : Bool) → (b && true) ≡ b
-  last_test true = refl
-  last_test false = refl
-
   same_hour : (s t : ℕ) → is_same (numbers s) (numbers t) ≡ (s == t)
   same_hour s t =
-      rw (number_itself monitor.site.state, number_itself monitor.site.county, number_itself monitor.site.number, number_itself (pollutant_number monitor.pollutant), number_itself monitor.poc) (last_test (s == t))
+      rw (number_itself monitor.site.state, number_itself monitor.site.county, number_itself monitor.site.number, number_itself (pollutant_number monitor.pollutant), number_itself monitor.poc) (and_true (s == t))
 
   tells : (hour : ℕ) (row : Entry) (t : Timed) → give row ≡ Some t → (t.hour == hour) ≡ is_same (observation_rank row) (numbers hour)
   tells hour row t h = sym (same_hour t.hour hour) ∙ ap (λ k. is_same k (numbers hour)) (sym (ranked row t h))
 
   -- ---- the row of a key
 
-  regroup : (s c n p q h : Bool) → (s && (c && (n && (p && (q && (h && true)))))) ≡ true → ((((s && c) && n) && p && q) ≡ true) × (h ≡ true)
-  regroup true true true true true true e = (refl, refl)
-  regroup true true true true true false e = cc
-  regroup true true true true false h e = cc
-  regroup true true true false q h e = cc
-  regroup true true false p q h e = cc
-  regroup true false n p q h e = cc
-  regroup false c n p q h e = cc
-
-  pollutant_is : (a b : Pollutant) → (pollutant_number a == pollutant_number b) ≡ is_same_pollutant a b
-  pollutant_is Ozone Ozone = refl
-  pollutant_is Ozone Pm25 = refl
-  pollutant_is Ozone Pm10 = refl
-  pollutant_is Pm25 Ozone = refl
-  pollutant_is Pm25 Pm25 = refl
-  pollutant_is Pm25 Pm10 = refl
-  pollutant_is Pm10 Ozone = refl
-  pollutant_is Pm10 Pm25 = refl
-  pollutant_is Pm10 Pm10 = refl
-
   key_there : (key : ObsKey) (hour : ℕ) → is_same (observation_numbers key) (numbers hour) ≡ true → (is_same_monitor key.monitor monitor ≡ true) × (key ≡ key_at monitor hour)
   key_there key hour same =
       let m = key.monitor in
       let parts = regroup (m.site.state == monitor.site.state) (m.site.county == monitor.site.county) (m.site.number == monitor.site.number) (pollutant_number m.pollutant == pollutant_number monitor.pollutant) (m.poc == monitor.poc) (key.hour == hour) same in
       let there : is_same_monitor m monitor ≡ true =
-      ap (λ p. is_same_site m.site monitor.site && p && (m.poc == monitor.poc)) (sym (pollutant_is m.pollutant monitor.pollutant)) ∙ parts.0 in
+      ap (λ p. is_same_site m.site monitor.site && p && (m.poc == monitor.poc)) (sym (pollutants m.pollutant monitor.pollutant)) ∙ parts.0 in
       (there, key_is key there ∙ ap (key_at monitor) (hour_is key.hour hour parts.1))
-
-  found_key : (key : List ℕ) (es : List Entry) (row : Entry) → row_at observation_rank key es ≡ Some row → is_same (observation_rank row) key ≡ true
-  found_key key [] row h = cc
-  found_key key (e ∷ es) row h = by_test (found_key key es row) (is_same (observation_rank e) key) refl h
-    where
-      by_test : (row_at observation_rank key es ≡ Some row → is_same (observation_rank row) key ≡ true) → (b : Bool) → is_same (observation_rank e) key ≡ b → cond b (Some e) (row_at observation_rank key es) ≡ Some row → is_same (observation_rank row) key ≡ true
-      by_test rest true same h = let one : e ≡ row = cc in ap (λ r. is_same (observation_rank r) key) (sym one) ∙ same
-      by_test rest false other h = rest h
 
   gives : (key : ObsKey) (content : Observation) (hour : ℕ) → is_same_monitor key.monitor monitor ≡ true → key ≡ key_at monitor hour
       → give (key, content) ≡ cond (starts hour) (option_map (as_timed hour) (cell_of records (key_at monitor hour) content)) None
@@ -183,7 +142,7 @@ module _ (records : List OfficeRecord) (rows : List Entry) (monitor : MonitorId)
     found_in_rows : (hour : ℕ) → found (λ (t : Timed). t.hour) hour (filter_map give rows) ≡ cond (starts hour) (at hour) None
     found_in_rows hour =
         found-given observation_rank (λ (t : Timed). t.hour) give (numbers hour) hour (tells hour) rows rising
-        ∙ row_gives hour (row_at observation_rank (numbers hour) rows) (found_key (numbers hour) rows)
+        ∙ row_gives hour (row_at observation_rank (numbers hour) rows) (row_at-is observation_rank (numbers hour) rows)
 
     numbered : (hour : ℕ) (t : Timed) → at hour ≡ Some t → t.hour ≡ hour
     numbered hour t h = by_cell (cell_at records rows monitor hour) h

@@ -1,6 +1,6 @@
 -- Lists that rise by a number: two in which the same is found are one, and what a list in the order of ranks gives rises.
-use Rattle.std.proofs.Common.{◌≡◌, ℕ, ◌<◌, ◌≤◌, ◌⊎◌, Bool, true, false, cond, ◌||◌, ◌==◌, Some, None, Option, List, [], ◌∷◌, refl, ap, sym, subst, ◌∙◌, arith, inl, inr}
-use Rattle.std.specs.Prelude.{find}
+use Rattle.std.proofs.Common.{◌≡◌, ℕ, ◌<◌, ◌≤◌, ◌⊎◌, Bool, true, false, cond, ◌&&◌, ◌||◌, ◌==◌, Some, None, Option, List, [], ◌∷◌, refl, ap, sym, subst, ◌∙◌, arith, inl, inr}
+use Rattle.std.specs.Prelude.{find, nat_lt}
 use Rattle.std.specs.List.{AllByRecursion, filter_map, cons_option, list_any}
 use Rattle.std.specs.Option.{option_and_then}
 use Rattle.std.proofs.lemmas.Bool.Decides.{nat_tests}
@@ -15,6 +15,17 @@ some_is x y h = cc
 none_is_not : {X : Type 0} {P : Type 0} (x : X) → None ≡ Some x → P
 none_is_not x h = cc
 
+-- ---- tests of numbers
+
+pub not_below_itself : (n : ℕ) → nat_lt n n ≡ false
+not_below_itself n = grind (arith, nat_tests)
+
+pub last_decides : (s t : ℕ) → (nat_lt s t || ((s == t) && false)) ≡ nat_lt s t
+last_decides s t = grind (arith, nat_tests)
+
+pub below : (s t : ℕ) → nat_lt s t ≡ true → s < t
+below s t h = grind (arith, nat_tests)
+
 itself : (n : ℕ) → (n == n) ≡ true
 itself n = grind (arith, nat_tests)
 
@@ -24,8 +35,17 @@ compared m n = grind arith
 other_number : (m n : ℕ) → m < n → (n == m) ≡ false
 other_number m n h = grind (arith, nat_tests)
 
-same_number : (m n : ℕ) → (m == n) ≡ true → m ≡ n
+pub same_number : (m n : ℕ) → (m == n) ≡ true → m ≡ n
 same_number m n h = grind (arith, nat_tests)
+
+-- the row of a key has the key's numbers
+pub row_at-is : {X : Type 0} (rank : X → List ℕ) (key : List ℕ) (rows : List X) (row : X) → row_at rank key rows ≡ Some row → is_same (rank row) key ≡ true
+row_at-is rank key [] row h = cc
+row_at-is rank key (e ∷ es) row h = by_test (row_at-is rank key es row) (is_same (rank e) key) refl h
+  where
+    by_test : (row_at rank key es ≡ Some row → is_same (rank row) key ≡ true) → (b : Bool) → is_same (rank e) key ≡ b → cond b (Some e) (row_at rank key es) ≡ Some row → is_same (rank row) key ≡ true
+    by_test rest true same h = let one : e ≡ row = cc in ap (λ r. is_same (rank r) key) (sym one) ∙ same
+    by_test rest false other h = rest h
 
 -- ---- lists that rise by a number
 

@@ -1,6 +1,6 @@
 -- The day of a site from those of its monitors: the primary's, the mean of the others', and the walk over them.
 use Rattle.std.proofs.Common.{◌≡◌, ℕ, suc, ◌+◌, ◌*◌, ◌<◌, ◌≤◌, Bool, true, false, cond, ◌&&◌, ◌||◌, ◌==◌, Some, None, Option, List, [], ◌∷◌, ◌++◌, length, map, refl, ap, sym, ◌∙◌, arith, append_assoc, subst}
-use Rattle.std.specs.Prelude.{pos, nat_lt, find, min, fold, slice_get, sum_by, option_map, IfSome}
+use Rattle.std.specs.Prelude.{pos, find, min, fold, slice_get, sum_by, option_map, IfSome}
 use Rattle.std.specs.List.{filter_map, cons_option, list_any}
 use Rattle.std.specs.Option.{option_and_then, option_eq, option_map_or, option_or, option_to_list}
 use Rattle.std.proofs.lemmas.Bool.{false≢true}
@@ -28,7 +28,7 @@ use Rattle.aq_rules.specs.Particles.ParticleDay.{counting_poc, day_of_samples, e
 use Rattle.aq_registry.specs.Registry.{office_with}
 use Rattle.aq_series.specs.declared.day_tally.DayTally.{DayTally}
 use Rattle.aq_series.specs.DayCells.{cells_on, mean_of, monitor_at, monitor_steps, pocs_after, pocs_of, site_steps, steps_beside, steps_by, IsTallyOf}
-use Rattle.aq_series.proofs.Rising.{Later, Rising, found, found-under, rising-given, rising-under, same_list}
+use Rattle.aq_series.proofs.Rising.{Later, Rising, found, found-under, rising-given, rising-under, same_list, below}
 use Rattle.aq_series.proofs.SitePocs.{before_poc, eligible_there, lasting_there, pocs-end, pocs-few, pocs-next, pocs-rise}
 
 abbrev as_sample : ℕ → Cell → Sample
@@ -60,9 +60,6 @@ module _ (records : List OfficeRecord) (site : Site) (pollutant : Pollutant) whe
       in
       ap (λ k. key_numbers (MonitorKey k)) one
   ranked r s h = cc
-
-  below : (s t : ℕ) → nat_lt s t ≡ true → s < t
-  below s t h = grind (arith, nat_tests)
 
   in_order : (a b : OfficeRecord) (s t : ℕ) → eligible_poc site pollutant a ≡ Some s → eligible_poc site pollutant b ≡ Some t → comes_before (record_rank a) (record_rank b) ≡ true → s < t
   in_order a b s t first second before =

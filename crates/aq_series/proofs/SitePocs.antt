@@ -9,54 +9,38 @@ use Rattle.std.proofs.lemmas.Slice.Eq.{bytes_eq-Decides}
 use Rattle.aq_base.specs.Site.{Site}
 use Rattle.aq_base.specs.declared.monitor.Duration.{Duration}
 use Rattle.aq_base.specs.declared.monitor.Pollutant.{Pollutant}
-use Rattle.aq_base.specs.declared.monitor.Pollutant.TheVariants.{Ozone, Pm25, Pm10}
 use Rattle.aq_base.specs.declared.monitor.MonitorId.{MonitorId}
 use Rattle.aq_base.specs.declared.office.OfficeRecord.{OfficeRecord}
 use Rattle.aq_base.specs.declared.office.OfficeRecord.TheVariants.{Monitor}
 use Rattle.aq_base.specs.declared.office.OfficeKey.TheVariants.{Monitor as MonitorKey}
 use Rattle.aq_rules.specs.Lines.Spellings.{◌>>=◌}
 use Rattle.aq_rules.specs.Office.Monitors.{is_same_site, is_same_pollutant, is_same_monitor, makes_eligible, is_eligible}
-use Rattle.aq_rules.specs.Office.Office.{IsOffice, comes_before, fits_records, group_of, group_size, has_its_event, has_its_monitor, duration_at, is_poc, monitor_duration, parameter_number, is_record, row_at, is_same, is_site, key_numbers, record_rank, rises, series_numbers}
+use Rattle.aq_rules.specs.Office.Office.{IsOffice, Office, comes_before, fits_records, group_of, group_size, has_its_event, has_its_monitor, duration_at, is_poc, monitor_duration, parameter_number, is_record, row_at, is_same, is_site, key_numbers, record_rank, rises, series_numbers}
 use Rattle.aq_rules.specs.Office.Questions.{poc_above, next_poc}
 use Rattle.aq_rules.specs.Office.Sameness.{same_site, same_pollutant, same_monitor, site_itself, pollutant_itself}
 use Rattle.aq_registry.specs.Registry.{office_with}
+use Rattle.aq_registry.proofs.QuestionLemmas.{same-monitors}
 use Rattle.aq_series.specs.DayCells.{monitor_at, pocs_after, pocs_of}
-use Rattle.aq_series.proofs.Rising.{Later, Rising, rising-given}
+use Rattle.aq_series.proofs.Rising.{Later, Rising, rising-given, below, last_decides, not_below_itself}
 
 number_itself : (n : ℕ) → (n == n) ≡ true
 number_itself n = grind (arith, nat_tests)
 
-not_below_itself : (n : ℕ) → nat_lt n n ≡ false
-not_below_itself n = grind (arith, nat_tests)
-
 -- ---- two monitors are the same where their keys are
 
-last_test : (a : Bool) → a ≡ (a && true)
-last_test true = refl
-last_test false = refl
-
-five_tests : (a b c d e : Bool) → (a && b && c && d && e) ≡ (a && (b && (c && (d && (e && true)))))
-five_tests true true true true e = last_test e
-five_tests true true true false e = refl
-five_tests true true false d e = refl
-five_tests true false c d e = refl
-five_tests false b c d e = refl
-
-same_parameter : (a b : Pollutant) → (parameter_number a == parameter_number b) ≡ is_same_pollutant a b
-same_parameter Ozone Ozone = refl
-same_parameter Ozone Pm25 = refl
-same_parameter Ozone Pm10 = refl
-same_parameter Pm25 Ozone = refl
-same_parameter Pm25 Pm25 = refl
-same_parameter Pm25 Pm10 = refl
-same_parameter Pm10 Ozone = refl
-same_parameter Pm10 Pm25 = refl
-same_parameter Pm10 Pm10 = refl
-
 pub same_rank : (a b : MonitorId) → is_same (key_numbers (MonitorKey a)) (key_numbers (MonitorKey b)) ≡ is_same_monitor a b
-same_rank a b =
-    sym (five_tests (a.site.state == b.site.state) (a.site.county == b.site.county) (a.site.number == b.site.number) (parameter_number a.pollutant == parameter_number b.pollutant) (a.poc == b.poc))
-    ∙ ap (λ p. is_same_site a.site b.site && p && (a.poc == b.poc)) (same_parameter a.pollutant b.pollutant)
+same_rank a b = sym (same-monitors a b)
+
+-- a registered POC is no zero
+pub some_poc : (id : MonitorId) (duration : Duration) (eligible : Bool) (office : Office) → fits_records office (Monitor id duration eligible) ≡ true → nat_lt 0 id.poc ≡ true
+some_poc id duration eligible office fits =
+    let a = and_parts _ _ fits in
+    let b = and_parts _ _ a.0 in
+    let c = and_parts _ _ b.0 in
+    let d = and_parts _ _ c.0 in
+    let e = and_parts (is_site id.site) (is_poc id.poc) d.0 in
+    let f = and_parts (nat_le 1 id.poc) (nat_le id.poc 99) e.1 in
+    grind (arith, nat_tests, f.0)
 
 -- ---- one record
 
@@ -83,16 +67,10 @@ module _ (site : Site) (pollutant : Pollutant) where
       ap (λ k. key_numbers (MonitorKey k)) one
   ranked after r s h = cc
 
-  last_decides : (s t : ℕ) → (nat_lt s t || ((s == t) && false)) ≡ nat_lt s t
-  last_decides s t = grind (arith, nat_tests)
-
   pub before_poc : (s t : ℕ) → comes_before (rank_at s) (rank_at t) ≡ nat_lt s t
   before_poc s t =
       rw (number_itself site.state, number_itself site.county, number_itself site.number, not_below_itself site.state, not_below_itself site.county, not_below_itself site.number, number_itself (parameter_number pollutant), not_below_itself (parameter_number pollutant))
       (last_decides s t)
-
-  below : (s t : ℕ) → nat_lt s t ≡ true → s < t
-  below s t h = grind (arith, nat_tests)
 
   in_order : (after : ℕ) (a b : OfficeRecord) (s t : ℕ) → poc_above site pollutant after a ≡ Some s → poc_above site pollutant after b ≡ Some t → comes_before (record_rank a) (record_rank b) ≡ true → s < t
   in_order after a b s t first second before =
@@ -182,17 +160,6 @@ module _ (site : Site) (pollutant : Pollutant) where
   still_there p None ns h = h
   still_there p (Some q) ns h = ap (λ b. (q == p) || b) h ∙ or_true (q == p)
 
-  numbered : (id : MonitorId) (duration : Duration) (eligible : Bool) (all : List OfficeRecord) → fits_records (office_with all) (Monitor id duration eligible) ≡ true → nat_lt 0 id.poc ≡ true
-  numbered id duration eligible all fits =
-      let r = Monitor id duration eligible in
-      let a = and_parts _ _ fits in
-      let b = and_parts _ _ a.0 in
-      let c = and_parts _ _ b.0 in
-      let d = and_parts _ _ c.0 in
-      let e = and_parts (is_site id.site) (is_poc id.poc) d.0 in
-      let f = and_parts (nat_le 1 id.poc) (nat_le id.poc 99) e.1 in
-      grind (arith, nat_tests, f.0)
-
   abbrev is_of : MonitorId → OfficeRecord → Bool
   is_of m (Monitor id duration eligible) = is_same_monitor id m
   is_of m r = false
@@ -211,7 +178,7 @@ module _ (site : Site) (pollutant : Pollutant) where
           → list_any (λ q. q == p) (cons_option (poc_above site pollutant 0 (Monitor id duration eligible)) (pocs_of records site pollutant)) ≡ true
       by_test rest true same there =
           let one = same_monitor id (monitor_at site pollutant p) same in
-          let some : nat_lt 0 p ≡ true = subst (λ (k : MonitorId). nat_lt 0 k.poc ≡ true) one (numbered id duration eligible all parts.0) in
+          let some : nat_lt 0 p ≡ true = subst (λ (k : MonitorId). nat_lt 0 k.poc ≡ true) one (some_poc id duration eligible (office_with all) parts.0) in
           let here : poc_above site pollutant 0 (Monitor id duration eligible) ≡ Some p =
           ap (λ (k : MonitorId). poc_above site pollutant 0 (Monitor k duration eligible)) one
           ∙ (λ i. cond ((site_itself site i && pollutant_itself pollutant i) && some i) (Some p) None)

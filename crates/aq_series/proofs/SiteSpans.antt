@@ -21,6 +21,7 @@ use Rattle.aq_series.specs.DayCells.{cells_on, mean_of, monitor_at, pocs_after, 
 use Rattle.aq_series.specs.DaySums.{is_days_primary, AddsDay, HasDayRoom, IsNew}
 use Rattle.aq_series.proofs.SiteDay.{fewer, fine-is, is_primary, no_day}
 use Rattle.aq_series.proofs.SitePocs.{eligible_there, pocs-end, pocs-few, pocs-next}
+use Rattle.aq_series.proofs.Rising.{same_number}
 
 -- ---- the states of the days, one by one
 
@@ -37,9 +38,6 @@ adds-none poc state room = record {
   range = λ held. held;
 }
 
-number_is : (m n : ℕ) → (m == n) ≡ true → m ≡ n
-number_is m n h = grind (arith, nat_tests)
-
 apart : (m n : ℕ) → (m == n) ≡ false → m ≡ n → ⊥
 apart m n h e = grind (arith, nat_tests)
 
@@ -50,7 +48,7 @@ module _ (cells : List (Option Cell)) (poc : ℕ) (old now : List DayState) (i :
     where
       by_test : (b : Bool) → (k == i) ≡ b → AddsDay poc (get_or cells k None) (get_or old k d) (get_or (set now i after) k d)
       by_test true same =
-          let there = number_is k i same in
+          let there = same_number k i same in
           subst (λ (s : DayState). AddsDay poc (get_or cells k None) (get_or old k d) s) (sym (get_or-set_at now i k after d there many))
           (subst (λ n. AddsDay poc (get_or cells n None) (get_or old n d) after) (sym there) (subst (λ (s : DayState). AddsDay poc (get_or cells i None) s after) (rest i d (omega arith)) (adds d)))
       by_test false other =
@@ -138,7 +136,7 @@ module _ (office : Office) (site : Site) (day : ℕ) where
         let same : new.own ≡ old.own = adds.other (primary ∙ nothing) in
         ap (λ o. option_or o None) same ∙ (ap (λ p. option_or old.own (unread p (pocs_after office.records site Pm25 after))) (sym is) ∙ stands.own ∙ ap of_primary is)
     by_primary (Some p) is true test primary =
-        let here : poc ≡ p = number_is poc p test in
+        let here : poc ≡ p = same_number poc p test in
         let held : option_or old.own (cell_for p) ≡ cell_for p =
         ap (λ b. option_or old.own (cond (b || list_any (λ q. q == p) (pocs_after office.records site Pm25 poc)) (cell_for p) None)) (sym test)
         ∙ ap (λ l. option_or old.own (cond (list_any (λ q. q == p) l) (cell_for p) None)) (sym listed)
@@ -213,7 +211,7 @@ module _ (office : Office) (site : Site) (day : ℕ) where
           → cons_option (cond b None (cell_for poc)) (beside primary pocs) ≡ cons_option (cell_for poc) (cells_on office site Pm25 day pocs)
       by_test None none true test rest = absurd (false≢true test)
       by_test (Some p) none true test rest =
-          let here : cell_for poc ≡ None = ap cell_for (number_is poc p test) ∙ none in
+          let here : cell_for poc ≡ None = ap cell_for (same_number poc p test) ∙ none in
           rest ∙ ap (λ o. cons_option o (cells_on office site Pm25 day pocs)) (sym here)
       by_test o none false test rest = ap (cons_option (cell_for poc)) rest
 

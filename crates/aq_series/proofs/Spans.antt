@@ -1,5 +1,5 @@
 -- What a monitor's span has for an hour is what stands at the hour's key.
-use Rattle.std.proofs.Common.{◌≡◌, ℕ, ◌+◌, ◌<◌, ◌≤◌, Bool, true, false, cond, ◌&&◌, ◌||◌, ◌==◌, Some, None, Option, List, [], ◌∷◌, map, refl, ap, sym, ◌∙◌, arith}
+use Rattle.std.proofs.Common.{◌≡◌, ℕ, ◌+◌, ◌<◌, ◌≤◌, Bool, true, false, cond, ◌&&◌, ◌==◌, Some, None, Option, List, [], ◌∷◌, map, refl, ap, sym, ◌∙◌, arith}
 use Rattle.std.specs.Prelude.{nat_lt, nat_le, filter, option_map}
 use Rattle.std.specs.List.{filter_map, cons_option}
 use Rattle.std.specs.Option.{option_and_then}
@@ -14,7 +14,7 @@ use Rattle.aq_rules.specs.Office.Monitors.{is_same_monitor, is_same_pollutant, i
 use Rattle.aq_rules.specs.Office.Office.{comes_before, content_of, is_same, observation_numbers, observation_rank, pollutant_number, rises, row_at}
 use Rattle.aq_rules.specs.Office.Sameness.{number_itself, same_monitor}
 use Rattle.aq_shelf.specs.Standing.{content_at, hour_content, in_span, observations_in}
-use Rattle.aq_series.proofs.Rising.{Rising, found, found-given, rising-given}
+use Rattle.aq_series.proofs.Rising.{Rising, found, found-given, rising-given, below, last_decides, not_below_itself, same_number, row_at-is}
 
 abbrev Entry : Type 0
 Entry = ObsKey × Observation
@@ -25,23 +25,11 @@ Item = ℕ × Observation
 abbrev pub hour_of : Item → ℕ
 hour_of item = item.0
 
-not_below_itself : (n : ℕ) → nat_lt n n ≡ false
-not_below_itself n = grind (arith, nat_tests)
-
-last_decides : (s t : ℕ) → (nat_lt s t || ((s == t) && false)) ≡ nat_lt s t
-last_decides s t = grind (arith, nat_tests)
-
-below : (s t : ℕ) → nat_lt s t ≡ true → s < t
-below s t h = grind (arith, nat_tests)
-
-number_is : (m n : ℕ) → (m == n) ≡ true → m ≡ n
-number_is m n h = grind (arith, nat_tests)
-
-and_true : (b : Bool) → (b && true) ≡ b
+pub and_true : (b : Bool) → (b && true) ≡ b
 and_true true = refl
 and_true false = refl
 
-pollutants : (p q : Pollutant) → (pollutant_number p == pollutant_number q) ≡ is_same_pollutant p q
+pub pollutants : (p q : Pollutant) → (pollutant_number p == pollutant_number q) ≡ is_same_pollutant p q
 pollutants Ozone Ozone = refl
 pollutants Ozone Pm25 = refl
 pollutants Ozone Pm10 = refl
@@ -53,7 +41,7 @@ pollutants Pm10 Pm25 = refl
 pollutants Pm10 Pm10 = refl
 
 -- the tests of a rank, and those of a monitor and an hour
-regroup : (s c n p q h : Bool) → (s && (c && (n && (p && (q && (h && true)))))) ≡ true → (((((s && c) && n) && p) && q) ≡ true) × (h ≡ true)
+pub regroup : (s c n p q h : Bool) → (s && (c && (n && (p && (q && (h && true)))))) ≡ true → (((((s && c) && n) && p) && q) ≡ true) × (h ≡ true)
 regroup true true true true true true e = (refl, refl)
 regroup true true true true true false e = cc
 regroup true true true true false h e = cc
@@ -132,15 +120,7 @@ module _ (monitor : MonitorId) (from hours : ℕ) where
   there hour row same =
       let m = row.0.monitor in
       let parts = regroup (m.site.state == monitor.site.state) (m.site.county == monitor.site.county) (m.site.number == monitor.site.number) (pollutant_number m.pollutant == pollutant_number monitor.pollutant) (m.poc == monitor.poc) (row.0.hour == hour) same in
-      (ap (λ p. (is_same_site m.site monitor.site && p) && (m.poc == monitor.poc)) (sym (pollutants m.pollutant monitor.pollutant)) ∙ parts.0, number_is row.0.hour hour parts.1)
-
-  found_key : (key : List ℕ) (rows : List Entry) (row : Entry) → row_at observation_rank key rows ≡ Some row → is_same (observation_rank row) key ≡ true
-  found_key key [] row h = cc
-  found_key key (e ∷ es) row h = by_test (found_key key es row) (is_same (observation_rank e) key) refl h
-    where
-      by_test : (row_at observation_rank key es ≡ Some row → is_same (observation_rank row) key ≡ true) → (b : Bool) → is_same (observation_rank e) key ≡ b → cond b (Some e) (row_at observation_rank key es) ≡ Some row → is_same (observation_rank row) key ≡ true
-      by_test rest true same h = let one : e ≡ row = cc in ap (λ r. is_same (observation_rank r) key) (sym one) ∙ same
-      by_test rest false other h = rest h
+      (ap (λ p. (is_same_site m.site monitor.site && p) && (m.poc == monitor.poc)) (sym (pollutants m.pollutant monitor.pollutant)) ∙ parts.0, same_number row.0.hour hour parts.1)
 
   module _ (hour : ℕ) (low : from ≤ hour) (high : hour < from + hours) where
     gives : (o : Option Entry) → ((row : Entry) → o ≡ Some row → is_same (observation_rank row) (observation_numbers (key_at hour)) ≡ true)
@@ -158,7 +138,7 @@ module _ (monitor : MonitorId) (from hours : ℕ) where
     span-at rows rising =
         ap (λ (l : List Item). option_map (λ (i : Item). i.1) (found hour_of hour l)) (items_given rows)
         ∙ ap (λ o. option_map (λ (i : Item). i.1) o) (found-given observation_rank hour_of give (observation_numbers (key_at hour)) hour (tells hour) rows rising)
-        ∙ gives (row_at observation_rank (observation_numbers (key_at hour)) rows) (found_key (observation_numbers (key_at hour)) rows)
+        ∙ gives (row_at observation_rank (observation_numbers (key_at hour)) rows) (row_at-is observation_rank (observation_numbers (key_at hour)) rows)
 
   -- a span rises by its hours
   pub span-rises : (rows : List Entry) → rises observation_rank rows ≡ true → Rising hour_of (observations_in monitor from hours rows)

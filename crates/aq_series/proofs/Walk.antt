@@ -1,5 +1,5 @@
 -- What the rows of observations give for a site's hour is what its registered POCs give, one after another.
-use Rattle.std.proofs.Common.{◌≡◌, ℕ, ◌<◌, Bool, true, false, cond, ◌&&◌, ◌||◌, ◌==◌, Some, None, Option, List, [], ◌∷◌, refl, ap, sym, ◌∙◌, arith}
+use Rattle.std.proofs.Common.{◌≡◌, ℕ, ◌<◌, Bool, true, false, cond, ◌&&◌, ◌||◌, ◌==◌, Some, None, Option, List, refl, ap, sym, ◌∙◌, arith}
 use Rattle.std.specs.Prelude.{ℤ, nat_lt, option_map, IsTrue}
 use Rattle.std.specs.List.{list_any}
 use Rattle.std.specs.Option.{option_and_then}
@@ -19,7 +19,7 @@ use Rattle.aq_rules.specs.Ozone.SiteHour.{Cell, Sample, is_ozone_at, sample_of, 
 use Rattle.aq_registry.specs.Registry.{office_with}
 use Rattle.aq_series.specs.OfficeView.{office_of}
 use Rattle.aq_series.specs.Samples.{cell_at, cell_of, ozone_key, pocs_above, sample_at, samples_above}
-use Rattle.aq_series.proofs.Rising.{found, found-given, found-under, rising-given, rising-under, same_list}
+use Rattle.aq_series.proofs.Rising.{found, found-given, found-under, rising-given, rising-under, same_list, below, not_below_itself, row_at-is}
 use Rattle.aq_series.proofs.Pocs.{pocs-rise, eligible_there}
 
 abbrev as_cell : ℤ → Bool → Cell
@@ -30,9 +30,6 @@ as_sample poc cell = record { poc = poc; cell = cell }
 
 abbrev Entry : Type 0
 Entry = ObsKey × Observation
-
-not_below_itself : (n : ℕ) → nat_lt n n ≡ false
-not_below_itself n = grind (arith, nat_tests)
 
 module _ (records : List OfficeRecord) (rows : List Entry) (site : Site) (hour : ℕ) where
   abbrev give : Entry → Option Sample
@@ -84,9 +81,6 @@ module _ (records : List OfficeRecord) (rows : List Entry) (site : Site) (hour :
       rw (number_itself site.state, number_itself site.county, number_itself site.number, not_below_itself site.state, not_below_itself site.county, not_below_itself site.number)
       (last_decides s t hour)
 
-  below : (s t : ℕ) → nat_lt s t ≡ true → s < t
-  below s t h = grind (arith, nat_tests)
-
   in_order : (a b : Entry) (s t : Sample) → give a ≡ Some s → give b ≡ Some t → comes_before (observation_rank a) (observation_rank b) ≡ true → s.poc < t.poc
   in_order a b s t first second before =
       below s.poc t.poc (sym (before_poc s.poc t.poc) ∙ (λ i. comes_before (sym (ranked a s first) i) (sym (ranked b t second) i)) ∙ before)
@@ -125,14 +119,6 @@ module _ (records : List OfficeRecord) (rows : List Entry) (site : Site) (hour :
       let there : is_ozone_at site hour key ≡ true = ap (λ p. (p && is_same_site m.site site) && (key.hour == hour)) (sym (ozone_number m.pollutant)) ∙ parts.0 in
       (there, key_is key there ∙ ap (ozone_key site hour) (hour_is m.poc poc parts.1))
 
-  found_key : (key : List ℕ) (es : List Entry) (row : Entry) → row_at observation_rank key es ≡ Some row → is_same (observation_rank row) key ≡ true
-  found_key key [] row h = cc
-  found_key key (e ∷ es) row h = by_test (found_key key es row) (is_same (observation_rank e) key) refl h
-    where
-      by_test : (row_at observation_rank key es ≡ Some row → is_same (observation_rank row) key ≡ true) → (b : Bool) → is_same (observation_rank e) key ≡ b → cond b (Some e) (row_at observation_rank key es) ≡ Some row → is_same (observation_rank row) key ≡ true
-      by_test rest true same h = let one : e ≡ row = cc in ap (λ r. is_same (observation_rank r) key) (sym one) ∙ same
-      by_test rest false other h = rest h
-
   gives : (key : ObsKey) (content : Observation) (poc : ℕ) → is_ozone_at site hour key ≡ true → key ≡ ozone_key site hour poc
       → give (key, content) ≡ option_map (λ (cell : Cell). as_sample poc cell) (cond (is_eligible records (ozone_key site hour poc).monitor) (cell_of records (ozone_key site hour poc) content) None)
   gives key content poc there is =
@@ -163,7 +149,7 @@ module _ (records : List OfficeRecord) (rows : List Entry) (site : Site) (hour :
     found_in_rows : (poc : ℕ) → found (λ (s : Sample). s.poc) poc (samples_at (office_of records rows) site hour) ≡ sample_at records rows site hour poc
     found_in_rows poc =
         found-given observation_rank (λ (s : Sample). s.poc) give (numbers poc) poc (tells poc) rows rising
-        ∙ row_gives poc (row_at observation_rank (numbers poc) rows) (found_key (numbers poc) rows)
+        ∙ row_gives poc (row_at observation_rank (numbers poc) rows) (row_at-is observation_rank (numbers poc) rows)
 
     numbered : (poc : ℕ) (s : Sample) → sample_at records rows site hour poc ≡ Some s → s.poc ≡ poc
     numbered poc s h = by_cell (cell_at records rows (ozone_key site hour poc)) h

@@ -7,7 +7,7 @@ use Rattle.aq_base.specs.Faults.{HasRisen}
 use Rattle.aq_base.specs.declared.refusal.Memory.{Memory}
 use Rattle.aq_http.specs.Head.{Head}
 use Rattle.aq_http.specs.Reply.{reply_text}
-use Rattle.aq_http.specs.Step.{IsStep, Request, Step, More, Refuse, Whole as WholeStep, with_body}
+use Rattle.aq_http.specs.Step.{IsStep, Request, Step, More, Refuse, Whole as WholeStep, with_body, request_in}
 use Rattle.aq_serve.specs.Answered.{answered, error_body, refused}
 use Rattle.aq_serve.specs.Door.{DoorView, Exchange, IsDry, IsSameDoor}
 use Rattle.aq_serve.specs.Service.{Answers, Become, Counts, Loses, ServiceView}
@@ -30,13 +30,7 @@ IsWholeStep (Refuse status) = ⊥
 IsWholeStep (WholeStep request) = ⊤
 
 pub whole_is_due : (now : List ℕ) (h : Head) → h.head_bytes + h.body_bytes ≤ length now → IsWholeStep (with_body now h)
-whole_is_due now h within = subst (λ t. IsWholeStep (cond t (WholeStep (record {
-  used = h.head_bytes + h.body_bytes;
-  verb = h.verb;
-  target = h.target;
-  body = take h.body_bytes (drop h.head_bytes now);
-  close = h.close;
-})) More)) (sym (le-leb _ _ within)) tt
+whole_is_due now h within = subst (λ t. IsWholeStep (cond t (WholeStep (request_in now h)) More)) (sym (le-leb _ _ within)) tt
 
 pub answer_replies : (served : ℕ) (input bytes : List ℕ) (request : Request) (closes : Bool) (before after : ServiceView)
     → ((more : List ℕ) → IsStep (input ++ more) (WholeStep request)) → closes ≡ ends_behind served request

@@ -1,12 +1,12 @@
 -- What is fetched, piece by piece.
-use Rattle.std.proofs.Common.{◌≡◌, ◌≢◌, ℕ, ◌+◌, ◌<◌, List, ◌++◌, length, take, drop, cond, refl, sym, ap, ◌∙◌, subst, Result, Ok, Err}
+use Rattle.std.proofs.Common.{◌≡◌, ◌≢◌, ℕ, ◌+◌, ◌<◌, List, ◌++◌, length, cond, refl, sym, ap, ◌∙◌, subst, Result, Ok, Err}
 use Rattle.std.specs.Prelude.{⊤}
 use Rattle.std.proofs.lemmas.Bool.{lt-leb}
 use Rattle.aq_base.specs.Faults.{HasRisen}
 use Rattle.aq_http.specs.Head.{Head, HeadStep, IsHeadStep}
 use Rattle.aq_http.specs.Head as head
 use Rattle.aq_http.specs.declared.head.HeadStep.{HeadStep as ReadHead}
-use Rattle.aq_http.specs.Step.{IsStep, Step, More, Refuse, Whole}
+use Rattle.aq_http.specs.Step.{IsStep, Step, More, Refuse, Whole, request_in}
 use Rattle.aq_serve.specs.Door.{DoorView, IsDry}
 use Rattle.aq_serve.specs.Talking.{Fetches, FetchesPiece, FetchedSo, IsPiece, IsRequestBy, Took}
 use Rattle.aq_serve.specs.declared.fetch.FetchFault.{FetchFault}
@@ -68,13 +68,7 @@ pub open_body : (now : List ℕ) (h : Head) → IsHeadStep now (head.Whole h) �
 open_body now h stands short = record {
   head_step = head.Whole h;
   stands = stands;
-  is = ap (λ t. cond t (Whole (record {
-    used = h.head_bytes + h.body_bytes;
-    verb = h.verb;
-    target = h.target;
-    body = take h.body_bytes (drop h.head_bytes now);
-    close = h.close;
-  })) More) (lt-leb _ _ short);
+  is = ap (λ t. cond t (Whole (request_in now h)) More) (lt-leb _ _ short);
 }
 
 abbrev IsWholeHead : HeadStep → Type 0

@@ -1,5 +1,5 @@
 -- A head that is refused is no fault of the keeper: its status is another than 503.
-use Rattle.std.proofs.Common.{◌≡◌, ℕ, ◌+◌, take, drop, Bool, true, false, cond, leb, List, [], ◌∷◌, length, refl, subst, Result, Ok, Err}
+use Rattle.std.proofs.Common.{◌≡◌, ℕ, ◌+◌, Bool, true, false, cond, leb, List, [], ◌∷◌, length, refl, subst, Result, Ok, Err}
 use Rattle.std.specs.Prelude.{⊤, ◌==◌, IfErr, codes}
 use Rattle.std.specs.Str.Parse.{digits_value}
 use Rattle.httparse.specs.Grammar.{RequestHead, print_request}
@@ -10,7 +10,7 @@ use Rattle.aq_http.specs.declared.verb.Verb.TheVariants.{Get, Post, Other}
 use Rattle.aq_http.specs.Head.{Front, WholeHead, NoHead, OpenHead, HeadStep, IsHeadStep, has_transfer_encoding, head_step, headers_of, verb_of, whole_step, with_length}
 use Rattle.aq_http.specs.Head as head
 use Rattle.aq_http.specs.Length.{body_length}
-use Rattle.aq_http.specs.Step.{IsStep, Step, More, Refuse, Whole, step_behind}
+use Rattle.aq_http.specs.Step.{IsStep, Step, More, Refuse, Whole, step_behind, request_in}
 
 abbrev Other503 : ℕ → Type 0
 Other503 status = (status == 503) ≡ false
@@ -68,12 +68,6 @@ refusal_is_no_fault input status is = subst OnRefused is.is (by_head is.head_ste
     by_head (head.Refuse code) other = other
     by_head (head.Whole h) other = by_length (leb (h.head_bytes + h.body_bytes) (length input))
       where
-        by_length : (t : Bool) → OnRefused (cond t (Whole (record {
-          used = h.head_bytes + h.body_bytes;
-          verb = h.verb;
-          target = h.target;
-          body = take h.body_bytes (drop h.head_bytes input);
-          close = h.close;
-        })) More)
+        by_length : (t : Bool) → OnRefused (cond t (Whole (request_in input h)) More)
         by_length true = tt
         by_length false = tt

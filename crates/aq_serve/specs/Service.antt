@@ -2,6 +2,7 @@
 use Rattle.std.specs.Prelude.{◌≡◌, ℕ, ◌==◌, ◌⊎◌, Bool, true, false, List, Option, IfSome}
 use Rattle.std.specs.Option.{option_map}
 use Rattle.aq_base.specs.Faults.{HasRisen}
+use Rattle.aq_keeper.specs.Told.{Stays}
 use Rattle.aq_rules.specs.Kept.Rows.{Row, rows_of}
 use Rattle.aq_rules.specs.Office.Office.{Office}
 use Rattle.aq_http.specs.declared.verb.Verb.{Verb}
@@ -17,9 +18,9 @@ pub record ServiceView : Type 0 where
 abbrev pub AreOfOffice : ServiceView → Type 0
 AreOfOffice service = IfSome service.tables (λ told. told ≡ rows_of service.office)
 
--- the tables become those of this office
+-- the tables, if they are told still, become those of this office
 abbrev pub Become : ServiceView → Office → ServiceView → Type 0
-Become before office after = after.tables ≡ option_map (λ _. rows_of office) before.tables
+Become before office after = Stays (option_map (λ _. rows_of office) before.tables) after.tables
 
 -- tables that were those of the office before are those of the office after
 abbrev pub Keeps : ServiceView → ServiceView → Type 0

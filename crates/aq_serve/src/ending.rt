@@ -1,7 +1,6 @@
 //! How a connection ends, and how serving ends.
 use aq_base::Memory;
-use std::error::Error;
-use std::fmt;
+use thiserror::Error;
 
 /// How a connection ended.
 #[derive(Clone, Copy, Debug, PartialEq, Eq)]
@@ -15,11 +14,13 @@ pub enum End {
 }
 
 /// Why serving ended before as many connections as were to be served.
-#[derive(Clone, Copy, Debug, PartialEq, Eq)]
+#[derive(Clone, Copy, Debug, PartialEq, Eq, Error)]
 pub enum ServeFault {
     /// The door failed to accept, and its count of faults rose.
+    #[error("door failed")]
     DoorFailed,
     /// Memory could not be had.
+    #[error("memory")]
     Memory,
 }
 
@@ -33,14 +34,3 @@ impl From<Memory> for ServeFault {
         ServeFault::Memory
     }
 }
-
-impl fmt::Display for ServeFault {
-    fn fmt<W: fmt::Write>(&self, f: &mut fmt::Formatter<W>) -> fmt::Result {
-        f.write_str(match self {
-            ServeFault::DoorFailed => "door failed",
-            ServeFault::Memory => "memory",
-        })
-    }
-}
-
-impl Error for ServeFault {}

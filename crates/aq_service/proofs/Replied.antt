@@ -1,11 +1,11 @@
 -- Replies as answers to requests.
-use Rattle.std.proofs.Common.{◌≡◌, ℕ, inl, inr, Bool, true, false, cond, List, Option, Some, None, refl, sym, ap, ◌∙◌, subst}
+use Rattle.std.proofs.Common.{◌≡◌, ℕ, ◌⊎◌, inl, inr, Bool, true, false, cond, List, Option, Some, None, refl, sym, ap, ◌∙◌, subst}
 use Rattle.std.specs.Prelude.{◌==◌, IfSome, IsSome}
 use Rattle.std.specs.Option.{option_map}
 use Rattle.aq_base.specs.Site.{Site}
 use Rattle.aq_base.specs.declared.monitor.Pollutant.{Pollutant}
 use Rattle.aq_base.specs.declared.reply.LoadReply.{LoadReply}
-use Rattle.aq_rules.specs.Kept.Rows.{rows_of}
+use Rattle.aq_rules.specs.Kept.Rows.{Row, rows_of}
 use Rattle.aq_rules.specs.Office.Load.{TooManyLines, Repeated, Differing, NoRoom, Taken, load, office_after, post, posted, reply, stored}
 use Rattle.aq_rules.specs.Office.Load as loads
 use Rattle.aq_rules.specs.Office.Office.{Office, StoredLoad, load_at}
@@ -15,11 +15,13 @@ use Rattle.aq_rules.specs.Shown.OtherSheets.{conflict_sheet}
 use Rattle.aq_rules.specs.Shown.Sheets.{load_sheet}
 use Rattle.aq_http.specs.declared.verb.Verb.{Verb}
 use Rattle.aq_http.specs.Routes.{found}
-use Rattle.aq_serve.proofs.Tables.{become_same}
+use Rattle.aq_keeper.proofs.Telling.{stays_as}
+use Rattle.aq_keeper.specs.Told.{Stays}
+use Rattle.aq_serve.proofs.Tables.{become_same, become_still}
 use Rattle.aq_serve.specs.Answered.{Answered, answered, refused, reply_of, shown, to_found, to_load, to_question}
 use Rattle.aq_serve.specs.Service.{Answers, Become, Counts, Loses, ServiceView}
 use Rattle.aq_service.proofs.PostedLoads.{IsKept, Tells, load_stands, tells}
-use Rattle.aq_service.specs.Posting.{IsPosted, TakenBy}
+use Rattle.aq_service.specs.Posting.{IsPosted, LosesLoad, TakenBy}
 use Rattle.aq_service.specs.Replies.{AnswersBy, IsLoadReply, LosesBy, Stands}
 use Rattle.aq_service.specs.declared.posting.Posted.{Posted}
 use Rattle.aq_service.specs.declared.posting.Posted.TheVariants as answers
@@ -61,6 +63,10 @@ module _ (number : ℕ) (digest body : List ℕ) (some : (number == 0) ≡ false
   abbrev By : loads.Posted → Bool → Answered
   By p fails = to_load number before.office fails p
 
+  -- the same office in other words
+  becomes : (a b : Office) (after : ServiceView) → a ≡ b → Become before a after → Become before b after
+  becomes a b after same is = stays_as _ _ after.tables (sym (ap (λ (o : Office). option_map (λ _. rows_of o) before.tables) same)) is
+
   -- a known load
   repeated : (r : LoadReply) (bytes : List ℕ) (found : Option StoredLoad) → IsKept (λ kept. kept.reply ≡ r) found → IfSome found (λ kept. bytes ≡ reply_of (shown 200 (load_sheet kept.reply) before.office) close)
       → bytes ≡ reply_of (shown 200 (load_sheet r) before.office) close
@@ -99,7 +105,7 @@ module _ (number : ℕ) (digest body : List ℕ) (some : (number == 0) ≡ false
     reply = reply;
     office = is.0;
     cause = is.2;
-    tables = λ told. is.1 ∙ become_same before told ∙ ap (λ (o : Office). option_map (λ _. rows_of o) before.tables) (sym is.0);
+    tables = λ told. becomes before.office after.office after (sym is.0) (become_still before after told is.1);
   }
   taken-by r now bytes after (answers.Lines count) t is reply = absurd is
   taken-by r now bytes after (answers.Conflict sent) t is reply = absurd is
@@ -149,12 +155,9 @@ module _ (number : ℕ) (digest body : List ℕ) (some : (number == 0) ≡ false
 
   -- ---- want of memory
 
-  becomes : (a b : Office) (after : ServiceView) → a ≡ b → Become before a after → Become before b after
-  becomes a b after same is = is ∙ ap (λ (o : Office). option_map (λ _. rows_of o) before.tables) same
-
   lost-taken : (r : LoadReply) (now : Office) (after : ServiceView) (answer : Posted) → TakenBy answer now before after → LosesBy (By (Taken r now)) before after
   lost-taken r now after answers.Done is = record { cause = inl is.1; tables = λ told. inr (becomes after.office now after is.0 (is.2 told)) }
-  lost-taken r now after answers.Failed is = record { cause = inr is.2; tables = λ told. inl (is.1 ∙ become_same before told) }
+  lost-taken r now after answers.Failed is = record { cause = inr is.2; tables = λ told. inl (become_still before after told is.1) }
   lost-taken r now after (answers.Lines count) is = absurd is
   lost-taken r now after (answers.Conflict sent) is = absurd is
   lost-taken r now after answers.Full is = absurd is
@@ -171,6 +174,24 @@ module _ (number : ℕ) (digest body : List ℕ) (some : (number == 0) ≡ false
 
   pub reply_lost : (after : ServiceView) (answer : Posted) → IsPosted (posted before.office number digest body) lines before after answer → LosesBy (By (posted before.office number digest body)) before after
   reply_lost after answer is = lost-by (posted before.office number digest body) after answer is
+
+-- memory ran out as the load was posted, so that no office is left
+posted-office : (number : ℕ) (office : Office) (p : loads.Posted) → office_after p office ≡ (to_load number office false p).office
+posted-office number office TooManyLines = refl
+posted-office number office (Repeated kept) = refl
+posted-office number office (Differing kept sent) = refl
+posted-office number office NoRoom = refl
+posted-office number office (Taken answer now) = refl
+
+pub post_lost : (number : ℕ) (digest body : List ℕ) (office left : Office) (t u : Option (List Row)) (m n : ℕ)
+    → LosesLoad number digest body (record { office = office; tables = t; faults = m }) (record { office = office; tables = u; faults = n })
+    → LosesBy (λ fails. to_load number office fails (posted office number digest body)) (record { office = office; tables = t; faults = m }) (record { office = left; tables = u; faults = n })
+post_lost number digest body office left t u m n lost = record { cause = inl lost.faults; tables = λ told. by (lost.tables told) }
+  where
+    by : Stays (option_map (λ _. rows_of office) t) u ⊎ Stays (option_map (λ _. rows_of (post office number digest body)) t) u
+        → Stays (option_map (λ _. rows_of office) t) u ⊎ Stays (option_map (λ _. rows_of (to_load number office false (posted office number digest body)).office) t) u
+    by (inl same) = inl same
+    by (inr taken) = inr (subst (λ (o : Office). Stays (option_map (λ _. rows_of o) t) u) (posted-office number office (posted office number digest body)) taken)
 
 -- ---- whole requests
 

@@ -1,14 +1,16 @@
 -- A load that is staged, committed and taken.
-use Rattle.std.proofs.Common.{◌≡◌, ℕ, ◌≤◌, inl, inr, List, Option, Some, None, sym, ap, ◌∙◌, subst}
+use Rattle.std.proofs.Common.{◌≡◌, ℕ, ◌≤◌, inl, inr, List, Option, Some, None, sym, ap, ◌∙◌, refl, subst}
+use Rattle.aq_keeper.proofs.Telling.{stays_as}
+use Rattle.aq_keeper.specs.Told.{Stays}
 use Rattle.std.specs.Prelude.{IfOk, IfSome, IsTrue, OnErr, Result, Ok, Err, map, true}
 use Rattle.std.specs.Option.{option_map}
 use Rattle.aq_rules.specs.Kept.RowChanges.{GivesRowsAfter, RowChange, batch_rises, changed_key, row_batch, with_row_changes}
 use Rattle.aq_rules.specs.Kept.Rows.{Row, rows_of}
 use Rattle.aq_rules.specs.Limits.{MOST_LINES}
 use Rattle.aq_rules.specs.Lines.Lines.{line_count}
-use Rattle.aq_rules.specs.Office.Load.{New, decide, load}
+use Rattle.aq_rules.specs.Office.Load.{New, decide, load, post}
 use Rattle.aq_rules.specs.Office.Office.{Office}
-use Rattle.aq_serve.proofs.Tables.{become_same}
+use Rattle.aq_serve.proofs.Tables.{become_still}
 use Rattle.aq_service.proofs.PostedLoads.{post_new}
 use Rattle.aq_service.specs.Posting.{LosesLoad, TakenBy}
 use Rattle.aq_service.specs.declared.posting.Posted.TheVariants.{Done}
@@ -21,33 +23,36 @@ unfolding GivesRowsAfter
 rows-after office number digest body gives = gives
 
 module _ (office : Office) (number : ℕ) (digest body : List ℕ) (batch : List RowChange) (gives : GivesRowsAfter office number digest body) (same : batch ≡ row_batch office number digest body) where
-  -- the tables behind the commit
-  committed : (t u : Option (List Row)) → u ≡ option_map (λ told. with_row_changes told batch) t → IfSome t (λ told. told ≡ rows_of office) → u ≡ option_map (λ _. rows_of (load office number digest body)) t
-  committed None u is told = is
-  committed (Some all) u is told =
-      is ∙ ap (λ (rows : List Row). Some (with_row_changes rows batch)) told
+  -- the rows behind the commit
+  rows-become : (t : Option (List Row)) → IfSome t (λ told. told ≡ rows_of office) → option_map (λ told. with_row_changes told batch) t ≡ option_map (λ _. rows_of (load office number digest body)) t
+  rows-become None told = refl
+  rows-become (Some all) told =
+      ap (λ (rows : List Row). Some (with_row_changes rows batch)) told
       ∙ ap (λ (b : List RowChange). Some (with_row_changes (rows_of office) b)) same
       ∙ ap Some (rows-after office number digest body gives)
 
-  module _ (t u : Option (List Row)) (m n : ℕ) (is : u ≡ option_map (λ told. with_row_changes told batch) t) (steady : n ≡ m) where
+  -- and so the tables, of an office that is this one in other words
+  committed : (now : Office) (t u : Option (List Row)) → Stays (option_map (λ told. with_row_changes told batch) t) u → IfSome t (λ told. told ≡ rows_of office) → load office number digest body ≡ now → Stays (option_map (λ _. rows_of now) t) u
+  committed now t u is told named = stays_as _ _ u (sym (rows-become t told ∙ ap (λ (o : Office). option_map (λ _. rows_of o) t) named)) is
+
+  module _ (t u : Option (List Row)) (m n : ℕ) (is : Stays (option_map (λ told. with_row_changes told batch) t) u) (steady : n ≡ m) where
     pub taken : (now : Office) → now ≡ load office number digest body
         → TakenBy Done (load office number digest body) (record { office = office; tables = t; faults = m }) (record { office = now; tables = u; faults = n })
-    taken now same_office =
-        (same_office, steady, λ told. committed t u is told ∙ ap (λ (o : Office). option_map (λ _. rows_of o) t) (sym same_office))
+    taken now same_office = (same_office, steady, λ told. committed now t u is told (sym same_office))
 
     pub lost_behind : line_count body ≤ MOST_LINES → decide office number digest ≡ New
         → LosesLoad number digest body (record { office = office; tables = t; faults = m }) (record { office = office; tables = u; faults = n })
     lost_behind few new = record {
       faults = steady;
-      tables = λ told. inr (committed t u is told ∙ ap (λ (o : Office). option_map (λ _. rows_of o) t) (sym (post_new office number digest body few new)));
+      tables = λ told. inr (committed (post office number digest body) t u is told (sym (post_new office number digest body few new)));
     }
 
 -- nothing was committed
-pub lost_before : (office : Office) (number : ℕ) (digest body : List ℕ) (t u : Option (List Row)) (m n : ℕ) → u ≡ t → n ≡ m
+pub lost_before : (office : Office) (number : ℕ) (digest body : List ℕ) (t u : Option (List Row)) (m n : ℕ) → Stays t u → n ≡ m
     → LosesLoad number digest body (record { office = office; tables = t; faults = m }) (record { office = office; tables = u; faults = n })
 lost_before office number digest body t u m n same steady = record {
   faults = steady;
-  tables = λ told. inl (same ∙ become_same (record { office = office; tables = t; faults = m }) told);
+  tables = λ told. inl (become_still (record { office = office; tables = t; faults = m }) (record { office = office; tables = u; faults = n }) told same);
 }
 
 pub on_err : {A E : Type 0} (P : Type 0) (r : Result A E) → P → OnErr r P

@@ -1,6 +1,7 @@
 -- What becomes of a load that is posted over a keeper, by what the book of rules says of it.
 use Rattle.std.specs.Prelude.{◌≡◌, ℕ, ◌⊎◌, List}
 use Rattle.aq_base.specs.Faults.{HasRisen}
+use Rattle.aq_keeper.specs.Told.{Stays}
 use Rattle.aq_rules.specs.Office.Load as loads
 use Rattle.aq_rules.specs.Office.Load.{TooManyLines, Repeated, Differing, NoRoom, Taken}
 use Rattle.aq_rules.specs.Office.Office.{Office}
@@ -12,7 +13,7 @@ use Rattle.aq_service.specs.declared.posting.Posted.TheVariants.{Done, Lines, Co
 abbrev pub TakenBy : Posted → Office → ServiceView → ServiceView → Type 0
 TakenBy Done now before after = (after.office ≡ now) × (after.faults ≡ before.faults) × Keeps before after
 TakenBy Failed now before after =
-    (after.office ≡ before.office) × (after.tables ≡ before.tables) × HasRisen before.faults after.faults
+    (after.office ≡ before.office) × Stays before.tables after.tables × HasRisen before.faults after.faults
 TakenBy (Lines count) now before after = ⊥
 TakenBy (Conflict sent) now before after = ⊥
 TakenBy Full now before after = ⊥

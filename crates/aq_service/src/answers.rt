@@ -85,7 +85,7 @@ fn counted<L: Ledger>(
     let mut steps = Steps::<L>::new(blank);
     match *ask {
         Ask::Reply(number) => reply_to(alloc, book, number),
-        Ask::Windows(site, day) => windows_of(alloc, book, site, day),
+        Ask::Windows(site, day) => windows_of(alloc, book, site, day, &mut steps),
         Ask::Days(site, year) => days_of(alloc, book, site, year, &mut steps),
         Ask::Pm25(site, year) => pm25_of(alloc, book, site, year, &mut steps),
         Ask::Pm10(site, year) => pm10_of(alloc, book, site, year, &mut steps),
@@ -107,11 +107,17 @@ fn reply_to(alloc: Global, book: &Book, number: u32) -> Result<Sheet, Unanswered
 }
 
 /// The 8-hour averages of a day.
-fn windows_of(alloc: Global, book: &Book, site: SiteId, day: Day) -> Result<Sheet, Unanswered>
+fn windows_of<L: Ledger>(
+    alloc: Global,
+    book: &Book,
+    site: SiteId,
+    day: Day,
+    steps: &mut Steps<L>,
+) -> Result<Sheet, Unanswered>
     ensures sheet { IfOk result (λ sheet. answer book.now (Windows site day) ≡ OfSheet sheet) }
     ensures refused { IfErr result (IsUnanswered (answer book.now (Windows site day))) }
 {
-    let Ok(windows) = book.uncounted_windows(site, day) else {
+    let Ok(windows) = book.windows(site, day, steps) else {
         return Err(Unanswered::NoSite);
     };
     Ok(windows_sheet(alloc, site, day, &windows)?)

@@ -136,7 +136,7 @@ row_at-joined key (s ∷ ss) apart falls =
     in
     at (stretch_cmp s.0.0 (stretch_of key)) refl
 
-pub content_at-joined : (key : ObsKey) (ss : Stretches) (o : Option Hours) → AreStretches ss → Falls ss → hours_at key ss ≡ o → content_at key (joined ss) ≡ content_at key (rows_of key.monitor (unwrap_or o []))
+content_at-joined : (key : ObsKey) (ss : Stretches) (o : Option Hours) → AreStretches ss → Falls ss → hours_at key ss ≡ o → content_at key (joined ss) ≡ content_at key (rows_of key.monitor (unwrap_or o []))
 content_at-joined key ss o are falls found =
     ap (option_map content_of) (row_at-joined key ss are.apart falls)
     ∙ ap (λ (o : Option Hours). content_at key (rows_of key.monitor (unwrap_or o []))) found
@@ -259,14 +259,15 @@ put-joined key content new (s ∷ ss) is apart falls none =
 
 -- ---- by the stretch that the code computes
 
-module _ (key : ObsKey) (stretch : Stretch) (ss : Stretches) (is : stretch ≡ stretch_of key) where
+module _ (key : ObsKey) (stretch : Stretch) (is : stretch ≡ stretch_of key) (ss : Stretches) (are : AreStretches ss) (falls : Falls ss) where
   pub found-at : (o : Option Hours) → o ≡ lookup (is_stretch stretch) ss → hours_at key ss ≡ o
   found-at o h = ap (λ (k : Stretch). lookup (is_stretch k) ss) (sym is) ∙ sym h
 
-  pub written-at : (ts : Stretches) (new : Hours) → ts ≡ set_value (is_stretch stretch) ss new → ts ≡ set_value (is_stretch (stretch_of key)) ss new
-  written-at ts new h = h ∙ ap (λ (k : Stretch). set_value (is_stretch k) ss new) is
+  pub content_at-found : (o : Option Hours) → o ≡ lookup (is_stretch stretch) ss → content_at key (joined ss) ≡ content_at key (rows_of key.monitor (unwrap_or o []))
+  content_at-found o h = content_at-joined key ss o are falls (found-at o h)
 
-  module _ (content : Observation) (new : Hours) (ts : Stretches) (rows : rows_of key.monitor new ≡ (key, content) ∷ []) (are : AreStretches ss) (falls : Falls ss) (none : hours_at key ss ≡ None) (put : ts ≡ insert_entry back ss (record { 0 = stretch }) new) where
+  -- the first row of a stretch
+  module _ (content : Observation) (new : Hours) (ts : Stretches) (rows : rows_of key.monitor new ≡ (key, content) ∷ []) (none : hours_at key ss ≡ None) (put : ts ≡ insert_entry back ss (record { 0 = stretch }) new) where
     at_key : ts ≡ insert_entry back ss (record { 0 = stretch_of key }) new
     at_key = put ∙ ap (λ (k : Stretch). insert_entry back ss (record { 0 = k }) new) is
 
@@ -279,26 +280,28 @@ module _ (key : ObsKey) (stretch : Stretch) (ss : Stretches) (is : stretch ≡ s
       rising = ap (rises observation_rank) put-first ∙ with_row-rises observation_rank (key, content) (joined ss) are.rising;
     }
 
--- ---- what stands after a change
+  -- what stands after a change
+  module _ (change : Rows → Rows) (law : ChangesAt key change) (ts : Stretches) (hs new : Hours) (there : Some hs ≡ lookup (is_stretch stretch) ss) (wrote : ts ≡ set_value (is_stretch stretch) ss new) where
+    written : ts ≡ set_value (is_stretch (stretch_of key)) ss new
+    written = wrote ∙ ap (λ (k : Stretch). set_value (is_stretch k) ss new) is
 
-module _ (key : ObsKey) (change : Rows → Rows) (law : ChangesAt key change) (ss ts : Stretches) (hs new : Hours) (are : AreStretches ss) (falls : Falls ss) (found : hours_at key ss ≡ Some hs) (written : ts ≡ set_value (is_stretch (stretch_of key)) ss new) where
-  pub changed-joined : rows_of key.monitor new ≡ change (rows_of key.monitor hs) → joined ts ≡ change (joined ss)
-  changed-joined is = ap joined written ∙ change-joined key change law ss hs new are.apart falls found is
+    pub changed-joined : rows_of key.monitor new ≡ change (rows_of key.monitor hs) → joined ts ≡ change (joined ss)
+    changed-joined same = ap joined written ∙ change-joined key change law ss hs new are.apart falls (found-at (Some hs) there) same
 
-  stays : new ≡ hs → ts ≡ ss
-  stays is = written ∙ ap (set_value (is_stretch (stretch_of key)) ss) is ∙ set_value_same (is_stretch (stretch_of key)) ss hs found
+    stays : new ≡ hs → ts ≡ ss
+    stays same = written ∙ ap (set_value (is_stretch (stretch_of key)) ss) same ∙ set_value_same (is_stretch (stretch_of key)) ss hs (found-at (Some hs) there)
 
-  pub unchanged-joined : new ≡ hs → joined ts ≡ joined ss
-  unchanged-joined is = ap joined (stays is)
+    pub unchanged-joined : new ≡ hs → joined ts ≡ joined ss
+    unchanged-joined same = ap joined (stays same)
 
-  pub AreStretches-change : (rows_of key.monitor new ≡ change (rows_of key.monitor hs)) ⊎ (new ≡ hs) → AreStretches ts
-  AreStretches-change = elim [
-    | inl is ↦ record {
-      apart = subst Apart (sym written) (apart-set key new ss (subst (LieIn (stretch_of key)) (sym is) (law.lie (rows_of key.monitor hs) (lie_found key ss hs are.apart found))) are.apart);
-      rising = ap (rises observation_rank) (changed-joined is) ∙ law.rise (joined ss) are.rising;
-    }
-    | inr is ↦ subst AreStretches (sym (stays is)) are
-  ]
+    pub AreStretches-change : (rows_of key.monitor new ≡ change (rows_of key.monitor hs)) ⊎ (new ≡ hs) → AreStretches ts
+    AreStretches-change = elim [
+      | inl same ↦ record {
+        apart = subst Apart (sym written) (apart-set key new ss (subst (LieIn (stretch_of key)) (sym same) (law.lie (rows_of key.monitor hs) (lie_found key ss hs are.apart (found-at (Some hs) there)))) are.apart);
+        rising = ap (rises observation_rank) (changed-joined same) ∙ law.rise (joined ss) are.rising;
+      }
+      | inr same ↦ subst AreStretches (sym (stays same)) are
+    ]
 
 -- ---- the stretches from the last, which is the first in the order of keys
 

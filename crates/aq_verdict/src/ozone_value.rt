@@ -4,6 +4,7 @@ ghost use Rattle.aq_base.specs.Decimal.{truncated};
 ghost use Rattle.aq_rules.specs.Ozone.OzoneVerdict.{design_value_of, is_average_kept, is_complete, is_season_kept, ozone_dv, ozone_verdict};
 
 use crate::ozone_year::OzoneYear;
+use crate::rounded::sum_of_three;
 use aq_base::{Standard, Verdict};
 use aq_num::trunc_div;
 use std::marker::Model;
@@ -47,7 +48,7 @@ fn mean_of(a: Option<i32>, b: Option<i32>, c: Option<i32>) -> Option<i32>
 fn third_of(a: i32, b: i32, c: i32) -> i32
     ensures { result ≡ truncated (a +ℤ b +ℤ c) (pos 3) }
 {
-    trunc_div(i64::from(a) + i64::from(b) + i64::from(c), 3) as i32
+    trunc_div(sum_of_three(a, b, c), 3) as i32
 }
 
 fn is_complete(a: &OzoneYear, b: &OzoneYear, c: &OzoneYear) -> bool

@@ -1,5 +1,5 @@
 //! A quotient with one rounding, in 32 bits.
-ghost use Rattle.std.specs.Prelude.{◌≡◌, ◌≤◌, [], ◌∷◌, ◌*◌, ◌-◌, ◌^◌, pos, neg_ℤ, ◌≤ℤ◌, ◌<ℤ◌, unsigned_abs};
+ghost use Rattle.std.specs.Prelude.{◌≡◌, ◌≤◌, [], ◌∷◌, ◌*◌, ◌-◌, ◌^◌, pos, neg_ℤ, ◌+ℤ◌, ◌≤ℤ◌, ◌<ℤ◌, unsigned_abs};
 ghost use Rattle.aq_base.specs.Decimal.{half_up};
 ghost use Rattle.aq_rules.specs.Lists.{total};
 
@@ -21,8 +21,7 @@ pub(crate) fn rounded_three(a: i32, b: i32, c: i32, den: u8) -> i32
     requires { 3 ≤ den }
     ensures { result ≡ half_up (total (a ∷ b ∷ c ∷ [])) (pos den) }
 {
-    let sum = i64::from(a) + i64::from(b) + i64::from(c);
-    rounded(i128::from(sum), i128::from(den))
+    rounded_over(sum_of_three(a, b, c), den)
 }
 
 /// The sum of four numbers over `den`, rounded so.
@@ -30,6 +29,26 @@ pub(crate) fn rounded_four(a: i32, b: i32, c: i32, d: i32, den: u8) -> i32
     requires { 4 ≤ den }
     ensures { result ≡ half_up (total (a ∷ b ∷ c ∷ d ∷ [])) (pos den) }
 {
-    let sum = i64::from(a) + i64::from(b) + i64::from(c) + i64::from(d);
+    rounded_over(sum_of_four(a, b, c, d), den)
+}
+
+pub(crate) fn sum_of_three(a: i32, b: i32, c: i32) -> i64
+    ensures { result ≡ a +ℤ b +ℤ c }
+{
+    i64::from(a) + i64::from(b) + i64::from(c)
+}
+
+fn sum_of_four(a: i32, b: i32, c: i32, d: i32) -> i64
+    ensures { result ≡ a +ℤ b +ℤ c +ℤ d }
+{
+    sum_of_three(a, b, c) + i64::from(d)
+}
+
+fn rounded_over(sum: i64, den: u8) -> i32
+    requires some { 1 ≤ den }
+    requires low { neg_ℤ (pos (2 ^ 31 * den)) ≤ℤ sum }
+    requires high { sum ≤ℤ pos ((2 ^ 31 - 1) * den) }
+    ensures { result ≡ half_up sum (pos den) }
+{
     rounded(i128::from(sum), i128::from(den))
 }

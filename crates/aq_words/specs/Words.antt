@@ -1,14 +1,12 @@
 -- The words of the command line, and the command that they name (own).
-use Rattle.std.specs.Prelude.{ℕ, ◌==◌, Bool, true, false, ◌&&◌, nat_le, List, [], ◌∷◌, ◌++◌, length, take, drop, Option, Some, None, if◌then◌else◌, codes, bytes_eq, find}
-use Rattle.aq_base.specs.Standard.{standards, standard_name}
+use Rattle.std.specs.Prelude.{ℕ, ◌==◌, Bool, true, false, ◌&&◌, nat_le, List, [], ◌∷◌, length, take, drop, Option, Some, None, if◌then◌else◌, codes, bytes_eq}
 use Rattle.aq_base.specs.Calendar.{is_year}
 use Rattle.aq_base.specs.declared.ask.Ask.{Ask}
 use Rattle.aq_base.specs.declared.ask.Ask.TheVariants.{Value, Report, Export}
-use Rattle.aq_base.specs.declared.standard.Standard.{Standard}
 use Rattle.aq_rules.specs.Limits.{LAST_LOAD_NUMBER, MOST_GENERATED_SITES, FEWEST_GENERATED_YEARS, MOST_GENERATED_YEARS}
 use Rattle.aq_rules.specs.Lines.Spellings.{◌>>=◌, parameter_in, year_in}
 use Rattle.aq_rules.specs.Shown.Answer.{is_design_year, is_load_number}
-use Rattle.aq_rd.specs.Words.{site_word, day_word, number_to}
+use Rattle.aq_rd.specs.Words.{site_word, day_word, number_to, standard_word}
 use Rattle.aq_words.specs.declared.words.Command.{Command}
 use Rattle.aq_words.specs.declared.words.Command.TheVariants.{Scan, Load, Serve, Simulate}
 use Rattle.aq_words.specs.declared.words.Command.TheVariants as command
@@ -37,9 +35,6 @@ load_of (text ∷ []) = do
   Some (Load number)
 load_of _ = None
 
-abbrev pub standard_in : List ℕ → Option Standard
-standard_in text = find (λ standard. bytes_eq (standard_name standard) text) standards
-
 -- a year that ends three years of the profile
 unfoldable pub design_year : List ℕ → Option ℕ
 design_year text = do
@@ -49,7 +44,7 @@ design_year text = do
 -- `show STANDARD SITE YEAR`
 unfoldable pub show_of : List (List ℕ) → Option Command
 show_of (standard ∷ site ∷ year ∷ []) = do
-  named ← standard_in standard
+  named ← standard_word standard
   at ← site_word site
   last ← design_year year
   Some (command.Ask (Value named at last))
@@ -58,7 +53,7 @@ show_of _ = None
 -- `report STANDARD YEAR`
 unfoldable pub report_of : List (List ℕ) → Option Command
 report_of (standard ∷ year ∷ []) = do
-  named ← standard_in standard
+  named ← standard_word standard
   last ← design_year year
   Some (command.Ask (Report named last))
 report_of _ = None

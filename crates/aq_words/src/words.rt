@@ -1,16 +1,15 @@
 //! The words of the command line.
-ghost use Rattle.std.specs.Prelude.{◌≡◌, ◌≤◌, bytes_eq, find, map, string_bytes, IfSome, IsTrue};
+ghost use Rattle.std.specs.Prelude.{◌≡◌, ◌≤◌, map, string_bytes, IfSome, IsTrue};
 ghost use Rattle.std.specs.Option.{option_map};
-ghost use Rattle.aq_base.specs.Standard.{standard_name};
 ghost use Rattle.aq_rules.specs.Limits.{FEWEST_GENERATED_YEARS, MOST_GENERATED_YEARS};
 ghost use Rattle.aq_rules.specs.Shown.Answer.{is_design_year};
 ghost use Rattle.aq_words.specs.Words.{command_of, is_command, design_year, load_of, option_of, pair_of, scan_of, serve_of, served_by, show_of, simulate_of, start_in, report_of, export_of, years_in};
 
 use aq_base::{
     Ask, Day, FEWEST_GENERATED_YEARS, FIRST_YEAR, LAST_LOAD_NUMBER, MOST_GENERATED_SITES,
-    MOST_GENERATED_YEARS, SiteId, Standard,
+    MOST_GENERATED_YEARS, SiteId,
 };
-use aq_rd::{day_word, number_to, parameter_in, site_word, year_in};
+use aq_rd::{day_word, number_to, parameter_in, site_word, standard_word, year_in};
 
 /// The most connections that `serve` takes.
 const MOST_CONNECTIONS: u64 = 1_000_000;
@@ -63,7 +62,7 @@ fn show(words: &[String]) -> Option<Command>
     let [standard, site, year] = words else {
         return None;
     };
-    let standard = first_named(&Standard::all(), standard.as_bytes())?;
+    let standard = standard_word(standard.as_bytes())?;
     let site = site_word(site.as_bytes())?;
     let year = design_year(year.as_bytes())?;
     Some(Command::Ask(Ask::Value(standard, site, year)))
@@ -77,7 +76,7 @@ fn report(words: &[String]) -> Option<Command>
     let [standard, year] = words else {
         return None;
     };
-    let standard = first_named(&Standard::all(), standard.as_bytes())?;
+    let standard = standard_word(standard.as_bytes())?;
     let year = design_year(year.as_bytes())?;
     Some(Command::Ask(Ask::Report(standard, year)))
 }
@@ -212,17 +211,6 @@ fn design_year(text: &[u8]) -> Option<u16>
     } else {
         None
     }
-}
-
-fn first_named(standards: &[Standard], name: &[u8]) -> Option<Standard>
-    ensures { result ≡ find (λ standard. bytes_eq (standard_name standard) name.now) standards.now }
-{
-    for standard in standards {
-        if standard.name().as_bytes() == name {
-            return Some(*standard);
-        }
-    }
-    None
 }
 
 /// The command that the words name, the program's name left out. It takes no memory.

@@ -16,9 +16,7 @@ returns-in_err-body-clause-keeper_failed g c = unread_keeper _ c.in_err-body.fie
 pub returns-clause-told : goal.returns-clause-told
 returns-clause-told g c =
     let within = is_within-few c.in_ok-body.body.items c.in_ok-body.ensures.bytes c.in_ok-body.ensures.lines in
-    read_load c.args.number _ c.in_ok-body.body.items c.deref.result.now c.answer.result _ _ _ _ c.in_ok-body.ensures.body c.deref.ensures.value within c.answer.ensures.told
+    read_load c.args.number _ c.in_ok-body.body.items c.deref.result.now c.answer.result _ _ _ _ c.in_ok-body.ensures.body c.deref.ensures.value within c.answer.ensures.no_input.1 c.answer.ensures.told
 
 pub returns-clause-causes : goal.returns-clause-causes
-returns-clause-causes g c =
-    let within = is_within-few c.in_ok-body.body.items c.in_ok-body.ensures.bytes c.in_ok-body.ensures.lines in
-    read_causes _ c.in_ok-body.body.items _ _ _ _ _ c.in_ok-body.ensures.body within c.in_ok-body.ensures.steady c.answer.ensures.no_input.0 c.answer.ensures.no_input.1 c.answer.ensures.output_failed
+returns-clause-causes g c = read_causes _ _ _ _ _ c.in_ok-body.ensures.steady c.answer.ensures.no_input.0 c.answer.ensures.output_failed

@@ -1,7 +1,11 @@
 use Rattle.std.proofs.Common.{subst, ◌∙◌}
 use Rattle.aq_book.specs.Migrating.{Migrates}
-use Rattle.aq_desk.proofs.Opening.{committed, old_opened, old_stops, only_old, undamaged_old}
+use Rattle.aq_desk.proofs.Opening.{committed, not_migrated, old_opened, old_stops, only_old, undamaged_old}
 use Rattle.aq_desk.proofs.office.migrate_rows.Goals as goal
+
+pub returns-in_err-migration-clause-stopped : goal.returns-in_err-migration-clause-stopped
+returns-in_err-migration-clause-stopped g c =
+    not_migrated c.from_residual.result _ _ c.args.rows.now c.in_err-migration.field-0.0 c.from_residual.ensures.1 c.in_err-migration.ensures.damaged c.requires.told
 
 pub returns-in_err-commit-clause-untouched : goal.returns-in_err-commit-clause-untouched
 returns-in_err-commit-clause-untouched g c =

@@ -14,13 +14,13 @@ returns-in_err-body-clause-causes g c =
 pub returns-clause-told : goal.returns-clause-told
 returns-clause-told g c =
     let within = is_within-few c.in_ok-body.body.items c.in_ok-body.ensures.bytes c.in_ok-body.ensures.lines in
-    read_scan c.args.site c.args.day _ c.in_ok-body.body.items c.deref.result.now c.answer.result _ _ c.in_ok-body.ensures.body c.deref.ensures.value within c.answer.ensures.told
+    let taken = c.answer.ensures.taken in
+    read_scan c.args.site c.args.day _ c.in_ok-body.body.items c.deref.result.now c.answer.result _ _ c.in_ok-body.ensures.body c.deref.ensures.value within (λ ten. omega (arith, ten, taken)) c.answer.ensures.told
 
 pub returns-clause-causes : goal.returns-clause-causes
 returns-clause-causes g c =
-    let within = is_within-few c.in_ok-body.body.items c.in_ok-body.ensures.bytes c.in_ok-body.ensures.lines in
     let taken = c.answer.ensures.taken in
-    read_causes _ c.in_ok-body.body.items _ _ _ _ _ c.in_ok-body.ensures.body within c.in_ok-body.ensures.steady (λ three. omega (arith, three, taken)) (λ ten. omega (arith, ten, taken)) c.answer.ensures.output_failed
+    read_causes _ _ _ _ _ c.in_ok-body.ensures.steady (λ three. omega (arith, three, taken)) c.answer.ensures.output_failed
 
 pub returns-clause-silent : goal.returns-clause-silent
 returns-clause-silent g c = let taken = c.answer.ensures.taken in λ nothing. absurd (omega (arith, taken, nothing))

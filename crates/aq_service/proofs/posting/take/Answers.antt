@@ -1,4 +1,5 @@
 use Rattle.std.proofs.Common.{Err, refl, sym, subst, ◌∙◌}
+use Rattle.aq_keeper.proofs.Telling.{stays}
 use Rattle.aq_keeper.specs.Told.{HasCause}
 use Rattle.aq_rules.specs.Office.Office.{IsOffice}
 use Rattle.aq_service.proofs.Taking.{in_order, lost_before, lost_behind, on_err, taken}
@@ -10,7 +11,7 @@ commit-requires g c =
 
 pub returns-in_err-batch-clause-lost : goal.returns-in_err-batch-clause-lost
 returns-in_err-batch-clause-lost g c =
-    on_err _ c.from_residual-in_err-batch.result (lost_before c.args.book c.args.number c.args.digest c.args.body.now _ _ _ _ refl refl)
+    on_err _ c.from_residual-in_err-batch.result (lost_before c.args.book c.args.number c.args.digest c.args.body.now _ _ _ _ (stays (g.K.Keeper.tables c.args.keeper.now)) refl)
 
 pub returns-in_err-book-in-Ok-clause-lost : goal.returns-in_err-book-in-Ok-clause-lost
 returns-in_err-book-in-Ok-clause-lost g c =

@@ -1,57 +1,30 @@
 use Rattle.std.proofs.Common.{◌∙◌, sym, Some, None}
 use Rattle.aq_rules.specs.Office.Office.{observation_numbers, observation_rank, without_row}
 use Rattle.aq_shelf.proofs.Cases.{on_some, if_none, changed_or_not}
-use Rattle.aq_shelf.proofs.StretchLemmas.{found-at, written-at, content_at-joined, changes-drop, changed-joined, unchanged-joined, AreStretches-change}
+use Rattle.aq_shelf.proofs.StretchLemmas.{content_at-found, changes-drop, changed-joined, unchanged-joined, AreStretches-change}
 use Rattle.aq_shelf.proofs.shelf.take_out.Goals as goal
 
 pub returns-in_err-hours-clause-before : goal.returns-in_err-hours-clause-before
 returns-in_err-hours-clause-before c =
-    let key = c.args.key.now in
-    let ss = c.args.stretches.now.entries in
-    let none = found-at key c.of.result ss c.of.ensures None c.in_err-hours.ensures.value in
-    c.from_residual.ensures ∙ sym (content_at-joined key ss None c.requires c.get_mut.ensures.ordered none)
+    c.from_residual.ensures ∙ sym (content_at-found c.args.key.now c.of.result c.of.ensures c.args.stretches.now.entries c.requires c.get_mut.ensures.ordered None c.in_err-hours.ensures.value)
 
 pub returns-clause-before : goal.returns-clause-before
 returns-clause-before c =
-    let key = c.args.key.now in
-    let ss = c.args.stretches.now.entries in
-    let found = found-at key c.of.result ss c.of.ensures (Some c.in_ok-hours.hours.now) c.in_ok-hours.ensures.value in
-    c.remove.ensures.before ∙ sym (content_at-joined key ss (Some c.in_ok-hours.hours.now) c.requires c.get_mut.ensures.ordered found)
+    c.remove.ensures.before ∙ sym (content_at-found c.args.key.now c.of.result c.of.ensures c.args.stretches.now.entries c.requires c.get_mut.ensures.ordered (Some c.in_ok-hours.hours.now) c.in_ok-hours.ensures.value)
 
 pub returns-clause-ok : goal.returns-clause-ok
 returns-clause-ok c =
-    let key = c.args.key.now in
-    let ss = c.args.stretches.now.entries in
-    let ts = (c.get_mut.follows.lender c.remove.new.self).entries in
-    let hs = c.in_ok-hours.hours.now in
-    let new = c.remove.new.self in
-    let found = found-at key c.of.result ss c.of.ensures (Some hs) c.in_ok-hours.ensures.value in
-    let written = written-at key c.of.result ss c.of.ensures ts new (c.get_mut.follows.holds new).0 in
     on_some c.remove.result
-    (changed-joined key (without_row observation_rank (observation_numbers key)) (changes-drop key) ss ts hs new c.requires c.get_mut.ensures.ordered found written)
+    (changed-joined c.args.key.now c.of.result c.of.ensures c.args.stretches.now.entries c.requires c.get_mut.ensures.ordered (without_row observation_rank (observation_numbers c.args.key.now)) (changes-drop c.args.key.now) _ c.in_ok-hours.hours.now c.remove.new.self c.in_ok-hours.ensures.value (c.get_mut.follows.holds c.remove.new.self).0)
     c.remove.ensures.ok
 
 pub returns-clause-unchanged : goal.returns-clause-unchanged
 returns-clause-unchanged c =
-    let key = c.args.key.now in
-    let ss = c.args.stretches.now.entries in
-    let ts = (c.get_mut.follows.lender c.remove.new.self).entries in
-    let hs = c.in_ok-hours.hours.now in
-    let new = c.remove.new.self in
-    let found = found-at key c.of.result ss c.of.ensures (Some hs) c.in_ok-hours.ensures.value in
-    let written = written-at key c.of.result ss c.of.ensures ts new (c.get_mut.follows.holds new).0 in
     if_none c.remove.result
-    (unchanged-joined key (without_row observation_rank (observation_numbers key)) (changes-drop key) ss ts hs new c.requires c.get_mut.ensures.ordered found written)
+    (unchanged-joined c.args.key.now c.of.result c.of.ensures c.args.stretches.now.entries c.requires c.get_mut.ensures.ordered (without_row observation_rank (observation_numbers c.args.key.now)) (changes-drop c.args.key.now) _ c.in_ok-hours.hours.now c.remove.new.self c.in_ok-hours.ensures.value (c.get_mut.follows.holds c.remove.new.self).0)
     c.remove.ensures.unchanged
 
 pub returns-clause-stretches : goal.returns-clause-stretches
 returns-clause-stretches c =
-    let key = c.args.key.now in
-    let ss = c.args.stretches.now.entries in
-    let ts = (c.get_mut.follows.lender c.remove.new.self).entries in
-    let hs = c.in_ok-hours.hours.now in
-    let new = c.remove.new.self in
-    let found = found-at key c.of.result ss c.of.ensures (Some hs) c.in_ok-hours.ensures.value in
-    let written = written-at key c.of.result ss c.of.ensures ts new (c.get_mut.follows.holds new).0 in
-    AreStretches-change key (without_row observation_rank (observation_numbers key)) (changes-drop key) ss ts hs new c.requires c.get_mut.ensures.ordered found written
+    AreStretches-change c.args.key.now c.of.result c.of.ensures c.args.stretches.now.entries c.requires c.get_mut.ensures.ordered (without_row observation_rank (observation_numbers c.args.key.now)) (changes-drop c.args.key.now) _ c.in_ok-hours.hours.now c.remove.new.self c.in_ok-hours.ensures.value (c.get_mut.follows.holds c.remove.new.self).0
     (changed_or_not c.remove.result c.remove.ensures.ok c.remove.ensures.unchanged)

@@ -4,14 +4,24 @@ use Rattle.aq_rules.specs.Lines.Lines.{line_count}
 use Rattle.aq_rules.specs.Office.Load.{posted}
 use Rattle.aq_rules.specs.Office.Office.{IsOffice, Office}
 use Rattle.aq_serve.specs.Service.{ServiceView}
-use Rattle.aq_service.specs.Posting.{IsPosted}
+use Rattle.aq_service.specs.Posting.{IsPosted, LosesLoad}
 use Rattle.aq_service.proofs.PostedLoads.{is_numbered}
-use Rattle.aq_service.proofs.Replied.{load_answered, reply_lost, stands}
+use Rattle.aq_service.proofs.Replied.{load_answered, post_lost, reply_lost, stands}
 use Rattle.aq_service.proofs.Taking.{if_ok, on_err}
 use Rattle.aq_service.proofs.service.OfficeService.answer_load.Goals as goal
 
 pub post-requires-clause-valid : goal.post-requires-clause-valid
 post-requires-clause-valid g c = subst IsOffice (sym c.replace-book.ensures.value) c.self.invariant.0
+
+pub returns-in_err-book-clause-lost : goal.returns-in_err-book-clause-lost
+returns-in_err-book-clause-lost g c =
+    let P = λ (o : Office). LosesLoad c.args.number (sha256 c.args.body.now) c.args.body.now
+    (record { office = o; tables = g.K.Keeper.tables c.args.keeper.now; faults = g.K.Keeper.faults c.args.keeper.now })
+    (record { office = o; tables = g.K.Keeper.tables c.post.new.keeper; faults = g.K.Keeper.faults c.post.new.keeper }) in
+    on_err _ c.from_residual.result
+    (post_lost c.args.number (sha256 c.args.body.now) c.args.body.now c.args.self.now c.replace-book.new.dest
+    (g.K.Keeper.tables c.args.keeper.now) (g.K.Keeper.tables c.post.new.keeper) (g.K.Keeper.faults c.args.keeper.now) (g.K.Keeper.faults c.post.new.keeper)
+    (subst P (c.replace-book.ensures.value ∙ c.self.view_is) c.in_err-book.ensures.lost))
 
 pub load_reply-requires-clause-stands : goal.load_reply-requires-clause-stands
 load_reply-requires-clause-stands g c =
