@@ -16,11 +16,12 @@ use Rattle.aq_rules.specs.Kept.RowChanges.{RowKey, LoadRowKey, row_key, columns,
 use Rattle.aq_rules.proofs.Elements.{Every, every-All, every-append, every-to}
 use Rattle.aq_rules.proofs.SameRows.{record-itself, content-itself}
 use Rattle.aq_rules.proofs.RowsBack.{record-back}
-use Rattle.aq_rules.proofs.OfficeBack.{IsSpelled, spelled-back}
+use Rattle.aq_rules.proofs.OfficeBack.{IsSpelled, spelled-back, R, O, L}
 use Rattle.aq_rules.proofs.SpelledOffice.{AllSpelled, valid-spelled, spelled-after_all}
 use Rattle.aq_rules.proofs.RowOrder.{office-agree, obs-agree, load-agree}
-use Rattle.aq_rules.proofs.BatchDone.{HasKey, found-key, one_place}
-use Rattle.aq_rules.proofs.RowBatch.{R, O, L, IfOne, record-key, each, found-every, filter-every, record-keys, observation-keys}
+use Rattle.aq_rules.proofs.OneKey.{one_observation_key}
+use Rattle.aq_rules.proofs.BatchDone.{HasKey, found-key}
+use Rattle.aq_rules.proofs.RowBatch.{IfOne, record-key, each, found-every, filter-every, record-keys, observation-keys}
 
 -- ---- what stands under a row's key
 
@@ -149,7 +150,7 @@ module _ (office : Office) (all : AllSpelled office) where
       by_test false e = λ standing.
           let both : Some (O old) ≡ Some (O (key, new.1)) = sym (obs-found key is ∙ ap (option_map O) here) ∙ standing in
           let rows : O old ≡ O (key, new.1) = cc in
-          let put : IsSpelled (key, new.1) = subst (λ k. IsSpelled (k, new.1)) (one_place new.0 key has) spelled in
+          let put : IsSpelled (key, new.1) = subst (λ k. IsSpelled (k, new.1)) (one_observation_key new.0 key has) spelled in
           let one = one_entry old (key, new.1) was put rows in
           false≢true (sym e ∙ subst (λ (o : ObsKey × Observation). is_same_content old.1 o.1 ≡ true) one (content-itself old.1))
 

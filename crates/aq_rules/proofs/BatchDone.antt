@@ -1,9 +1,7 @@
 -- The batch of a load, done to the office before it, gives the office after it.
-use Rattle.std.proofs.Common.{◌≡◌, ℕ, Bool, true, false, cond, List, [], ◌∷◌, ◌++◌, map, refl, sym, ap, ◌∙◌, arith}
+use Rattle.std.proofs.Common.{◌≡◌, ℕ, Bool, true, false, cond, List, [], ◌∷◌, ◌++◌, map, refl, sym, ap, ◌∙◌}
 use Rattle.std.specs.Prelude.{Option, Some, None, is_some, fold, option_map, ◌==◌}
 use Rattle.std.proofs.lemmas.List.Sums.{fold-append}
-use Rattle.aq_base.specs.declared.monitor.Pollutant.{Pollutant}
-use Rattle.aq_base.specs.declared.monitor.Pollutant.TheVariants.{Ozone, Pm25, Pm10}
 use Rattle.aq_base.specs.declared.observation.ObsKey.{ObsKey}
 use Rattle.aq_base.specs.declared.observation.Observation.{Observation}
 use Rattle.aq_base.specs.declared.office.OfficeRecord.{OfficeRecord}
@@ -13,12 +11,13 @@ use Rattle.aq_base.specs.declared.office.OfficeLine.TheVariants.{Put, Change, Dr
 use Rattle.aq_rules.specs.Lines.Lines.{NumberedLine, body_lines}
 use Rattle.aq_rules.specs.Lines.RdForm.{Put as PutSample, Delete as DeleteSample}
 use Rattle.aq_rules.specs.Lines.Reading.{LineValue, OfRd, OfOffice, line_value}
-use Rattle.aq_rules.specs.Office.Office.{Office, StoredLoad, KeysRise, is_same, key_of, key_numbers, pollutant_number, observation_numbers, observation_key, content_of, record_rank, observation_rank, load_rank, rises, row_at, with_row, without_row, record_at, observation_at}
+use Rattle.aq_rules.specs.Office.Office.{Office, StoredLoad, KeysRise, is_same, key_of, key_numbers, observation_numbers, observation_key, content_of, record_rank, observation_rank, load_rank, rises, row_at, with_row, without_row, record_at, observation_at}
 use Rattle.aq_rules.specs.Office.Load.{keys_of_either, OfficeChange, PutRecord, DropRecord, PutObservation, DropObservation, PutLoad, with_change, is_same_record, is_same_content, record_change, observation_change, record_changes, observation_changes, load_change, batch, stored, load, changed, changed_by, refusal, after, after_all}
 use Rattle.aq_rules.proofs.Loads.{KeysRise-after_all}
 use Rattle.aq_rules.specs.Office.RowOrder.{with_row-rises, without_row-rises}
 use Rattle.aq_rules.proofs.SameRows.{record-same, content-same}
 use Rattle.aq_rules.proofs.Lookups.{same-is, found-with, found-without}
+use Rattle.aq_rules.proofs.OneKey.{one_observation_key}
 use Rattle.aq_rules.proofs.Changes.{GoodChange, done_if, changes-done, idle}
 
 -- ---- one list after the other
@@ -113,28 +112,6 @@ records-rise rows (Some (PutLoad stored)) rising = rising
 
 -- ---- observations
 
-same_pollutants : (a b : Pollutant) → pollutant_number a ≡ pollutant_number b → a ≡ b
-same_pollutants Ozone Ozone e = refl
-same_pollutants Pm25 Pm25 e = refl
-same_pollutants Pm10 Pm10 e = refl
-same_pollutants Ozone Pm25 e = absurd (omega (arith, e))
-same_pollutants Ozone Pm10 e = absurd (omega (arith, e))
-same_pollutants Pm25 Ozone e = absurd (omega (arith, e))
-same_pollutants Pm25 Pm10 e = absurd (omega (arith, e))
-same_pollutants Pm10 Ozone e = absurd (omega (arith, e))
-same_pollutants Pm10 Pm25 e = absurd (omega (arith, e))
-
-pub one_place : (a b : ObsKey) → observation_numbers a ≡ observation_numbers b → a ≡ b
-one_place a b e =
-    let state : a.monitor.site.state ≡ b.monitor.site.state = cc in
-    let county : a.monitor.site.county ≡ b.monitor.site.county = cc in
-    let number : a.monitor.site.number ≡ b.monitor.site.number = cc in
-    let pollutants : pollutant_number a.monitor.pollutant ≡ pollutant_number b.monitor.pollutant = cc in
-    let poc : a.monitor.poc ≡ b.monitor.poc = cc in
-    let hour : a.hour ≡ b.hour = cc in
-    let pollutant = same_pollutants a.monitor.pollutant b.monitor.pollutant pollutants in
-    λ i. record { monitor = record { site = record { state = state i; county = county i; number = number i }; pollutant = pollutant i; poc = poc i }; hour = hour i }
-
 abbrev Entry : Type 0
 Entry = ObsKey × Observation
 
@@ -145,7 +122,7 @@ observation-found : (key : ObsKey) (at : List ℕ) (rows : List Entry) (old new 
 unfolding observations_with HasKey
 observation-found key at rows None None had has here = as-before observation_rank (observation_numbers key) at rows None here
 observation-found key at rows None (Some new) had has here =
-    let whole : (key, new.1) ≡ new = λ i. (one_place key new.0 (sym has) i, new.1) in
+    let whole : (key, new.1) ≡ new = λ i. (one_observation_key key new.0 (sym has) i, new.1) in
     put-found observation_rank (observation_numbers key) at (key, new.1) rows refl
     ∙ ap (λ (r : Entry). cond (is_same (observation_numbers key) at) (Some r) (row_at observation_rank at rows)) whole
 observation-found key at rows (Some old) None had has here = found-without observation_rank at (observation_numbers key) rows
@@ -155,11 +132,11 @@ observation-found key at rows (Some old) (Some new) had has here = by_test (is_s
         → row_at observation_rank at (done_if observations_with rows (cond b None (Some (PutObservation key new.1)))) ≡ cond (is_same (observation_numbers key) at) (Some new) (row_at observation_rank at rows)
     by_test true e =
         let content = content-same old.1 new.1 e in
-        let place = one_place old.0 new.0 (had ∙ sym has) in
+        let place = one_observation_key old.0 new.0 (had ∙ sym has) in
         let entry : old ≡ new = λ i. (place i, content i) in
         as-before observation_rank (observation_numbers key) at rows (Some new) (here ∙ ap (λ (r : Entry). Some r) entry)
     by_test false e =
-        let whole : (key, new.1) ≡ new = λ i. (one_place key new.0 (sym has) i, new.1) in
+        let whole : (key, new.1) ≡ new = λ i. (one_observation_key key new.0 (sym has) i, new.1) in
         put-found observation_rank (observation_numbers key) at (key, new.1) rows refl
         ∙ ap (λ (r : Entry). cond (is_same (observation_numbers key) at) (Some r) (row_at observation_rank at rows)) whole
 

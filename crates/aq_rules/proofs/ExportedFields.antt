@@ -1,5 +1,5 @@
 -- The fields of an export of a valid office have no comma, no quote and no end of a line.
-use Rattle.std.proofs.Common.{◌≡◌, ℕ, suc, ◌/◌, ◌^◌, ◌<◌, ◌≤◌, Bool, true, false, cond, ◌&&◌, ◌||◌, List, [], ◌∷◌, ◌++◌, map, refl, arith, subst}
+use Rattle.std.proofs.Common.{◌≡◌, ℕ, suc, ◌/◌, ◌^◌, ◌<◌, ◌≤◌, Bool, true, false, cond, ◌&&◌, ◌||◌, List, [], ◌∷◌, ◌++◌, map, refl, arith}
 use Rattle.std.specs.Prelude.{ℤ, pos, negsuc, int_lt, unsigned_abs, Option, Some, None, nat_le, ◌==◌, decimal, filter}
 use Rattle.std.specs.Char.{digit_value}
 use Rattle.std.specs.List.{list_all}
@@ -7,29 +7,25 @@ use Rattle.std.specs.Str.Parse.{AllDigits}
 use Rattle.std.proofs.lemmas.Bool.{and_from, and_parts}
 use Rattle.std.proofs.lemmas.Bool.Decides.{nat_tests}
 use Rattle.std.proofs.lemmas.Fmt.{decimal_is_IsNumeral}
-use Rattle.std.proofs.lemmas.Slice.Eq.{bytes_eq-Decides}
 use Rattle.aq_base.specs.Calendar.{day_of_hour, hour_of_day}
 use Rattle.aq_base.specs.Decimal.{fixed, last_digits}
 use Rattle.aq_base.specs.Site.{Site}
 use Rattle.aq_base.specs.declared.ask.Shown.{Shown}
 use Rattle.aq_base.specs.declared.code.Code.{Code}
 use Rattle.aq_base.specs.declared.day.TheConstants.{LAST_HOUR}
-use Rattle.aq_base.specs.declared.monitor.MonitorId.{MonitorId}
 use Rattle.aq_base.specs.declared.monitor.Pollutant.{Pollutant}
 use Rattle.aq_base.specs.declared.monitor.Pollutant.TheVariants.{Ozone, Pm25, Pm10}
 use Rattle.aq_base.specs.declared.observation.ObsKey.{ObsKey}
 use Rattle.aq_base.specs.declared.observation.Observation.{Observation}
-use Rattle.aq_base.specs.declared.office.OfficeRecord.{OfficeRecord}
-use Rattle.aq_base.specs.declared.office.OfficeRecord.TheVariants.{Monitor, Primary, Schedule, Season, Makeup, Event, Concurrence, Approved, Combined}
 use Rattle.aq_base.specs.declared.office.OfficeKey.TheVariants.{Monitor as MonitorKey}
-use Rattle.aq_rules.specs.Lines.Spellings.{◌>>=◌, is_code_byte}
+use Rattle.aq_rules.specs.Lines.Spellings.{is_code_byte}
 use Rattle.aq_rules.specs.Lines.Canonical.{parameter_text, value_text, code_text}
 use Rattle.aq_rules.specs.Office.Exclusion.{excluded}
-use Rattle.aq_rules.specs.Office.Office.{Office, IsOffice, key_numbers, record_at, monitor_duration, duration_at, is_site, is_poc, is_qualifier, is_measured, is_method, is_content, is_kept_hour, fits_monitors}
+use Rattle.aq_rules.specs.Office.Office.{Office, IsOffice, key_numbers, record_at, duration_at, is_site, is_poc, is_qualifier, is_measured, is_method, is_content, is_kept_hour, fits_monitors}
 use Rattle.aq_rules.specs.Shown.Sheet.{site_text, day_text, truth_text}
 use Rattle.aq_rules.specs.Shown.WellFormed.{is_word_byte, is_word}
 use Rattle.aq_rules.specs.Shown.Export.{is_unquoted_byte, needs_no_quotes, null_text, codes_text, shown_fields, is_of_year, shown_of}
-use Rattle.aq_rules.proofs.OfficeBack.{IfFound, found-fits}
+use Rattle.aq_rules.proofs.OfficeBack.{found-fits, monitor-named}
 use Rattle.aq_rules.proofs.RoundTrip.{poc_short}
 use Rattle.aq_rules.proofs.SheetCells.{digits-bytes, site-word, day-word, truth-word}
 use Rattle.aq_rules.proofs.Values.{range_pos, range_neg}
@@ -132,25 +128,6 @@ plain-codes (code ∷ next ∷ more) h =
     let parts = and_parts (is_qualifier code) (list_all is_qualifier (next ∷ more)) h in
     plain-append (code_text code) (32 ∷ codes_text (next ∷ more)) (plain-qualifier code parts.0) (plain-codes (next ∷ more) parts.1)
 
--- ---- the POC of an observation, which has a monitor
-
-monitor-poc : (id : MonitorId) (o : Option OfficeRecord) (hour : ℕ) → IfFound (key_numbers (MonitorKey id)) o → is_kept_hour (o >>= monitor_duration) hour ≡ true → is_poc id.poc ≡ true
-monitor-poc id None hour found kept = cc
-monitor-poc id (Some (Monitor other duration eligible)) hour found kept =
-    let numbers : key_numbers (MonitorKey other) ≡ key_numbers (MonitorKey id) = (bytes_eq-Decides (key_numbers (MonitorKey other)) (key_numbers (MonitorKey id))).0 found.1 in
-    let poc : other.poc ≡ id.poc = cc in
-    let key = and_parts (is_site other.site && is_poc other.poc) _ found.0 in
-    let P : ℕ → Type 0 = λ n. is_poc n ≡ true in
-    subst P poc (and_parts (is_site other.site) (is_poc other.poc) key.0).1
-monitor-poc id (Some (Primary site pollutant from poc)) hour found kept = cc
-monitor-poc id (Some (Schedule site pollutant from interval anchor)) hour found kept = cc
-monitor-poc id (Some (Season site year first last)) hour found kept = cc
-monitor-poc id (Some (Makeup site missed makeup)) hour found kept = cc
-monitor-poc id (Some (Event number site pollutant first last code)) hour found kept = cc
-monitor-poc id (Some (Concurrence number agreed)) hour found kept = cc
-monitor-poc id (Some (Approved site day)) hour found kept = cc
-monitor-poc id (Some (Combined site pollutant from joined)) hour found kept = cc
-
 -- ---- rows
 
 abbrev IsPlainRow : Shown → Type 0
@@ -168,7 +145,8 @@ module _ (office : Office) (valid : IsOffice office) where
       let id = entry.0.monitor in
       let b = and_parts _ (is_content id.pollutant entry.1) fits in
       let a = and_parts (nat_le entry.0.hour LAST_HOUR) (is_kept_hour (duration_at office id) entry.0.hour) b.0 in
-      let poc = monitor-poc id (record_at office (MonitorKey id)) entry.0.hour (found-fits office (key_numbers (MonitorKey id)) office.records valid.records_fit) a.1 in
+      let named = monitor-named id (record_at office (MonitorKey id)) entry.0.hour (found-fits office (key_numbers (MonitorKey id)) office.records valid.records_fit) a.1 in
+      let poc = (and_parts (is_site id.site) (is_poc id.poc) named).1 in
       let m = and_parts _ (is_method entry.1.method) b.1 in
       let z = and_parts _ _ m.0 in
       let y = and_parts _ _ z.0 in

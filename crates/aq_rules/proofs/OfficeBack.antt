@@ -17,7 +17,7 @@ use Rattle.aq_base.specs.declared.monitor.Pollutant.TheVariants.{Ozone, Pm25, Pm
 use Rattle.aq_base.specs.declared.observation.ObsKey.{ObsKey}
 use Rattle.aq_base.specs.declared.observation.Observation.{Observation}
 use Rattle.aq_base.specs.declared.office.OfficeRecord.{OfficeRecord}
-use Rattle.aq_base.specs.declared.office.OfficeRecord.TheVariants.{Monitor, Primary, Schedule, Season, Makeup, Event, Concurrence, Approved, Combined}
+use Rattle.aq_base.specs.declared.office.OfficeRecord.TheVariants.{Monitor}
 use Rattle.aq_base.specs.declared.office.OfficeKey.TheVariants.{Monitor as MonitorKey}
 use Rattle.aq_rules.specs.Lines.Spellings.{◌>>=◌}
 use Rattle.aq_rules.specs.Office.Office.{Office, StoredLoad, IsOffice, is_same, key_numbers, record_rank, record_at, monitor_duration, duration_at, is_site, is_poc, is_record, fits_records, has_its_monitor, has_its_event, group_size, most_in_group, is_qualifier, is_measured, is_method, is_content, is_kept_hour, fits_monitors, is_load, pollutant_number}
@@ -60,23 +60,17 @@ site_of-numbers id other e =
     let number : other.site.number ≡ id.site.number = cc in
     λ i. record { state = state i; county = county i; number = number i }
 
-monitor-site : (id : MonitorId) (o : Option OfficeRecord) (hour : ℕ) → IfFound (key_numbers (MonitorKey id)) o → is_kept_hour (o >>= monitor_duration) hour ≡ true → is_site id.site ≡ true
-monitor-site id None hour found kept = cc
-monitor-site id (Some (Monitor other duration eligible)) hour found kept =
-    let numbers = (bytes_eq-Decides (key_numbers (MonitorKey other)) (key_numbers (MonitorKey id))).0 found.1 in
+-- a monitor that stands has a site and a POC of the profile
+pub monitor-named : (id : MonitorId) (o : Option OfficeRecord) (hour : ℕ) → IfFound (key_numbers (MonitorKey id)) o → is_kept_hour (o >>= monitor_duration) hour ≡ true → (is_site id.site && is_poc id.poc) ≡ true
+monitor-named id None hour found kept = cc
+monitor-named id (Some (Monitor other duration eligible)) hour found kept =
+    let numbers : key_numbers (MonitorKey other) ≡ key_numbers (MonitorKey id) = (bytes_eq-Decides (key_numbers (MonitorKey other)) (key_numbers (MonitorKey id))).0 found.1 in
     let site = site_of-numbers id other numbers in
+    let poc : other.poc ≡ id.poc = cc in
     let key = and_parts (is_site other.site && is_poc other.poc) _ found.0 in
-    let is = (and_parts (is_site other.site) (is_poc other.poc) key.0).0 in
-    let P : Site → Type 0 = λ s. is_site s ≡ true in
-    subst P site is
-monitor-site id (Some (Primary site pollutant from poc)) hour found kept = cc
-monitor-site id (Some (Schedule site pollutant from interval anchor)) hour found kept = cc
-monitor-site id (Some (Season site year first last)) hour found kept = cc
-monitor-site id (Some (Makeup site missed makeup)) hour found kept = cc
-monitor-site id (Some (Event number site pollutant first last code)) hour found kept = cc
-monitor-site id (Some (Concurrence number agreed)) hour found kept = cc
-monitor-site id (Some (Approved site day)) hour found kept = cc
-monitor-site id (Some (Combined site pollutant from joined)) hour found kept = cc
+    let P : Site → ℕ → Type 0 = λ s n. (is_site s && is_poc n) ≡ true in
+    subst (λ n. P id.site n) poc (subst (λ s. P s other.poc) site key.0)
+monitor-named id (Some r) hour found kept = cc
 
 site-back : (site : Site) → is_site site ≡ true → site_with (site_key site) ≡ site
 site-back site is =
@@ -136,7 +130,9 @@ fitting-is_spelled office o valid fits =
     let b = and_parts _ (is_content id.pollutant o.1) fits in
     let a = and_parts (nat_le o.0.hour LAST_HOUR) (is_kept_hour (duration_at office id) o.0.hour) b.0 in
     record {
-      site = monitor-site id (record_at office (MonitorKey id)) o.0.hour (found-fits office (key_numbers (MonitorKey id)) office.records valid.records_fit) a.1;
+      site =
+          (and_parts (is_site id.site) (is_poc id.poc)
+          (monitor-named id (record_at office (MonitorKey id)) o.0.hour (found-fits office (key_numbers (MonitorKey id)) office.records valid.records_fit) a.1)).0;
       content = b.1;
     }
 
@@ -202,16 +198,17 @@ follow-map t write is low (x ∷ xs) rest from follow =
     let P : ℕ → Type 0 = λ n. From n (map write xs ++ rest) in
     follow-one (write x) (map write xs ++ rest) (subst P (sym (is x)) (from-append t (map write xs) rest (from-map t t write is low xs) from)) (follow-map t write is low xs rest from follow)
 
+-- the row of a record, of an observation and of a load
+abbrev pub R : OfficeRecord → Row
+R r = OfOfficeRow (office_row r)
+
+abbrev pub O : ObsKey × Observation → Row
+O o = OfSecondRow (obs_row o)
+
+abbrev pub L : StoredLoad → Row
+L l = OfLoadRow (load_row l)
+
 module _ (office : Office) (valid : IsOffice office) where
-  abbrev R : OfficeRecord → Row
-  R r = OfOfficeRow (office_row r)
-
-  abbrev O : ObsKey × Observation → Row
-  O o = OfSecondRow (obs_row o)
-
-  abbrev L : StoredLoad → Row
-  L l = OfLoadRow (load_row l)
-
   records-back : Every (λ r. record_of_row (office_row r) ≡ Some r) office.records
   records-back = every-from (fits_records office) (λ r. record_of_row (office_row r) ≡ Some r) (λ r fits. record-back r (is_record-of office r fits)) office.records valid.records_fit
 

@@ -5,10 +5,10 @@ use Rattle.aq_rules.specs.Office.Office.{Office, StoredLoad, IsOffice, comes_bef
 use Rattle.aq_rules.specs.Kept.Rows.{Row, rows_of}
 use Rattle.aq_rules.specs.Kept.RowChanges.{row_key, key_before, keys_rise, keys_rise_from}
 use Rattle.aq_rules.proofs.Elements.{Every, every-append}
-use Rattle.aq_rules.proofs.OfficeBack.{IsSpelled}
+use Rattle.aq_rules.proofs.OfficeBack.{IsSpelled, R, O, L}
 use Rattle.aq_rules.proofs.SpelledOffice.{valid-spelled}
 use Rattle.aq_rules.proofs.RowOrder.{office-agree, obs-agree, load-agree}
-use Rattle.aq_rules.proofs.RowBatch.{R, O, L, record-key, each}
+use Rattle.aq_rules.proofs.RowBatch.{record-key, each}
 
 -- ---- one table
 

@@ -16,6 +16,7 @@ use Rattle.aq_rules.specs.Office.Office.{StoredLoad, IsOffice}
 use Rattle.aq_rules.specs.Kept.Rows.{whole, hour_of_stored, record_in, site_with, pollutant_with, words, each, null_of, method_of, listed_in, rest_in, Row, OfficeRow, ObsRow2, LoadRow, OfOfficeRow, OfObsRow, OfLoadRow, OfSecondRow, office_row, obs_row, load_row, rows_of, only_if, is_office_row, is_obs_row, is_load_row, record_of_row, observation_of_row, load_of_row, record_in_row, observation_in_row, load_in_row, says_something, office_in, table_of, tables_follow, is_valid, are_office_rows, damage}
 use Rattle.aq_rules.proofs.Tests.{int_is}
 use Rattle.aq_rules.proofs.Elements.{Every}
+use Rattle.aq_rules.proofs.OfficeBack.{R, O, L}
 use Rattle.aq_rules.proofs.ValidOffice.{valid-is_office}
 use Rattle.aq_rules.proofs.Undamaged.{undamaged}
 
@@ -122,15 +123,6 @@ load-row row l h =
     load_row-is (load_row l) row (last-test (λ q. is_load_row (load_row q) row) x l he))))))
 
 -- ---- all rows
-
-abbrev R : OfficeRecord → Row
-R r = OfOfficeRow (office_row r)
-
-abbrev O : ObsKey × Observation → Row
-O o = OfSecondRow (obs_row o)
-
-abbrev L : StoredLoad → Row
-L l = OfLoadRow (load_row l)
 
 abbrev From : ℕ → List Row → Type 0
 From t rows = Every (λ row. t ≤ table_of row) rows

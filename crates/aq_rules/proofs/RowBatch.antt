@@ -11,13 +11,14 @@ use Rattle.aq_base.specs.declared.office.OfficeKey.{OfficeKey}
 use Rattle.aq_rules.specs.Lines.Lines.{body_lines}
 use Rattle.aq_rules.specs.Office.Office.{Office, StoredLoad, IsOffice, is_same, comes_before, key_of, key_numbers, observation_numbers, observation_key, content_of, record_rank, observation_rank, load_rank, is_key, is_site, is_record, is_content_of, row_at, with_row, without_row, record_at, observation_at}
 use Rattle.aq_rules.specs.Office.Load.{OfficeChange, PutRecord, DropRecord, PutObservation, DropObservation, PutLoad, with_change, is_same_record, is_same_content, record_change, observation_change, record_changes, observation_changes, keys_of_either, load_change, batch, stored, load, after_all}
-use Rattle.aq_rules.specs.Kept.Rows.{Row, OfOfficeRow, OfLoadRow, OfSecondRow, office_row, obs_row, load_row, rows_of}
+use Rattle.aq_rules.specs.Kept.Rows.{Row, rows_of}
 use Rattle.aq_rules.specs.Kept.RowChanges.{RowKey, row_key, key_before, is_same_row_key, office_row_key, obs_row_key, put_row, drop_row, with_row_change, with_row_changes, row_change, row_batch}
 use Rattle.aq_rules.proofs.Elements.{Every, every-append, every-map, every-to}
-use Rattle.aq_rules.proofs.OfficeBack.{IsSpelled}
+use Rattle.aq_rules.proofs.OfficeBack.{IsSpelled, R, O, L}
 use Rattle.aq_rules.proofs.SpelledOffice.{AllSpelled, valid-spelled, spelled-after_all, every-with, every-without}
 use Rattle.aq_rules.proofs.RowOrder.{Agree, office-agree, obs-agree, load-agree}
-use Rattle.aq_rules.proofs.BatchDone.{HasKey, found-key, one_place, batch-done}
+use Rattle.aq_rules.proofs.OneKey.{one_observation_key}
+use Rattle.aq_rules.proofs.BatchDone.{HasKey, found-key, batch-done}
 
 -- ---- a table's rows put and dropped
 
@@ -90,15 +91,6 @@ drop-three key a b c =
     ∙ ap (λ l. l ++ drop_row key c) (filter-append (λ row. not (is_same_row_key (row_key row) key)) a b)
 
 -- ---- one change
-
-abbrev pub R : OfficeRecord → Row
-R r = OfOfficeRow (office_row r)
-
-abbrev pub O : ObsKey × Observation → Row
-O o = OfSecondRow (obs_row o)
-
-abbrev pub L : StoredLoad → Row
-L l = OfLoadRow (load_row l)
 
 -- a change to rows that lines can spell
 unfoldable pub IsSpelledChange : OfficeChange → Type 0
@@ -225,7 +217,7 @@ record-spelled key (Some old) (Some new) is has = by_test (is_same_record old ne
 entry-content : (key : ObsKey) (new : Option (ObsKey × Observation)) → HasKey observation_rank (observation_numbers key) new → IfOne IsSpelled new → IfOne (λ content. IsSpelled (key, content)) (option_map content_of new)
 unfolding IfOne HasKey
 entry-content key None has spelled = tt
-entry-content key (Some new) has spelled = subst (λ k. IsSpelled (k, new.1)) (one_place new.0 key has) spelled
+entry-content key (Some new) has spelled = subst (λ k. IsSpelled (k, new.1)) (one_observation_key new.0 key has) spelled
 
 observation-spelled : (key : ObsKey) (old new : Option Observation) → is_site key.monitor.site ≡ true → IfOne (λ content. IsSpelled (key, content)) new → IfOne IsSpelledChange (observation_change key old new)
 unfolding IfOne IsSpelledChange

@@ -6,18 +6,9 @@ use Rattle.aq_base.specs.declared.observation.ObsKey.{ObsKey}
 use Rattle.aq_base.specs.declared.observation.Observation.{Observation}
 use Rattle.aq_base.specs.declared.office.OfficeRecord.{OfficeRecord}
 use Rattle.aq_rules.specs.Office.Office.{Office, StoredLoad, IsOffice}
-use Rattle.aq_rules.specs.Kept.Rows.{Row, OfOfficeRow, OfLoadRow, OfSecondRow, office_row, obs_row, load_row, rows_of, are_office_rows, place_of, damaged_at, damage}
-use Rattle.aq_rules.proofs.OfficeBack.{rows-are}
+use Rattle.aq_rules.specs.Kept.Rows.{Row, rows_of, are_office_rows, place_of, damaged_at, damage}
+use Rattle.aq_rules.proofs.OfficeBack.{rows-are, R, O, L}
 use Rattle.aq_rules.proofs.Fronts.{records-front, observations-front, loads-front}
-
-abbrev R : OfficeRecord → Row
-R r = OfOfficeRow (office_row r)
-
-abbrev O : ObsKey × Observation → Row
-O o = OfSecondRow (obs_row o)
-
-abbrev L : StoredLoad → Row
-L l = OfLoadRow (load_row l)
 
 -- one more row that keeps the rows an office's
 past : (before : List Row) (row : Row) (rows : List Row) → are_office_rows (before ++ row ∷ []) ≡ true → damaged_at before (row ∷ rows) ≡ damaged_at (before ++ row ∷ []) rows
