@@ -78,7 +78,6 @@ pub mod BatchOrder
 pub mod BatchAlters
 pub mod WellFormedValues
 pub mod MembersOnce
-pub mod MoreLoads
 pub mod RowsInOrder
 pub mod OfficeInOrder
 pub mod Found

@@ -1,49 +1,21 @@
 -- A load leaves the office valid.
-use Rattle.std.proofs.Common.{◌≡◌, ℕ, ◌<◌, ◌≤◌, Bool, true, false, cond, List, [], ◌∷◌, length, Some, None, Option, refl, sym, ◌∙◌, arith, subst}
-use Rattle.std.specs.Prelude.{nat_le, nat_lt, ◌==◌, bytes_eq, is_some}
+use Rattle.std.proofs.Common.{◌≡◌, ℕ, ◌<◌, ◌≤◌, Bool, true, false, cond, List, length, Some, None, Option, refl, sym, arith, subst}
+use Rattle.std.specs.Prelude.{nat_le, nat_lt, ◌==◌, bytes_eq}
 use Rattle.std.specs.List.{list_all}
-use Rattle.aq_base.specs.declared.office.OfficeKey.TheVariants.{Event as EventKey}
-use Rattle.aq_base.specs.declared.office.OfficeLine.TheVariants.{Put, Change, Drop}
 use Rattle.aq_rules.specs.Limits.{LAST_LOAD_NUMBER, MOST_LINES, MOST_LOADS}
-use Rattle.aq_rules.specs.Lines.Lines.{NumberedLine, line_count, body_lines}
-use Rattle.aq_rules.specs.Lines.RdForm.{Put as PutSample, Delete as DeleteSample}
-use Rattle.aq_rules.specs.Lines.Reading.{LineValue, OfRd, OfOffice, line_value}
+use Rattle.aq_rules.specs.Lines.Lines.{line_count, body_lines}
 use Rattle.aq_rules.specs.Office.Office.{Office, IsOffice, StoredLoad, load_rank, with_row, load_at, is_load}
-use Rattle.aq_rules.specs.Office.Load.{Repeat, Conflict, New, changed, changed_by, refusal, after, after_all, with_load, reply, load, decide, decide_known, stored, TooManyLines, Repeated, Differing, NoRoom, Taken, posted_beside, office_after, post}
+use Rattle.aq_rules.specs.Office.Load.{Repeat, Conflict, New, after_all, with_load, reply, load, decide, decide_known, stored, TooManyLines, Repeated, Differing, NoRoom, Taken, posted_beside, office_after, post}
 use Rattle.std.proofs.lemmas.Bool.{ltb-false, and_from, eq-eqb, le-leb}
 use Rattle.aq_rules.specs.Office.RowOrder.{with_row-rises}
 use Rattle.aq_rules.proofs.RowsPlaced.{with_row-all, length-with_row}
+use Rattle.aq_rules.proofs.BatchDone.{loads-after_all}
 use Rattle.aq_rules.proofs.ValidAfter.{less, lines_leave_valid}
 use Rattle.aq_rules.proofs.ValidReplies.{reply-is}
 
--- ---- lines leave the loads as they were
-
-changed-loads : (office : Office) (value : LineValue) → (changed office value).loads ≡ office.loads
-changed-loads office (OfRd (PutSample update monitor duration hour content)) = refl
-changed-loads office (OfRd (DeleteSample monitor hour)) = refl
-changed-loads office (OfOffice (Put r)) = refl
-changed-loads office (OfOffice (Change r)) = refl
-changed-loads office (OfOffice (Drop (EventKey number))) = refl
-changed-loads office (OfOffice (Drop key)) = refl
-
-changed_by-loads : (office : Office) (value : Option LineValue) → (changed_by office value).loads ≡ office.loads
-changed_by-loads office None = refl
-changed_by-loads office (Some value) = changed-loads office value
-
-after-loads : (office : Office) (line : List ℕ) → (after office line).loads ≡ office.loads
-after-loads office line = choose (is_some (refusal office line)) (changed_by-loads office (line_value line))
-  where
-    choose : (refused : Bool) → (changed_by office (line_value line)).loads ≡ office.loads → (cond refused office (changed_by office (line_value line))).loads ≡ office.loads
-    choose true e = refl
-    choose false e = e
-
-after_all-loads : (office : Office) (lines : List NumberedLine) → (after_all office lines).loads ≡ office.loads
-after_all-loads office [] = refl
-after_all-loads office (line ∷ lines) = after_all-loads (after office line.text) lines ∙ after-loads office line.text
-
 -- ---- the load's own row
 
-with_load-valid : (office : Office) (stored : StoredLoad) → IsOffice office → is_load stored ≡ true → length office.loads < MOST_LOADS → IsOffice (with_load stored office)
+pub with_load-valid : (office : Office) (stored : StoredLoad) → IsOffice office → is_load stored ≡ true → length office.loads < MOST_LOADS → IsOffice (with_load stored office)
 with_load-valid office stored is good room = choose (stored.number == 0)
   where
     choose : (none : Bool) → IsOffice (cond none office (record office { loads = with_row load_rank stored office.loads }))
@@ -76,7 +48,7 @@ new_has_room None digest false new = refl
 pub load-fits : (office : Office) (number : ℕ) (digest body : List ℕ) → IsOffice office → 1 ≤ number → number ≤ LAST_LOAD_NUMBER → length digest ≡ 32
     → list_all (λ byte. nat_lt byte 256) digest ≡ true → line_count body ≤ MOST_LINES → nat_le MOST_LOADS (length office.loads) ≡ false → IsOffice (load office number digest body)
 load-fits office number digest body is low high len bytes few full =
-    let loads = after_all-loads office (body_lines body) in
+    let loads = loads-after_all (body_lines body) office in
     let room = less (length office.loads) MOST_LOADS full in
     with_load-valid (after_all office (body_lines body)) (record { number = number; digest = digest; reply = reply office number body })
     (lines_leave_valid office (body_lines body) is)
