@@ -1,20 +1,15 @@
 -- A site hour does not depend on the order of the observations.
-use Rattle.std.proofs.Common.{◌≡◌, ℕ, zero, suc, ◌≤◌, Bool, true, false, cond, ◌&&◌, ◌||◌, List, [], ◌∷◌, length, map, refl, sym, ap, ◌∙◌, arith}
-use Rattle.std.specs.List.{filter, filter_map, cons_option, find, fold, list_any, slice_get, count_by}
+use Rattle.std.proofs.Common.{◌≡◌, ℕ, ◌≤◌, Bool, true, false, cond, ◌&&◌, ◌||◌, List, [], ◌∷◌, length, map, refl, sym, ap, ◌∙◌, arith}
+use Rattle.std.specs.List.{filter, filter_map, cons_option, find, slice_get, count_by}
 use Rattle.std.specs.List.Sorted.{IsPermutation}
-use Rattle.std.specs.Prelude.{Option, Some, None, option_map, ℤ, pos, ◌+ℤ◌, ◌==◌}
-use Rattle.std.proofs.lemmas.List.Sorted.{length_permutation}
-use Rattle.std.proofs.lemmas.Int.{ints}
-use Rattle.std.proofs.Math.IntN.{+ℤ_idl}
+use Rattle.std.specs.Prelude.{Option, Some, None, option_map, ℤ, ◌==◌}
 use Rattle.aq_base.specs.Calendar.{day_of_hour}
-use Rattle.aq_base.specs.Decimal.{truncated}
 use Rattle.aq_base.specs.Site.{Site}
 use Rattle.aq_base.specs.declared.monitor.Pollutant.TheVariants.{Ozone}
 use Rattle.aq_base.specs.declared.observation.ObsKey.{ObsKey}
 use Rattle.aq_base.specs.declared.observation.Observation.{Observation}
 use Rattle.aq_base.specs.declared.office.OfficeRecord.{OfficeRecord}
 use Rattle.aq_rules.specs.Office.Office.{Office}
-use Rattle.aq_rules.specs.Lists.{total}
 use Rattle.aq_rules.specs.Office.Monitors.{is_same_site, is_same_pollutant, is_same_key, is_eligible}
 use Rattle.aq_rules.specs.Office.Designation.{primary_on}
 use Rattle.aq_rules.specs.Ozone.SiteHour.{Cell, Sample, sample_of, samples_at, is_ozone_at, mean_of, is_of_poc, chosen, site_hour}
@@ -23,57 +18,9 @@ use Rattle.aq_rules.specs.Office.Approval.{is_approved}
 use Rattle.aq_rules.specs.Ozone.EightHour.{window}
 use Rattle.aq_rules.specs.Ozone.OzoneDay.{OzoneDay, ozone_day}
 use Rattle.aq_rules.specs.Ozone.OzoneYear.{OzoneYear, days_of, ozone_days, ranked_maxima, fourth_of, ozone_year}
-use Rattle.aq_rules.proofs.Tests.{or_turns}
+use Rattle.aq_rules.proofs.DaysInOrder.{mean-any_order}
 use Rattle.aq_rules.proofs.Ranges.{window-same, ozone_day-same}
-use Rattle.aq_rules.proofs.Order.{fold_in_any_order, filter_map-moved, one_order}
-
--- ---- the mean, by the number of samples, their sum, and whether one is excluded
-
-abbrev value_of : Sample → ℤ
-value_of sample = sample.cell.value
-
-abbrev is_out : Sample → Bool
-is_out sample = sample.cell.excluded
-
-abbrev mean_by : ℕ → ℤ → Bool → Option Cell
-mean_by zero sum out = None
-mean_by (suc n) sum out = Some (record { value = truncated sum (pos (suc n)); excluded = out })
-
-mean_of-by : (samples : List Sample) → mean_of samples ≡ mean_by (length samples) (total (map value_of samples)) (list_any is_out samples)
-mean_of-by [] = refl
-mean_of-by (sample ∷ samples) = refl
-
-sum_turns : (a b c : ℤ) → a +ℤ (b +ℤ c) ≡ b +ℤ (a +ℤ c)
-sum_turns a b c = omega (arith, ints)
-
--- the sum of a first value and the others
-total-from : (a : ℤ) (xs : List ℤ) → fold (λ sum value. sum +ℤ value) a xs ≡ a +ℤ total xs
-total-from a [] = omega (arith, ints)
-total-from a (x ∷ xs) =
-    let first : fold (λ sum value. sum +ℤ value) (a +ℤ x) xs ≡ (a +ℤ x) +ℤ total xs = total-from (a +ℤ x) xs in
-    let second : fold (λ sum value. sum +ℤ value) (pos 0 +ℤ x) xs ≡ (pos 0 +ℤ x) +ℤ total xs = total-from (pos 0 +ℤ x) xs in
-    omega (arith, ints, first, second)
-
-total-step : (x : ℤ) (xs : List ℤ) → total (x ∷ xs) ≡ x +ℤ total xs
-total-step x xs = total-from (pos 0 +ℤ x) xs ∙ ap (λ (z : ℤ). z +ℤ total xs) (+ℤ_idl x)
-
-total-any_order : (xs ys : List Sample) → IsPermutation xs ys → total (map value_of xs) ≡ total (map value_of ys)
-total-any_order =
-    fold_in_any_order (λ (xs : List Sample). total (map value_of xs)) (λ s sum. value_of s +ℤ sum)
-    (λ s xs. total-step (value_of s) (map value_of xs))
-    (λ s t sum. sum_turns (value_of s) (value_of t) sum)
-
-out-any_order : (xs ys : List Sample) → IsPermutation xs ys → list_any is_out xs ≡ list_any is_out ys
-out-any_order =
-    fold_in_any_order (λ (xs : List Sample). list_any is_out xs) (λ s out. is_out s || out) (λ s xs. refl)
-    (λ s t out. or_turns (is_out s) (is_out t) out)
-
-mean_of-any_order : (xs ys : List Sample) → IsPermutation xs ys → mean_of xs ≡ mean_of ys
-mean_of-any_order xs ys moved =
-    let count : length ys ≡ length xs = length_permutation xs ys moved in
-    let sum = total-any_order xs ys moved in
-    let out = out-any_order xs ys moved in
-    mean_of-by xs ∙ rw (count, sum, out) refl ∙ sym (mean_of-by ys)
+use Rattle.aq_rules.proofs.Order.{filter_map-moved, one_order}
 
 -- ---- the primary's sample, of which there is one at most
 
@@ -98,7 +45,7 @@ chosen-any_order poc xs ys one moved =
     ∙ ap (λ (l : List Sample). slice_get l 0) (sym (one_order (filter_map (kept poc) xs) (filter_map (kept poc) ys) one (filter_map-moved (kept poc) xs ys moved)))
     ∙ sym (find-kept poc ys)
     in
-    ap (λ (o : Option Sample). chosen o xs) found ∙ chosen-by (find (is_of_poc poc) ys) xs ys (mean_of-any_order xs ys moved)
+    ap (λ (o : Option Sample). chosen o xs) found ∙ chosen-by (find (is_of_poc poc) ys) xs ys (mean-any_order xs ys moved)
 
 -- ---- distinct keys leave one sample of a POC
 

@@ -5,7 +5,7 @@ use Rattle.std.proofs.lemmas.Bool.{false≢true, and_from, and_parts}
 use Rattle.std.proofs.lemmas.Bool.Decides.{Decides-int_eq}
 use lib.Pointwise.{pointwise_decides}
 use Rattle.std.proofs.lemmas.List.Sums.{fold-append}
-use Rattle.aq_rules.specs.Kept.Rows.{Row, OfOfficeRow, OfObsRow, OfLoadRow, OfSecondRow, office_in}
+use Rattle.aq_rules.specs.Kept.Rows.{Row, ObsRow, OfOfficeRow, OfObsRow, OfLoadRow, OfSecondRow, office_in}
 use Rattle.aq_rules.specs.Kept.RowChanges.{RowKey, RowChange, PutRow, DropRow, row_key, columns, changed_key, key_before, batch_before, batch_rises, batch_rises_from, is_same_row_key, keys_rise, keys_rise_from, put_row, drop_row, with_row_change, with_row_changes}
 use Rattle.aq_rules.specs.Kept.Migration.{is_first, migrated, migrated_row, are_version_1, migration_batch}
 use Rattle.aq_rules.proofs.Elements.{Every, every-append}
@@ -29,15 +29,15 @@ firsts-are (row ∷ rows) = by_test (is_first row) refl (firsts-are rows)
     by_test true e rest = (e, rest)
     by_test false e rest = rest
 
+-- what holds of two rows of version 1 by their parts
+both_first : (P : Row → Row → Type 0) → ((a b : ObsRow) → P (OfObsRow a) (OfObsRow b)) → (a b : Row) → is_first a ≡ true → is_first b ≡ true → P a b
+both_first P go (OfObsRow a) (OfObsRow b) p q = go a b
+both_first P go (OfObsRow a) row p q = absurd (false≢true q)
+both_first P go row other p q = absurd (false≢true p)
+
 -- the keys of rows of version 1 stand to each other as those of the migrated rows
 first-before : (a b : Row) → is_first a ≡ true → is_first b ≡ true → key_before (row_key (migrated_row a)) (row_key (migrated_row b)) ≡ key_before (row_key a) (row_key b)
-first-before (OfOfficeRow a) b p q = absurd (false≢true p)
-first-before (OfLoadRow a) b p q = absurd (false≢true p)
-first-before (OfSecondRow a) b p q = absurd (false≢true p)
-first-before (OfObsRow a) (OfOfficeRow b) p q = absurd (false≢true q)
-first-before (OfObsRow a) (OfLoadRow b) p q = absurd (false≢true q)
-first-before (OfObsRow a) (OfSecondRow b) p q = absurd (false≢true q)
-first-before (OfObsRow a) (OfObsRow b) p q = refl
+first-before = both_first (λ a b. key_before (row_key (migrated_row a)) (row_key (migrated_row b)) ≡ key_before (row_key a) (row_key b)) (λ a b. refl)
 
 firsts-from : (first : Row) (rows : List Row) → is_first first ≡ true → AllFirst rows
     → keys_rise_from (row_key (migrated_row first)) (map row_key (map migrated_row rows)) ≡ keys_rise_from (row_key first) (map row_key rows)
@@ -165,32 +165,14 @@ migration-done rows old =
 -- ---- the order of the batch
 
 first-then_second : (a b : Row) → is_first a ≡ true → is_first b ≡ true → batch_before (row_key a) (row_key (migrated_row b)) ≡ true
-first-then_second (OfOfficeRow a) b p q = absurd (false≢true p)
-first-then_second (OfLoadRow a) b p q = absurd (false≢true p)
-first-then_second (OfSecondRow a) b p q = absurd (false≢true p)
-first-then_second (OfObsRow a) (OfOfficeRow b) p q = absurd (false≢true q)
-first-then_second (OfObsRow a) (OfLoadRow b) p q = absurd (false≢true q)
-first-then_second (OfObsRow a) (OfSecondRow b) p q = absurd (false≢true q)
-first-then_second (OfObsRow a) (OfObsRow b) p q = refl
+first-then_second = both_first (λ a b. batch_before (row_key a) (row_key (migrated_row b)) ≡ true) (λ a b. refl)
 
 old-in_batch : (a b : Row) → is_first a ≡ true → is_first b ≡ true → key_before (row_key a) (row_key b) ≡ true → batch_before (row_key a) (row_key b) ≡ true
-old-in_batch (OfOfficeRow a) b p q h = absurd (false≢true p)
-old-in_batch (OfLoadRow a) b p q h = absurd (false≢true p)
-old-in_batch (OfSecondRow a) b p q h = absurd (false≢true p)
-old-in_batch (OfObsRow a) (OfOfficeRow b) p q h = absurd (false≢true q)
-old-in_batch (OfObsRow a) (OfLoadRow b) p q h = absurd (false≢true q)
-old-in_batch (OfObsRow a) (OfSecondRow b) p q h = absurd (false≢true q)
-old-in_batch (OfObsRow a) (OfObsRow b) p q h = h
+old-in_batch = both_first (λ a b. key_before (row_key a) (row_key b) ≡ true → batch_before (row_key a) (row_key b) ≡ true) (λ a b h. h)
 
 new-in_batch : (a b : Row) → is_first a ≡ true → is_first b ≡ true → key_before (row_key (migrated_row a)) (row_key (migrated_row b)) ≡ true
     → batch_before (row_key (migrated_row a)) (row_key (migrated_row b)) ≡ true
-new-in_batch (OfOfficeRow a) b p q h = absurd (false≢true p)
-new-in_batch (OfLoadRow a) b p q h = absurd (false≢true p)
-new-in_batch (OfSecondRow a) b p q h = absurd (false≢true p)
-new-in_batch (OfObsRow a) (OfOfficeRow b) p q h = absurd (false≢true q)
-new-in_batch (OfObsRow a) (OfLoadRow b) p q h = absurd (false≢true q)
-new-in_batch (OfObsRow a) (OfSecondRow b) p q h = absurd (false≢true q)
-new-in_batch (OfObsRow a) (OfObsRow b) p q h = h
+new-in_batch = both_first (λ a b. key_before (row_key (migrated_row a)) (row_key (migrated_row b)) ≡ true → batch_before (row_key (migrated_row a)) (row_key (migrated_row b)) ≡ true) (λ a b h. h)
 
 put-rises_from : (first : Row) (rows : List Row) → is_first first ≡ true → AllFirst rows → keys_rise_from (row_key (migrated_row first)) (map row_key (map migrated_row rows)) ≡ true
     → batch_rises_from (row_key (migrated_row first)) (map changed_key (map put_of rows)) ≡ true

@@ -1,7 +1,7 @@
 -- The first broken rule of a list in rising number is the least one.
-use Rattle.std.proofs.Common.{◌≡◌, ℕ, ◌<◌, ◌≤◌, Bool, true, false, cond, List, [], ◌∷◌, Some, None, Option, refl, sym, ap, ◌∙◌, arith, inl, inr, suc, subst}
-use Rattle.std.specs.Prelude.{All, Contains, find}
-use Rattle.std.specs.List.{AllByRecursion}
+use Rattle.std.proofs.Common.{◌≡◌, ℕ, ◌<◌, ◌≤◌, Bool, true, false, cond, List, [], ◌∷◌, Some, None, Option, refl, sym, ap, ◌∙◌, ◌&&◌, arith, inl, inr, suc, subst}
+use Rattle.std.specs.Prelude.{All, Contains, find, nat_le}
+use Rattle.std.specs.List.{AllByRecursion, list_all}
 use Rattle.std.proofs.lemmas.List.Elements.{All-from_recursion, All-cons, All-nil}
 use Rattle.std.proofs.lemmas.Bool.{and_parts, cases_Bool}
 use Rattle.std.proofs.lemmas.Bool.Decides.{nat_tests}
@@ -84,51 +84,68 @@ none_broken-find p (first ∷ rest) none =
           All-cons (λ other. p other ≡ false) first rest there (none_broken-find p rest later)
     ]
 
--- ---- the lists of rules rise
+-- ---- the lists of rules rise, and their numbers are those of rules
 
-tag_rises : (tag : Tag) (deletes : Bool) → rises rule_rank (BadBytes ∷ BadTag ∷ FieldCount ∷ BadAction ∷ rules_of tag deletes) ≡ true
-tag_rises Rd true = refl
-tag_rises Rd false = refl
-tag_rises Xm true = refl
-tag_rises Xm false = refl
-tag_rises Xp true = refl
-tag_rises Xp false = refl
-tag_rises Xs true = refl
-tag_rises Xs false = refl
-tag_rises Xo true = refl
-tag_rises Xo false = refl
-tag_rises Xu true = refl
-tag_rises Xu false = refl
-tag_rises Xe true = refl
-tag_rises Xe false = refl
-tag_rises Xc true = refl
-tag_rises Xc false = refl
-tag_rises Xa true = refl
-tag_rises Xa false = refl
-tag_rises Xb true = refl
-tag_rises Xb false = refl
+abbrev pub is_built : Rule → Bool
+is_built rule = nat_le (rule_number rule) 36
 
-parts_rise : (tag : Option Tag) (texts : List (List ℕ)) → rises rule_rank (BadBytes ∷ BadTag ∷ FieldCount ∷ BadAction ∷ rules_for tag texts) ≡ true
-parts_rise None texts = refl
-parts_rise (Some tag) texts = tag_rises tag (is_deletion texts)
+abbrev are_in_order : List Rule → Bool
+are_in_order rules = rises rule_rank rules && list_all is_built rules
+
+tag_ordered : (tag : Tag) (deletes : Bool) → are_in_order (BadBytes ∷ BadTag ∷ FieldCount ∷ BadAction ∷ rules_of tag deletes) ≡ true
+tag_ordered Rd true = refl
+tag_ordered Rd false = refl
+tag_ordered Xm true = refl
+tag_ordered Xm false = refl
+tag_ordered Xp true = refl
+tag_ordered Xp false = refl
+tag_ordered Xs true = refl
+tag_ordered Xs false = refl
+tag_ordered Xo true = refl
+tag_ordered Xo false = refl
+tag_ordered Xu true = refl
+tag_ordered Xu false = refl
+tag_ordered Xe true = refl
+tag_ordered Xe false = refl
+tag_ordered Xc true = refl
+tag_ordered Xc false = refl
+tag_ordered Xa true = refl
+tag_ordered Xa false = refl
+tag_ordered Xb true = refl
+tag_ordered Xb false = refl
+
+parts_ordered : (tag : Option Tag) (texts : List (List ℕ)) → are_in_order (BadBytes ∷ BadTag ∷ FieldCount ∷ BadAction ∷ rules_for tag texts) ≡ true
+parts_ordered None texts = refl
+parts_ordered (Some tag) texts = tag_ordered tag (is_deletion texts)
+
+office_ordered : (value : LineValue) → are_in_order (office_rules value) ≡ true
+office_ordered (OfRd (PutSample true monitor duration hour content)) = refl
+office_ordered (OfRd (PutSample false monitor duration hour content)) = refl
+office_ordered (OfRd (DeleteSample monitor hour)) = refl
+office_ordered (OfOffice (Put (Monitor id duration eligible))) = refl
+office_ordered (OfOffice (Put (Primary site pollutant from poc))) = refl
+office_ordered (OfOffice (Put (Schedule site pollutant from interval anchor))) = refl
+office_ordered (OfOffice (Put (Season site year first last))) = refl
+office_ordered (OfOffice (Put (Makeup site missed makeup))) = refl
+office_ordered (OfOffice (Put (Event number site pollutant first last code))) = refl
+office_ordered (OfOffice (Put r)) = refl
+office_ordered (OfOffice (Change (Monitor id duration eligible))) = refl
+office_ordered (OfOffice (Change (Concurrence number agreed))) = refl
+office_ordered (OfOffice (Change r)) = refl
+office_ordered (OfOffice (Drop (MonitorKey id))) = refl
+office_ordered (OfOffice (Drop (EventKey number))) = refl
+office_ordered (OfOffice (Drop key)) = refl
 
 pub reading_rules-rise : (line : List ℕ) → rises rule_rank (reading_rules line) ≡ true
-reading_rules-rise line = parts_rise (tag_of line) (fields line)
+reading_rules-rise line =
+    (and_parts (rises rule_rank (reading_rules line)) (list_all is_built (reading_rules line)) (parts_ordered (tag_of line) (fields line))).0
+
+pub reading_rules-built : (line : List ℕ) → list_all is_built (reading_rules line) ≡ true
+reading_rules-built line =
+    (and_parts (rises rule_rank (reading_rules line)) (list_all is_built (reading_rules line)) (parts_ordered (tag_of line) (fields line))).1
 
 pub office_rules-rise : (value : LineValue) → rises rule_rank (office_rules value) ≡ true
-office_rules-rise (OfRd (PutSample true monitor duration hour content)) = refl
-office_rules-rise (OfRd (PutSample false monitor duration hour content)) = refl
-office_rules-rise (OfRd (DeleteSample monitor hour)) = refl
-office_rules-rise (OfOffice (Put (Monitor id duration eligible))) = refl
-office_rules-rise (OfOffice (Put (Primary site pollutant from poc))) = refl
-office_rules-rise (OfOffice (Put (Schedule site pollutant from interval anchor))) = refl
-office_rules-rise (OfOffice (Put (Season site year first last))) = refl
-office_rules-rise (OfOffice (Put (Makeup site missed makeup))) = refl
-office_rules-rise (OfOffice (Put (Event number site pollutant first last code))) = refl
-office_rules-rise (OfOffice (Put r)) = refl
-office_rules-rise (OfOffice (Change (Monitor id duration eligible))) = refl
-office_rules-rise (OfOffice (Change (Concurrence number agreed))) = refl
-office_rules-rise (OfOffice (Change r)) = refl
-office_rules-rise (OfOffice (Drop (MonitorKey id))) = refl
-office_rules-rise (OfOffice (Drop (EventKey number))) = refl
-office_rules-rise (OfOffice (Drop key)) = refl
+office_rules-rise value = (and_parts (rises rule_rank (office_rules value)) (list_all is_built (office_rules value)) (office_ordered value)).0
+
+pub office_rules-built : (value : LineValue) → list_all is_built (office_rules value) ≡ true
+office_rules-built value = (and_parts (rises rule_rank (office_rules value)) (list_all is_built (office_rules value)) (office_ordered value)).1

@@ -1,5 +1,5 @@
 -- A pair of which the joined site has no data, and to which it is joined only after the year, is the site.
-use Rattle.std.proofs.Common.{◌≡◌, ℕ, zero, suc, ◌+◌, ◌-◌, ◌<◌, ◌≤◌, Bool, true, false, cond, ◌&&◌, ◌||◌, List, [], ◌∷◌, map, refl, sym, ap, subst, ◌∙◌, arith}
+use Rattle.std.proofs.Common.{◌≡◌, ℕ, ◌+◌, ◌-◌, ◌<◌, ◌≤◌, Bool, true, false, cond, ◌&&◌, ◌||◌, List, [], ◌∷◌, map, refl, sym, ap, subst, ◌∙◌, arith}
 use Rattle.std.proofs.lemmas.Bool.{lt-ltb}
 use Rattle.std.proofs.lemmas.List.Sums.{sum_by-cons}
 use Rattle.std.specs.List.{filter_map, range_with_len}
@@ -14,6 +14,7 @@ use Rattle.aq_rules.specs.Ozone.OzoneDay.{day_of_windows, ozone_day, starts_of, 
 use Rattle.aq_rules.specs.Ozone.OzoneYear.{days_of, is_season_day, counts_as_valid, ozone_days, ozone_year}
 use Rattle.aq_rules.specs.Combined.Pair.{Pair, pair_hour, pair_ozone_day, pair_ozone_year, pair_windows_on, is_pair_approved}
 use Rattle.aq_rules.proofs.Days.{years_next}
+use Rattle.aq_rules.proofs.Ranges.{range-agree}
 
 map-agree : {X Y : Type 0} (f g : X → Y) → ((x : X) → f x ≡ g x) → (xs : List X) → map f xs ≡ map g xs
 map-agree f g same [] = refl
@@ -31,16 +32,8 @@ filter_map-agree f g same (x ∷ xs) =
 
 count-range : (f g : ℕ → Bool) (a n : ℕ) → ((k : ℕ) → a ≤ k → k < a + n → f k ≡ g k)
     → count_by f (range_with_len a n) ≡ count_by g (range_with_len a n)
-count-range f g a zero same = refl
-count-range f g a (suc n) same =
-    let rest : count_by f (range_with_len (a + 1) n) ≡ count_by g (range_with_len (a + 1) n) =
-    count-range f g (a + 1) n (λ k low high. same k (omega arith) (omega arith))
-    in
-    let here : f a ≡ g a = same a (omega arith) (omega arith) in
-    let one : (h : ℕ → Bool) → count_by h (range_with_len a (suc n)) ≡ cond (h a) 1 0 + count_by h (range_with_len (a + 1) n) =
-    λ h. sum_by-cons (λ k. cond (h k) 1 0) a (range_with_len (a + 1) n)
-    in
-    one f ∙ (λ i. cond (here i) 1 0 + rest i) ∙ sym (one g)
+count-range f g a n same =
+    range-agree (λ (h : ℕ → Bool) ks. count_by h ks) (λ b k rest. cond b 1 0 + rest) (λ h k ks. sum_by-cons (λ x. cond (h x) 1 0) k ks) (λ f g. refl) f g a n same
 
 pub either : {X : Type 0} (b : Bool) (own joined : Option X) → joined ≡ None → cond b own (option_or joined own) ≡ own
 either true own joined none = refl

@@ -1,5 +1,5 @@
 -- The same of PM2.5: the quarters and years of a pair of which the joined site has no days, and to which it is joined only after the year, are those of the site.
-use Rattle.std.proofs.Common.{◌≡◌, ℕ, zero, suc, ◌+◌, ◌-◌, ◌*◌, ◌%◌, ◌<◌, ◌≤◌, Bool, true, false, cond, not, ◌&&◌, ◌||◌, List, [], ◌∷◌, ◌++◌, refl, sym, ap, ◌∙◌, arith}
+use Rattle.std.proofs.Common.{◌≡◌, ℕ, ◌+◌, ◌-◌, ◌*◌, ◌%◌, ◌<◌, ◌≤◌, Bool, true, false, cond, not, ◌&&◌, ◌||◌, List, [], ◌∷◌, ◌++◌, refl, sym, ap, ◌∙◌, arith}
 use Rattle.std.proofs.lemmas.Bool.{lt-ltb, leb-true}
 use Rattle.std.proofs.lemmas.List.{append-nil}
 use Rattle.std.proofs.lemmas.List.Sums.{sum_by-cons}
@@ -17,6 +17,7 @@ use Rattle.aq_rules.specs.Combined.Pair.{Pair, pair_day, is_pair_scheduled, is_p
 use Rattle.aq_rules.proofs.Days.{twelve_months}
 use Rattle.aq_rules.proofs.Elements.{Every}
 use Rattle.aq_rules.proofs.KeyOrder.{months_in_order}
+use Rattle.aq_rules.proofs.Ranges.{range-agree}
 use Rattle.aq_rules.proofs.PairAlone.{either, filter_map-agree, year_end}
 use Rattle.aq_rules.proofs.Pm25Counts.{InQuarter, makeups-in_quarter}
 use Rattle.aq_rules.proofs.Quarters.{first-is, days-are, three_months, quarter-holds}
@@ -31,22 +32,10 @@ count-agree f g same (x ∷ xs) =
     sum_by-cons (λ y. cond (f y) 1 0) x xs ∙ (λ i. cond (here i) 1 0 + rest i) ∙ sym (sum_by-cons (λ y. cond (g y) 1 0) x xs)
 
 filter-range : (f g : ℕ → Bool) (a n : ℕ) → ((k : ℕ) → a ≤ k → k < a + n → f k ≡ g k) → filter f (range_with_len a n) ≡ filter g (range_with_len a n)
-filter-range f g a zero same = refl
-filter-range f g a (suc n) same =
-    let rest : filter f (range_with_len (a + 1) n) ≡ filter g (range_with_len (a + 1) n) =
-    filter-range f g (a + 1) n (λ k low high. same k (omega arith) (omega arith))
-    in
-    let here : f a ≡ g a = same a (omega arith) (omega arith) in
-    λ i. cond (here i) (a ∷ rest i) (rest i)
+filter-range f g a n same = range-agree (λ (h : ℕ → Bool) ks. filter h ks) (λ b k rest. cond b (k ∷ rest) rest) (λ h k ks. refl) (λ f g. refl) f g a n same
 
 any-range : (f g : ℕ → Bool) (a n : ℕ) → ((k : ℕ) → a ≤ k → k < a + n → f k ≡ g k) → list_any f (range_with_len a n) ≡ list_any g (range_with_len a n)
-any-range f g a zero same = refl
-any-range f g a (suc n) same =
-    let rest : list_any f (range_with_len (a + 1) n) ≡ list_any g (range_with_len (a + 1) n) =
-    any-range f g (a + 1) n (λ k low high. same k (omega arith) (omega arith))
-    in
-    let here : f a ≡ g a = same a (omega arith) (omega arith) in
-    λ i. here i || rest i
+any-range f g a n same = range-agree (λ (h : ℕ → Bool) ks. list_any h ks) (λ b k rest. b || rest) (λ h k ks. refl) (λ f g. refl) f g a n same
 
 -- what all pass takes nothing away, and what none passes leaves nothing
 filter-both : {X : Type 0} (P : X → Type 0) (all f g : X → Bool) → ((x : X) → P x → all x ≡ true) → ((x : X) → P x → f x ≡ g x)

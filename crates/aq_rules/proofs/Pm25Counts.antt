@@ -116,14 +116,7 @@ module _ (site : Site) (quarter : ℕ) where
       by_test true false e = tt
       by_test true true e =
           λ day. (bytes_eq-Decides (key_numbers (MakeupKey other missed)) (key_numbers (MakeupKey site d))).1 (λ i. key_numbers (MakeupKey (same_site other site e i) (day i)))
-  missed-key d (Monitor id duration eligible) = tt
-  missed-key d (Primary other pollutant from poc) = tt
-  missed-key d (Schedule other pollutant from interval anchor) = tt
-  missed-key d (Season other year first last) = tt
-  missed-key d (Event number other pollutant first last code) = tt
-  missed-key d (Concurrence number agreed) = tt
-  missed-key d (Approved other day) = tt
-  missed-key d (Combined other pollutant from joined) = tt
+  missed-key d r = tt
 
   makeup-key : (d : ℕ) (r : OfficeRecord) → IfMade (λ m. m.makeup ≡ d → makes_up_on site d r ≡ true) (makeup_by site quarter r)
   makeup-key d (MakeupRecord other missed makeup) = by_test (is_same_site other site) (quarter_of missed == quarter) refl
@@ -137,14 +130,7 @@ module _ (site : Site) (quarter : ℕ) where
           let numbers : is_same (site_numbers other) (site_numbers site) ≡ true = (bytes_eq-Decides (site_numbers other) (site_numbers site)).1 (ap site_numbers (same_site other site e)) in
           let there : (makeup == d) ≡ true = grind (arith, nat_tests) in
           rw numbers there
-  makeup-key d (Monitor id duration eligible) = tt
-  makeup-key d (Primary other pollutant from poc) = tt
-  makeup-key d (Schedule other pollutant from interval anchor) = tt
-  makeup-key d (Season other year first last) = tt
-  makeup-key d (Event number other pollutant first last code) = tt
-  makeup-key d (Concurrence number agreed) = tt
-  makeup-key d (Approved other day) = tt
-  makeup-key d (Combined other pollutant from joined) = tt
+  makeup-key d r = tt
 
   -- each make-up of a day comes from a record that passes the test
   module _ (day : Makeup → ℕ) (d : ℕ) (test : OfficeRecord → Bool)

@@ -1,6 +1,6 @@
 -- Lists over a range of numbers depend on nothing outside the range.
-use Rattle.std.proofs.Common.{◌≡◌, ℕ, zero, suc, ◌+◌, ◌*◌, ◌<◌, ◌≤◌, Bool, true, false, cond, ◌∷◌, map, refl, ap, arith}
-use Rattle.std.specs.List.{filter, filter_map, range_with_len}
+use Rattle.std.proofs.Common.{◌≡◌, ℕ, zero, suc, ◌+◌, ◌*◌, ◌<◌, ◌≤◌, Bool, true, false, cond, List, [], ◌∷◌, map, refl, sym, ap, ◌∙◌, arith}
+use Rattle.std.specs.List.{filter, filter_map, cons_option, range_with_len}
 use Rattle.std.specs.Prelude.{Option, nat_le}
 use Rattle.aq_base.specs.declared.day.TheConstants.{LAST_HOUR}
 use Rattle.aq_base.specs.Site.{Site}
@@ -9,26 +9,32 @@ use Rattle.aq_rules.specs.Ozone.SiteHour.{site_hour}
 use Rattle.aq_rules.specs.Ozone.EightHour.{window, row_of, eight_hours}
 use Rattle.aq_rules.specs.Ozone.OzoneDay.{windows, starts_of, ozone_day, day_of_windows}
 
+-- what is made of a list element by element is the same for two functions that agree on a range
+pub range-agree : {A B : Type 0} (made : (ℕ → A) → List ℕ → B) (step : A → ℕ → B → B)
+    → ((f : ℕ → A) (k : ℕ) (ks : List ℕ) → made f (k ∷ ks) ≡ step (f k) k (made f ks)) → ((f g : ℕ → A) → made f [] ≡ made g [])
+    → (f g : ℕ → A) (a n : ℕ) → ((k : ℕ) → a ≤ k → k < a + n → f k ≡ g k) → made f (range_with_len a n) ≡ made g (range_with_len a n)
+range-agree made step more none f g a zero same = none f g
+range-agree made step more none f g a (suc n) same =
+    let here : f a ≡ g a = same a (omega arith) (omega arith) in
+    let rest : made f (range_with_len (a + 1) n) ≡ made g (range_with_len (a + 1) n) =
+    range-agree made step more none f g (a + 1) n (λ k low high. same k (omega arith) (omega arith))
+    in
+    more f a (range_with_len (a + 1) n) ∙ (λ i. step (here i) a (rest i)) ∙ sym (more g a (range_with_len (a + 1) n))
+
 filter_map-range : {Y : Type 0} (f g : ℕ → Option Y) (p : ℕ → Bool) (a n : ℕ) → ((k : ℕ) → a ≤ k → k < a + n → f k ≡ g k)
     → filter_map f (filter p (range_with_len a n)) ≡ filter_map g (filter p (range_with_len a n))
-filter_map-range f g p a zero same = refl
-filter_map-range {Y} f g p a (suc n) same =
-    let rest : filter_map f (filter p (range_with_len (a + 1) n)) ≡ filter_map g (filter p (range_with_len (a + 1) n)) =
-    filter_map-range f g p (a + 1) n (λ k low high. same k (omega arith) (omega arith))
-    in
-    let here : f a ≡ g a = same a (omega arith) (omega arith) in
-    elim (p a) as (λ b. filter_map f (cond b (a ∷ filter p (range_with_len (a + 1) n)) (filter p (range_with_len (a + 1) n))) ≡ filter_map g (cond b (a ∷ filter p (range_with_len (a + 1) n)) (filter p (range_with_len (a + 1) n))))
-    [ true ↦ cc | false ↦ rest ]
+filter_map-range {Y} f g p a n same =
+    range-agree (λ (h : ℕ → Option Y) ks. filter_map h (filter p ks)) (λ o k rest. cond (p k) (cons_option o rest) rest)
+    (λ h k ks. passed h k ks (p k)) (λ f g. refl) f g a n same
+  where
+    passed : (h : ℕ → Option Y) (k : ℕ) (ks : List ℕ) (b : Bool)
+        → filter_map h (cond b (k ∷ filter p ks) (filter p ks)) ≡ cond b (cons_option (h k) (filter_map h (filter p ks))) (filter_map h (filter p ks))
+    passed h k ks true = refl
+    passed h k ks false = refl
 
 map-range : {Y : Type 0} (f g : ℕ → Y) (a n : ℕ) → ((k : ℕ) → a ≤ k → k < a + n → f k ≡ g k)
     → map f (range_with_len a n) ≡ map g (range_with_len a n)
-map-range f g a zero same = refl
-map-range f g a (suc n) same =
-    let rest : map f (range_with_len (a + 1) n) ≡ map g (range_with_len (a + 1) n) =
-    map-range f g (a + 1) n (λ k low high. same k (omega arith) (omega arith))
-    in
-    let here : f a ≡ g a = same a (omega arith) (omega arith) in
-    cc
+map-range {Y} f g a n same = range-agree (λ (h : ℕ → Y) ks. map h ks) (λ y k rest. y ∷ rest) (λ h k ks. refl) (λ f g. refl) f g a n same
 
 -- an average by its eight site hours
 pub window-same : (a b : Office) (site : Site) (start : ℕ)

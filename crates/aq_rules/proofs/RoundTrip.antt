@@ -30,6 +30,7 @@ use Rattle.aq_rules.specs.Lines.OfficeForms.{is_season, is_makeup, is_span, is_p
 use Rattle.aq_rules.specs.Lines.Reading.{OfOffice, line_value, form_value}
 use Rattle.aq_rules.specs.Lines.Canonical.{is_office_line, parameter_text, duration_text, date_text, time_text, truth_text, code_text, joined, office_texts, canonical_office}
 use Rattle.aq_rules.specs.Office.Office.{is_site, is_poc, is_day}
+use Rattle.aq_rules.proofs.Elements.{all-append}
 use Rattle.aq_rules.proofs.Digits.{digits_are}
 use Rattle.aq_rules.proofs.KeyOrder.{at_most_day}
 use Rattle.aq_rules.proofs.JoinedFields.{is_clean, is_clean_byte, fields-some, plain-some}
@@ -45,10 +46,7 @@ from_texts text texts clean =
 -- ---- clean texts
 
 pub clean-append : (xs ys : List ℕ) → is_clean xs ≡ true → is_clean ys ≡ true → is_clean (xs ++ ys) ≡ true
-clean-append [] ys p q = q
-clean-append (x ∷ xs) ys p q =
-    let parts = and_parts (is_clean_byte x) (is_clean xs) p in
-    and_from (is_clean_byte x) (is_clean (xs ++ ys)) parts.0 (clean-append xs ys parts.1 q)
+clean-append = all-append is_clean_byte
 
 clean_digit : (n : ℕ) → is_clean_byte (48 + n % 10) ≡ true
 clean_digit n = grind (arith, nat_tests)

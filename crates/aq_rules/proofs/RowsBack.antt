@@ -8,7 +8,7 @@ use Rattle.std.proofs.lemmas.Slice.Eq.{bytes_eq-Decides}
 use Rattle.std.proofs.lemmas.Bool.{and_from, and_parts, eqb-true, leb-true}
 use Rattle.aq_base.specs.Rule.{rule_number}
 use Rattle.aq_base.specs.declared.office.OfficeRecord.{OfficeRecord}
-use Rattle.aq_base.specs.declared.office.OfficeRecord.TheVariants.{Monitor, Primary, Schedule, Season, Makeup, Event, Concurrence, Approved, Combined}
+use Rattle.aq_base.specs.declared.office.OfficeRecord.TheVariants.{Monitor}
 use Rattle.aq_base.specs.declared.reply.ListedLine.{ListedLine}
 use Rattle.aq_base.specs.declared.reply.RestRule.{RestRule}
 use Rattle.aq_rules.specs.Limits.{MOST_LINES, MOST_LISTED}
@@ -29,25 +29,11 @@ bytes-itself text = (bytes_eq-Decides text text).1 refl
 
 line-of : (r : OfficeRecord) → is_record r ≡ true → is_office_line (record_line r) ≡ true
 line-of (Monitor id duration eligible) h = h
-line-of (Primary site pollutant from poc) h = h
-line-of (Schedule site pollutant from interval anchor) h = h
-line-of (Season site year first last) h = h
-line-of (Makeup site missed makeup) h = h
-line-of (Event number site pollutant first last code) h = h
-line-of (Concurrence number agreed) h = h
-line-of (Approved site day) h = h
-line-of (Combined site pollutant from joined) h = h
+line-of r h = h
 
 record-of_line : (r : OfficeRecord) → record_in (OfOffice (record_line r)) ≡ Some r
 record-of_line (Monitor id duration eligible) = refl
-record-of_line (Primary site pollutant from poc) = refl
-record-of_line (Schedule site pollutant from interval anchor) = refl
-record-of_line (Season site year first last) = refl
-record-of_line (Makeup site missed makeup) = refl
-record-of_line (Event number site pollutant first last code) = refl
-record-of_line (Concurrence number agreed) = refl
-record-of_line (Approved site day) = refl
-record-of_line (Combined site pollutant from joined) = refl
+record-of_line r = refl
 
 office_row-itself : (row : OfficeRow) → is_office_row row row ≡ true
 office_row-itself row =

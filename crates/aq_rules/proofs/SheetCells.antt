@@ -11,11 +11,11 @@ use Rattle.aq_base.specs.Rule.{rule_name}
 use Rattle.aq_base.specs.Site.{Site}
 use Rattle.aq_base.specs.Standard.{standard_name}
 use Rattle.aq_base.specs.declared.rule.Rule.{Rule}
-use Rattle.aq_base.specs.declared.rule.Rule.TheVariants.{BadBytes, BadTag, FieldCount, BadAction, BadSite, ParameterOutOfProfile, BadPoc, BadDuration, BadUnit, BadMethod, BadDate, BadTime, ValueAndNull, NeitherValueNorNull, BadValue, ValueOutOfRange, BadNull, BadQualifier, UnknownMonitor, WrongDuration, AlreadyThere, NotThere, ObservationsFull, SitesFull, MonitorsFull, BadSpan, BadInterval, BadSeason, BadMakeup, MakeupsFull, UnknownEvent, EventsFull, BadCode, ListFull, BadPair, PairTaken}
+use Rattle.aq_base.specs.declared.rule.Rule.TheVariants.{BadBytes}
 use Rattle.aq_base.specs.declared.standard.Standard.{Standard}
-use Rattle.aq_base.specs.declared.standard.Standard.TheVariants.{Ozone2015, Annual2012, AnnualSecondary, Annual2024, Daily2006, Pm10Of1987}
+use Rattle.aq_base.specs.declared.standard.Standard.TheVariants.{Ozone2015}
 use Rattle.aq_base.specs.declared.standard.Verdict.{Verdict}
-use Rattle.aq_base.specs.declared.standard.Verdict.TheVariants.{Met, NotMet, Incomplete, NoValue}
+use Rattle.aq_base.specs.declared.standard.Verdict.TheVariants.{Met}
 use Rattle.aq_rules.specs.Shown.Sheet.{SheetCell, Head, site_text, day_text, hour_text, truth_text, count_cell, fixed_cell, whole_cell, ppm_cell}
 use Rattle.aq_rules.specs.Shown.Sheet.SheetCell.{Fixed}
 use Rattle.aq_rules.specs.Shown.Sheets.{verdict_name}
@@ -66,55 +66,15 @@ truth-word false = refl
 
 pub verdict-word : (v : Verdict) → is_word (verdict_name v) ≡ true
 verdict-word Met = refl
-verdict-word NotMet = refl
-verdict-word Incomplete = refl
-verdict-word NoValue = refl
+verdict-word verdict = refl
 
 pub standard-word : (s : Standard) → is_word (standard_name s) ≡ true
 standard-word Ozone2015 = refl
-standard-word Annual2012 = refl
-standard-word AnnualSecondary = refl
-standard-word Annual2024 = refl
-standard-word Daily2006 = refl
-standard-word Pm10Of1987 = refl
+standard-word standard = refl
 
 pub rule-word : (r : Rule) → is_word (rule_name r) ≡ true
 rule-word BadBytes = refl
-rule-word BadTag = refl
-rule-word FieldCount = refl
-rule-word BadAction = refl
-rule-word BadSite = refl
-rule-word ParameterOutOfProfile = refl
-rule-word BadPoc = refl
-rule-word BadDuration = refl
-rule-word BadUnit = refl
-rule-word BadMethod = refl
-rule-word BadDate = refl
-rule-word BadTime = refl
-rule-word ValueAndNull = refl
-rule-word NeitherValueNorNull = refl
-rule-word BadValue = refl
-rule-word ValueOutOfRange = refl
-rule-word BadNull = refl
-rule-word BadQualifier = refl
-rule-word UnknownMonitor = refl
-rule-word WrongDuration = refl
-rule-word AlreadyThere = refl
-rule-word NotThere = refl
-rule-word ObservationsFull = refl
-rule-word SitesFull = refl
-rule-word MonitorsFull = refl
-rule-word BadSpan = refl
-rule-word BadInterval = refl
-rule-word BadSeason = refl
-rule-word BadMakeup = refl
-rule-word MakeupsFull = refl
-rule-word UnknownEvent = refl
-rule-word EventsFull = refl
-rule-word BadCode = refl
-rule-word ListFull = refl
-rule-word BadPair = refl
-rule-word PairTaken = refl
+rule-word rule = refl
 
 hex-byte : (n : ℕ) → n < 16 → is_word_byte (hex_digit n) ≡ true
 hex-byte n few = by_test (nat_lt n 10) refl

@@ -3,7 +3,7 @@ use Rattle.std.proofs.Common.{◌≡◌, ℕ, Bool, true, false, cond, not, List
 use Rattle.std.specs.Prelude.{Option, Some, None, is_some, filter}
 use Rattle.std.proofs.lemmas.Bool.{and_parts}
 use Rattle.aq_base.specs.declared.office.OfficeRecord.{OfficeRecord}
-use Rattle.aq_base.specs.declared.office.OfficeRecord.TheVariants.{Monitor, Primary, Schedule, Season, Makeup, Event, Concurrence, Approved, Combined}
+use Rattle.aq_base.specs.declared.office.OfficeRecord.TheVariants.{Monitor, Concurrence}
 use Rattle.aq_base.specs.declared.office.OfficeKey.{OfficeKey}
 use Rattle.aq_base.specs.declared.office.OfficeKey.TheVariants.{Event as EventKey, Concurrence as ConcurrenceKey}
 use Rattle.aq_base.specs.declared.office.OfficeLine.TheVariants.{Put, Change, Drop}
@@ -71,14 +71,7 @@ spelled-with r office is all = record {
 
 put-record : (r : OfficeRecord) → is_office_line (Put r) ≡ true → is_record r ≡ true
 put-record (Concurrence number agreed) h = cc
-put-record (Monitor id duration eligible) h = h
-put-record (Primary site pollutant from poc) h = h
-put-record (Schedule site pollutant from interval anchor) h = h
-put-record (Season site year first last) h = h
-put-record (Makeup site missed makeup) h = h
-put-record (Event number site pollutant first last code) h = h
-put-record (Approved site day) h = h
-put-record (Combined site pollutant from joined) h = h
+put-record r h = h
 
 changed-record : (r : OfficeRecord) → is_office_line (Change r) ≡ true → is_record r ≡ true
 changed-record (Monitor id duration eligible) h = h

@@ -13,7 +13,7 @@ use Rattle.aq_base.specs.declared.monitor.MonitorId.{MonitorId}
 use Rattle.aq_base.specs.declared.monitor.Pollutant.{Pollutant}
 use Rattle.aq_base.specs.declared.observation.ObsKey.{ObsKey}
 use Rattle.aq_base.specs.declared.office.OfficeRecord.{OfficeRecord}
-use Rattle.aq_base.specs.declared.office.OfficeRecord.TheVariants.{Monitor, Primary, Schedule, Season, Makeup, Event, Concurrence, Approved, Combined}
+use Rattle.aq_base.specs.declared.office.OfficeRecord.TheVariants.{Monitor, Event, Concurrence}
 use Rattle.aq_base.specs.declared.office.OfficeKey.{OfficeKey}
 use Rattle.aq_base.specs.declared.office.OfficeKey.TheVariants as keys
 use Rattle.aq_rules.specs.Office.Office.{record_rank, rises}
@@ -115,14 +115,7 @@ module _ (cell : CellName) (before old new : List OfficeRecord) (site : Site) (p
           (concurrence-read number first last code (is_new_in before (keys.Concurrence other)) stands low high)
           in
           (is, sym (same (keys.Concurrence other) read) ∙ at)
-      onto (Monitor id duration eligible) is at = absurd (false≢true is)
-      onto (Primary s p from poc) is at = absurd (false≢true is)
-      onto (Schedule s p from interval anchor) is at = absurd (false≢true is)
-      onto (Season s year first last) is at = absurd (false≢true is)
-      onto (Makeup s missed makeup) is at = absurd (false≢true is)
-      onto (Event n s p f l c) is at = absurd (false≢true is)
-      onto (Approved s day) is at = absurd (false≢true is)
-      onto (Combined s p from joined) is at = absurd (false≢true is)
+      onto r is at = absurd (false≢true is)
 
   pub excluded-onto : (key : ObsKey) (codes : List Code) → is_at site pollutant hour key ≡ true → excluded old key codes ≡ true → excluded new key codes ≡ true
   unfolding excluded
@@ -146,14 +139,7 @@ module _ (cell : CellName) (before old new : List OfficeRecord) (site : Site) (p
             and_from _ _ parts.0 (agreed-onto number first last code stands low high parts.1),
             sym (same (keys.Event number) (event-read number first last code (is_new_in before (keys.Event number)) stands low high)) ∙ at,
           )
-      onto (Monitor id duration eligible) is at = absurd (false≢true is)
-      onto (Primary s p from poc) is at = absurd (false≢true is)
-      onto (Schedule s p from interval anchor) is at = absurd (false≢true is)
-      onto (Season s year first last) is at = absurd (false≢true is)
-      onto (Makeup s missed makeup) is at = absurd (false≢true is)
-      onto (Concurrence n agreed) is at = absurd (false≢true is)
-      onto (Approved s day) is at = absurd (false≢true is)
-      onto (Combined s p from joined) is at = absurd (false≢true is)
+      onto r is at = absurd (false≢true is)
 
   -- ---- monitors that stood before
 
@@ -177,14 +163,7 @@ module _ (cell : CellName) (before old new : List OfficeRecord) (site : Site) (p
       onto (Monitor other duration eligible) is at =
           let e : other ≡ id = same_monitor other id (and_parts (is_same_monitor other id) eligible is).0 in
           (is, subst (λ (m : MonitorId). record_of new (keys.Monitor m) ≡ record_of old (keys.Monitor m)) (sym e) (sym (monitor-same profile id at_site of_pollutant known)) ∙ at)
-      onto (Primary s p from poc) is at = absurd (false≢true is)
-      onto (Schedule s p from interval anchor) is at = absurd (false≢true is)
-      onto (Season s year first last) is at = absurd (false≢true is)
-      onto (Makeup s missed makeup) is at = absurd (false≢true is)
-      onto (Event n s p f l c) is at = absurd (false≢true is)
-      onto (Concurrence n agreed) is at = absurd (false≢true is)
-      onto (Approved s day) is at = absurd (false≢true is)
-      onto (Combined s p from joined) is at = absurd (false≢true is)
+      onto r is at = absurd (false≢true is)
 
 -- ---- both ways
 

@@ -12,7 +12,7 @@ use Rattle.aq_base.specs.Calendar.{day_of_hour, hour_number}
 use Rattle.aq_base.specs.declared.day.TheConstants.{LAST_HOUR}
 use Rattle.aq_base.specs.declared.monitor.Pollutant.{Pollutant}
 use Rattle.aq_base.specs.declared.office.OfficeRecord.{OfficeRecord}
-use Rattle.aq_base.specs.declared.office.OfficeRecord.TheVariants.{Monitor, Primary, Schedule, Season, Makeup, Event, Concurrence, Approved, Combined}
+use Rattle.aq_base.specs.declared.office.OfficeRecord.TheVariants.{Primary}
 use Rattle.aq_base.specs.declared.office.OfficeKey.TheVariants as keys
 use Rattle.aq_rules.specs.Lists.{latest}
 use Rattle.aq_rules.specs.Office.Office.{record_rank, row_at, rises, is_same}
@@ -47,14 +47,7 @@ designation-of site pollutant day (Primary s p from poc) d gives = by (is_same_s
           begun = (let t = ends.1 in grind (arith, nat_tests));
         })
     by false is gives = absurd (none-some d gives)
-designation-of site pollutant day (Monitor id duration eligible) d gives = absurd (none-some d gives)
-designation-of site pollutant day (Schedule s p from interval anchor) d gives = absurd (none-some d gives)
-designation-of site pollutant day (Season s year first last) d gives = absurd (none-some d gives)
-designation-of site pollutant day (Makeup s missed makeup) d gives = absurd (none-some d gives)
-designation-of site pollutant day (Event number s p first last code) d gives = absurd (none-some d gives)
-designation-of site pollutant day (Concurrence number agreed) d gives = absurd (none-some d gives)
-designation-of site pollutant day (Approved s other) d gives = absurd (none-some d gives)
-designation-of site pollutant day (Combined s p from joined) d gives = absurd (none-some d gives)
+designation-of site pollutant day r d gives = absurd (none-some d gives)
 
 designation-by : (site : Site) (pollutant : Pollutant) (day from poc : ℕ) → from ≤ day → designation_by site pollutant day (Primary site pollutant from poc) ≡ Some (record { from = from; poc = poc })
 designation-by site pollutant day from poc begun =
@@ -82,14 +75,7 @@ later-of site pollutant day (Primary s p from poc) n gives = by (is_same_site s 
           later = (let t = ends.1 in grind (arith, nat_tests));
         })
     by false is gives = absurd (none-some n gives)
-later-of site pollutant day (Monitor id duration eligible) n gives = absurd (none-some n gives)
-later-of site pollutant day (Schedule s p from interval anchor) n gives = absurd (none-some n gives)
-later-of site pollutant day (Season s year first last) n gives = absurd (none-some n gives)
-later-of site pollutant day (Makeup s missed makeup) n gives = absurd (none-some n gives)
-later-of site pollutant day (Event number s p first last code) n gives = absurd (none-some n gives)
-later-of site pollutant day (Concurrence number agreed) n gives = absurd (none-some n gives)
-later-of site pollutant day (Approved s other) n gives = absurd (none-some n gives)
-later-of site pollutant day (Combined s p from joined) n gives = absurd (none-some n gives)
+later-of site pollutant day r n gives = absurd (none-some n gives)
 
 -- ---- the last designation that has begun
 

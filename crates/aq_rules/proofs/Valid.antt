@@ -11,7 +11,6 @@ use Rattle.aq_base.specs.Decimal.{are_digits}
 use Rattle.aq_base.specs.Site.{Site}
 use Rattle.aq_base.specs.declared.day.TheConstants.{FIRST_YEAR, LAST_YEAR, LAST_DAY, LAST_HOUR}
 use Rattle.aq_base.specs.declared.monitor.Pollutant.{Pollutant}
-use Rattle.aq_base.specs.declared.monitor.Pollutant.TheVariants.{Ozone, Pm25, Pm10}
 use Rattle.aq_base.specs.declared.monitor.Duration.TheVariants.{Hour, Day}
 use Rattle.aq_rules.specs.Lines.Spellings.{◌>>=◌, Tag, digits_in, site_in, poc_in, primary_in, parameter_in, parameter_of, has_parameter, duration_in, has_duration, date_in, year_in, time_in, interval_in, is_interval, event_number_in, is_event_number, event_code_in, is_event_code, null_in}
 use Rattle.aq_rules.specs.Lines.OfficeForms.{hour_in}
@@ -145,25 +144,15 @@ hour_valid date time =
     let day = leb-true d LAST_DAY p in
     at_most (hour_number d h) LAST_HOUR (omega arith)
 
-pub duration_valid : (p : Pollutant) (text : List ℕ) → IfSome (duration_in p text) (λ d. has_duration p d ≡ true)
-duration_valid Ozone text = choice (bytes_eq text (codes "1")) (bytes_eq text (codes "7")) refl
+pub duration_valid : (pollutant : Pollutant) (text : List ℕ) → IfSome (duration_in pollutant text) (λ d. has_duration pollutant d ≡ true)
+duration_valid pollutant text = choice (has_duration pollutant Day) (bytes_eq text (codes "1")) (bytes_eq text (codes "7")) refl
   where
-    choice : (a b : Bool) → has_duration Ozone Hour ≡ true → IfSome (if a then Some Hour else (if b && false then Some Day else None)) (λ d. has_duration Ozone d ≡ true)
-    choice true b h = h
-    choice false true h = tt
-    choice false false h = tt
-duration_valid Pm25 text = choice (bytes_eq text (codes "1")) (bytes_eq text (codes "7")) refl
-  where
-    choice : (a b : Bool) → has_duration Pm25 Hour ≡ true → IfSome (if a then Some Hour else (if b && true then Some Day else None)) (λ d. has_duration Pm25 d ≡ true)
-    choice true b h = h
-    choice false true h = refl
-    choice false false h = tt
-duration_valid Pm10 text = choice (bytes_eq text (codes "1")) (bytes_eq text (codes "7")) refl
-  where
-    choice : (a b : Bool) → has_duration Pm10 Hour ≡ true → IfSome (if a then Some Hour else (if b && true then Some Day else None)) (λ d. has_duration Pm10 d ≡ true)
-    choice true b h = h
-    choice false true h = refl
-    choice false false h = tt
+    choice : (days a b : Bool) → has_duration pollutant Day ≡ days
+        → IfSome (if a then Some Hour else (if b && days then Some Day else None)) (λ d. has_duration pollutant d ≡ true)
+    choice days true b is = refl
+    choice true false true is = is
+    choice false false true is = tt
+    choice days false false is = tt
 
 pub primary_valid : (text : List ℕ) → IfSome (primary_in text) (λ p. nat_le p 99 ≡ true)
 primary_valid text = choice (bytes_eq text (codes "0")) (poc_in text) (poc_valid text)

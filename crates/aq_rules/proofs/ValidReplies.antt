@@ -9,22 +9,17 @@ use Rattle.std.proofs.lemmas.Bool.Decides.{nat_tests}
 use Rattle.std.proofs.lemmas.List.{length-take, length-take-le, length-drop}
 use Rattle.std.proofs.lemmas.List.Sums.{sum_by-cons, length-filter, count_by-le-length}
 use Rattle.aq_base.specs.Rule.{rule_number, all_rules}
-use Rattle.aq_base.specs.declared.office.OfficeKey.TheVariants.{Monitor as MonitorKey, Event as EventKey}
-use Rattle.aq_base.specs.declared.office.OfficeRecord.TheVariants.{Monitor, Primary, Schedule, Season, Makeup, Event, Concurrence}
-use Rattle.aq_base.specs.declared.office.OfficeLine.TheVariants.{Put, Change, Drop}
 use Rattle.aq_base.specs.declared.reply.ListedLine.{ListedLine}
 use Rattle.aq_base.specs.declared.reply.RestRule.{RestRule}
 use Rattle.aq_base.specs.declared.rule.Rule.{Rule}
-use Rattle.aq_base.specs.declared.rule.Rule.TheVariants.{BadBytes, BadTag, FieldCount, BadAction}
+use Rattle.aq_base.specs.declared.rule.Rule.TheVariants.{BadBytes}
 use Rattle.aq_rules.specs.Limits.{MOST_LINES, MOST_LISTED}
 use Rattle.aq_rules.specs.Lines.Lines.{NumberedLine, numbered, texts, line_count, is_skipped, body_lines}
-use Rattle.aq_rules.specs.Lines.Fields.{fields}
-use Rattle.aq_rules.specs.Lines.Spellings.{Tag, Rd, Xm, Xp, Xs, Xo, Xu, Xe, Xc, Xa, Xb}
-use Rattle.aq_rules.specs.Lines.RdForm.{Put as PutSample, Delete as DeleteSample}
-use Rattle.aq_rules.specs.Lines.Reading.{LineValue, OfRd, OfOffice, breaks, rules_of, rules_for, reading_rules, reading_rule, line_value, tag_of, is_deletion}
+use Rattle.aq_rules.specs.Lines.Reading.{LineValue, breaks, reading_rules, reading_rule, line_value}
 use Rattle.aq_rules.specs.Office.Office.{Office, rises, rises_from, is_rest, is_reply}
 use Rattle.aq_rules.specs.Office.Refusal.{breaks_office, office_rules}
 use Rattle.aq_rules.specs.Office.Load.{broken_by, refusal, after, listed_for, refusals, refused_under, rest_for, rest_of, reply_for, reply}
+use Rattle.aq_rules.proofs.Least.{is_built, reading_rules-built, office_rules-built}
 use Rattle.aq_rules.proofs.RowsPlaced.{count-cons}
 
 -- ---- numbers that rise
@@ -130,57 +125,10 @@ module _ {X : Type 0} where
 
 -- ---- rules have numbers of at most 36
 
-abbrev is_built : Rule → Bool
-is_built rule = nat_le (rule_number rule) 36
-
-tag_built : (tag : Tag) (deletes : Bool) → list_all is_built (BadBytes ∷ BadTag ∷ FieldCount ∷ BadAction ∷ rules_of tag deletes) ≡ true
-tag_built Rd true = refl
-tag_built Rd false = refl
-tag_built Xm true = refl
-tag_built Xm false = refl
-tag_built Xp true = refl
-tag_built Xp false = refl
-tag_built Xs true = refl
-tag_built Xs false = refl
-tag_built Xo true = refl
-tag_built Xo false = refl
-tag_built Xu true = refl
-tag_built Xu false = refl
-tag_built Xe true = refl
-tag_built Xe false = refl
-tag_built Xc true = refl
-tag_built Xc false = refl
-tag_built Xa true = refl
-tag_built Xa false = refl
-tag_built Xb true = refl
-tag_built Xb false = refl
-
-reading_built : (tag : Option Tag) (texts : List (List ℕ)) → list_all is_built (BadBytes ∷ BadTag ∷ FieldCount ∷ BadAction ∷ rules_for tag texts) ≡ true
-reading_built None texts = refl
-reading_built (Some tag) texts = tag_built tag (is_deletion texts)
-
-office_built : (value : LineValue) → list_all is_built (office_rules value) ≡ true
-office_built (OfRd (PutSample true monitor duration hour content)) = refl
-office_built (OfRd (PutSample false monitor duration hour content)) = refl
-office_built (OfRd (DeleteSample monitor hour)) = refl
-office_built (OfOffice (Put (Monitor id duration eligible))) = refl
-office_built (OfOffice (Put (Primary site pollutant from poc))) = refl
-office_built (OfOffice (Put (Schedule site pollutant from interval anchor))) = refl
-office_built (OfOffice (Put (Season site year first last))) = refl
-office_built (OfOffice (Put (Makeup site missed makeup))) = refl
-office_built (OfOffice (Put (Event number site pollutant first last code))) = refl
-office_built (OfOffice (Put r)) = refl
-office_built (OfOffice (Change (Monitor id duration eligible))) = refl
-office_built (OfOffice (Change (Concurrence number agreed))) = refl
-office_built (OfOffice (Change r)) = refl
-office_built (OfOffice (Drop (MonitorKey id))) = refl
-office_built (OfOffice (Drop (EventKey number))) = refl
-office_built (OfOffice (Drop key)) = refl
-
 broken_by-built : (office : Office) (value : Option LineValue) (rule : Rule) → broken_by office value ≡ Some rule → is_built rule ≡ true
 broken_by-built office None rule is = cc
 broken_by-built office (Some value) rule is =
-    found_passes (λ other. breaks_office other office value) is_built (office_rules value) rule (office_built value) is
+    found_passes (λ other. breaks_office other office value) is_built (office_rules value) rule (office_rules-built value) is
 
 refusal-built : (office : Office) (line : List ℕ) (rule : Rule) → refusal office line ≡ Some rule → is_built rule ≡ true
 refusal-built office line rule is = choose (reading_rule line) refl is
@@ -188,7 +136,7 @@ refusal-built office line rule is = choose (reading_rule line) refl is
     choose : (o : Option Rule) → reading_rule line ≡ o → option_or o (broken_by office (line_value line)) ≡ Some rule → is_built rule ≡ true
     choose None read is = broken_by-built office (line_value line) rule is
     choose (Some other) read is =
-        found_passes (λ rule. breaks rule line) is_built (reading_rules line) rule (reading_built (tag_of line) (fields line)) (read ∙ is)
+        found_passes (λ rule. breaks rule line) is_built (reading_rules line) rule (reading_rules-built line) (read ∙ is)
 
 -- ---- the refused lines
 

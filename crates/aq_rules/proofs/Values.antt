@@ -8,11 +8,12 @@ use Rattle.std.proofs.lemmas.Fmt.{decimal_is_IsNumeral}
 use Rattle.std.proofs.Math.Seq.{take-append_seam}
 use Rattle.std.proofs.Math.Nat.{mul-div_cancel}
 use Rattle.std.proofs.lemmas.Bool.Decides.{nat_tests}
-use Rattle.std.proofs.lemmas.Bool.{and_from, and_parts}
+use Rattle.std.proofs.lemmas.Bool.{and_from}
 use Rattle.aq_base.specs.Decimal.{last_digits, are_digits, is_point, is_minus, cut, fixed, unsigned_part, whole_part, fraction_part, is_decimal, cut_magnitude}
 use Rattle.aq_base.specs.declared.monitor.Pollutant.{Pollutant}
 use Rattle.aq_base.specs.declared.monitor.Pollutant.TheVariants.{Ozone, Pm25, Pm10}
 use Rattle.aq_rules.specs.Lines.Spellings.{value_in, is_in_range}
+use Rattle.aq_rules.proofs.Elements.{all-append}
 use Rattle.aq_rules.proofs.Digits.{digits_are}
 use Rattle.aq_rules.proofs.JoinedFields.{is_clean}
 use Rattle.aq_rules.proofs.RoundTrip.{clean-append, clean-decimal, clean-digits}
@@ -108,10 +109,7 @@ not_minus [] rest h l = absurd (omega arith)
 not_minus (d ∷ ds) rest h l = no_minus d h.0
 
 digits-append : (xs ys : List ℕ) → are_digits xs ≡ true → are_digits ys ≡ true → are_digits (xs ++ ys) ≡ true
-digits-append [] ys p q = q
-digits-append (x ∷ xs) ys p q =
-    let parts = and_parts (is_ascii_digit x) (are_digits xs) p in
-    and_from (is_ascii_digit x) (are_digits (xs ++ ys)) parts.0 (digits-append xs ys parts.1 q)
+digits-append = all-append is_ascii_digit
 
 ascii : (k : ℕ) → is_ascii_digit (48 + k % 10) ≡ true
 ascii k = grind (arith, nat_tests)

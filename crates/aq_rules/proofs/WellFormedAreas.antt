@@ -37,18 +37,9 @@ in-unit Pm10Of1987 None whole = refl
 in-unit Pm10Of1987 (Some value) whole = fixed-cell value whole
 
 critical-unit : (standard : Standard) (value : Option ℤ) → is_whole_if value ≡ true → is_cell (critical_cell standard value) ≡ true
-critical-unit Ozone2015 None whole = refl
-critical-unit Ozone2015 (Some value) whole = fixed-cell value whole
-critical-unit Annual2012 None whole = refl
-critical-unit Annual2012 (Some value) whole = fixed-cell value whole
-critical-unit AnnualSecondary None whole = refl
-critical-unit AnnualSecondary (Some value) whole = fixed-cell value whole
-critical-unit Annual2024 None whole = refl
-critical-unit Annual2024 (Some value) whole = fixed-cell value whole
 critical-unit Daily2006 None whole = refl
 critical-unit Daily2006 (Some value) whole = fixed-cell value whole
-critical-unit Pm10Of1987 None whole = refl
-critical-unit Pm10Of1987 (Some value) whole = fixed-cell value whole
+critical-unit standard value whole = in-unit standard value whole
 
 governing-cell : (governing : Option Site) → is_cell (site_cell governing) ≡ true
 governing-cell None = refl
