@@ -1,13 +1,11 @@
 -- Records of two sites, in the order of their keys, that the laws work out questions over.
 use Rattle.std.specs.Prelude.{ℕ, List, [], ◌∷◌, true, false}
 use Rattle.aq_base.specs.Site.{Site}
-use Rattle.aq_base.specs.declared.code.Code.{Code}
-use Rattle.aq_base.specs.declared.monitor.Pollutant.{Pollutant}
 use Rattle.aq_base.specs.declared.monitor.Pollutant.TheVariants.{Ozone, Pm25, Pm10}
 use Rattle.aq_base.specs.declared.monitor.Duration.TheVariants.{Hour, Day}
-use Rattle.aq_base.specs.declared.monitor.MonitorId.{MonitorId}
 use Rattle.aq_base.specs.declared.office.OfficeRecord.{OfficeRecord}
 use Rattle.aq_base.specs.declared.office.OfficeRecord.TheVariants.{Monitor, Primary, Makeup, Event, Concurrence}
+use Rattle.aq_rules.specs.Office.OfficeExamples.{fireworks, monitor_at}
 
 abbrev pub coast : Site
 coast = record { state = 6; county = 37; number = 1103 }
@@ -18,13 +16,7 @@ valley = record { state = 6; county = 59; number = 7 }
 abbrev pub desert : Site
 desert = record { state = 32; county = 3; number = 43 }
 
-abbrev pub monitor_at : Site → Pollutant → ℕ → MonitorId
-monitor_at site pollutant poc = record { site = site; pollutant = pollutant; poc = poc }
-
 -- PM10 (81102) comes before PM2.5 (88101)
-
-abbrev pub code_rf : Code
-code_rf = record { first = 82; second = 70 }
 
 abbrev pub two_sites : List OfficeRecord
 two_sites =
@@ -33,6 +25,6 @@ two_sites =
     ∷ Monitor (monitor_at valley Pm25 5) Hour true
     ∷ Primary coast Ozone 12418 4
     ∷ Makeup coast 12424 12426 ∷ Makeup coast 12442 12445 ∷ Makeup valley 12424 12427
-    ∷ Event 12 coast Ozone 297648 297671 code_rf ∷ Event 15 valley Pm25 297658 297678 code_rf
+    ∷ Event 12 coast Ozone 297648 297671 fireworks ∷ Event 15 valley Pm25 297658 297678 fireworks
     ∷ Concurrence 12 true
     ∷ []

@@ -5,7 +5,8 @@ ghost use Rattle.aq_base.specs.declared.monitor.Duration.TheVariants.{Hour, Day}
 ghost use Rattle.aq_base.specs.declared.office.OfficeKey.TheVariants.{Monitor as MonitorKey, Primary as PrimaryKey, Event as EventKey, Concurrence as ConcurrenceKey};
 ghost use Rattle.aq_base.specs.declared.office.OfficeRecord.TheVariants.{Monitor, Primary, Makeup, Concurrence, Combined};
 ghost use Rattle.aq_rules.specs.Office.Questions.{combined, covers, following, makeup_of, missed_of, next_poc, next_site, record_of, registration_of};
-ghost use Rattle.aq_rules.specs.Office.QuestionExamples.{coast, desert, monitor_at, two_sites, valley};
+ghost use Rattle.aq_rules.specs.Office.QuestionExamples.{coast, desert, two_sites, valley};
+ghost use Rattle.aq_rules.specs.Office.OfficeExamples.{monitor_at};
 
 /// A record is found by its key, and the next one by any key, whether or not a record has it. PM10
 /// comes before PM2.5. A monitor's duration and eligibility, the registered POC that comes next, and
