@@ -1,11 +1,5 @@
 use Rattle.aq_rules.proofs.Levels.{met-below, not_met-above, not_met-from}
 use Rattle.aq_rules.proofs.standards.verdicts_follow_the_level.Goals as goal
 
-pub returns-clause-met : goal.returns-clause-met
-returns-clause-met c standard office site year h = met-below office site year standard h
-
-pub returns-clause-not_met : goal.returns-clause-not_met
-returns-clause-not_met c standard office site year other h = not_met-above office site year standard other h
-
-pub returns-clause-daily_above : goal.returns-clause-daily_above
-returns-clause-daily_above c office site year value is above = not_met-from office site year value is above
+pub returns : goal.returns
+returns c = record { met = λ standard office site year h. met-below office site year standard h; not_met = λ standard office site year other h. not_met-above office site year standard other h; daily_above = not_met-from }

@@ -13,30 +13,6 @@ use Rattle.aq_rules.specs.Particles.Strata.{first_days_after, first_days, strata
 use Rattle.aq_rules.specs.WhatIf.Assumed.{what_if, decisive}
 use Rattle.aq_rules.proofs.what_if.events_that_decide_a_pm10_verdict.Goals as goal
 
-pub returns-clause-decisive : goal.returns-clause-decisive
+pub returns : goal.returns
 unfolding days_of_years days_of_months design_value primary_on excluded is_eligible is_scheduled eligible_pocs monitor_day site_day pm10_quarter pm10_year pm10_design days_of_quarter first_days_after first_days strata_of what_if decisive
-returns-clause-decisive c = refl
-
-pub returns-clause-beside_agreed : goal.returns-clause-beside_agreed
-unfolding days_of_years days_of_months design_value primary_on excluded is_eligible is_scheduled eligible_pocs monitor_day site_day pm10_quarter pm10_year pm10_design days_of_quarter first_days_after first_days strata_of what_if decisive
-returns-clause-beside_agreed c = refl
-
-pub returns-clause-agreed : goal.returns-clause-agreed
-unfolding days_of_years days_of_months design_value primary_on excluded is_eligible is_scheduled eligible_pocs monitor_day site_day pm10_quarter pm10_year pm10_design days_of_quarter first_days_after first_days strata_of what_if decisive
-returns-clause-agreed c = refl
-
-pub returns-clause-none : goal.returns-clause-none
-unfolding days_of_years days_of_months design_value primary_on excluded is_eligible is_scheduled eligible_pocs monitor_day site_day pm10_quarter pm10_year pm10_design days_of_quarter first_days_after first_days strata_of what_if decisive
-returns-clause-none c = refl
-
-pub returns-clause-last_agreed : goal.returns-clause-last_agreed
-unfolding days_of_years days_of_months design_value primary_on excluded is_eligible is_scheduled eligible_pocs monitor_day site_day pm10_quarter pm10_year pm10_design days_of_quarter first_days_after first_days strata_of what_if decisive
-returns-clause-last_agreed c = refl
-
-pub returns-clause-last_disagreed : goal.returns-clause-last_disagreed
-unfolding days_of_years days_of_months design_value primary_on excluded is_eligible is_scheduled eligible_pocs monitor_day site_day pm10_quarter pm10_year pm10_design days_of_quarter first_days_after first_days strata_of what_if decisive
-returns-clause-last_disagreed c = refl
-
-pub returns-clause-elsewhere : goal.returns-clause-elsewhere
-unfolding days_of_years days_of_months design_value primary_on excluded is_eligible is_scheduled eligible_pocs monitor_day site_day pm10_quarter pm10_year pm10_design days_of_quarter first_days_after first_days strata_of what_if decisive
-returns-clause-elsewhere c = refl
+returns c = record { events = refl; decisive = refl; beside_agreed = refl; agreed = refl; none = refl; last_agreed = refl; last_disagreed = refl; elsewhere = refl; unknown = refl; known = refl }

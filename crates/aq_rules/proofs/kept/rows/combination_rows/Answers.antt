@@ -9,26 +9,6 @@ use Rattle.aq_rules.specs.Lines.OfficeForms.{xm_record, xb_record}
 use Rattle.aq_rules.specs.Kept.Rows.{record_of_row, are_office_rows}
 use Rattle.aq_rules.proofs.kept.rows.combination_rows.Goals as goal
 
-pub returns-clause-combined : goal.returns-clause-combined
+pub returns : goal.returns
 unfolding digits days_of_years days_of_months year_of month_of last_digits office_texts key_texts site_in parameter_of date_in monitor_in xm_record xb_record record_of_row are_office_rows
-returns-clause-combined c = refl
-
-pub returns-clause-other_line : goal.returns-clause-other_line
-unfolding digits days_of_years days_of_months year_of month_of last_digits office_texts key_texts site_in parameter_of date_in monitor_in xm_record xb_record record_of_row are_office_rows
-returns-clause-other_line c = refl
-
-pub returns-clause-no_monitor : goal.returns-clause-no_monitor
-unfolding digits days_of_years days_of_months year_of month_of last_digits office_texts key_texts site_in parameter_of date_in monitor_in xm_record xb_record record_of_row are_office_rows
-returns-clause-no_monitor c = refl
-
-pub returns-clause-no_joined_monitor : goal.returns-clause-no_joined_monitor
-unfolding digits days_of_years days_of_months year_of month_of last_digits office_texts key_texts site_in parameter_of date_in monitor_in xm_record xb_record record_of_row are_office_rows
-returns-clause-no_joined_monitor c = refl
-
-pub returns-clause-both_ways : goal.returns-clause-both_ways
-unfolding digits days_of_years days_of_months year_of month_of last_digits office_texts key_texts site_in parameter_of date_in monitor_in xm_record xb_record record_of_row are_office_rows
-returns-clause-both_ways c = refl
-
-pub returns-clause-same_site : goal.returns-clause-same_site
-unfolding digits days_of_years days_of_months year_of month_of last_digits office_texts key_texts site_in parameter_of date_in monitor_in xm_record xb_record record_of_row are_office_rows
-returns-clause-same_site c = refl
+returns c = record { combined = refl; other_line = refl; no_monitor = refl; no_joined_monitor = refl; both_ways = refl; same_site = refl }

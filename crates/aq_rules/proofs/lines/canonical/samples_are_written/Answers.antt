@@ -5,14 +5,6 @@ use Rattle.aq_base.specs.Decimal.{last_digits}
 use Rattle.aq_rules.specs.Lines.Canonical.{rd_texts}
 use Rattle.aq_rules.proofs.lines.canonical.samples_are_written.Goals as goal
 
-pub returns-clause-inserted : goal.returns-clause-inserted
+pub returns : goal.returns
 unfolding rd_texts digits last_digits year_of month_of days_of_years days_of_months
-returns-clause-inserted c = refl
-
-pub returns-clause-updated : goal.returns-clause-updated
-unfolding rd_texts digits last_digits year_of month_of days_of_years days_of_months
-returns-clause-updated c = refl
-
-pub returns-clause-deleted : goal.returns-clause-deleted
-unfolding rd_texts digits last_digits year_of month_of days_of_years days_of_months
-returns-clause-deleted c = refl
+returns c = record { inserted = refl; updated = refl; deleted = refl }

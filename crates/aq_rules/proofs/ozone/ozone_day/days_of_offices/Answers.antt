@@ -9,20 +9,6 @@ use Rattle.aq_rules.specs.Ozone.OzoneDay.{starts_of, windows, ozone_day}
 use Rattle.aq_rules.proofs.Ranges.{windows-same, ozone_day-same}
 use Rattle.aq_rules.proofs.ozone.ozone_day.days_of_offices.Goals as goal
 
-pub returns-clause-eight_hours_above_the_level_are_a_valid_day : goal.returns-clause-eight_hours_above_the_level_are_a_valid_day
+pub returns : goal.returns
 unfolding days_of_years days_of_months is_eligible excluded primary_on site_hour eight_hours window starts_of windows ozone_day
-returns-clause-eight_hours_above_the_level_are_a_valid_day c = refl
-
-pub returns-clause-agreed : goal.returns-clause-agreed
-unfolding days_of_years days_of_months is_eligible excluded primary_on site_hour eight_hours window starts_of windows ozone_day
-returns-clause-agreed c = refl
-
-pub returns-clause-refused : goal.returns-clause-refused
-unfolding days_of_years days_of_months is_eligible excluded primary_on site_hour eight_hours window starts_of windows ozone_day
-returns-clause-refused c = refl
-
-pub returns-clause-averages : goal.returns-clause-averages
-returns-clause-averages c = windows-same
-
-pub returns-clause-result : goal.returns-clause-result
-returns-clause-result c = ozone_day-same
+returns c = record { eight_hours_above_the_level_are_a_valid_day = refl; agreed = refl; refused = refl; averages = windows-same; result = ozone_day-same }

@@ -10,14 +10,6 @@ use Rattle.aq_rules.specs.Office.Schedule.{is_scheduled}
 use Rattle.aq_rules.specs.Particles.Strata.{first_days_after, first_days, strata_of}
 use Rattle.aq_rules.proofs.particles.pm10.a_pm10_quarter_is_counted.Goals as goal
 
-pub returns-clause-counts : goal.returns-clause-counts
+pub returns : goal.returns
 unfolding days_of_years days_of_months excluded primary_on is_eligible eligible_pocs monitor_day site_day is_scheduled days_of_quarter first_days_after first_days strata_of pm10_quarter
-returns-clause-counts c = refl
-
-pub returns-clause-estimate : goal.returns-clause-estimate
-unfolding days_of_years days_of_months excluded primary_on is_eligible eligible_pocs monitor_day site_day is_scheduled days_of_quarter first_days_after first_days strata_of pm10_quarter
-returns-clause-estimate c = refl
-
-pub returns-clause-lower : goal.returns-clause-lower
-unfolding days_of_years days_of_months excluded primary_on is_eligible eligible_pocs monitor_day site_day is_scheduled days_of_quarter first_days_after first_days strata_of pm10_quarter
-returns-clause-lower c = refl
+returns c = record { counts = refl; estimate = refl; lower = refl }

@@ -11,45 +11,6 @@ use Rattle.aq_rules.specs.Office.Schedule.{is_scheduled}
 use Rattle.aq_rules.specs.Particles.Strata.{first_days_after, first_days, strata_of}
 use Rattle.aq_rules.proofs.particles.pm10.exceedances_and_their_estimates.Goals as goal
 
-pub returns-clause-below : goal.returns-clause-below
-returns-clause-below c = refl
-
-pub returns-clause-above : goal.returns-clause-above
-returns-clause-above c = refl
-
-pub returns-clause-everywhere : goal.returns-clause-everywhere
-returns-clause-everywhere c value = exceeds-from value
-
-pub returns-clause-quarter : goal.returns-clause-quarter
+pub returns : goal.returns
 unfolding days_of_years days_of_months excluded primary_on is_eligible eligible_pocs monitor_day site_day is_scheduled days_of_quarter first_days_after first_days strata_of pm10_quarter
-returns-clause-quarter c = refl
-
-pub returns-clause-year : goal.returns-clause-year
-unfolding days_of_years days_of_months excluded primary_on is_eligible eligible_pocs monitor_day site_day is_scheduled days_of_quarter first_days_after first_days strata_of pm10_quarter
-returns-clause-year c = refl
-
-pub returns-clause-verdict : goal.returns-clause-verdict
-unfolding days_of_years days_of_months excluded primary_on is_eligible eligible_pocs monitor_day site_day is_scheduled days_of_quarter first_days_after first_days strata_of pm10_quarter
-returns-clause-verdict c = refl
-
-pub returns-clause-second_sample_halves_its_stratum_quarter : goal.returns-clause-second_sample_halves_its_stratum_quarter
-unfolding days_of_years days_of_months excluded primary_on is_eligible eligible_pocs monitor_day site_day is_scheduled days_of_quarter first_days_after first_days strata_of pm10_quarter
-returns-clause-second_sample_halves_its_stratum_quarter c = refl
-
-pub returns-clause-second_sample_halves_its_stratum_year : goal.returns-clause-second_sample_halves_its_stratum_year
-unfolding days_of_years days_of_months excluded primary_on is_eligible eligible_pocs monitor_day site_day is_scheduled days_of_quarter first_days_after first_days strata_of pm10_quarter
-returns-clause-second_sample_halves_its_stratum_year c = refl
-
-pub returns-clause-second_sample_halves_its_stratum_verdict : goal.returns-clause-second_sample_halves_its_stratum_verdict
-unfolding days_of_years days_of_months excluded primary_on is_eligible eligible_pocs monitor_day site_day is_scheduled days_of_quarter first_days_after first_days strata_of pm10_quarter
-returns-clause-second_sample_halves_its_stratum_verdict c = refl
-
-pub returns-clause-four : goal.returns-clause-four
-returns-clause-four c = refl
-
-pub returns-clause-three : goal.returns-clause-three
-returns-clause-three c = refl
-
-pub returns-clause-lower_estimate_takes_all_scheduled_days : goal.returns-clause-lower_estimate_takes_all_scheduled_days
-unfolding days_of_years days_of_months excluded primary_on is_eligible eligible_pocs monitor_day site_day is_scheduled days_of_quarter first_days_after first_days strata_of pm10_quarter
-returns-clause-lower_estimate_takes_all_scheduled_days c = refl
+returns c = record { below = refl; above = refl; everywhere = exceeds-from; quarter = refl; year = refl; verdict = refl; second_sample_halves_its_stratum_quarter = refl; second_sample_halves_its_stratum_year = refl; second_sample_halves_its_stratum_verdict = refl; four = refl; three = refl; lower_estimate_takes_all_scheduled_days = refl }

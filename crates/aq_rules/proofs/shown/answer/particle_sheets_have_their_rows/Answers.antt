@@ -5,10 +5,6 @@ use Rattle.aq_rules.specs.Kept.Summaries.{pm25_summary}
 use Rattle.aq_rules.specs.Shown.ParticleSheets.{pm25_sheet, pm25_answer, pm10_sheet, pm10_answer}
 use Rattle.aq_rules.proofs.shown.answer.particle_sheets_have_their_rows.Goals as goal
 
-pub returns-clause-fine : goal.returns-clause-fine
-unfolding pm25_year pm25_summary pm25_sheet pm25_answer
-returns-clause-fine c office site year = refl
-
-pub returns-clause-coarse : goal.returns-clause-coarse
-unfolding pm10_year pm10_sheet pm10_answer
-returns-clause-coarse c office site year = refl
+pub returns : goal.returns
+unfolding pm25_year pm25_summary pm25_sheet pm25_answer pm10_year pm10_sheet pm10_answer
+returns c = record { fine = λ office site year. refl; coarse = λ office site year. refl }

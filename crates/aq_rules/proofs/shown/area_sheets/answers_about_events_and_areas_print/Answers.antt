@@ -21,34 +21,6 @@ use Rattle.aq_rules.specs.Shown.ParticleSheets.{pm10_value_sheet}
 use Rattle.aq_rules.specs.Shown.AreaSheets.{what_if_answer, decisive_answer, decisive_sheet, area_sites, site_values, area_in, area_answer, area_sheet, area_sites_answer, area_sites_sheet}
 use Rattle.aq_rules.proofs.shown.area_sheets.answers_about_events_and_areas_print.Goals as goal
 
-pub returns-clause-decisive : goal.returns-clause-decisive
+pub returns : goal.returns
 unfolding digits days_of_years days_of_months last_digits design_value primary_on excluded is_eligible is_scheduled eligible_pocs monitor_day site_day pm10_quarter pm10_year pm10_design days_of_quarter first_days_after first_days strata_of what_if decisive area_year critical text_of site_text sites_with value_sheet pm10_value_sheet what_if_answer decisive_answer decisive_sheet area_sites site_values area_in area_answer area_sheet area_sites_answer area_sites_sheet
-returns-clause-decisive c = refl
-
-pub returns-clause-as_if : goal.returns-clause-as_if
-unfolding digits days_of_years days_of_months last_digits design_value primary_on excluded is_eligible is_scheduled eligible_pocs monitor_day site_day pm10_quarter pm10_year pm10_design days_of_quarter first_days_after first_days strata_of what_if decisive area_year critical text_of site_text sites_with value_sheet pm10_value_sheet what_if_answer decisive_answer decisive_sheet area_sites site_values area_in area_answer area_sheet area_sites_answer area_sites_sheet
-returns-clause-as_if c = refl
-
-pub returns-clause-area : goal.returns-clause-area
-unfolding digits days_of_years days_of_months last_digits design_value primary_on excluded is_eligible is_scheduled eligible_pocs monitor_day site_day pm10_quarter pm10_year pm10_design days_of_quarter first_days_after first_days strata_of what_if decisive area_year critical text_of site_text sites_with value_sheet pm10_value_sheet what_if_answer decisive_answer decisive_sheet area_sites site_values area_in area_answer area_sheet area_sites_answer area_sites_sheet
-returns-clause-area c = refl
-
-pub returns-clause-sites : goal.returns-clause-sites
-unfolding digits days_of_years days_of_months last_digits design_value primary_on excluded is_eligible is_scheduled eligible_pocs monitor_day site_day pm10_quarter pm10_year pm10_design days_of_quarter first_days_after first_days strata_of what_if decisive area_year critical text_of site_text sites_with value_sheet pm10_value_sheet what_if_answer decisive_answer decisive_sheet area_sites site_values area_in area_answer area_sheet area_sites_answer area_sites_sheet
-returns-clause-sites c = refl
-
-pub returns-clause-county : goal.returns-clause-county
-unfolding digits days_of_years days_of_months last_digits design_value primary_on excluded is_eligible is_scheduled eligible_pocs monitor_day site_day pm10_quarter pm10_year pm10_design days_of_quarter first_days_after first_days strata_of what_if decisive area_year critical text_of site_text sites_with value_sheet pm10_value_sheet what_if_answer decisive_answer decisive_sheet area_sites site_values area_in area_answer area_sheet area_sites_answer area_sites_sheet
-returns-clause-county c = refl
-
-pub returns-clause-other_county : goal.returns-clause-other_county
-unfolding digits days_of_years days_of_months last_digits design_value primary_on excluded is_eligible is_scheduled eligible_pocs monitor_day site_day pm10_quarter pm10_year pm10_design days_of_quarter first_days_after first_days strata_of what_if decisive area_year critical text_of site_text sites_with value_sheet pm10_value_sheet what_if_answer decisive_answer decisive_sheet area_sites site_values area_in area_answer area_sheet area_sites_answer area_sites_sheet
-returns-clause-other_county c = refl
-
-pub returns-clause-other_pollutant : goal.returns-clause-other_pollutant
-unfolding digits days_of_years days_of_months last_digits design_value primary_on excluded is_eligible is_scheduled eligible_pocs monitor_day site_day pm10_quarter pm10_year pm10_design days_of_quarter first_days_after first_days strata_of what_if decisive area_year critical text_of site_text sites_with value_sheet pm10_value_sheet what_if_answer decisive_answer decisive_sheet area_sites site_values area_in area_answer area_sheet area_sites_answer area_sites_sheet
-returns-clause-other_pollutant c = refl
-
-pub returns-clause-named : goal.returns-clause-named
-unfolding digits days_of_years days_of_months last_digits design_value primary_on excluded is_eligible is_scheduled eligible_pocs monitor_day site_day pm10_quarter pm10_year pm10_design days_of_quarter first_days_after first_days strata_of what_if decisive area_year critical text_of site_text sites_with value_sheet pm10_value_sheet what_if_answer decisive_answer decisive_sheet area_sites site_values area_in area_answer area_sheet area_sites_answer area_sites_sheet
-returns-clause-named c = refl
+returns c = record { decisive = refl; as_if = refl; years = refl; area = refl; sites = refl; county = refl; other_county = refl; other_pollutant = refl; named = refl }

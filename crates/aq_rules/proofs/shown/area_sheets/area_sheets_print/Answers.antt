@@ -6,38 +6,6 @@ use Rattle.aq_rules.specs.Shown.AreaSheets.{decisive_sheet, area_sheet, area_sit
 use Rattle.aq_rules.specs.Areas.CriticalValue.{critical}
 use Rattle.aq_rules.proofs.shown.area_sheets.area_sheets_print.Goals as goal
 
-pub returns-clause-ozone : goal.returns-clause-ozone
-unfolding digits last_digits text_of site_text decisive_sheet area_sheet area_sites_sheet
-returns-clause-ozone c = refl
-
-pub returns-clause-daily : goal.returns-clause-daily
-unfolding digits last_digits text_of site_text decisive_sheet area_sheet area_sites_sheet
-returns-clause-daily c = refl
-
-pub returns-clause-without_value : goal.returns-clause-without_value
-unfolding digits last_digits text_of site_text decisive_sheet area_sheet area_sites_sheet
-returns-clause-without_value c = refl
-
-pub returns-clause-ozone_sites : goal.returns-clause-ozone_sites
-unfolding digits last_digits text_of site_text decisive_sheet area_sheet area_sites_sheet
-returns-clause-ozone_sites c = refl
-
-pub returns-clause-annual_sites : goal.returns-clause-annual_sites
-unfolding digits last_digits text_of site_text decisive_sheet area_sheet area_sites_sheet
-returns-clause-annual_sites c = refl
-
-pub returns-clause-daily_sites : goal.returns-clause-daily_sites
-unfolding digits last_digits text_of site_text decisive_sheet area_sheet area_sites_sheet
-returns-clause-daily_sites c = refl
-
-pub returns-clause-pm10_sites : goal.returns-clause-pm10_sites
-unfolding digits last_digits text_of site_text decisive_sheet area_sheet area_sites_sheet
-returns-clause-pm10_sites c = refl
-
-pub returns-clause-history : goal.returns-clause-history
-unfolding digits last_digits text_of site_text area_sheet
-returns-clause-history c = refl
-
-pub returns-clause-site_row : goal.returns-clause-site_row
-unfolding critical
-returns-clause-site_row c = refl
+pub returns : goal.returns
+unfolding digits last_digits text_of site_text decisive_sheet area_sheet area_sites_sheet critical
+returns c = record { ozone = refl; daily = refl; without_value = refl; history = refl; site_row = refl; ozone_sites = refl; annual_sites = refl; daily_sites = refl; pm10_sites = refl }

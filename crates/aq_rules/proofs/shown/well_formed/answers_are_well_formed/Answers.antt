@@ -1,10 +1,10 @@
 use Rattle.std.proofs.Common.{◌≡◌, ℕ, Bool, true, false, List, Option, Some, None, refl, subst}
-use Rattle.std.specs.Prelude.{if◌then◌else◌}
-use Rattle.aq_rules.specs.Office.Office.{StoredLoad, load_at}
+use Rattle.std.specs.Prelude.{if◌then◌else◌, IsTrue}
+use Rattle.aq_rules.specs.Office.Office.{Office, IsOffice, StoredLoad, load_at}
 use Rattle.aq_rules.specs.Shown.Sheet.{Sheet}
 use Rattle.aq_rules.specs.Shown.Sheets.{load_sheet}
 use Rattle.aq_rules.specs.Shown.WellFormed.{IsWellFormed}
-use Rattle.aq_rules.specs.Shown.Answer.{Reply, Windows, Days, Pm25, Pm10, Value, Report, Export, OfSheet, OfExport, NoSite, answer, of_load, is_registered}
+use Rattle.aq_rules.specs.Shown.Answer.{Ask, is_asked, Reply, Windows, Days, Pm25, Pm10, Value, Report, Export, OfSheet, OfExport, NoSite, answer, of_load, is_registered}
 use Rattle.aq_rules.proofs.WellFormed.{reply-well_formed}
 use Rattle.aq_rules.proofs.WellFormedOzone.{windows-well_formed, days-well_formed}
 use Rattle.aq_rules.proofs.WellFormedQuarters.{pm25-well_formed, pm10-well_formed}
@@ -29,34 +29,16 @@ no-sheet : (registered : Bool) (text : List ℕ) (sheet : Sheet) → (if registe
 no-sheet true text sheet e = cc
 no-sheet false text sheet e = cc
 
-pub returns-clause-answer : goal.returns-clause-answer
+answered : (office : Office) (ask : Ask) (sheet : Sheet) → IsOffice office → IsTrue (is_asked ask) → answer office ask ≡ OfSheet sheet → IsWellFormed sheet
 unfolding answer
-returns-clause-answer c office (Reply number) sheet valid asked e = at-load (load_at office number) sheet (λ load h. reply-well_formed office number load valid h) e
-returns-clause-answer c office (Windows site day) sheet valid asked e = at-site (is_registered office site) _ sheet (windows-well_formed office site day valid) e
-returns-clause-answer c office (Days site year) sheet valid asked e = at-site (is_registered office site) _ sheet (days-well_formed office site year valid asked) e
-returns-clause-answer c office (Pm25 site year) sheet valid asked e = at-site (is_registered office site) _ sheet (pm25-well_formed office site year valid asked) e
-returns-clause-answer c office (Pm10 site year) sheet valid asked e = at-site (is_registered office site) _ sheet (pm10-well_formed office site year asked) e
-returns-clause-answer c office (Value standard site year) sheet valid asked e = at-site (is_registered office site) _ sheet (value-well_formed office standard site year valid asked) e
-returns-clause-answer c office (Report standard year) sheet valid asked e = at _ sheet (report-well_formed office standard year valid asked) e
-returns-clause-answer c office (Export site pollutant year) sheet valid asked e = no-sheet (is_registered office site) _ sheet e
+answered office (Reply number) sheet valid asked e = at-load (load_at office number) sheet (λ load h. reply-well_formed office number load valid h) e
+answered office (Windows site day) sheet valid asked e = at-site (is_registered office site) _ sheet (windows-well_formed office site day valid) e
+answered office (Days site year) sheet valid asked e = at-site (is_registered office site) _ sheet (days-well_formed office site year valid asked) e
+answered office (Pm25 site year) sheet valid asked e = at-site (is_registered office site) _ sheet (pm25-well_formed office site year valid asked) e
+answered office (Pm10 site year) sheet valid asked e = at-site (is_registered office site) _ sheet (pm10-well_formed office site year asked) e
+answered office (Value standard site year) sheet valid asked e = at-site (is_registered office site) _ sheet (value-well_formed office standard site year valid asked) e
+answered office (Report standard year) sheet valid asked e = at _ sheet (report-well_formed office standard year valid asked) e
+answered office (Export site pollutant year) sheet valid asked e = no-sheet (is_registered office site) _ sheet e
 
-pub returns-clause-reply : goal.returns-clause-reply
-returns-clause-reply c = reply-well_formed
-
-pub returns-clause-windows : goal.returns-clause-windows
-returns-clause-windows c office site day valid asked = windows-well_formed office site day valid
-
-pub returns-clause-days : goal.returns-clause-days
-returns-clause-days c = days-well_formed
-
-pub returns-clause-fine : goal.returns-clause-fine
-returns-clause-fine c = pm25-well_formed
-
-pub returns-clause-coarse : goal.returns-clause-coarse
-returns-clause-coarse c office site year valid asked = pm10-well_formed office site year asked
-
-pub returns-clause-value : goal.returns-clause-value
-returns-clause-value c = value-well_formed
-
-pub returns-clause-report : goal.returns-clause-report
-returns-clause-report c = report-well_formed
+pub returns : goal.returns
+returns c = record { answer = answered; reply = reply-well_formed; windows = λ office site day valid asked. windows-well_formed office site day valid; days = days-well_formed; fine = pm25-well_formed; coarse = λ office site year valid asked. pm10-well_formed office site year asked; value = value-well_formed; report = report-well_formed }
