@@ -16,7 +16,7 @@ use Rattle.aq_rules.specs.Kept.RowChanges.{RowKey, LoadRowKey, row_key, columns,
 use Rattle.aq_rules.proofs.Elements.{Every, every-All, every-append, every-to}
 use Rattle.aq_rules.proofs.SameRows.{record-itself, content-itself}
 use Rattle.aq_rules.proofs.RowsBack.{record-back}
-use Rattle.aq_rules.proofs.OfficeBack.{IsSpelled, spelled-back, R, O, L}
+use Rattle.aq_rules.proofs.OfficeBack.{IsSpelled, spelled-back, R, O, L, record_rows, load_rows, observation_rows}
 use Rattle.aq_rules.proofs.SpelledOffice.{AllSpelled, valid-spelled, spelled-after_all}
 use Rattle.aq_rules.proofs.RowOrder.{office-agree, obs-agree, load-agree}
 use Rattle.aq_rules.proofs.OneKey.{one_observation_key}
@@ -48,21 +48,12 @@ find-map write rank p key (x ∷ xs) every =
     written false = refl
 
 module _ (office : Office) (all : AllSpelled office) where
-  abbrev A : List Row
-  A = map R office.records
-
-  abbrev B : List Row
-  B = map L office.loads
-
-  abbrev C : List Row
-  C = map O office.observations
-
   office-found : (key : OfficeKey) → is_key key ≡ true → row_with (office_row_key key) (rows_of office) ≡ option_map R (record_at office key)
   unfolding rows_of
   office-found key is =
       let p : Row → Bool = λ row. is_same_row_key (row_key row) (office_row_key key) in
-      find-front p (A ++ B) C (each (λ row. p row ≡ false) O (λ o. refl) office.observations)
-      ∙ find-front p A B (each (λ row. p row ≡ false) L (λ l. refl) office.loads)
+      find-front p (record_rows office ++ load_rows office) (observation_rows office) (each (λ row. p row ≡ false) O (λ o. refl) office.observations)
+      ∙ find-front p (record_rows office) (load_rows office) (each (λ row. p row ≡ false) L (λ l. refl) office.loads)
       ∙ find-map R record_rank p (key_numbers key) office.records
       (every-to (λ r. is_record r ≡ true) (λ r. p (R r) ≡ is_same (record_rank r) (key_numbers key)) (λ r h. (office-agree (key_of r) key (record-key r h) is).same) office.records all.records)
 
@@ -70,8 +61,8 @@ module _ (office : Office) (all : AllSpelled office) where
   unfolding rows_of
   obs-found key is =
       let p : Row → Bool = λ row. is_same_row_key (row_key row) (obs_row_key key) in
-      find-none p (A ++ B) C
-      (every-append (λ row. p row ≡ false) A B (each (λ row. p row ≡ false) R (λ r. refl) office.records) (each (λ row. p row ≡ false) L (λ l. refl) office.loads))
+      find-none p (record_rows office ++ load_rows office) (observation_rows office)
+      (every-append (λ row. p row ≡ false) (record_rows office) (load_rows office) (each (λ row. p row ≡ false) R (λ r. refl) office.records) (each (λ row. p row ≡ false) L (λ l. refl) office.loads))
       ∙ find-map O observation_rank p (observation_numbers key) office.observations
       (every-to IsSpelled (λ o. p (O o) ≡ is_same (observation_rank o) (observation_numbers key)) (λ o h. (obs-agree o.0 key h.site is).same) office.observations all.observations)
 
@@ -79,8 +70,8 @@ module _ (office : Office) (all : AllSpelled office) where
   unfolding rows_of
   load-found number =
       let p : Row → Bool = λ row. is_same_row_key (row_key row) (LoadRowKey (pos number)) in
-      find-front p (A ++ B) C (each (λ row. p row ≡ false) O (λ o. refl) office.observations)
-      ∙ find-none p A B (each (λ row. p row ≡ false) R (λ r. refl) office.records)
+      find-front p (record_rows office ++ load_rows office) (observation_rows office) (each (λ row. p row ≡ false) O (λ o. refl) office.observations)
+      ∙ find-none p (record_rows office) (load_rows office) (each (λ row. p row ≡ false) R (λ r. refl) office.records)
       ∙ find-map L load_rank p (number ∷ []) office.loads (all-loads office.loads)
     where
       all-loads : (loads : List StoredLoad) → Every (λ l. is_same_row_key (row_key (L l)) (LoadRowKey (pos number)) ≡ is_same (load_rank l) (number ∷ [])) loads

@@ -208,6 +208,16 @@ O o = OfSecondRow (obs_row o)
 abbrev pub L : StoredLoad → Row
 L l = OfLoadRow (load_row l)
 
+-- the rows of each kind that an office has
+abbrev pub record_rows : Office → List Row
+record_rows office = map R office.records
+
+abbrev pub load_rows : Office → List Row
+load_rows office = map L office.loads
+
+abbrev pub observation_rows : Office → List Row
+observation_rows office = map O office.observations
+
 module _ (office : Office) (valid : IsOffice office) where
   records-back : Every (λ r. record_of_row (office_row r) ≡ Some r) office.records
   records-back = every-from (fits_records office) (λ r. record_of_row (office_row r) ≡ Some r) (λ r fits. record-back r (is_record-of office r fits)) office.records valid.records_fit

@@ -11,11 +11,12 @@ use Rattle.aq_rules.specs.Office.Office.{key_numbers, parameter_number, observat
 
 -- ---- the key of a record
 
-parameter_of : ℕ → Pollutant
-parameter_of n = if n == 44201 then Ozone else (if n == 88101 then Pm25 else Pm10)
+-- the pollutant with a number
+pollutant_with : (Pollutant → ℕ) → ℕ → Pollutant
+pollutant_with number n = if n == number Ozone then Ozone else (if n == number Pm25 then Pm25 else Pm10)
 
 with_series : (Site → Pollutant → ℕ → OfficeKey) → List ℕ → Option OfficeKey
-with_series make (a ∷ b ∷ c ∷ p ∷ part ∷ []) = Some (make (record { state = a; county = b; number = c }) (parameter_of p) part)
+with_series make (a ∷ b ∷ c ∷ p ∷ part ∷ []) = Some (make (record { state = a; county = b; number = c }) (pollutant_with parameter_number p) part)
 with_series make _ = None
 
 with_site : (Site → ℕ → OfficeKey) → List ℕ → Option OfficeKey
@@ -23,7 +24,7 @@ with_site make (a ∷ b ∷ c ∷ part ∷ []) = Some (make (record { state = a;
 with_site make _ = None
 
 with_site_parameter : (Site → Pollutant → OfficeKey) → List ℕ → Option OfficeKey
-with_site_parameter make (a ∷ b ∷ c ∷ parameter ∷ []) = Some (make (record { state = a; county = b; number = c }) (parameter_of parameter))
+with_site_parameter make (a ∷ b ∷ c ∷ parameter ∷ []) = Some (make (record { state = a; county = b; number = c }) (pollutant_with parameter_number parameter))
 with_site_parameter make _ = None
 
 with_number : (ℕ → OfficeKey) → List ℕ → Option OfficeKey
@@ -43,11 +44,10 @@ key_from (kind ∷ rest) =
     else (if kind == 8 then with_site (λ site day. Approved site day) rest
     else with_site_parameter (λ site pollutant. Combined site pollutant) rest)))))))
 
-parameter-back : (p : Pollutant) → parameter_of (parameter_number p) ≡ p
-unfolding parameter_of
+parameter-back : (p : Pollutant) → pollutant_with parameter_number (parameter_number p) ≡ p
+unfolding pollutant_with
 parameter-back Ozone = refl
-parameter-back Pm25 = refl
-parameter-back Pm10 = refl
+parameter-back p = refl
 
 office_key-back : (key : OfficeKey) → key_from (key_numbers key) ≡ Some key
 unfolding key_from with_series with_site with_number with_site_parameter
@@ -68,21 +68,17 @@ one_office_key a b e =
 
 -- ---- the key of an observation
 
-pollutant_of : ℕ → Pollutant
-pollutant_of n = if n == 1 then Ozone else (if n == 2 then Pm25 else Pm10)
-
 place_from : List ℕ → Option ObsKey
 place_from (a ∷ b ∷ c ∷ p ∷ poc ∷ hour ∷ []) = Some (record {
-  monitor = record { site = record { state = a; county = b; number = c }; pollutant = pollutant_of p; poc = poc };
+  monitor = record { site = record { state = a; county = b; number = c }; pollutant = pollutant_with pollutant_number p; poc = poc };
   hour = hour;
 })
 place_from _ = None
 
-pollutant-back : (p : Pollutant) → pollutant_of (pollutant_number p) ≡ p
-unfolding pollutant_of
+pollutant-back : (p : Pollutant) → pollutant_with pollutant_number (pollutant_number p) ≡ p
+unfolding pollutant_with
 pollutant-back Ozone = refl
-pollutant-back Pm25 = refl
-pollutant-back Pm10 = refl
+pollutant-back p = refl
 
 observation_key-back : (key : ObsKey) → place_from (observation_numbers key) ≡ Some key
 unfolding place_from

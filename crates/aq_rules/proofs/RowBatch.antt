@@ -14,7 +14,7 @@ use Rattle.aq_rules.specs.Office.Load.{OfficeChange, PutRecord, DropRecord, PutO
 use Rattle.aq_rules.specs.Kept.Rows.{Row, rows_of}
 use Rattle.aq_rules.specs.Kept.RowChanges.{RowKey, row_key, key_before, is_same_row_key, office_row_key, obs_row_key, put_row, drop_row, with_row_change, with_row_changes, row_change, row_batch}
 use Rattle.aq_rules.proofs.Elements.{Every, every-append, every-map, every-to}
-use Rattle.aq_rules.proofs.OfficeBack.{IsSpelled, R, O, L}
+use Rattle.aq_rules.proofs.OfficeBack.{IsSpelled, R, O, L, record_rows, load_rows, observation_rows}
 use Rattle.aq_rules.proofs.SpelledOffice.{AllSpelled, valid-spelled, spelled-after_all, every-with, every-without}
 use Rattle.aq_rules.proofs.RowOrder.{Agree, office-agree, obs-agree, load-agree}
 use Rattle.aq_rules.proofs.OneKey.{one_observation_key}
@@ -104,54 +104,45 @@ pub record-key : (r : OfficeRecord) → is_record r ≡ true → is_key (key_of 
 record-key r is = (and_parts (is_key (key_of r)) (is_content_of r) is).0
 
 module _ (office : Office) (all : AllSpelled office) where
-  abbrev A : List Row
-  A = map R office.records
-
-  abbrev B : List Row
-  B = map L office.loads
-
-  abbrev C : List Row
-  C = map O office.observations
-
   change-written : (change : OfficeChange) → IsSpelledChange change → with_row_change (rows_of office) (row_change change) ≡ rows_of (with_change office change)
   unfolding rows_of IsSpelledChange
   change-written (PutRecord r) is =
       let agree = every-to (λ s. is_record s ≡ true) (λ s. Agree (record_rank r) (record_rank s) (row_key (R r)) (row_key (R s)))
       (λ s h. office-agree (key_of r) (key_of s) (record-key r is) (record-key s h)) office.records all.records
       in
-      put-front (R r) (A ++ B) C (each (λ row. key_before (row_key (R r)) (row_key row) ≡ true) O (λ o. refl) office.observations)
-      ∙ ap (λ l. l ++ C) (put-front (R r) A B (each (λ row. key_before (row_key (R r)) (row_key row) ≡ true) L (λ l. refl) office.loads))
-      ∙ ap (λ l. l ++ B ++ C) (put-map R record_rank r office.records agree)
+      put-front (R r) (record_rows office ++ load_rows office) (observation_rows office) (each (λ row. key_before (row_key (R r)) (row_key row) ≡ true) O (λ o. refl) office.observations)
+      ∙ ap (λ l. l ++ observation_rows office) (put-front (R r) (record_rows office) (load_rows office) (each (λ row. key_before (row_key (R r)) (row_key row) ≡ true) L (λ l. refl) office.loads))
+      ∙ ap (λ l. l ++ load_rows office ++ observation_rows office) (put-map R record_rank r office.records agree)
   change-written (DropRecord key) is =
       let agree = every-to (λ s. is_record s ≡ true) (λ s. is_same_row_key (row_key (R s)) (office_row_key key) ≡ is_same (record_rank s) (key_numbers key))
       (λ s h. (office-agree (key_of s) key (record-key s h) is).same) office.records all.records
       in
-      drop-three (office_row_key key) A B C
+      drop-three (office_row_key key) (record_rows office) (load_rows office) (observation_rows office)
       ∙ (λ i. drop-map R record_rank (key_numbers key) (office_row_key key) office.records agree i
-      ++ drop-others (office_row_key key) B (each (λ row. is_same_row_key (row_key row) (office_row_key key) ≡ false) L (λ l. refl) office.loads) i
-      ++ drop-others (office_row_key key) C (each (λ row. is_same_row_key (row_key row) (office_row_key key) ≡ false) O (λ o. refl) office.observations) i)
+      ++ drop-others (office_row_key key) (load_rows office) (each (λ row. is_same_row_key (row_key row) (office_row_key key) ≡ false) L (λ l. refl) office.loads) i
+      ++ drop-others (office_row_key key) (observation_rows office) (each (λ row. is_same_row_key (row_key row) (office_row_key key) ≡ false) O (λ o. refl) office.observations) i)
   change-written (PutObservation key content) is =
       let o : ObsKey × Observation = (key, content) in
       let agree = every-to IsSpelled (λ p. Agree (observation_rank o) (observation_rank p) (row_key (O o)) (row_key (O p)))
       (λ p h. obs-agree key p.0 is.site h.site) office.observations all.observations
       in
-      put-behind (O o) (A ++ B) C
-      (every-append (λ row. (key_before (row_key (O o)) (row_key row) ≡ false) × (is_same_row_key (row_key (O o)) (row_key row) ≡ false)) A B
+      put-behind (O o) (record_rows office ++ load_rows office) (observation_rows office)
+      (every-append (λ row. (key_before (row_key (O o)) (row_key row) ≡ false) × (is_same_row_key (row_key (O o)) (row_key row) ≡ false)) (record_rows office) (load_rows office)
       (each (λ row. (key_before (row_key (O o)) (row_key row) ≡ false) × (is_same_row_key (row_key (O o)) (row_key row) ≡ false)) R (λ r. (refl, refl)) office.records)
       (each (λ row. (key_before (row_key (O o)) (row_key row) ≡ false) × (is_same_row_key (row_key (O o)) (row_key row) ≡ false)) L (λ l. (refl, refl)) office.loads))
-      ∙ ap (λ l. A ++ B ++ l) (put-map O observation_rank o office.observations agree)
+      ∙ ap (λ l. record_rows office ++ load_rows office ++ l) (put-map O observation_rank o office.observations agree)
   change-written (DropObservation key) is =
       let agree = every-to IsSpelled (λ p. is_same_row_key (row_key (O p)) (obs_row_key key) ≡ is_same (observation_rank p) (observation_numbers key))
       (λ p h. (obs-agree p.0 key h.site is).same) office.observations all.observations
       in
-      drop-three (obs_row_key key) A B C
-      ∙ (λ i. drop-others (obs_row_key key) A (each (λ row. is_same_row_key (row_key row) (obs_row_key key) ≡ false) R (λ r. refl) office.records) i
-      ++ drop-others (obs_row_key key) B (each (λ row. is_same_row_key (row_key row) (obs_row_key key) ≡ false) L (λ l. refl) office.loads) i
+      drop-three (obs_row_key key) (record_rows office) (load_rows office) (observation_rows office)
+      ∙ (λ i. drop-others (obs_row_key key) (record_rows office) (each (λ row. is_same_row_key (row_key row) (obs_row_key key) ≡ false) R (λ r. refl) office.records) i
+      ++ drop-others (obs_row_key key) (load_rows office) (each (λ row. is_same_row_key (row_key row) (obs_row_key key) ≡ false) L (λ l. refl) office.loads) i
       ++ drop-map O observation_rank (observation_numbers key) (obs_row_key key) office.observations agree i)
   change-written (PutLoad kept) is =
-      put-front (L kept) (A ++ B) C (each (λ row. key_before (row_key (L kept)) (row_key row) ≡ true) O (λ o. refl) office.observations)
-      ∙ ap (λ l. l ++ C) (put-behind (L kept) A B (each (λ row. (key_before (row_key (L kept)) (row_key row) ≡ false) × (is_same_row_key (row_key (L kept)) (row_key row) ≡ false)) R (λ r. (refl, refl)) office.records))
-      ∙ ap (λ l. A ++ l ++ C) (put-map L load_rank kept office.loads (all-loads office.loads))
+      put-front (L kept) (record_rows office ++ load_rows office) (observation_rows office) (each (λ row. key_before (row_key (L kept)) (row_key row) ≡ true) O (λ o. refl) office.observations)
+      ∙ ap (λ l. l ++ observation_rows office) (put-behind (L kept) (record_rows office) (load_rows office) (each (λ row. (key_before (row_key (L kept)) (row_key row) ≡ false) × (is_same_row_key (row_key (L kept)) (row_key row) ≡ false)) R (λ r. (refl, refl)) office.records))
+      ∙ ap (λ l. record_rows office ++ l ++ observation_rows office) (put-map L load_rank kept office.loads (all-loads office.loads))
     where
       all-loads : (loads : List StoredLoad) → Every (λ l. Agree (load_rank kept) (load_rank l) (row_key (L kept)) (row_key (L l))) loads
       all-loads [] = tt
@@ -202,16 +193,18 @@ pub either-every : {K : Type 0} (P : K → Type 0) (rank : K → List ℕ) (befo
 either-every P rank before [] was is = was
 either-every P rank before (key ∷ now) was is = either-every P rank (with_row rank key before) now (every-with P rank key before is.0 was) is.1
 
+-- a change, unless the new row is the old one
+if_changed : (same : Bool) (change : OfficeChange) → IsSpelledChange change → IfOne IsSpelledChange (cond same None (Some change))
+unfolding IfOne
+if_changed true change is = tt
+if_changed false change is = is
+
 record-spelled : (key : OfficeKey) (old new : Option OfficeRecord) → is_key key ≡ true → IfOne (λ r. is_record r ≡ true) new → IfOne IsSpelledChange (record_change key old new)
 unfolding IfOne IsSpelledChange
 record-spelled key None None is has = tt
 record-spelled key None (Some new) is has = has
 record-spelled key (Some old) None is has = is
-record-spelled key (Some old) (Some new) is has = by_test (is_same_record old new)
-  where
-    by_test : (b : Bool) → IfOne IsSpelledChange (cond b None (Some (PutRecord new)))
-    by_test true = tt
-    by_test false = has
+record-spelled key (Some old) (Some new) is has = if_changed (is_same_record old new) (PutRecord new) has
 
 -- an entry stands at its key
 entry-content : (key : ObsKey) (new : Option (ObsKey × Observation)) → HasKey observation_rank (observation_numbers key) new → IfOne IsSpelled new → IfOne (λ content. IsSpelled (key, content)) (option_map content_of new)
@@ -224,11 +217,7 @@ unfolding IfOne IsSpelledChange
 observation-spelled key None None is has = tt
 observation-spelled key None (Some new) is has = has
 observation-spelled key (Some old) None is has = is
-observation-spelled key (Some old) (Some new) is has = by_test (is_same_content old new)
-  where
-    by_test : (b : Bool) → IfOne IsSpelledChange (cond b None (Some (PutObservation key new)))
-    by_test true = tt
-    by_test false = has
+observation-spelled key (Some old) (Some new) is has = if_changed (is_same_content old new) (PutObservation key new) has
 
 module _ (before now : Office) (was : AllSpelled before) (is : AllSpelled now) where
   pub record-keys : Every (λ k. is_key k ≡ true) (keys_of_either key_numbers (map key_of before.records) (map key_of now.records))
