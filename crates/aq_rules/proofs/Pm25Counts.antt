@@ -297,25 +297,24 @@ module _ (office : Office) (site : Site) (quarter : ℕ) (valid : IsOffice offic
       every-to (λ m. InQuarter quarter m × (gives_credit office site m ≡ true)) Credit credit (credits office site quarter)
       (every-filter (InQuarter quarter) (gives_credit office site) (filter_map (makeup_by site quarter) office.records) (makeups-in_quarter site quarter office office.records valid.records_fit))
 
-  missed-once : (d : ℕ) → on (λ (m : Makeup). m.missed) d (credits office site quarter) ≤ 1
+  few_credits : (day : Makeup → ℕ) (d : ℕ) (test : OfficeRecord → Bool) → ((r : OfficeRecord) → IfMade (λ m. day m ≡ d → test r ≡ true) (makeup_by site quarter r))
+      → count_by test office.records ≤ 1 → on day d (credits office site quarter) ≤ 1
   unfolding credits
-  missed-once d =
+  few_credits day d test key one =
       omega (
         arith,
-        count-filter (λ (m : Makeup). m.missed == d) (gives_credit office site) (filter_map (makeup_by site quarter) office.records),
-        made-few site quarter (λ (m : Makeup). m.missed) d (λ r. is_same (record_rank r) (key_numbers (MakeupKey site d))) (missed-key site quarter d) office.records,
-        one_rank record_rank (key_numbers (MakeupKey site d)) office.records valid.keys_rise.records,
+        count-filter (λ (m : Makeup). day m == d) (gives_credit office site) (filter_map (makeup_by site quarter) office.records),
+        made-few site quarter day d test key office.records,
+        one,
       )
 
+  missed-once : (d : ℕ) → on (λ (m : Makeup). m.missed) d (credits office site quarter) ≤ 1
+  missed-once d =
+      few_credits (λ (m : Makeup). m.missed) d (λ r. is_same (record_rank r) (key_numbers (MakeupKey site d))) (missed-key site quarter d)
+      (one_rank record_rank (key_numbers (MakeupKey site d)) office.records valid.keys_rise.records)
+
   makeup-once : (d : ℕ) → on (λ (m : Makeup). m.makeup) d (credits office site quarter) ≤ 1
-  unfolding credits
-  makeup-once d =
-      omega (
-        arith,
-        count-filter (λ (m : Makeup). m.makeup == d) (gives_credit office site) (filter_map (makeup_by site quarter) office.records),
-        made-few site quarter (λ (m : Makeup). m.makeup) d (makes_up_on site d) (makeup-key site quarter d) office.records,
-        one_makeup office site d valid,
-      )
+  makeup-once d = few_credits (λ (m : Makeup). m.makeup) d (makes_up_on site d) (makeup-key site quarter d) (one_makeup office site d valid)
 
   pub credits-few : length (credits office site quarter) ≤ count_by (λ d. is_scheduled office.records site Pm25 d && not (is_sampled office site Pm25 d)) (days_of_quarter quarter)
   unfolding days_of_quarter
