@@ -89,6 +89,7 @@ none_broken-find p (first ∷ rest) none =
 abbrev pub is_built : Rule → Bool
 is_built rule = nat_le (rule_number rule) 36
 
+-- rules in rising number, of which each has a number of the profile
 abbrev are_in_order : List Rule → Bool
 are_in_order rules = rises rule_rank rules && list_all is_built rules
 

@@ -64,6 +64,7 @@ pub truth-word : (b : Bool) → is_word (truth_text b) ≡ true
 truth-word true = refl
 truth-word false = refl
 
+-- of these three the second clause is for every other case, each of which computes
 pub verdict-word : (v : Verdict) → is_word (verdict_name v) ≡ true
 verdict-word Met = refl
 verdict-word verdict = refl

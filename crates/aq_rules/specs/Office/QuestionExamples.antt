@@ -1,5 +1,5 @@
 -- Records of two sites, in the order of their keys, that the laws work out questions over.
-use Rattle.std.specs.Prelude.{ℕ, List, [], ◌∷◌, true, false}
+use Rattle.std.specs.Prelude.{List, [], ◌∷◌, true, false}
 use Rattle.aq_base.specs.Site.{Site}
 use Rattle.aq_base.specs.declared.monitor.Pollutant.TheVariants.{Ozone, Pm25, Pm10}
 use Rattle.aq_base.specs.declared.monitor.Duration.TheVariants.{Hour, Day}

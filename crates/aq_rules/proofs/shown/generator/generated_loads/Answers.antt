@@ -14,9 +14,9 @@ none_where true b x h = refl
 none_where false true x h = refl
 none_where false false x h = cc
 
-zero : (start sites years : ℕ) → generate start sites years 0 ≡ None
+no_load_zero : (start sites years : ℕ) → generate start sites years 0 ≡ None
 unfolding generate
-zero start sites years = refl
+no_load_zero start sites years = refl
 
 beyond : (start sites years load : ℕ) → 1 + sites * years < load → generate start sites years load ≡ None
 unfolding generate
@@ -72,4 +72,4 @@ first_lines = (
 
 pub returns : goal.returns
 unfolding simulation days_of_years days_of_months year_of month_of last_digits digits office_texts rd_texts generated_years office_load days_of wanted_in samples_from
-returns c = record { loads = refl; office = refl; samples = refl; office_is_generated = refl; first = refl; null = refl; zero = zero; beyond = beyond; second = first_lines.0; wrapped = first_lines.1; year = first_lines.2; site = first_lines.3; last_hour = refl; fine = refl; coarse = refl; no_more = refl; simulation_prints_a_summary_and_six_reports = λ digest start sites. simp append-nil }
+returns c = record { loads = refl; office = refl; samples = refl; office_is_generated = refl; first = refl; null = refl; zero = no_load_zero; beyond = beyond; second = first_lines.0; wrapped = first_lines.1; year = first_lines.2; site = first_lines.3; last_hour = refl; fine = refl; coarse = refl; no_more = refl; simulation_prints_a_summary_and_six_reports = λ digest start sites. simp append-nil }
