@@ -1,6 +1,6 @@
 -- Testing field by field in the order of the rules gives the value that an office line spells, or the first rule that it breaks.
 use Rattle.std.proofs.Common.{◌≡◌, ℕ, Bool, true, false, cond, not, ◌||◌, List, ◌∷◌, Some, None, Option, Ok, Err, Result, refl, sym, ap, ◌∙◌, subst}
-use Rattle.std.specs.Prelude.{IfOk, IfErr, IsTrue, OnOk, OnErr, bytes_eq, codes, find, is_none, if◌then◌else◌}
+use Rattle.std.specs.Prelude.{bytes_eq, codes, find, is_none, if◌then◌else◌}
 use Rattle.std.specs.Option.{ok_or}
 use Rattle.std.proofs.lemmas.Bool.{false≢true}
 use Rattle.std.proofs.lemmas.Slice.Eq.{bytes_eq-Decides}
@@ -13,7 +13,6 @@ use Rattle.aq_base.specs.declared.office.OfficeLine.{OfficeLine}
 use Rattle.aq_base.specs.declared.office.OfficeLine.TheVariants.{Put, Change, Drop}
 use Rattle.aq_base.specs.declared.rule.Rule.{Rule}
 use Rattle.aq_base.specs.declared.rule.Rule.TheVariants.{BadBytes, BadTag, FieldCount, BadAction, BadSite, ParameterOutOfProfile, BadPoc, BadDuration, BadDate, BadTime, BadSpan, BadInterval, BadSeason, BadMakeup, BadCode, BadPair}
-use Rattle.aq_rules.specs.Lines.Canonical.{is_office_line, is_line_value}
 use Rattle.aq_rules.specs.Lines.Fields.{field, fields}
 use Rattle.aq_rules.specs.Lines.Forms.{acts}
 use Rattle.aq_rules.specs.Lines.FormRules.{xm_rule, xm-rule, xp_rule, xp-rule, xp_key_rule, xp_key-rule, xs_rule, xs-rule, xs_key_rule, xs_key-rule, xo_rule, xo-rule, xo_key_rule, xo_key-rule, xu_rule, xu-rule, xu_key_rule, xu_key-rule, xe_rule, xe-rule, xe_key_rule, xe_key-rule, xc_rule, xc-rule, xa_rule, xa-rule, xa_key_rule, xa_key-rule, xb_rule, xb-rule, xb_key_rule, xb_key-rule}
@@ -22,17 +21,17 @@ use Rattle.aq_rules.specs.Lines.RdForm.{monitor_in}
 use Rattle.aq_rules.specs.Lines.Reading.{LineValue, OfOffice, breaks_in, rules_of, rules_for, fails, value_for, action_for, form_value, has_wrong_count, is_deletion, breaks_parts, line_value, reading_rule, is_plain, tag_of}
 use Rattle.aq_rules.specs.Lines.Spellings as spellings
 use Rattle.aq_rules.specs.Lines.Spellings.{Tag, Rd, Xm, Xp, Xs, Xo, Xu, Xe, Xc, Xa, Xb, Action, Insert, Update, Delete, site_in, parameter_in, parameter_of, poc_in, primary_in, duration_in, date_in, year_in, time_in, interval_in, truth_in, event_number_in, event_code_in}
-use Rattle.aq_forms.specs.OfficeReading.{◌>>=◌, xm_reading, xp_reading, xp_key_reading, xs_reading, xs_key_reading, xo_reading, xo_key_reading, xu_reading, xu_key_reading, xe_reading, event_reading, xe_key_reading, xc_reading, xa_reading, xa_key_reading, xb_reading, xb_key_reading, record_reading, key_reading, action_reading, form_reading, office_reading, is_rd, has_rd_tag}
+use Rattle.aq_rd.specs.RdReading.{◌>>=◌}
+use Rattle.aq_rd.proofs.ReadingOrder as order
+use Rattle.aq_forms.specs.OfficeReading.{xm_reading, xp_reading, xp_key_reading, xs_reading, xs_key_reading, xo_reading, xo_key_reading, xu_reading, xu_key_reading, xe_reading, event_reading, xe_key_reading, xc_reading, xa_reading, xa_key_reading, xb_reading, xb_key_reading, record_reading, key_reading, action_reading, form_reading, office_reading, is_rd, has_rd_tag}
 
 -- a reading gives what is spelled, and else the rule that is broken
 abbrev Reads : {A : Type 0} → Result A Rule → Option A → Option Rule → Type 0
-Reads (Ok x) value rule = (value ≡ Some x) × (rule ≡ None)
-Reads (Err broken) value rule = (value ≡ None) × (rule ≡ Some broken)
+Reads r value rule = order.Reads (λ x. x) r value rule
 
 -- the same of a line
 abbrev pub ReadsLine : Result OfficeLine Rule → Option LineValue → Option Rule → Type 0
-ReadsLine (Ok x) value rule = (value ≡ Some (OfOffice x)) × (rule ≡ None)
-ReadsLine (Err broken) value rule = (value ≡ None) × (rule ≡ Some broken)
+ReadsLine r value rule = order.Reads OfOffice r value rule
 
 infixl 10 ◌>>-◌
 abbrev ◌>>-◌ : {A B : Type 0} → Option A → (A → Option B) → Option B
@@ -281,15 +280,7 @@ lift line (Err e) value rule h = (ap (λ o. (o >>- λ x. Some (line x)) >>- λ l
 office-value : (tag : Tag) (action : Action) (texts : List (List ℕ)) → is_rd (Some tag) ≡ false
     → value_for tag action texts ≡ (office_line_in tag action texts >>- λ line. Some (OfOffice line))
 office-value Rd action texts h = absurd (false≢true (sym h))
-office-value Xm action texts h = refl
-office-value Xp action texts h = refl
-office-value Xs action texts h = refl
-office-value Xo action texts h = refl
-office-value Xu action texts h = refl
-office-value Xe action texts h = refl
-office-value Xc action texts h = refl
-office-value Xa action texts h = refl
-office-value Xb action texts h = refl
+office-value tag action texts h = refl
 
 abbrev rule_of_fields : Tag → Bool → List (List ℕ) → Option Rule
 rule_of_fields tag deletes texts = find (λ rule. breaks_in rule tag deletes texts) (rules_of tag deletes)
@@ -395,27 +386,3 @@ by-tag true (Some tag) texts none =
 pub reads-line : (line : List ℕ) → has_rd_tag line ≡ false → ReadsLine (office_reading line) (line_value line) (reading_rule line)
 unfolding office_reading
 reads-line line none = by-tag (is_plain line) (tag_of line) (fields line) none
-
--- ---- the clauses, one by one
-
-pub ok-line : (r : Result OfficeLine Rule) (value : Option LineValue) (rule : Option Rule) → ReadsLine r value rule → IfOk r (λ x. value ≡ Some (OfOffice x))
-ok-line (Ok x) value rule h = h.0
-ok-line (Err e) value rule h = tt
-
-pub unbroken-line : (r : Result OfficeLine Rule) (value : Option LineValue) (rule : Option Rule) → ReadsLine r value rule → OnOk r (rule ≡ None)
-unbroken-line (Ok x) value rule h = h.1
-unbroken-line (Err e) value rule h = tt
-
-pub rule-line : (r : Result OfficeLine Rule) (value : Option LineValue) (rule : Option Rule) → ReadsLine r value rule → IfErr r (λ e. rule ≡ Some e)
-rule-line (Ok x) value rule h = tt
-rule-line (Err e) value rule h = h.1
-
-pub refused-line : (r : Result OfficeLine Rule) (value : Option LineValue) (rule : Option Rule) → ReadsLine r value rule → OnErr r (value ≡ None)
-refused-line (Ok x) value rule h = tt
-refused-line (Err e) value rule h = h.0
-
--- what a law says of all values that a line spells holds of the one that is read
-pub spelled-line : (r : Result OfficeLine Rule) (value : Option LineValue) (rule : Option Rule) → ReadsLine r value rule
-    → ((spelled : LineValue) → value ≡ Some spelled → IsTrue (is_line_value spelled)) → IfOk r (λ x. IsTrue (is_office_line x))
-spelled-line (Ok x) value rule h law = law (OfOffice x) h.0
-spelled-line (Err e) value rule h law = tt

@@ -12,15 +12,11 @@ use Rattle.aq_base.specs.declared.office.OfficeLine.{OfficeLine}
 use Rattle.aq_base.specs.declared.office.OfficeLine.TheVariants.{Put, Change, Drop}
 use Rattle.aq_base.specs.declared.rule.Rule.{Rule}
 use Rattle.aq_base.specs.declared.rule.Rule.TheVariants.{BadBytes, BadTag, FieldCount, BadAction, BadSite, ParameterOutOfProfile, BadPoc, BadDuration, BadDate, BadTime, BadSpan, BadInterval, BadSeason, BadMakeup, BadCode, BadPair}
+use Rattle.aq_rd.specs.RdReading.{◌>>=◌}
 use Rattle.aq_rules.specs.Lines.Fields.{fields, field}
 use Rattle.aq_rules.specs.Lines.OfficeForms.{is_season, is_makeup, is_span, is_pair}
 use Rattle.aq_rules.specs.Lines.Reading.{is_plain, tag_of, is_deletion, has_wrong_count, action_for}
 use Rattle.aq_rules.specs.Lines.Spellings.{Tag, Rd, Xm, Xp, Xs, Xo, Xu, Xe, Xc, Xa, Xb, Action, Insert, Update, Delete, site_in, parameter_in, parameter_of, poc_in, primary_in, duration_in, date_in, year_in, time_in, interval_in, truth_in, event_number_in, event_code_in}
-
-infixl 10 ◌>>=◌
-abbrev pub ◌>>=◌ : {A B : Type 0} → Result A Rule → (A → Result B Rule) → Result B Rule
-(Ok x) >>= next = next x
-(Err rule) >>= next = Err rule
 
 -- XM: a monitor
 unfoldable pub xm_reading : List (List ℕ) → Result OfficeRecord Rule

@@ -2,6 +2,7 @@
 ghost use Rattle.std.specs.Prelude.{◌≡◌, false, IfOk, IfErr, IsTrue, OnOk, OnErr, Some, None};
 ghost use Rattle.aq_rules.specs.Lines.Canonical.{is_office_line};
 ghost use Rattle.aq_rules.specs.Lines.Reading.{reading_rule, line_value, OfOffice};
+ghost use Rattle.aq_rd.specs.RdReading.{ReadsLine};
 ghost use Rattle.aq_rd.specs.Tags.{tag_value};
 ghost use Rattle.aq_forms.specs.Actions.{action_value};
 ghost use Rattle.aq_forms.specs.OfficeReading.{has_rd_tag, office_reading, form_reading, action_reading, record_reading, key_reading, xm_reading, xp_reading, xp_key_reading, xs_reading, xs_key_reading, xo_reading, xo_key_reading, xu_reading, xu_key_reading, xe_reading, event_reading, xe_key_reading, xc_reading, xa_reading, xa_key_reading, xb_reading, xb_key_reading};
@@ -28,13 +29,20 @@ pub fn read_office(line: &[u8]) -> Result<OfficeLine, Rule>
     ensures refused { OnErr result (line_value line.now ≡ None) }
     ensures spelled { IfOk result (λ x. IsTrue (is_office_line x)) }
 {
-    let read = read_line(line);
+    read_line(line)
+}
+
+fn read_line(line: &[u8]) -> Result<OfficeLine, Rule>
+    requires { has_rd_tag line.now ≡ false }
+    ensures { ReadsLine OfOffice line.now result }
+{
+    let read = read_in_order(line);
     what_a_line_spells_is_in_range();
     read
 }
 
 #[tactic(auto, unfolding(crate::specs::OfficeReading::office_reading))]
-fn read_line(line: &[u8]) -> Result<OfficeLine, Rule>
+fn read_in_order(line: &[u8]) -> Result<OfficeLine, Rule>
     ensures { result ≡ office_reading line.now }
 {
     let texts = Fields::new(line)?;

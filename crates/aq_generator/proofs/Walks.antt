@@ -17,5 +17,12 @@ module _ (text_of : List ℕ → List ℕ) (text_at : ℕ → List ℕ) (more : 
       ∙ append_assoc old (text_at a) (text_of (range_with_len (a + 1) (b - (a + 1))))
       ∙ ap (λ text. old ++ text) (sym (more a (range_with_len (a + 1) (b - (a + 1)))) ∙ ap text_of (sym (range-first a b low)))
 
-pub walk-end : (text_of : List ℕ → List ℕ) → text_of [] ≡ [] → (a b : ℕ) (old : List ℕ) → b ≤ a → old ++ text_of (range_with_len a (b - a)) ≡ old
+walk-end : (text_of : List ℕ → List ℕ) → text_of [] ≡ [] → (a b : ℕ) (old : List ℕ) → b ≤ a → old ++ text_of (range_with_len a (b - a)) ≡ old
 walk-end text_of none a b old high = ap (λ numbers. old ++ text_of numbers) (range-none a b high) ∙ ap (λ text. old ++ text) none ∙ append-nil old
+
+-- what a walk over so many numbers has written at its end
+pub walk-all : (text_of : List ℕ → List ℕ) → text_of [] ≡ [] → (first many a b : ℕ) (old new : List ℕ) → b ≤ a → b ≡ first + many
+    → new ++ text_of (range_with_len a (b - a)) ≡ old ++ text_of (range_with_len first (b - first)) → new ≡ old ++ text_of (range_with_len first many)
+walk-all text_of none first many a b old new high is kept =
+    let count : b - first ≡ many = omega (arith, is) in
+    sym (walk-end text_of none a b new high) ∙ kept ∙ ap (λ n. old ++ text_of (range_with_len first n)) count

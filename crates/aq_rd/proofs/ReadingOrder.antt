@@ -1,6 +1,6 @@
 -- Testing field by field in the order of the rules gives the value that a line spells, or the first rule that it breaks.
 use Rattle.std.proofs.Common.{◌≡◌, ℕ, Bool, true, false, cond, not, ◌&&◌, List, [], ◌∷◌, Some, None, Option, Ok, Err, Result, refl, sym, ap, ◌∙◌, subst, arith}
-use Rattle.std.specs.Prelude.{IfOk, IfErr, IfSome, IsTrue, OnOk, OnErr, bytes_eq, codes, find, int_le, is_none, ℤ, ◌≤ℤ◌, pos, if◌then◌else◌}
+use Rattle.std.specs.Prelude.{IfOk, IfSome, IsTrue, bytes_eq, codes, find, int_le, is_none, ℤ, ◌≤ℤ◌, pos, if◌then◌else◌}
 use Rattle.std.specs.Option.{ok_or}
 use Rattle.std.proofs.lemmas.Bool.{false≢true, and_parts}
 use Rattle.std.proofs.lemmas.Int.{ints}
@@ -27,7 +27,7 @@ use Rattle.aq_rd.specs.declared.line.RdLine.{RdLine}
 use Rattle.aq_rd.specs.declared.line.RdLine.TheVariants as line
 use Rattle.aq_rd.specs.Ranges.{HasLineRange}
 use Rattle.aq_rd.specs.Tags.{is_office, has_office_tag}
-use Rattle.aq_rd.specs.RdReading.{◌>>=◌, value_of, monitor_reading, start_reading, value_reading, valued_reading, null_reading, content_reading, put_reading, delete_reading, form_reading, rd_reading}
+use Rattle.aq_rd.specs.RdReading.{◌>>=◌, ReadsLine, value_of, line_of, monitor_reading, start_reading, value_reading, valued_reading, null_reading, content_reading, put_reading, delete_reading, form_reading, rd_reading}
 
 -- a reading gives what is spelled, and else the rule that is broken
 abbrev pub Reads : {A B : Type 0} → (A → B) → Result A Rule → Option B → Option Rule → Type 0
@@ -134,9 +134,6 @@ reads-delete texts = subst (Reads value_of (delete_reading texts) (delete_in tex
 
 -- ---- the action
 
-abbrev pub line_of : RdLine → LineValue
-line_of x = OfRd (value_of x)
-
 lift : (r : Result RdLine Rule) (value : Option RdValue) (rule : Option Rule) → Reads value_of r value rule → Reads line_of r (value >>- λ v. Some (OfRd v)) rule
 lift (Ok x) value rule h = (ap (λ o. o >>- λ v. Some (OfRd v)) h.0, h.1)
 lift (Err e) value rule h = (ap (λ o. o >>- λ v. Some (OfRd v)) h.0, h.1)
@@ -215,29 +212,13 @@ reads-line line none =
     (no_office (bytes_eq text (codes "XB")) Xb _ refl (λ _. refl))))))))))
     none
 
--- ---- the clauses, one by one
-
-pub ok-line : (r : Result RdLine Rule) (value : Option LineValue) (rule : Option Rule) → Reads line_of r value rule → IfOk r (λ x. value ≡ Some (OfRd (value_of x)))
-ok-line (Ok x) value rule h = h.0
-ok-line (Err e) value rule h = tt
-
-pub unbroken-line : (r : Result RdLine Rule) (value : Option LineValue) (rule : Option Rule) → Reads line_of r value rule → OnOk r (rule ≡ None)
-unbroken-line (Ok x) value rule h = h.1
-unbroken-line (Err e) value rule h = tt
-
-pub rule-line : (r : Result RdLine Rule) (value : Option LineValue) (rule : Option Rule) → Reads line_of r value rule → IfErr r (λ e. rule ≡ Some e)
-rule-line (Ok x) value rule h = tt
-rule-line (Err e) value rule h = h.1
-
-pub refused-line : (r : Result RdLine Rule) (value : Option LineValue) (rule : Option Rule) → Reads line_of r value rule → OnErr r (value ≡ None)
-refused-line (Ok x) value rule h = tt
-refused-line (Err e) value rule h = h.0
+-- ---- the clauses
 
 -- what a law says of all values that a line spells holds of the one that is read
-pub spelled-line : (r : Result RdLine Rule) (value : Option LineValue) (rule : Option Rule) → Reads line_of r value rule
-    → ((spelled : LineValue) → value ≡ Some spelled → IsTrue (is_line_value spelled)) → IfOk r (λ x. IsTrue (is_rd_value (value_of x)))
-spelled-line (Ok x) value rule h law = law (OfRd (value_of x)) h.0
-spelled-line (Err e) value rule h law = tt
+pub reads-clauses : {A : Type 0} (as_value : A → LineValue) (line : List ℕ) (r : Result A Rule) → Reads as_value r (line_value line) (reading_rule line)
+    → ((value : LineValue) → line_value line ≡ Some value → IsTrue (is_line_value value)) → ReadsLine as_value line r
+reads-clauses as_value line (Ok x) h law = record { ok = h.0; unbroken = h.1; rule = tt; refused = tt; spelled = law (as_value x) h.0 }
+reads-clauses as_value line (Err broken) h law = record { ok = tt; unbroken = tt; rule = h.1; refused = h.0; spelled = tt }
 
 ends : (least greatest value : ℤ) → (int_le least value && int_le value greatest) ≡ true → (least ≤ℤ value) × (value ≤ℤ greatest)
 ends least greatest value h =

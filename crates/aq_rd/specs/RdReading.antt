@@ -1,5 +1,5 @@
 -- An RD line as it is read: each field is tested in the order of the rules, and the first one that breaks its rule refuses the line.
-use Rattle.std.specs.Prelude.{ℕ, Bool, true, false, if◌then◌else◌, Some, None, Result, Ok, Err, ℤ, List, codes, bytes_eq}
+use Rattle.std.specs.Prelude.{◌≡◌, ℕ, Bool, true, false, if◌then◌else◌, Some, None, Result, Ok, Err, ℤ, List, codes, bytes_eq, IfOk, IfErr, IsTrue, OnOk, OnErr}
 use Rattle.std.specs.Option.{ok_or}
 use Rattle.aq_base.specs.Calendar.{hour_number}
 use Rattle.aq_base.specs.Decimal.{is_decimal}
@@ -8,10 +8,11 @@ use Rattle.aq_base.specs.declared.monitor.MonitorId.{MonitorId}
 use Rattle.aq_base.specs.declared.observation.Observation.{Observation}
 use Rattle.aq_base.specs.declared.rule.Rule.{Rule}
 use Rattle.aq_base.specs.declared.rule.Rule.TheVariants.{BadBytes, BadTag, FieldCount, BadAction, BadSite, ParameterOutOfProfile, BadPoc, BadDuration, BadUnit, BadMethod, BadDate, BadTime, ValueAndNull, NeitherValueNorNull, BadValue, ValueOutOfRange, BadNull, BadQualifier}
+use Rattle.aq_rules.specs.Lines.Canonical.{is_line_value}
 use Rattle.aq_rules.specs.Lines.Fields.{fields, field}
 use Rattle.aq_rules.specs.Lines.Spellings.{Rd, site_in, parameter_in, poc_in, duration_in, unit_in, method_in, date_in, time_in, value_in, null_in, qualifiers_in}
 use Rattle.aq_rules.specs.Lines.RdForm.{RdValue, Put as PutSample, Delete as DeleteSample, qualifier_fields}
-use Rattle.aq_rules.specs.Lines.Reading.{is_plain, is_deletion, has_wrong_count, has_value, has_null}
+use Rattle.aq_rules.specs.Lines.Reading.{LineValue, OfRd, line_value, reading_rule, is_plain, is_deletion, has_wrong_count, has_value, has_null}
 use Rattle.aq_rd.specs.declared.line.RdLine.{RdLine}
 use Rattle.aq_rd.specs.declared.line.RdLine.TheVariants.{Put, Delete}
 
@@ -19,6 +20,17 @@ use Rattle.aq_rd.specs.declared.line.RdLine.TheVariants.{Put, Delete}
 abbrev pub value_of : RdLine → RdValue
 value_of (Put update monitor duration hour content) = PutSample update monitor duration hour content
 value_of (Delete monitor hour) = DeleteSample monitor hour
+
+abbrev pub line_of : RdLine → LineValue
+line_of x = OfRd (value_of x)
+
+-- what is read is the value that the line spells, and else the rule is named that it breaks first
+pub record ReadsLine {A : Type 0} (as_value : A → LineValue) (line : List ℕ) (reading : Result A Rule) : Type 0 where
+  pub ok : IfOk reading (λ x. line_value line ≡ Some (as_value x))
+  pub unbroken : OnOk reading (reading_rule line ≡ None)
+  pub rule : IfErr reading (λ broken. reading_rule line ≡ Some broken)
+  pub refused : OnErr reading (line_value line ≡ None)
+  pub spelled : IfOk reading (λ x. IsTrue (is_line_value (as_value x)))
 
 infixl 10 ◌>>=◌
 abbrev pub ◌>>=◌ : {A B : Type 0} → Result A Rule → (A → Result B Rule) → Result B Rule

@@ -52,8 +52,9 @@ pub fn number_to(last: u64, text: &[u8]) -> Option<u64>
     }
 }
 
-// The number that digits write, if it has 64 bits.
-fn any_number(text: &[u8]) -> Option<u64>
+/// The number that digits write, if it has 64 bits. Another byte than a digit is refused, and a text
+/// of no bytes is 0.
+pub fn any_number(text: &[u8]) -> Option<u64>
     ensures { result ≡ (if are_digits text.now && nat_lt (digits_value 10 text.now) (2 ^ 64) then Some (digits_value 10 text.now) else None) }
 {
     let mut number = 0u64;

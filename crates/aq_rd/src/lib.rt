@@ -14,7 +14,7 @@ mod spellings;
 mod tag;
 mod words;
 
-pub use digits::{digits_in, number_to};
+pub use digits::{any_number, digits_in, number_to};
 pub use field_texts::{
     duration_name, parameter_name, write_code, write_date, write_field, write_start,
 };

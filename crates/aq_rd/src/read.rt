@@ -5,7 +5,7 @@ ghost use Rattle.aq_rules.specs.Lines.Fields.{field};
 ghost use Rattle.aq_rules.specs.Lines.Reading.{reading_rule, line_value, has_wrong_count, is_deletion, OfRd};
 ghost use Rattle.aq_rules.specs.Lines.Spellings.{Rd};
 ghost use Rattle.aq_rd.specs.Ranges.{HasLineRange};
-ghost use Rattle.aq_rd.specs.RdReading.{monitor_reading, start_reading, content_reading, valued_reading, null_reading, put_reading, delete_reading, form_reading, rd_reading, value_of};
+ghost use Rattle.aq_rd.specs.RdReading.{monitor_reading, start_reading, content_reading, valued_reading, null_reading, put_reading, delete_reading, form_reading, rd_reading, line_of, value_of, ReadsLine};
 ghost use Rattle.aq_rd.specs.Tags.{has_office_tag};
 
 use crate::bytes::has_spaces;
@@ -31,14 +31,21 @@ pub fn read_rd(line: &[u8]) -> Result<RdLine, Rule>
     ensures range { IfOk result HasLineRange }
     ensures spelled { IfOk result (λ x. IsTrue (is_rd_value (value_of x))) }
 {
-    let read = read_line(line);
+    read_line(line)
+}
+
+fn read_line(line: &[u8]) -> Result<RdLine, Rule>
+    requires { has_office_tag line.now ≡ false }
+    ensures { ReadsLine line_of line.now result }
+{
+    let read = read_in_order(line);
     what_a_line_spells_is_in_range();
     read
 }
 
 // In the order of the rules.
 #[tactic(auto, unfolding(crate::specs::RdReading::rd_reading))]
-fn read_line(line: &[u8]) -> Result<RdLine, Rule>
+fn read_in_order(line: &[u8]) -> Result<RdLine, Rule>
     ensures { result ≡ rd_reading line.now }
 {
     let has_spaces = has_spaces(line)?;

@@ -1,6 +1,6 @@
 -- The map of loads and the list of them.
 use Rattle.std.proofs.Common.{◌≡◌, ℕ, Bool, true, false, cond, Some, List, [], ◌∷◌, refl, ap, sym, ◌∙◌, arith}
-use Rattle.std.specs.Prelude.{option_map}
+use Rattle.std.specs.Prelude.{Option, option_map}
 use Rattle.std.specs.declared.cmp.Ordering.{Ordering}
 use Rattle.std.specs.declared.cmp.Ordering.TheVariants.{Less, Equal, Greater}
 use Rattle.std.specs.Ordering.{is_eq, is_lt, match_ordering, nat_cmp}
@@ -24,7 +24,7 @@ equal_number : (number other : ℕ) → is_eq (nat_cmp number other) ≡ true �
 equal_number number other h = grind (arith, nat_tests)
 
 -- a search of the map finds what the list has
-pub found_in : {X : Type 0} (of_kept : KeptLoad → X) (of_load : StoredLoad → X) → ((entry : ℕ × KeptLoad) → of_kept entry.1 ≡ of_load (stored_entry entry))
+found_in : {X : Type 0} (of_kept : KeptLoad → X) (of_load : StoredLoad → X) → ((entry : ℕ × KeptLoad) → of_kept entry.1 ≡ of_load (stored_entry entry))
     → (number : ℕ) (entries : List (ℕ × KeptLoad)) → option_map of_kept (lookup (is_at (nat_cmp number)) entries) ≡ option_map of_load (row_at load_rank (number ∷ []) (stored_in entries))
 found_in of_kept of_load is number [] = refl
 found_in {X} of_kept of_load is number (entry ∷ entries) =
@@ -34,6 +34,15 @@ found_in {X} of_kept of_load is number (entry ∷ entries) =
     in
     by (is_eq (nat_cmp number entry.0))
     ∙ ap (λ b. option_map of_load (cond b (Some (stored_entry entry)) (row_at load_rank (number ∷ []) (stored_in entries)))) (sym (same_number number entry.0))
+
+-- what is kept of the load with a number is what the list of loads says of it
+pub kept_of : {X : Type 0} (of_kept : KeptLoad → X) (of_load : StoredLoad → X) → ((entry : ℕ × KeptLoad) → of_kept entry.1 ≡ of_load (stored_entry entry))
+    → (number : ℕ) (entries : List (ℕ × KeptLoad)) (loads : List StoredLoad) (kept : Option KeptLoad) → stored_in entries ≡ loads → kept ≡ lookup (is_at (nat_cmp number)) entries
+    → option_map of_kept kept ≡ option_map of_load (row_at load_rank (number ∷ []) loads)
+kept_of of_kept of_load is number entries loads kept are found =
+    ap (option_map of_kept) found
+    ∙ found_in of_kept of_load is number entries
+    ∙ ap (λ (all : List StoredLoad). option_map of_load (row_at load_rank (number ∷ []) all)) are
 
 pub put_in : (number : ℕ) (kept : KeptLoad) (entries : List (ℕ × KeptLoad)) → stored_in (insert_entry nat_cmp entries number kept) ≡ with_row load_rank (stored_entry (number, kept)) (stored_in entries)
 put_in number kept [] = refl

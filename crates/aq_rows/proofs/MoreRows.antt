@@ -5,7 +5,7 @@ use Rattle.std.specs.List.{list_all}
 use Rattle.std.proofs.lemmas.Bool.{false≢true, and_parts}
 use Rattle.std.proofs.lemmas.Bool.Decides.{nat_tests}
 use Rattle.std.proofs.lemmas.List.Elements.{filter_map-append}
-use Rattle.aq_rules.specs.Kept.Rows.{Row, OfficeRow, ObsRow2, LoadRow, OfOfficeRow, OfObsRow, OfLoadRow, OfSecondRow, record_in_row, observation_in_row, load_in_row, says_something, office_in, table_of, tables_follow, is_valid, are_office_rows}
+use Rattle.aq_rules.specs.Kept.Rows.{Row, OfOfficeRow, OfObsRow, OfLoadRow, OfSecondRow, record_in_row, observation_in_row, load_in_row, says_something, office_in, table_of, tables_follow, is_valid, are_office_rows}
 use Rattle.aq_rows.specs.OneMoreRow.{has_none, is_in_turn, with_last, may_follow}
 
 all-last : {X : Type 0} (p : X → Bool) (xs : List X) (x : X) → list_all p (xs ++ x ∷ []) ≡ (list_all p xs && p x)
@@ -53,51 +53,38 @@ some_first {X} read a rows h = choose (read a) refl h
     choose None e h = absurd (false≢true h)
     choose (Some x) e h = rw e refl
 
-turn-record : (row : OfficeRow) (before : List Row) → list_all says_something before ≡ true → none_later (OfOfficeRow row) before ≡ is_in_turn (office_in before) (OfOfficeRow row)
-unfolding none_later
-turn-record row [] h = refl
-turn-record row (OfOfficeRow a ∷ before) h =
-    let parts = and_parts (says_something (OfOfficeRow a)) (list_all says_something before) h in
-    turn-record row before parts.1
-turn-record row (OfObsRow a ∷ before) h = absurd (false≢true h)
-turn-record row (OfLoadRow a ∷ before) h =
-    let parts = and_parts (says_something (OfLoadRow a)) (list_all says_something before) h in
-    sym (ap (λ b. has_none (filter_map observation_in_row before) && b) (some_first load_in_row (OfLoadRow a) before parts.0) ∙ none_with (has_none (filter_map observation_in_row before)))
+-- a row before others changes whose turn comes after them as its table says
+step : (a row : Row) (before : List Row) → says_something a ≡ true → says_something row ≡ true
+    → (nat_le (table_of a) (table_of row) && is_in_turn (office_in before) row) ≡ is_in_turn (office_in (a ∷ before)) row
+step (OfObsRow a) row before said says = absurd (false≢true said)
+step (OfOfficeRow a) (OfOfficeRow row) before said says = refl
+step (OfOfficeRow a) (OfObsRow row) before said says = absurd (false≢true says)
+step (OfOfficeRow a) (OfLoadRow row) before said says = refl
+step (OfOfficeRow a) (OfSecondRow row) before said says = refl
+step (OfLoadRow a) (OfOfficeRow row) before said says =
+    sym (ap (λ b. has_none (filter_map observation_in_row before) && b) (some_first load_in_row (OfLoadRow a) before said) ∙ none_with (has_none (filter_map observation_in_row before)))
   where
     none_with : (b : Bool) → (b && false) ≡ false
     none_with true = refl
     none_with false = refl
-turn-record row (OfSecondRow a ∷ before) h =
-    let parts = and_parts (says_something (OfSecondRow a)) (list_all says_something before) h in
-    sym (ap (λ b. b && has_none (filter_map load_in_row before)) (some_first observation_in_row (OfSecondRow a) before parts.0))
-
-turn-load : (row : LoadRow) (before : List Row) → list_all says_something before ≡ true → none_later (OfLoadRow row) before ≡ is_in_turn (office_in before) (OfLoadRow row)
-unfolding none_later
-turn-load row [] h = refl
-turn-load row (OfOfficeRow a ∷ before) h =
-    let parts = and_parts (says_something (OfOfficeRow a)) (list_all says_something before) h in
-    turn-load row before parts.1
-turn-load row (OfObsRow a ∷ before) h = absurd (false≢true h)
-turn-load row (OfLoadRow a ∷ before) h =
-    let parts = and_parts (says_something (OfLoadRow a)) (list_all says_something before) h in
-    turn-load row before parts.1
-turn-load row (OfSecondRow a ∷ before) h =
-    let parts = and_parts (says_something (OfSecondRow a)) (list_all says_something before) h in
-    sym (some_first observation_in_row (OfSecondRow a) before parts.0)
-
-turn-observation : (row : ObsRow2) (before : List Row) → none_later (OfSecondRow row) before ≡ true
-unfolding none_later
-turn-observation row [] = refl
-turn-observation row (OfOfficeRow a ∷ before) = turn-observation row before
-turn-observation row (OfObsRow a ∷ before) = turn-observation row before
-turn-observation row (OfLoadRow a ∷ before) = turn-observation row before
-turn-observation row (OfSecondRow a ∷ before) = turn-observation row before
+step (OfLoadRow a) (OfObsRow row) before said says = absurd (false≢true says)
+step (OfLoadRow a) (OfLoadRow row) before said says = refl
+step (OfLoadRow a) (OfSecondRow row) before said says = refl
+step (OfSecondRow a) (OfOfficeRow row) before said says =
+    ap (λ b. b && has_none (filter_map load_in_row before)) (sym (some_first observation_in_row (OfSecondRow a) before said))
+step (OfSecondRow a) (OfObsRow row) before said says = absurd (false≢true says)
+step (OfSecondRow a) (OfLoadRow row) before said says = sym (some_first observation_in_row (OfSecondRow a) before said)
+step (OfSecondRow a) (OfSecondRow row) before said says = refl
 
 turn : (row : Row) (before : List Row) → says_something row ≡ true → list_all says_something before ≡ true → none_later row before ≡ is_in_turn (office_in before) row
-turn (OfOfficeRow row) before says h = turn-record row before h
-turn (OfObsRow row) before says h = absurd (false≢true says)
-turn (OfLoadRow row) before says h = turn-load row before h
-turn (OfSecondRow row) before says h = turn-observation row before
+unfolding none_later
+turn (OfOfficeRow row) [] says h = refl
+turn (OfObsRow row) [] says h = absurd (false≢true says)
+turn (OfLoadRow row) [] says h = refl
+turn (OfSecondRow row) [] says h = refl
+turn row (a ∷ before) says h =
+    let parts = and_parts (says_something a) (list_all says_something before) h in
+    ap (λ b. nat_le (table_of a) (table_of row) && b) (turn row before says parts.1) ∙ step a row before parts.0 says
 
 -- ---- the office of the rows
 

@@ -1,6 +1,6 @@
 -- Pairs of numbers in a row's texts, and the numbers and rules in them.
-use Rattle.std.proofs.Common.{◌≡◌, ℕ, ◌+◌, ◌<◌, ◌≤◌, Bool, true, false, not, ◌&&◌, cond, List, [], ◌∷◌, length, refl, sym, ap, ◌∙◌, arith}
-use Rattle.std.proofs.lemmas.Bool.{and_parts}
+use Rattle.std.proofs.Common.{◌≡◌, ℕ, ◌+◌, ◌<◌, ◌≤◌, Bool, true, false, not, ◌&&◌, cond, List, [], ◌∷◌, ◌^◌, length, nat_lt, if◌then◌else◌, refl, sym, ap, ◌∙◌, arith}
+use Rattle.std.proofs.lemmas.Bool.{false≢true, and_parts}
 use Rattle.std.proofs.lemmas.Bool.Decides.{nat_tests}
 use Rattle.std.proofs.lemmas.List.{drop_all}
 use Rattle.std.specs.Prelude.{Option, Some, None, ◌==◌, nat_le, find}
@@ -53,23 +53,22 @@ by_small text = by_number (number_in text)
 
 -- ---- numbers
 
-pub other_byte : (text : List ℕ) → are_digits text ≡ false → small_number text ≡ None
+-- a text of no digits has no small number
+pub no_number : (text : List ℕ) → is_empty text ≡ true → small_number text ≡ None
 unfolding small_number
-other_byte text bad = ap (λ b. cond (b && not (is_empty text)) (Some (digits_value 10 text)) None >>= only_if is_few) bad
+no_number [] none = refl
+no_number (b ∷ bs) none = absurd (false≢true none)
 
-pub too_large : (text : List ℕ) → MOST_LINES < digits_value 10 text → small_number text ≡ None
+-- what has more than 64 bits is no small number either
+pub whole_number : (text : List ℕ) → is_empty text ≡ false
+    → small_number text ≡ ((if are_digits text && nat_lt (digits_value 10 text) (2 ^ 64) then Some (digits_value 10 text) else None) >>= only_if is_few)
 unfolding small_number
-too_large text large = by_test (are_digits text && not (is_empty text))
+whole_number text some = rw some (by_test (are_digits text) (nat_lt (digits_value 10 text) (2 ^ 64)) refl)
   where
-    by_test : (b : Bool) → (cond b (Some (digits_value 10 text)) None >>= only_if is_few) ≡ None
-    by_test true = let no : is_few (digits_value 10 text) ≡ false = grind (arith, nat_tests) in ap (λ b. cond b (Some (digits_value 10 text)) None) no
-    by_test false = refl
-
-pub all_digits : (text : List ℕ) (n : ℕ) → is_empty text ≡ false → are_digits text ≡ true → n ≡ digits_value 10 text → n ≤ MOST_LINES → Some n ≡ small_number text
-unfolding small_number
-all_digits text n some digits is few =
-    let yes : is_few n ≡ true = grind (arith, nat_tests) in
-    sym (
-    rw (digits, some)
-    (ap (λ m. cond (is_few m) (Some m) None) (sym is) ∙ ap (λ b. cond b (Some n) None) yes)
-    )
+    by_test : (digits fits : Bool) → nat_lt (digits_value 10 text) (2 ^ 64) ≡ fits
+        → (cond (digits && true) (Some (digits_value 10 text)) None >>= only_if is_few) ≡ (cond (digits && fits) (Some (digits_value 10 text)) None >>= only_if is_few)
+    by_test false fits e = refl
+    by_test true true e = refl
+    by_test true false e =
+        let large : is_few (digits_value 10 text) ≡ false = grind (arith, nat_tests) in
+        ap (λ b. cond b (Some (digits_value 10 text)) None) large

@@ -55,14 +55,7 @@ monitor-fits id (Some (Monitor other duration eligible)) hour found kept =
     let P : Site → Type 0 = λ s. is_site s ≡ true in
     let Q : ℕ → Type 0 = λ p. is_poc p ≡ true in
     and_from (is_site id.site) (is_poc id.poc) (subst P same.0 parts.0) (subst Q same.1 parts.1)
-monitor-fits id (Some (Primary site pollutant from poc)) hour found kept = cc
-monitor-fits id (Some (Schedule site pollutant from interval anchor)) hour found kept = cc
-monitor-fits id (Some (Season site year first last)) hour found kept = cc
-monitor-fits id (Some (Makeup site missed makeup)) hour found kept = cc
-monitor-fits id (Some (Event number site pollutant first last code)) hour found kept = cc
-monitor-fits id (Some (Concurrence number agreed)) hour found kept = cc
-monitor-fits id (Some (Approved site day)) hour found kept = cc
-monitor-fits id (Some (Combined site pollutant from joined)) hour found kept = cc
+monitor-fits id (Some other) hour found kept = cc
 
 pub fitting_can_stand : (office : Office) (entry : ObsKey × Observation) → list_all (fits_records office) office.records ≡ true → fits_monitors office entry ≡ true → can_stand entry ≡ true
 fitting_can_stand office entry records fits =

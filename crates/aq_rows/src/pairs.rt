@@ -6,6 +6,7 @@ ghost use Rattle.aq_rows.specs.Loaded.{listed_word, rest_word, rule_in, small_nu
 
 use crate::texts::cut_at;
 use aq_base::{ListedLine, MOST_LINES, RestRule, Rule};
+use aq_rd::any_number;
 
 /// A listed line, `line:rule`, of a body of the most lines.
 #[tactic(auto, using(crate::proofs::PairTexts::no_listed), unfolding(crate::specs::Loaded::listed_word))]
@@ -51,7 +52,7 @@ fn rule_with(rules: &[Rule], number: u32) -> Option<Rule>
 }
 
 /// A number of digits, zeros at its front among them, that is at most that of the most lines.
-#[tactic(auto, unfolding(crate::specs::Loaded::small_number))]
+#[tactic(auto, using(crate::proofs::PairTexts::no_number, crate::proofs::PairTexts::whole_number))]
 fn small_number(text: &[u8]) -> Option<u32>
     ensures value { result ≡ small_number text.now }
     ensures few { IfSome result (λ n. n ≤ MOST_LINES) }
@@ -59,15 +60,10 @@ fn small_number(text: &[u8]) -> Option<u32>
     if text.is_empty() {
         return None;
     }
-    let mut number = 0;
-    for digit in text {
-        if !digit.is_ascii_digit() {
-            return None;
-        }
-        number = 10 * number + u32::from(*digit - b'0');
-        if number > MOST_LINES {
-            return None;
-        }
+    let number = any_number(text)?;
+    if number <= u64::from(MOST_LINES) {
+        Some(number as u32)
+    } else {
+        None
     }
-    Some(number)
 }

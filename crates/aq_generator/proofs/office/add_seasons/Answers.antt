@@ -1,8 +1,7 @@
-use Rattle.std.proofs.Common.{◌≡◌, ◌+◌, ◌-◌, ◌++◌, ◌∙◌, ℕ, List, ap, sym, arith, refl, map}
+use Rattle.std.proofs.Common.{◌∙◌, arith, refl, map}
 use Rattle.std.specs.Prelude.{flat_map}
-use Rattle.std.specs.List.{range_with_len}
 use Rattle.aq_rules.specs.Shown.Generator.{FIRST_GENERATED_YEAR, generated_season, generated_years, record_text}
-use Rattle.aq_generator.proofs.Walks.{walk-step, walk-end}
+use Rattle.aq_generator.proofs.Walks.{walk-step, walk-all}
 use Rattle.aq_generator.proofs.office.add_seasons.Goals as goal
 
 pub loop-year-preserved : goal.loop-year-preserved
@@ -14,7 +13,5 @@ loop-year-preserved c =
 pub returns : goal.returns
 unfolding generated_years
 returns c =
-    let seasons = λ (years : List ℕ). flat_map record_text (map (generated_season c.args.number) years) in
-    let count : (FIRST_GENERATED_YEAR + c.from-year-end.result) - FIRST_GENERATED_YEAR ≡ c.args.years = omega (arith, c.from-year-end.ensures) in
-    sym (walk-end seasons refl c.loop-year.year (FIRST_GENERATED_YEAR + c.from-year-end.result) c.loop-year.text.items c.loop-year-test.false)
-    ∙ c.loop-year.invariant ∙ ap (λ (n : ℕ). c.args.text.now.items ++ seasons (range_with_len FIRST_GENERATED_YEAR n)) count
+    walk-all (λ years. flat_map record_text (map (generated_season c.args.number) years)) refl FIRST_GENERATED_YEAR c.args.years
+    c.loop-year.year _ c.args.text.now.items c.loop-year.text.items c.loop-year-test.false (omega (arith, c.from-year-end.ensures)) c.loop-year.invariant

@@ -1,8 +1,7 @@
-use Rattle.std.proofs.Common.{◌≡◌, ◌+◌, ◌-◌, ◌∙◌, ℕ, List, ap, sym, arith, refl}
+use Rattle.std.proofs.Common.{◌∙◌, [], arith, refl}
 use Rattle.std.specs.Prelude.{flat_map}
-use Rattle.std.specs.List.{range_with_len}
 use Rattle.aq_rules.specs.Shown.Generator.{generated_records, record_text, office_load}
-use Rattle.aq_generator.proofs.Walks.{walk-step, walk-end}
+use Rattle.aq_generator.proofs.Walks.{walk-step, walk-all}
 use Rattle.aq_generator.proofs.Written.{records-of-sites}
 use Rattle.aq_generator.proofs.office.office_of.Goals as goal
 
@@ -15,7 +14,5 @@ loop-number-preserved c =
 pub returns : goal.returns
 unfolding office_load
 returns c =
-    let sites = λ (numbers : List ℕ). flat_map record_text (flat_map (generated_records c.args.years) numbers) in
-    let count : (c.from-number-end.result + 1) - 1 ≡ c.args.sites = omega (arith, c.from-number-end.ensures) in
-    sym (walk-end sites refl c.loop-number.number (c.from-number-end.result + 1) c.loop-number.text.items c.loop-number-test.false)
-    ∙ c.loop-number.invariant ∙ ap (λ (n : ℕ). sites (range_with_len 1 n)) count
+    walk-all (λ numbers. flat_map record_text (flat_map (generated_records c.args.years) numbers)) refl 1 c.args.sites
+    c.loop-number.number _ [] c.loop-number.text.items c.loop-number-test.false (omega (arith, c.from-number-end.ensures)) c.loop-number.invariant

@@ -1,0 +1,7 @@
+use Rattle.aq_rd.specs.RdReading.{line_of}
+use Rattle.aq_rd.proofs.ReadingOrder.{reads-line, reads-clauses}
+use Rattle.aq_rd.proofs.read.read_line.Goals as goal
+
+pub returns : goal.returns
+returns c =
+    reads-clauses line_of c.args.line.now _ (rw c.read_in_order-read.ensures (reads-line c.args.line.now c.requires)) (c.what_a_line_spells_is_in_range.ensures c.args.line.now)
