@@ -43,7 +43,6 @@ fn read_line(line: &[u8]) -> Result<RdLine, Rule>
     read
 }
 
-// In the order of the rules.
 #[tactic(auto, unfolding(crate::specs::RdReading::rd_reading))]
 fn read_in_order(line: &[u8]) -> Result<RdLine, Rule>
     ensures { result ≡ rd_reading line.now }
