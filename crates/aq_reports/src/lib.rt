@@ -8,6 +8,7 @@ mod export;
 mod json_text;
 mod list;
 mod load;
+mod numbered;
 mod quarters;
 mod report;
 mod sheet;

@@ -1,11 +1,14 @@
 //! The sheet of a load's reply.
 ghost use Rattle.std.specs.Prelude.{◌≡◌, ◌∷◌, [], ◌++◌, IfOk, OnOk, map};
+ghost use Rattle.aq_base.specs.Rule.{rule_name, rule_number};
+ghost use Rattle.aq_rules.specs.Shown.Sheet.{count_cell};
+ghost use Rattle.aq_rules.specs.Shown.Sheet.SheetCell.{Text};
 ghost use Rattle.aq_rules.specs.Shown.Sheets as sheets;
 
 use crate::cell::SheetCell;
 use crate::list::{list, names};
 use crate::sheet::{Cells, Head, Rows, Sheet};
-use aq_base::{ListedLine, LoadReply, Memory, RestRule};
+use aq_base::{ListedLine, LoadReply, Memory, RestRule, Rule};
 use std::alloc::Global;
 
 /// The sheet of a reply: the listed lines in order, and then the further refused lines by their rules.
@@ -29,24 +32,10 @@ fn add_listed(alloc: Global, rows: &mut Rows, lines: &[ListedLine]) -> Result<()
     ensures { OnOk result (rows.new ≡ rows.old ++ map sheets.listed_row lines.now) }
 {
     for listed in lines {
-        rows.push(listed_row(alloc, listed)?)?;
+        let line = SheetCell::count(listed.line);
+        rows.push(refused_row(alloc, line, listed.rule, 1)?)?;
     }
     Ok(())
-}
-
-fn listed_row(alloc: Global, listed: &ListedLine) -> Result<Cells, Memory>
-    ensures { IfOk result (λ cells. cells ≡ sheets.listed_row listed.now) }
-{
-    let name = SheetCell::text(alloc, listed.rule.name().as_bytes())?;
-    list(
-        alloc,
-        [
-            SheetCell::count(listed.line),
-            SheetCell::count(u32::from(listed.rule.number())),
-            name,
-            SheetCell::count(1),
-        ],
-    )
 }
 
 /// A row for each rule that further lines broke.
@@ -54,22 +43,16 @@ fn add_rest(alloc: Global, rows: &mut Rows, rules: &[RestRule]) -> Result<(), Me
     ensures { OnOk result (rows.new ≡ rows.old ++ map sheets.rest_row rules.now) }
 {
     for rest in rules {
-        rows.push(rest_row(alloc, rest)?)?;
+        rows.push(refused_row(alloc, SheetCell::missing(), rest.rule, rest.count)?)?;
     }
     Ok(())
 }
 
-fn rest_row(alloc: Global, rest: &RestRule) -> Result<Cells, Memory>
-    ensures { IfOk result (λ cells. cells ≡ sheets.rest_row rest.now) }
+/// A row of so many lines that broke a rule.
+fn refused_row(alloc: Global, line: SheetCell, rule: Rule, count: u32) -> Result<Cells, Memory>
+    ensures { IfOk result (λ cells. cells ≡ line ∷ count_cell (rule_number rule) ∷ Text (rule_name rule) ∷ count_cell count ∷ []) }
 {
-    let name = SheetCell::text(alloc, rest.rule.name().as_bytes())?;
-    list(
-        alloc,
-        [
-            SheetCell::missing(),
-            SheetCell::count(u32::from(rest.rule.number())),
-            name,
-            SheetCell::count(rest.count),
-        ],
-    )
+    let number = SheetCell::count(u32::from(rule.number()));
+    let name = SheetCell::text(alloc, rule.name().as_bytes())?;
+    list(alloc, [line, number, name, SheetCell::count(count)])
 }

@@ -1,12 +1,12 @@
 //! The sheets of a year's PM2.5 and PM10 quarters.
-ghost use Rattle.std.specs.Prelude.{◌≡◌, IfOk, map};
-ghost use Rattle.std.specs.List.{enumerate_from};
+ghost use Rattle.std.specs.Prelude.{◌≡◌, IfOk};
 ghost use Rattle.aq_rules.specs.Kept.SummaryVerdicts.{kept_counted};
 ghost use Rattle.aq_rules.specs.Shown.ParticleSheets as particle_sheets;
 
 use crate::cell::SheetCell;
 use crate::list::{add_count, add_head, add_text, list, names};
-use crate::sheet::{Cells, Heads, Rows, Sheet};
+use crate::numbered::{NumberedRow, numbered_rows};
+use crate::sheet::{Cells, Heads, Sheet};
 use crate::text::site_text;
 use aq_base::{Memory, SiteId};
 use aq_verdict::{
@@ -35,7 +35,7 @@ pub fn pm25_sheet(alloc: Global, site: SiteId, year: u16, parts: &PmYear) -> Res
             b"greatest",
         ],
     )?;
-    let rows = pm25_rows(alloc, parts.quarters())?;
+    let rows = numbered_rows(alloc, 1, parts.quarters())?;
     Ok(Sheet::new(heads, columns, rows))
 }
 
@@ -67,35 +67,27 @@ fn rank_cell(parts: &PmYear) -> SheetCell
     SheetCell::count(u32::from(rank_of(counted)))
 }
 
-fn pm25_rows(alloc: Global, quarters: &[PmQuarter; 4]) -> Result<Rows, Memory>
-    ensures { IfOk result (λ rows. rows ≡ map particle_sheets.pm25_cells (enumerate_from 1 quarters.now)) }
-{
-    let mut rows = Rows::new(alloc);
-    let mut number = 1;
-    for quarter in quarters {
-        rows.push(pm25_cells(alloc, number, quarter)?)?;
-        number += 1;
-    }
-    Ok(rows)
-}
+impl NumberedRow for PmQuarter {
+    ghost use Rattle.aq_rules.specs.Shown.ParticleSheets as particle_sheets;
 
-fn pm25_cells(alloc: Global, number: u32, quarter: &PmQuarter) -> Result<Cells, Memory>
-    ensures { IfOk result (λ cells. cells ≡ particle_sheets.pm25_cells (number, quarter.now)) }
-{
-    list(
-        alloc,
-        [
-            SheetCell::count(number),
-            SheetCell::count(u32::from(quarter.scheduled())),
-            SheetCell::count(u32::from(quarter.creditable())),
-            SheetCell::count(capture(quarter)),
-            SheetCell::count(u32::from(quarter.counted())),
-            SheetCell::count(u32::from(quarter.days())),
-            SheetCell::fixed(i64::from(quarter.sum()), 1),
-            SheetCell::tenths(quarter.least()),
-            SheetCell::tenths(quarter.greatest()),
-        ],
-    )
+    ghost shown = { particle_sheets.pm25_cells };
+
+    fn cells(&self, alloc: Global, number: u32) -> Result<Cells, Memory> {
+        list(
+            alloc,
+            [
+                SheetCell::count(number),
+                SheetCell::count(u32::from(self.scheduled())),
+                SheetCell::count(u32::from(self.creditable())),
+                SheetCell::count(capture(self)),
+                SheetCell::count(u32::from(self.counted())),
+                SheetCell::count(u32::from(self.days())),
+                SheetCell::fixed(i64::from(self.sum()), 1),
+                SheetCell::tenths(self.least()),
+                SheetCell::tenths(self.greatest()),
+            ],
+        )
+    }
 }
 
 /// The sheet of a PM10 year: its estimated exceedances, and a row for each quarter.
@@ -117,7 +109,7 @@ pub fn pm10_sheet(alloc: Global, site: SiteId, year: u16, parts: &Pm10Year) -> R
             b"lower",
         ],
     )?;
-    let rows = pm10_rows(alloc, parts.quarters())?;
+    let rows = numbered_rows(alloc, 1, parts.quarters())?;
     Ok(Sheet::new(heads, columns, rows))
 }
 
@@ -133,33 +125,25 @@ fn pm10_heads(alloc: Global, site: SiteId, year: u16, parts: &Pm10Year) -> Resul
     Ok(heads)
 }
 
-fn pm10_rows(alloc: Global, quarters: &[Pm10Quarter; 4]) -> Result<Rows, Memory>
-    ensures { IfOk result (λ rows. rows ≡ map particle_sheets.pm10_cells (enumerate_from 1 quarters.now)) }
-{
-    let mut rows = Rows::new(alloc);
-    let mut number = 1;
-    for quarter in quarters {
-        rows.push(pm10_cells(alloc, number, quarter)?)?;
-        number += 1;
-    }
-    Ok(rows)
-}
+impl NumberedRow for Pm10Quarter {
+    ghost use Rattle.aq_rules.specs.Shown.ParticleSheets as particle_sheets;
 
-fn pm10_cells(alloc: Global, number: u32, quarter: &Pm10Quarter) -> Result<Cells, Memory>
-    ensures { IfOk result (λ cells. cells ≡ particle_sheets.pm10_cells (number, quarter.now)) }
-{
-    list(
-        alloc,
-        [
-            SheetCell::count(number),
-            SheetCell::count(u32::from(quarter.days())),
-            SheetCell::count(u32::from(quarter.scheduled())),
-            SheetCell::count(u32::from(quarter.captured())),
-            SheetCell::count(u32::from(quarter.strata())),
-            SheetCell::count(u32::from(quarter.samples())),
-            SheetCell::count(u32::from(quarter.exceedances())),
-            SheetCell::hundredths(quarter_estimate(quarter)),
-            SheetCell::hundredths(quarter_lower(quarter)),
-        ],
-    )
+    ghost shown = { particle_sheets.pm10_cells };
+
+    fn cells(&self, alloc: Global, number: u32) -> Result<Cells, Memory> {
+        list(
+            alloc,
+            [
+                SheetCell::count(number),
+                SheetCell::count(u32::from(self.days())),
+                SheetCell::count(u32::from(self.scheduled())),
+                SheetCell::count(u32::from(self.captured())),
+                SheetCell::count(u32::from(self.strata())),
+                SheetCell::count(u32::from(self.samples())),
+                SheetCell::count(u32::from(self.exceedances())),
+                SheetCell::hundredths(quarter_estimate(self)),
+                SheetCell::hundredths(quarter_lower(self)),
+            ],
+        )
+    }
 }

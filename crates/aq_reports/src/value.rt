@@ -1,13 +1,13 @@
 //! The sheet of a design value of any standard: three years, the oldest first.
-ghost use Rattle.std.specs.Prelude.{◌≡◌, ◌-◌, ◌≤◌, IfOk, map};
-ghost use Rattle.std.specs.List.{enumerate_from};
+ghost use Rattle.std.specs.Prelude.{◌≡◌, ◌-◌, ◌≤◌, IfOk};
 ghost use Rattle.aq_rules.specs.Shown.Sheets as sheets;
 ghost use Rattle.aq_rules.specs.Shown.OtherSheets as other;
 ghost use Rattle.aq_verdict.specs.Designs.{design_of};
 
 use crate::cell::SheetCell;
 use crate::list::{add_count, add_head, add_text, list, names};
-use crate::sheet::{Cells, Heads, Rows, Sheet};
+use crate::numbered::{NumberedRow, numbered_rows};
+use crate::sheet::{Cells, Heads, Sheet};
 use crate::text::site_text;
 use crate::value_pm10::pm10_value_sheet;
 use crate::value_pm25::{annual_value_sheet, daily_value_sheet};
@@ -66,36 +66,27 @@ fn ozone_value_sheet(
             b"season_valid",
         ],
     )?;
-    let rows = ozone_rows(alloc, oldest_year(year), years)?;
+    let rows = numbered_rows(alloc, oldest_year(year), years)?;
     Ok(Sheet::new(heads, columns, rows))
 }
 
-fn ozone_rows(alloc: Global, oldest: u32, years: &[OzoneYear; 3]) -> Result<Rows, Memory>
-    requires { oldest ≤ 65535 }
-    ensures { IfOk result (λ rows. rows ≡ map sheets.year_cells (enumerate_from oldest years.now)) }
-{
-    let mut rows = Rows::new(alloc);
-    let mut number = oldest;
-    for kept in years {
-        rows.push(ozone_cells(alloc, number, kept)?)?;
-        number += 1;
-    }
-    Ok(rows)
-}
+impl NumberedRow for OzoneYear {
+    ghost use Rattle.aq_rules.specs.Shown.Sheets as sheets;
 
-fn ozone_cells(alloc: Global, number: u32, kept: &OzoneYear) -> Result<Cells, Memory>
-    ensures { IfOk result (λ cells. cells ≡ sheets.year_cells (number, kept.now)) }
-{
-    list(
-        alloc,
-        [
-            SheetCell::count(number),
-            SheetCell::count(u32::from(kept.ranked())),
-            SheetCell::ppm(kept.fourth()),
-            SheetCell::count(u32::from(kept.season_days())),
-            SheetCell::count(u32::from(kept.season_valid())),
-        ],
-    )
+    ghost shown = { sheets.year_cells };
+
+    fn cells(&self, alloc: Global, number: u32) -> Result<Cells, Memory> {
+        list(
+            alloc,
+            [
+                SheetCell::count(number),
+                SheetCell::count(u32::from(self.ranked())),
+                SheetCell::ppm(self.fourth()),
+                SheetCell::count(u32::from(self.season_days())),
+                SheetCell::count(u32::from(self.season_valid())),
+            ],
+        )
+    }
 }
 
 /// The heads of a design value of any standard.

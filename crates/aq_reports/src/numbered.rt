@@ -1,0 +1,35 @@
+//! Rows of a table that have a number each.
+ghost use Rattle.std.specs.Prelude.{◌≡◌, ◌+◌, ◌<◌, ◌^◌, ℕ, List, IfOk, length, map};
+ghost use Rattle.std.specs.List.{enumerate_from};
+ghost use Rattle.aq_rules.specs.Shown.Sheet.{SheetCell};
+
+use crate::sheet::{Cells, Rows};
+use aq_base::Memory;
+use std::alloc::Global;
+
+/// What a table shows in a row of its own, beside a number.
+pub(crate) trait NumberedRow {
+    /// The cells of the row, by its number.
+    ghost shown: { ℕ × Self → List SheetCell };
+
+    fn cells(&self, alloc: Global, number: u32) -> Result<Cells, Memory>
+        ensures { IfOk result (λ cells. cells ≡ shown (number, self.now)) };
+}
+
+/// A row for each item, numbered from the first on.
+pub(crate) fn numbered_rows<T: NumberedRow>(
+    alloc: Global,
+    first: u32,
+    items: &[T],
+) -> Result<Rows, Memory>
+    requires { first + length items.now < 2 ^ 32 }
+    ensures { IfOk result (λ rows. rows ≡ map T.shown (enumerate_from first items.now)) }
+{
+    let mut rows = Rows::new(alloc);
+    let mut number = first;
+    for item in items {
+        rows.push(item.cells(alloc, number)?)?;
+        number += 1;
+    }
+    Ok(rows)
+}
