@@ -65,21 +65,19 @@ dated n h =
     }
 
 -- each number of a day is its date's
-pub date_is : (n : ℕ) → n ≤ LAST_DAY → IsDay (year_of n) (month_of n) (day_of_month n)
-date_is n h =
+dated_so : (n : ℕ) → n ≤ LAST_DAY → IsDay (year_of n) (month_of n) (day_of_month n) × (day_number (year_of n) (month_of n) (day_of_month n) ≡ n)
+dated_so n h =
     let d = dated n h in
     let y = ap year_of (sym d.number) ∙ year_is _ _ _ d.is in
     let m = ap month_of (sym d.number) ∙ month_is _ _ _ d.is in
     let k = ap day_of_month (sym d.number) ∙ day_is _ _ _ d.is in
-    rw (k, m, y) d.is
+    rw (k, m, y) (d.is, d.number)
+
+pub date_is : (n : ℕ) → n ≤ LAST_DAY → IsDay (year_of n) (month_of n) (day_of_month n)
+date_is n h = (dated_so n h).0
 
 pub date_number : (n : ℕ) → n ≤ LAST_DAY → day_number (year_of n) (month_of n) (day_of_month n) ≡ n
-date_number n h =
-    let d = dated n h in
-    let y = ap year_of (sym d.number) ∙ year_is _ _ _ d.is in
-    let m = ap month_of (sym d.number) ∙ month_is _ _ _ d.is in
-    let k = ap day_of_month (sym d.number) ∙ day_is _ _ _ d.is in
-    rw (k, m, y) d.number
+date_number n h = (dated_so n h).1
 
 -- where a quarter begins and ends, by its year and its place in that
 first_is : (q year part : ℕ) → quarter_year q ≡ year → q % 4 ≡ part → quarter_first q ≡ days_of_years (year - FIRST_YEAR) + days_of_months year (3 * part)

@@ -98,14 +98,34 @@ units-of d [] divide = omega (arith, ints)
 units-of d (part ∷ parts) divide =
     units-at part.0 (sum_of_fractions parts).0 (sum_in_units d parts) part.1 (sum_of_fractions parts).1 (d / part.1) d (div-mul_cancel part.1 (All-head (λ (part : ℤ × ℕ). part.1 ∣ d) part parts divide)) (units-of d parts (All-tail (λ (part : ℤ × ℕ). part.1 ∣ d) part parts divide))
 
--- one step of the sum fits 128 bits
-pub ratio-fits : (num den total : ℤ) (count : ℕ) → unsigned_abs num ≤ 2 ^ 108 → unsigned_abs den ≤ 2 ^ 81 → unsigned_abs total ≤ 2 ^ 31 → count < 2 ^ 8 → FitsSigned w128 ((num *ℤ pos count) +ℤ (total *ℤ den))
-ratio-fits num den total count num_small den_small total_small count_small =
+-- one step of the sum and each part of it fit 128 bits
+pub record StepFits (num den total : ℤ) (count : ℕ) : Type 0 where
+  pub old_num : FitsSigned w128 num
+  pub old_den : FitsSigned w128 den
+  pub one_total : FitsSigned w128 total
+  pub one_count : FitsSigned w128 (pos count)
+  pub first : FitsSigned w128 (num *ℤ pos count)
+  pub second : FitsSigned w128 (total *ℤ den)
+  pub new_num : FitsSigned w128 ((num *ℤ pos count) +ℤ (total *ℤ den))
+  pub new_den : FitsSigned w128 (den *ℤ pos count)
+
+pub step-fits : (num den total : ℤ) (count : ℕ) → unsigned_abs num ≤ 2 ^ 108 → unsigned_abs den ≤ 2 ^ 81 → unsigned_abs total ≤ 2 ^ 31 → count < 2 ^ 8 → StepFits num den total count
+step-fits num den total count num_small den_small total_small count_small =
     let both = triangle (num *ℤ pos count) (total *ℤ den) in
     let count_most : count ≤ 2 ^ 8 = omega arith in
     let first : unsigned_abs (num *ℤ pos count) ≤ 2 ^ 108 * 2 ^ 8 = rw (unsigned_abs-mul num (pos count)) (mul-le-mul num_small count_most) in
     let second : unsigned_abs (total *ℤ den) ≤ 2 ^ 31 * 2 ^ 81 = rw (unsigned_abs-mul total den) (mul-le-mul total_small den_small) in
-    fits_signed_from_abs w128 _ (omega arith)
+    let times : unsigned_abs (den *ℤ pos count) ≤ 2 ^ 81 * 2 ^ 8 = rw (unsigned_abs-mul den (pos count)) (mul-le-mul den_small count_most) in
+    record {
+      old_num = fits_signed_from_abs w128 _ (omega arith);
+      old_den = fits_signed_from_abs w128 _ (omega arith);
+      one_total = fits_signed_from_abs w128 _ (omega arith);
+      one_count = fits_signed_from_abs w128 _ (omega arith);
+      first = fits_signed_from_abs w128 _ (omega arith);
+      second = fits_signed_from_abs w128 _ (omega arith);
+      new_num = fits_signed_from_abs w128 _ (omega arith);
+      new_den = fits_signed_from_abs w128 _ (omega arith);
+    }
 
 -- the first parts of twelve
 pub limits-at : (parts : List (ℤ × ℕ)) (i : ℕ) → AreCounts parts → AreSums parts → length parts ≡ 12 → Limits (take i parts)

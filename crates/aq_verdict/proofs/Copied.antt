@@ -1,8 +1,9 @@
 -- Sums of values in the range of PM2.5, and of copies of one.
-use Rattle.std.proofs.Common.{◌≡◌, ℕ, zero, suc, ◌+◌, ◌*◌, ◌≤◌, replicate, ℤ, pos, negsuc, neg_ℤ, ◌+ℤ◌, ◌*ℤ◌, ◌≤ℤ◌, unsigned_abs, Bool, true, false, ◌&&◌, refl, ap, ◌∙◌, arith, fold}
+use Rattle.std.proofs.Common.{◌≡◌, ℕ, zero, suc, ◌+◌, ◌*◌, ◌≤◌, replicate, ℤ, pos, negsuc, neg_ℤ, ◌+ℤ◌, ◌*ℤ◌, ◌≤ℤ◌, unsigned_abs, true, false, ◌&&◌, ap, ◌∙◌, arith, fold, FitsSigned}
 use Rattle.std.specs.Prelude.{Option, Some, None, int_le, nat_le, is_some}
+use Rattle.std.specs.Int.{w32}
 use Rattle.std.specs.Option.{option_map_or}
-use Rattle.std.proofs.lemmas.Bool.{false≢true}
+use Rattle.std.proofs.lemmas.Bool.{and_parts}
 use Rattle.std.proofs.lemmas.Bool.Decides.{nat_tests}
 use Rattle.std.proofs.lemmas.Int.{ints}
 use Rattle.std.proofs.Math.IntN.{suc_ℤ-*ℤ, *ℤ_comm, *ℤ-zero}
@@ -37,14 +38,6 @@ copies-within v n few =
     omega (arith, ints, low, high)
 
 -- the sum of a quarter is within its days times the range
-first_of : (a b : Bool) → (a && b) ≡ true → a ≡ true
-first_of true b h = refl
-first_of false b h = h
-
-others_of : (a b : Bool) → (a && b) ≡ true → b ≡ true
-others_of true b h = h
-others_of false b h = absurd (false≢true h)
-
 no-days : (n : ℕ) → false ≡ nat_le 1 n → n ≡ 0
 no-days n h = grind (arith, nat_tests)
 
@@ -64,10 +57,11 @@ sum-by n s (Some low) None some_least some_greatest low_in high_in within none =
     let no_sum = none zero_days in
     omega (arith, ints, no_sum)
 sum-by n s (Some low) (Some high) some_least some_greatest low_in high_in within none =
-    let above = le-of (low *ℤ pos n) s (first_of (int_le (low *ℤ pos n) s) (int_le s (high *ℤ pos n)) within) in
-    let below = le-of s (high *ℤ pos n) (others_of (int_le (low *ℤ pos n) s) (int_le s (high *ℤ pos n)) within) in
-    let least = le-of (negsuc 998) low (first_of (int_le (negsuc 998) low) (int_le low (pos 99999)) low_in) in
-    let most = le-of high (pos 99999) (others_of (int_le (negsuc 998) high) (int_le high (pos 99999)) high_in) in
+    let between = and_parts (int_le (low *ℤ pos n) s) (int_le s (high *ℤ pos n)) within in
+    let above = le-of (low *ℤ pos n) s between.0 in
+    let below = le-of s (high *ℤ pos n) between.1 in
+    let least = le-of (negsuc 998) low (and_parts (int_le (negsuc 998) low) (int_le low (pos 99999)) low_in).0 in
+    let most = le-of high (pos 99999) (and_parts (int_le (negsuc 998) high) (int_le high (pos 99999)) high_in).1 in
     let low_side = low-times low 999 n (omega (arith, ints, least)) in
     let high_side = high-times high 99999 n most in
     omega (arith, ints, above, below, low_side, high_side)
@@ -85,3 +79,23 @@ is_mean-filled q v s number n keeps few within sum_is days_are =
     let own : unsigned_abs s ≤ 99999 * n = rw (sum_is, days_are) (sum-within q keeps) in
     let copied = copies-within v number few in
     record { days = omega (arith, within, days_are); sum = omega (arith, ints, own, copied) }
+
+-- a quarter's sum, the copies and both together fit 32 bits
+pub record CopiesFit (v s : ℤ) (number : ℕ) : Type 0 where
+  pub value : FitsSigned w32 v
+  pub count : FitsSigned w32 (pos number)
+  pub copied : FitsSigned w32 (v *ℤ pos number)
+  pub own : FitsSigned w32 s
+  pub both : FitsSigned w32 (s +ℤ (v *ℤ pos number))
+
+pub copies-fit : (q : PmQuarter) (v s : ℤ) (number : ℕ) → KeepsPmQuarter q → unsigned_abs v ≤ 99999 → q.net_days + number ≤ 103 → s ≡ q.sum → CopiesFit v s number
+copies-fit q v s number keeps few within sum_is =
+    let copies = copies-within v number few in
+    let sum = sum-within q keeps in
+    record {
+      value = omega (arith, ints, few);
+      count = omega (arith, ints, within);
+      copied = omega (arith, ints, copies, within);
+      own = rw sum_is (omega (arith, ints, sum, within));
+      both = rw sum_is (omega (arith, ints, copies, sum, within));
+    }

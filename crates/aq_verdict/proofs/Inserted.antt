@@ -1,7 +1,7 @@
 -- Values in places, and one more that joins them.
 use Rattle.std.proofs.Common.{◌≡◌, ℕ, zero, suc, ◌+◌, ◌≤◌, ◌<◌, Bool, true, false, cond, ◌&&◌, List, [], ◌∷◌, ◌++◌, length, take, replicate, get_or, refl, sym, ap, ◌∙◌, add-one, arith}
 use Rattle.std.specs.Prelude.{Option, Some, None, ℤ, int_lt, int_le, slice_get}
-use Rattle.std.proofs.lemmas.Bool.{false≢true}
+use Rattle.std.proofs.lemmas.Bool.{and_from, and_parts, false≢true}
 use Rattle.std.proofs.lemmas.Int.{ints}
 use Rattle.std.proofs.Math.Seq.{take-nil}
 use Rattle.aq_rules.specs.Lists.{ranked_in, ranked}
@@ -11,13 +11,6 @@ use Rattle.aq_verdict.specs.Places.{descends-rest, given-empty}
 use Rattle.aq_verdict.specs.Inserted.{inserted, is_higher, higher, lower, moved, joined}
 
 -- ---- places that descend do so with one more value
-
-both : (a b : Bool) → a ≡ true → b ≡ true → (a && b) ≡ true
-both a b h k = rw (h, k) refl
-
-first_of : (a b : Bool) → (a && b) ≡ true → a ≡ true
-first_of true b h = refl
-first_of false b h = h
 
 le-trans : (x y z : ℤ) → int_le y x ≡ true → int_le z y ≡ true → int_le z x ≡ true
 le-trans x y z h k = grind (arith, ints)
@@ -75,8 +68,8 @@ above-higher p q x h k = by_test (is_higher q x)
 descends-moved : (top p v : Option ℤ) (ps : List (Option ℤ)) → is_no_higher top p ≡ true → descends (p ∷ ps) ≡ true → descends (top ∷ moved p v ps) ≡ true
 descends-moved top p v [] h d = refl
 descends-moved top p v (q ∷ ps) h d =
-    let next : is_no_higher p (higher q (lower p v)) ≡ true = above-higher p q (lower p v) (first_of (is_no_higher p q) (descends (q ∷ ps)) d) (lower-first p v) in
-    both (is_no_higher top (higher q (lower p v))) (descends (higher q (lower p v) ∷ moved q v ps))
+    let next : is_no_higher p (higher q (lower p v)) ≡ true = above-higher p q (lower p v) (and_parts (is_no_higher p q) (descends (q ∷ ps)) d).0 (lower-first p v) in
+    and_from (is_no_higher top (higher q (lower p v))) (descends (higher q (lower p v) ∷ moved q v ps))
     (no_higher-trans top p (higher q (lower p v)) h next)
     (descends-moved (higher q (lower p v)) q v ps (higher-first q (lower p v)) (descends-rest p (q ∷ ps) d))
 
@@ -98,7 +91,7 @@ moved-below v a [] h d = refl
 moved-below v a (None ∷ ps) h d =
     rw h (ap (λ (l : List ℤ). a ∷ l) (moved-empty v ps (descends-rest (Some a) (None ∷ ps) d) ∙ sym (take-nil (length ps))))
 moved-below v a (Some b ∷ ps) h d =
-    let order : int_le b a ≡ true = first_of (int_le b a) (descends (Some b ∷ ps)) d in
+    let order : int_le b a ≡ true = (and_parts (int_le b a) (descends (Some b ∷ ps)) d).0 in
     let not_above : int_lt a b ≡ false = le-not_lt a b order in
     let further : int_lt v b ≡ false = further_down v a b h order in
     rw (h, not_above) (ap (λ (l : List ℤ). a ∷ l) (moved-below v b ps further (descends-rest (Some a) (Some b ∷ ps) d)))
@@ -198,11 +191,8 @@ unfolding ranked
 ranked-itself [] h = refl
 ranked-itself (x ∷ []) h = refl
 ranked-itself (x ∷ y ∷ xs) h =
-    ap (ranked_in x) (ranked-itself (y ∷ xs) (others_of (int_le y x) (falls (y ∷ xs)) h)) ∙ on_top x y xs (first_of (int_le y x) (falls (y ∷ xs)) h)
-  where
-    others_of : (a b : Bool) → (a && b) ≡ true → b ≡ true
-    others_of true b h = h
-    others_of false b h = absurd (false≢true h)
+    let order = and_parts (int_le y x) (falls (y ∷ xs)) h in
+    ap (ranked_in x) (ranked-itself (y ∷ xs) order.1) ∙ on_top x y xs order.0
 
 -- the same place of the first ones and of all
 pub take-at : (n k : ℕ) (xs : List ℤ) → k < n → slice_get (take n xs) k ≡ slice_get xs k

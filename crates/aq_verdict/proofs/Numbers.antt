@@ -1,11 +1,11 @@
 -- Quotients that fit.
-use Rattle.std.proofs.Common.{◌≡◌, ℕ, ◌+◌, ◌-◌, ◌*◌, ◌/◌, ◌^◌, ◌<◌, ◌≤◌, ℤ, pos, negsuc, neg_ℤ, ◌+ℤ◌, ◌*ℤ◌, ◌≤ℤ◌, ◌<ℤ◌, unsigned_abs, FitsSigned, arith, lit<}
+use Rattle.std.proofs.Common.{◌≡◌, ℕ, ◌-◌, ◌*◌, ◌^◌, ◌<◌, ◌≤◌, ℤ, pos, negsuc, neg_ℤ, ◌+ℤ◌, ◌*ℤ◌, ◌≤ℤ◌, ◌<ℤ◌, unsigned_abs, FitsSigned, arith, lit<}
 use Rattle.std.specs.Prelude.{int_rem}
-use Rattle.std.specs.Int.{w32, int_div_euclid}
+use Rattle.std.specs.Int.{w32, w128}
 use Rattle.std.proofs.lemmas.Int.{ints, quot-rem, rem_below}
-use Rattle.std.proofs.lemmas.Nat.{div_below}
 use Rattle.std.proofs.Math.Nat.{mul-le-mul_right}
 use Rattle.aq_base.specs.Decimal.{truncated, half_up}
+use Rattle.aq_rules.proofs.Held.{half_up-held}
 
 -- the truncated mean of three numbers fits where they do
 pub third-fits : (a b c : ℤ) → FitsSigned w32 a → FitsSigned w32 b → FitsSigned w32 c → FitsSigned w32 (truncated (a +ℤ b +ℤ c) (pos 3))
@@ -14,29 +14,10 @@ third-fits a b c a_fits b_fits c_fits =
     let rest : unsigned_abs (int_rem (a +ℤ b +ℤ c) (pos 3)) < 3 = rem_below (a +ℤ b +ℤ c) (pos 3) (lit< tt) in
     omega (arith, ints)
 
--- a quotient lies where its dividend does
-abbrev Within : ℕ → ℕ → ℤ → Type 0
-Within low high v = (neg_ℤ (pos low) ≤ℤ v) × (v ≤ℤ pos high)
-
-quotient-within : (z : ℤ) (low high m : ℕ) → 0 < m → neg_ℤ (pos (low * m)) ≤ℤ z → (z +ℤ pos 1) ≤ℤ pos ((high + 1) * m) → Within low high (int_div_euclid z (pos m))
-quotient-within (pos a) low high m some least most =
-    let few : a < (high + 1) * m = omega (arith, ints, most) in
-    let below : a / m < high + 1 = div_below a m (high + 1) some few in
-    (omega (arith, ints), omega (arith, ints, below))
-quotient-within (negsuc a) low high m some least most =
-    let few : a < low * m = omega (arith, ints, least) in
-    let below : a / m < low = div_below a m low some few in
-    (omega (arith, ints, below), omega (arith, ints))
-
--- and a rounded one too
-pub rounded-within : (a : ℤ) (b low high : ℕ) → 0 < b → neg_ℤ (pos (low * b)) ≤ℤ a → a ≤ℤ pos (high * b) → Within low high (half_up a (pos b))
-rounded-within a b low high some least most =
-    quotient-within ((pos 2 *ℤ a) +ℤ pos b) low high (2 * b) (omega arith) (omega (arith, ints, least)) (omega (arith, ints, most, some))
-
 -- a rounded quotient fits where the fraction does
 pub rounded-fits : (num den : ℤ) → pos 0 <ℤ den → neg_ℤ (pos (2 ^ 31 * unsigned_abs den)) ≤ℤ num → num ≤ℤ pos ((2 ^ 31 - 1) * unsigned_abs den) → FitsSigned w32 (half_up num den)
 rounded-fits num (pos den) some low high =
-    let held = rounded-within num den (2 ^ 31) (2 ^ 31 - 1) (omega (arith, ints, some)) low high in
+    let held = half_up-held num den (2 ^ 31) (2 ^ 31 - 1) (omega (arith, ints, some)) low high in
     omega (arith, ints, held.0, held.1)
 rounded-fits num (negsuc den) some low high = absurd (omega (arith, ints, some))
 
@@ -44,22 +25,25 @@ rounded-fits num (negsuc den) some low high = absurd (omega (arith, ints, some))
 pub zero-plus : (a : ℤ) → pos 0 +ℤ a ≡ a
 zero-plus a = omega (arith, ints)
 
--- a mean of up to twelve quarterly means is rounded within 32 bits
-pub record RoundsWithin (num den : ℤ) : Type 0 where
-  pub positive : pos 0 <ℤ den
-  pub small : den ≤ℤ pos (2 ^ 88)
-  pub low : neg_ℤ (pos (2 ^ 31 * unsigned_abs den)) ≤ℤ num
-  pub high : num ≤ℤ pos ((2 ^ 31 - 1) * unsigned_abs den)
+-- a mean of up to twelve quarterly means fits 128 bits, and is rounded within 32
+pub record MeanFits (num den : ℤ) (number : ℕ) : Type 0 where
+  pub above : FitsSigned w128 num
+  pub below : FitsSigned w128 den
+  pub count : FitsSigned w128 (pos number)
+  pub product : FitsSigned w128 (pos number *ℤ den)
+  pub low : neg_ℤ (pos (2 ^ 31 * unsigned_abs (pos number *ℤ den))) ≤ℤ num
+  pub high : num ≤ℤ pos ((2 ^ 31 - 1) * unsigned_abs (pos number *ℤ den))
 
-pub mean-rounds : (num den : ℤ) (number : ℕ) → pos 0 <ℤ den → den <ℤ pos (2 ^ 81) → unsigned_abs num ≤ 12 * 10299897 * unsigned_abs den → 1 ≤ number → number ≤ 12
-    → RoundsWithin num (pos number *ℤ den)
-mean-rounds num (pos d) number positive small within some few =
+pub mean-fits : (num den : ℤ) (number : ℕ) → pos 0 <ℤ den → den <ℤ pos (2 ^ 81) → unsigned_abs num ≤ 12 * 10299897 * unsigned_abs den → 1 ≤ number → number ≤ 12 → MeanFits num den number
+mean-fits num (pos d) number positive small within some few =
     let least : 1 * d ≤ number * d = mul-le-mul_right d some in
     let most : number * d ≤ 12 * d = mul-le-mul_right d few in
     record {
-      positive = omega (arith, ints, positive, least);
-      small = omega (arith, ints, small, most);
+      above = omega (arith, ints, small, within);
+      below = omega (arith, ints, small);
+      count = omega (arith, ints, few);
+      product = omega (arith, ints, small, most);
       low = omega (arith, ints, within, least);
       high = omega (arith, ints, within, least);
     }
-mean-rounds num (negsuc d) number positive small within some few = absurd (omega (arith, ints, positive))
+mean-fits num (negsuc d) number positive small within some few = absurd (omega (arith, ints, positive))

@@ -5,7 +5,7 @@ use Rattle.std.specs.List.{flat_map}
 use Rattle.std.proofs.lemmas.Option.{slice_get-get_or}
 use Rattle.std.proofs.lemmas.List.{append-nil, map-append}
 use Rattle.aq_rules.specs.Lists.{all_of}
-use Rattle.aq_rules.specs.Particles.Substitution.{same_part, matched}
+use Rattle.aq_rules.specs.Particles.Substitution.{Matched, same_part, matched}
 use Rattle.aq_rules.specs.Kept.Summaries.{PmQuarter, PmYear}
 use Rattle.aq_rules.specs.Kept.SummaryVerdicts.{of_summaries}
 use Rattle.aq_verdict.specs.Filled.{joined_three}
@@ -73,18 +73,23 @@ pub map-three : {X Y : Type 0} (f : X → Y) (g : PmYear → List X) (years : Li
 map-three f g years a b c three =
     sym (ap (λ l. map f (flat_map g l)) three ∙ map-append f (g a) (g b ++ (g c ++ [])) ∙ ap (λ l. map f (g a) ++ l) (map-append f (g b) (g c ++ []) ∙ ap (λ l. map f (g b) ++ map f l) (append-nil (g c))))
 
--- a year's quarters with those that match them
-pub matched-four : (years : List PmYear) (year : PmYear) (qs : List PmQuarter) (a b c d : PmQuarter) → qs ≡ year.quarters → length year.quarters ≡ 4
-    → (get_or qs 0 a, same_part of_summaries years 0) ∷ (get_or qs 1 b, same_part of_summaries years 1) ∷ (get_or qs 2 c, same_part of_summaries years 2) ∷ (get_or qs 3 d, same_part of_summaries years 3) ∷ []
-    ≡ matched of_summaries years year
-matched-four years year qs a b c d same four =
+-- what is said of a year's quarters with those that match them
+pub map-matched : {Y : Type 0} (f : Matched of_summaries → Y) (years : List PmYear) (year : PmYear) (qs : List PmQuarter) (a b c d : PmQuarter) (first second third fourth : Y) → qs ≡ year.quarters → length year.quarters ≡ 4
+    → first ≡ f (get_or qs 0 a, same_part of_summaries years 0) → second ≡ f (get_or qs 1 b, same_part of_summaries years 1)
+    → third ≡ f (get_or qs 2 c, same_part of_summaries years 2) → fourth ≡ f (get_or qs 3 d, same_part of_summaries years 3)
+    → first ∷ second ∷ third ∷ fourth ∷ [] ≡ map f (matched of_summaries years year)
+map-matched f years year qs a b c d first second third fourth same four is_first is_second is_third is_fourth =
     let all : qs ≡ get_or qs 0 a ∷ get_or qs 1 b ∷ get_or qs 2 c ∷ get_or qs 3 d ∷ [] = four-of qs a b c d (ap length same ∙ four) in
-    sym (ap (λ l. zip l (map (same_part of_summaries years) (0 ∷ 1 ∷ 2 ∷ 3 ∷ []))) (sym same ∙ all))
+    (λ i. is_first i ∷ is_second i ∷ is_third i ∷ is_fourth i ∷ [])
+    ∙ sym (ap (λ l. map f (zip l (map (same_part of_summaries years) (0 ∷ 1 ∷ 2 ∷ 3 ∷ [])))) (sym same ∙ all))
 
 -- and of all of some options
-pub all-three : {X Y : Type 0} (f : X → Option Y) (g : PmYear → List X) (years : List PmYear) (a b c : PmYear) (first second third : Option (List Y)) → years ≡ a ∷ b ∷ c ∷ []
-    → first ≡ all_of (map f (g a)) → second ≡ all_of (map f (g b)) → third ≡ all_of (map f (g c))
-    → joined_three first second third ≡ all_of (map f (flat_map g years))
-all-three f g years a b c first second third three is_first is_second is_third =
-    (λ i. joined_three (is_first i) (is_second i) (is_third i))
-    ∙ all_of-three (map f (g a)) (map f (g b)) (map f (g c)) ∙ ap all_of (map-three f g years a b c three)
+pub all-three : {X Y : Type 0} (f : X → Option Y) (g : PmYear → List X) (years : List PmYear) (a b c : PmYear) (first second third all : Option (List Y)) → length years ≡ 3 → all ≡ joined_three first second third
+    → first ≡ all_of (map f (g (get_or years 0 a))) → second ≡ all_of (map f (g (get_or years 1 b))) → third ≡ all_of (map f (g (get_or years 2 c)))
+    → all ≡ all_of (map f (flat_map g years))
+all-three f g years a b c first second third all three is is_first is_second is_third =
+    let x = get_or years 0 a in
+    let y = get_or years 1 b in
+    let z = get_or years 2 c in
+    is ∙ (λ i. joined_three (is_first i) (is_second i) (is_third i))
+    ∙ all_of-three (map f (g x)) (map f (g y)) (map f (g z)) ∙ ap all_of (map-three f g years x y z (three-of years a b c three))

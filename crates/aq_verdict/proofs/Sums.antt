@@ -1,8 +1,8 @@
 -- Sums of quarterly means.
-use Rattle.std.proofs.Common.{◌≡◌, ℕ, zero, suc, replicate, ◌≤◌, Bool, true, false, ◌&&◌, List, [], ◌∷◌, ◌++◌, All, pos, unsigned_abs, refl, ap, ◌∙◌, arith, lit≤}
+use Rattle.std.proofs.Common.{◌≡◌, ℕ, zero, suc, replicate, ◌≤◌, true, ◌&&◌, List, [], ◌∷◌, ◌++◌, All, pos, unsigned_abs, refl, ap, ◌∙◌, arith, lit≤}
 use Rattle.std.specs.List.{list_all}
 use Rattle.std.proofs.lemmas.Bool.Decides.{nat_tests}
-use Rattle.std.proofs.lemmas.Bool.{false≢true}
+use Rattle.std.proofs.lemmas.Bool.{and_parts}
 use Rattle.std.proofs.lemmas.List.Folds.{list_all-append}
 use Rattle.std.proofs.lemmas.List.Elements.{All-append, All-cons, All-nil, All-head, All-tail}
 use Rattle.aq_num.specs.Fractions.{sum_of_fractions, fraction_sum}
@@ -27,21 +27,12 @@ IsCount mean = (1 ≤ mean.1) × (mean.1 ≤ 103)
 abbrev IsSum : Fraction → Type 0
 IsSum mean = unsigned_abs mean.0 ≤ 10299897
 
-first_of : (a b : Bool) → (a && b) ≡ true → a ≡ true
-first_of true b h = refl
-first_of false b h = h
-
-others_of : (a b : Bool) → (a && b) ≡ true → b ≡ true
-others_of true b h = h
-others_of false b h = absurd (false≢true h)
-
 pub counts-of : (means : List Fraction) → list_all has_days means ≡ true → All IsMean means → All IsCount means
 counts-of [] days each = All-nil IsCount
 counts-of (mean ∷ means) days each =
     let is : IsMean mean = All-head IsMean mean means each in
-    All-cons IsCount mean means
-    (some_days mean (first_of (has_days mean) (list_all has_days means) days), is.days)
-    (counts-of means (others_of (has_days mean) (list_all has_days means) days) (All-tail IsMean mean means each))
+    let some = and_parts (has_days mean) (list_all has_days means) days in
+    All-cons IsCount mean means (some_days mean some.0, is.days) (counts-of means some.1 (All-tail IsMean mean means each))
 
 pub sums-of : (means : List Fraction) → All IsMean means → All IsSum means
 sums-of [] each = All-nil IsSum
