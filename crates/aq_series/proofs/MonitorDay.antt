@@ -27,7 +27,7 @@ use Rattle.aq_shelf.proofs.Order.{before_hour, same_hour}
 use Rattle.aq_registry.specs.Registry.{office_with, pair_of}
 use Rattle.aq_series.specs.OfficeView.{office_of}
 use Rattle.aq_series.specs.DayCells.{cell_at, cell_of, cells_in, hours_of, key_at, monitor_steps, steps_by}
-use Rattle.aq_series.proofs.Rising.{Rising, Later, found, found-given, found-under, rising-given, rising-under, same_list, row_at-is}
+use Rattle.aq_series.proofs.Rising.{Rising, Later, found, found-ranked, found-under, rising-ranked, rising-under, same_list, row_at-is}
 use Rattle.aq_series.proofs.Pocs.{eligible_is}
 use Rattle.aq_series.proofs.SitePocs.{same_rank}
 use Rattle.aq_series.proofs.Spans.{Entry, as_cell, key_is, key_there}
@@ -105,7 +105,7 @@ module _ (records : List OfficeRecord) (rows : List Entry) (monitor : MonitorId)
   module _ (rising : IsTrue (rises observation_rank rows)) (hours : List ℕ) (hours_rise : Rising (λ k. k) hours) (are : (hour : ℕ) → list_any (λ k. k == hour) hours ≡ starts hour) where
     found_in_rows : (hour : ℕ) → found (λ (t : Timed). t.hour) hour (filter_map give rows) ≡ cond (starts hour) (at hour) None
     found_in_rows hour =
-        found-given observation_rank numbers (λ (t : Timed). t.hour) give ranked (same_hour monitor) hour rows rising
+        found-ranked observation_rank numbers (λ (t : Timed). t.hour) give ranked (same_hour monitor) hour rows rising
         ∙ row_gives hour (row_at observation_rank (numbers hour) rows) (row_at-is observation_rank (numbers hour) rows)
 
     numbered : (hour : ℕ) (t : Timed) → at hour ≡ Some t → t.hour ≡ hour
@@ -121,7 +121,7 @@ module _ (records : List OfficeRecord) (rows : List Entry) (monitor : MonitorId)
     timed_are : filter_map give rows ≡ filter_map at hours
     timed_are =
         same_list (λ (t : Timed). t.hour) (filter_map give rows) (filter_map at hours)
-        (rising-given observation_rank numbers (λ (t : Timed). t.hour) give ranked (before_hour monitor) rows rising)
+        (rising-ranked observation_rank numbers (λ (t : Timed). t.hour) give ranked (before_hour monitor) rows rising)
         (rising-under (λ (t : Timed). t.hour) at numbered hours hours_rise)
         (λ n. found_in_rows n ∙ sym (found_in_hours n))
 

@@ -106,47 +106,56 @@ module _ {X : Type 0} (number : X → ℕ) where
 
 -- ---- rows in the order of ranks
 
--- what rows give, each with the number by which its row is ranked
+module _ {X : Type 0} (rank : X → List ℕ) where
+  -- ---- what rows give
+
+  module _ {Y : Type 0} (number : Y → ℕ) (give : X → Option Y) where
+    module _ (orders : (a b : X) (s t : Y) → give a ≡ Some s → give b ≡ Some t → comes_before (rank a) (rank b) ≡ true → number s < number t) where
+      later : (a : X) (s : Y) (rows : List X) → give a ≡ Some s → AllByRecursion (λ b. comes_before (rank a) (rank b) ≡ true) rows → Later number (number s) (filter_map give rows)
+      later a s [] is all = tt
+      later a s (b ∷ rows) is all = by_given (later a s rows is all.1) (give b) refl
+        where
+          by_given : Later number (number s) (filter_map give rows) → (o : Option Y) → give b ≡ o → Later number (number s) (cons_option o (filter_map give rows))
+          by_given rest None none = rest
+          by_given rest (Some t) given = (orders a b s t is given all.0, rest)
+
+      pub rising-given : (rows : List X) → rises rank rows ≡ true → Rising number (filter_map give rows)
+      rising-given [] rising = tt
+      rising-given (r ∷ rows) rising = by_given (rising-given rows (rises-rest rank r rows rising)) (give r) refl
+        where
+          by_given : Rising number (filter_map give rows) → (o : Option Y) → give r ≡ o → Rising number (cons_option o (filter_map give rows))
+          by_given rest None none = rest
+          by_given rest (Some s) given = (later r s rows given (all_later rank r rows rising), rest)
+
+    -- what is found under a number is what the row of a key gives
+    module _ (key : List ℕ) (n : ℕ) (tells : (x : X) (y : Y) → give x ≡ Some y → (number y == n) ≡ is_same (rank x) key) where
+      pub found-given : (rows : List X) → rises rank rows ≡ true → found number n (filter_map give rows) ≡ option_and_then give (row_at rank key rows)
+      found-given [] rising = refl
+      found-given (r ∷ rows) rising = by_given (found-given rows (rises-rest rank r rows rising)) (give r) refl (is_same (rank r) key) refl
+        where
+          by_given : found number n (filter_map give rows) ≡ option_and_then give (row_at rank key rows) → (o : Option Y) → give r ≡ o → (b : Bool) → is_same (rank r) key ≡ b
+              → found number n (cons_option o (filter_map give rows)) ≡ option_and_then give (cond b (Some r) (row_at rank key rows))
+          by_given rest None none true same =
+              rest
+              ∙ ap (option_and_then give) (row_at-none rank key rows (others-after rank key rows (subst (λ k. AllByRecursion (λ e. comes_before k (rank e) ≡ true) rows) ((bytes_eq-Decides (rank r) key).0 same) (all_later rank r rows rising))))
+              ∙ sym none
+          by_given rest None none false other = rest
+          by_given rest (Some y) given true same = ap (λ b. cond b (Some y) (found number n (filter_map give rows))) (tells r y given ∙ same) ∙ sym given
+          by_given rest (Some y) given false other = ap (λ b. cond b (Some y) (found number n (filter_map give rows))) (tells r y given ∙ other) ∙ rest
+
+-- ---- rows that are ranked by numbers
+
+-- what they give, each with the number by which its row is ranked
 module _ {X Y : Type 0} (rank : X → List ℕ) (numbers : ℕ → List ℕ) (number : Y → ℕ) (give : X → Option Y) (ranked : (x : X) (y : Y) → give x ≡ Some y → rank x ≡ numbers (number y)) where
-  module _ (before : (m n : ℕ) → comes_before (numbers m) (numbers n) ≡ nat_lt m n) where
-    in_order : (a b : X) (s t : Y) → give a ≡ Some s → give b ≡ Some t → comes_before (rank a) (rank b) ≡ true → number s < number t
-    in_order a b s t first second less =
-        below (number s) (number t) (sym (before (number s) (number t)) ∙ (λ i. comes_before (sym (ranked a s first) i) (sym (ranked b t second) i)) ∙ less)
+  pub rising-ranked : ((m n : ℕ) → comes_before (numbers m) (numbers n) ≡ nat_lt m n) → (rows : List X) → rises rank rows ≡ true → Rising number (filter_map give rows)
+  rising-ranked before = rising-given rank number give in_order
+    where
+      in_order : (a b : X) (s t : Y) → give a ≡ Some s → give b ≡ Some t → comes_before (rank a) (rank b) ≡ true → number s < number t
+      in_order a b s t first second less =
+          below (number s) (number t) (sym (before (number s) (number t)) ∙ (λ i. comes_before (sym (ranked a s first) i) (sym (ranked b t second) i)) ∙ less)
 
-    later : (a : X) (s : Y) (rows : List X) → give a ≡ Some s → AllByRecursion (λ b. comes_before (rank a) (rank b) ≡ true) rows → Later number (number s) (filter_map give rows)
-    later a s [] is all = tt
-    later a s (b ∷ rows) is all = by_given (later a s rows is all.1) (give b) refl
-      where
-        by_given : Later number (number s) (filter_map give rows) → (o : Option Y) → give b ≡ o → Later number (number s) (cons_option o (filter_map give rows))
-        by_given rest None none = rest
-        by_given rest (Some t) given = (in_order a b s t is given all.0, rest)
-
-    pub rising-given : (rows : List X) → rises rank rows ≡ true → Rising number (filter_map give rows)
-    rising-given [] rising = tt
-    rising-given (r ∷ rows) rising = by_given (rising-given rows (rises-rest rank r rows rising)) (give r) refl
-      where
-        by_given : Rising number (filter_map give rows) → (o : Option Y) → give r ≡ o → Rising number (cons_option o (filter_map give rows))
-        by_given rest None none = rest
-        by_given rest (Some s) given = (later r s rows given (all_later rank r rows rising), rest)
-
-  -- what is found under a number is what the row of its key gives
-  module _ (same : (m n : ℕ) → is_same (numbers m) (numbers n) ≡ (m == n)) (n : ℕ) where
-    tells : (x : X) (y : Y) → give x ≡ Some y → (number y == n) ≡ is_same (rank x) (numbers n)
-    tells x y given = sym (same (number y) n) ∙ ap (λ k. is_same k (numbers n)) (sym (ranked x y given))
-
-    pub found-given : (rows : List X) → rises rank rows ≡ true → found number n (filter_map give rows) ≡ option_and_then give (row_at rank (numbers n) rows)
-    found-given [] rising = refl
-    found-given (r ∷ rows) rising = by_given (found-given rows (rises-rest rank r rows rising)) (give r) refl (is_same (rank r) (numbers n)) refl
-      where
-        by_given : found number n (filter_map give rows) ≡ option_and_then give (row_at rank (numbers n) rows) → (o : Option Y) → give r ≡ o → (b : Bool) → is_same (rank r) (numbers n) ≡ b
-            → found number n (cons_option o (filter_map give rows)) ≡ option_and_then give (cond b (Some r) (row_at rank (numbers n) rows))
-        by_given rest None none true same =
-            rest
-            ∙ ap (option_and_then give) (row_at-none rank (numbers n) rows (others-after rank (numbers n) rows (subst (λ k. AllByRecursion (λ e. comes_before k (rank e) ≡ true) rows) ((bytes_eq-Decides (rank r) (numbers n)).0 same) (all_later rank r rows rising))))
-            ∙ sym none
-        by_given rest None none false other = rest
-        by_given rest (Some y) given true same = ap (λ b. cond b (Some y) (found number n (filter_map give rows))) (tells r y given ∙ same) ∙ sym given
-        by_given rest (Some y) given false other = ap (λ b. cond b (Some y) (found number n (filter_map give rows))) (tells r y given ∙ other) ∙ rest
+  pub found-ranked : ((m n : ℕ) → is_same (numbers m) (numbers n) ≡ (m == n)) → (n : ℕ) (rows : List X) → rises rank rows ≡ true → found number n (filter_map give rows) ≡ option_and_then give (row_at rank (numbers n) rows)
+  found-ranked same n = found-given rank number give (numbers n) n (λ x y given. sym (same (number y) n) ∙ ap (λ k. is_same k (numbers n)) (sym (ranked x y given)))
 
 -- ---- what numbers give
 

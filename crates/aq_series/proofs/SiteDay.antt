@@ -26,7 +26,7 @@ use Rattle.aq_rules.specs.Particles.ParticleDay.{counting_poc, day_of_samples, e
 use Rattle.aq_registry.specs.Registry.{office_with}
 use Rattle.aq_series.specs.declared.day_tally.DayTally.{DayTally}
 use Rattle.aq_series.specs.DayCells.{cells_on, mean_of, monitor_at, monitor_steps, pocs_after, pocs_of, site_steps, steps_beside, steps_by, IsTallyOf}
-use Rattle.aq_series.proofs.Rising.{Later, Rising, found, found-under, rising-given, rising-under, same_list}
+use Rattle.aq_series.proofs.Rising.{Later, Rising, found, found-under, rising-ranked, rising-under, same_list}
 use Rattle.aq_series.proofs.SitePocs.{before_poc, rank-is, rank_at, eligible_there, lasting_there, pocs-end, pocs-few, pocs-next, pocs-rise}
 
 abbrev as_sample : ℕ → Cell → Sample
@@ -85,7 +85,7 @@ module _ (records : List OfficeRecord) (site : Site) (pollutant : Pollutant) whe
 
   pub eligible_rise : IsOffice (office_with records) → Rising (λ k. k) (eligible_pocs records site pollutant)
   unfolding eligible_pocs
-  eligible_rise valid = rising-given record_rank (rank_at site pollutant) (λ k. k) (eligible_poc site pollutant) ranked (before_poc site pollutant) records valid.keys_rise.records
+  eligible_rise valid = rising-ranked record_rank (rank_at site pollutant) (λ k. k) (eligible_poc site pollutant) ranked (before_poc site pollutant) records valid.keys_rise.records
 
   all_given : (ns : List ℕ) → filter_map (λ n. Some n) ns ≡ ns
   all_given [] = refl

@@ -21,7 +21,7 @@ use Rattle.aq_rules.specs.Office.Sameness.{same_site, same_pollutant, same_monit
 use Rattle.aq_registry.specs.Registry.{office_with}
 use Rattle.aq_registry.proofs.QuestionLemmas.{same-monitors}
 use Rattle.aq_series.specs.DayCells.{monitor_at, pocs_after, pocs_of}
-use Rattle.aq_series.proofs.Rising.{Later, Rising, rising-given, last_decides, not_below_itself}
+use Rattle.aq_series.proofs.Rising.{Later, Rising, rising-ranked, last_decides, not_below_itself}
 
 number_itself : (n : ℕ) → (n == n) ≡ true
 number_itself n = grind (arith, nat_tests)
@@ -74,7 +74,7 @@ module _ (site : Site) (pollutant : Pollutant) where
       (last_decides s t)
 
   pub pocs-rise : (records : List OfficeRecord) (after : ℕ) → rises record_rank records ≡ true → Rising (λ k. k) (pocs_after records site pollutant after)
-  pocs-rise records after rising = rising-given record_rank rank_at (λ k. k) (poc_above site pollutant after) (ranked after) before_poc records rising
+  pocs-rise records after rising = rising-ranked record_rank rank_at (λ k. k) (poc_above site pollutant after) (ranked after) before_poc records rising
 
   -- ---- the next one
 

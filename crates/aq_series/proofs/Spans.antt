@@ -15,7 +15,7 @@ use Rattle.aq_rules.specs.Ozone.SiteHour.{Cell}
 use Rattle.aq_shelf.specs.Standing.{content_at, hour_content, in_span, observations_in}
 use Rattle.aq_shelf.proofs.Order.{before_hour, same_hour, same_rank}
 use Rattle.aq_series.specs.DayCells.{key_at}
-use Rattle.aq_series.proofs.Rising.{Rising, found, found-given, rising-given, row_at-is}
+use Rattle.aq_series.proofs.Rising.{Rising, found, found-ranked, rising-ranked, row_at-is}
 
 abbrev pub Entry : Type 0
 Entry = ObsKey × Observation
@@ -90,9 +90,9 @@ module _ (monitor : MonitorId) (from hours : ℕ) where
     pub span-at : (rows : List Entry) → rises observation_rank rows ≡ true → option_map (λ (i : Item). i.1) (found hour_of hour (observations_in monitor from hours rows)) ≡ content_at (key_at monitor hour) rows
     span-at rows rising =
         ap (λ (l : List Item). option_map (λ (i : Item). i.1) (found hour_of hour l)) (items_given rows)
-        ∙ ap (λ o. option_map (λ (i : Item). i.1) o) (found-given observation_rank numbers hour_of give ranked (same_hour monitor) hour rows rising)
+        ∙ ap (λ o. option_map (λ (i : Item). i.1) o) (found-ranked observation_rank numbers hour_of give ranked (same_hour monitor) hour rows rising)
         ∙ gives (row_at observation_rank (numbers hour) rows) (row_at-is observation_rank (numbers hour) rows)
 
   -- a span rises by its hours
   pub span-rises : (rows : List Entry) → rises observation_rank rows ≡ true → Rising hour_of (observations_in monitor from hours rows)
-  span-rises rows rising = rw (items_given rows) (rising-given observation_rank numbers hour_of give ranked (before_hour monitor) rows rising)
+  span-rises rows rising = rw (items_given rows) (rising-ranked observation_rank numbers hour_of give ranked (before_hour monitor) rows rising)

@@ -18,7 +18,7 @@ use Rattle.aq_rules.specs.Ozone.SiteHour.{Cell, Sample, is_ozone_at, sample_of, 
 use Rattle.aq_registry.specs.Registry.{office_with}
 use Rattle.aq_series.specs.OfficeView.{office_of}
 use Rattle.aq_series.specs.Samples.{cell_at, cell_of, ozone_key, pocs_above, sample_at, samples_above}
-use Rattle.aq_series.proofs.Rising.{found, found-given, found-under, rising-given, rising-under, same_list, same_number, not_below_itself, row_at-is}
+use Rattle.aq_series.proofs.Rising.{found, found-ranked, found-under, rising-ranked, rising-under, same_list, same_number, not_below_itself, row_at-is}
 use Rattle.aq_series.proofs.Spans.{Entry, as_cell, key_there}
 use Rattle.aq_series.proofs.Pocs.{pocs-rise, eligible_there}
 
@@ -116,7 +116,7 @@ module _ (records : List OfficeRecord) (rows : List Entry) (site : Site) (hour :
   module _ (valid : IsOffice (office_with records)) (rising : IsTrue (rises observation_rank rows)) where
     found_in_rows : (poc : ℕ) → found (λ (s : Sample). s.poc) poc (samples_at (office_of records rows) site hour) ≡ sample_at records rows site hour poc
     found_in_rows poc =
-        found-given observation_rank numbers (λ (s : Sample). s.poc) give ranked same_poc poc rows rising
+        found-ranked observation_rank numbers (λ (s : Sample). s.poc) give ranked same_poc poc rows rising
         ∙ row_gives poc (row_at observation_rank (numbers poc) rows) (row_at-is observation_rank (numbers poc) rows)
 
     numbered : (poc : ℕ) (s : Sample) → sample_at records rows site hour poc ≡ Some s → s.poc ≡ poc
@@ -141,6 +141,6 @@ module _ (records : List OfficeRecord) (rows : List Entry) (site : Site) (hour :
     pub samples-are : samples_at (office_of records rows) site hour ≡ samples_above records rows site hour 0
     samples-are =
         same_list (λ (s : Sample). s.poc) (samples_at (office_of records rows) site hour) (samples_above records rows site hour 0)
-        (rising-given observation_rank numbers (λ (s : Sample). s.poc) give ranked before_poc rows rising)
+        (rising-ranked observation_rank numbers (λ (s : Sample). s.poc) give ranked before_poc rows rising)
         (rising-under (λ (s : Sample). s.poc) (sample_at records rows site hour) numbered (pocs_above records site 0) (pocs-rise site records 0 valid.keys_rise.records))
         (λ n. found_in_rows n ∙ sym (found_in_pocs n))
