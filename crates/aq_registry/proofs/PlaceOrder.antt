@@ -9,6 +9,7 @@ use Rattle.std.specs.Cmp.{IsTotalOrder}
 use Rattle.std.proofs.lemmas.Cmp.{nat_cmp_total, on_total, then_total}
 use Rattle.std.proofs.lemmas.Bool.Decides.{nat_tests}
 use Rattle.aq_base.specs.Site.{Site}
+use Rattle.aq_base.specs.declared.monitor.Pollutant.{Pollutant}
 use Rattle.aq_base.specs.declared.office.OfficeKey.{OfficeKey}
 use Rattle.aq_base.specs.declared.office.OfficeKey.TheVariants.{Monitor, Primary, Schedule, Season, Makeup, Event, Concurrence, Approved, Combined}
 use Rattle.aq_rules.specs.Office.Office.{key_numbers, comes_before, is_same, parameter_number}
@@ -57,37 +58,41 @@ eq-then m n o b h = is_eq-ordering_then (nat_cmp m n) o (m == n) b (eq-nat_cmp m
 
 -- ---- keys
 
-lt-site : (a b : Site) (o : Ordering) (t : Bool) → is_lt o ≡ t → is_lt (ordering_then (nat_cmp a.state b.state) (ordering_then (nat_cmp a.county b.county) (ordering_then (nat_cmp a.number b.number) o))) ≡ (nat_lt a.state b.state || ((a.state == b.state) && (nat_lt a.county b.county || ((a.county == b.county) && (nat_lt a.number b.number || ((a.number == b.number) && t))))))
-lt-site a b o t h = lt-then a.state b.state _ _ (lt-then a.county b.county _ _ (lt-then a.number b.number o t h))
+-- whether the first comes before the second, and whether both are the same
+abbrev Tells : Ordering → Bool → Bool → Type 0
+Tells o before same = (is_lt o ≡ before) × (is_eq o ≡ same)
 
-eq-site : (a b : Site) (o : Ordering) (t : Bool) → is_eq o ≡ t → is_eq (ordering_then (nat_cmp a.state b.state) (ordering_then (nat_cmp a.county b.county) (ordering_then (nat_cmp a.number b.number) o))) ≡ ((a.state == b.state) && ((a.county == b.county) && ((a.number == b.number) && t)))
-eq-site a b o t h = eq-then a.state b.state _ _ (eq-then a.county b.county _ _ (eq-then a.number b.number o t h))
+last : (m n : ℕ) → Tells (nat_cmp m n) (nat_lt m n || ((m == n) && false)) ((m == n) && true)
+last m n = (lt-nat_cmp m n, eq-last m n)
 
--- the order of places is the one by which rows rise
+front : (m n : ℕ) (o : Ordering) (b s : Bool) → Tells o b s → Tells (ordering_then (nat_cmp m n) o) (nat_lt m n || ((m == n) && b)) ((m == n) && s)
+front m n o b s h = (lt-then m n o b h.0, eq-then m n o s h.1)
+
+of_site : (x y : Site) (o : Ordering) (b s : Bool) → Tells o b s
+    → Tells (ordering_then (nat_cmp x.state y.state) (ordering_then (nat_cmp x.county y.county) (ordering_then (nat_cmp x.number y.number) o))) (nat_lt x.state y.state || ((x.state == y.state) && (nat_lt x.county y.county || ((x.county == y.county) && (nat_lt x.number y.number || ((x.number == y.number) && b)))))) ((x.state == y.state) && ((x.county == y.county) && ((x.number == y.number) && s)))
+of_site x y o b s h = front x.state y.state _ _ _ (front x.county y.county _ _ _ (front x.number y.number o b s h))
+
+of_parameter : (p q : Pollutant) (o : Ordering) (b s : Bool) → Tells o b s → Tells (ordering_then (nat_cmp (parameter_number p) (parameter_number q)) o) (nat_lt (parameter_number p) (parameter_number q) || ((parameter_number p == parameter_number q) && b)) ((parameter_number p == parameter_number q) && s)
+of_parameter p q = front (parameter_number p) (parameter_number q)
+
+-- the order of places is the one by which rows rise, and two keys are the same if neither comes first
+places : (a b : OfficeKey) → Tells (place_cmp (place_of a) (place_of b)) (comes_before (key_numbers a) (key_numbers b)) (is_same (key_numbers a) (key_numbers b))
+places (Monitor i) (Monitor j) = of_site i.site j.site _ _ _ (of_parameter i.pollutant j.pollutant _ _ _ (last i.poc j.poc))
+places (Primary s p d) (Primary t q e) = of_site s t _ _ _ (of_parameter p q _ _ _ (last d e))
+places (Schedule s p d) (Schedule t q e) = of_site s t _ _ _ (of_parameter p q _ _ _ (last d e))
+places (Season s d) (Season t e) = of_site s t _ _ _ (last d e)
+places (Makeup s d) (Makeup t e) = of_site s t _ _ _ (last d e)
+places (Event d) (Event e) = last d e
+places (Concurrence d) (Concurrence e) = last d e
+places (Approved s d) (Approved t e) = of_site s t _ _ _ (last d e)
+places (Combined s p) (Combined t q) = of_site s t _ _ _ (of_parameter p q (nat_cmp 0 0) false true (refl, refl))
+places a b = (refl, refl)
+
 pub before-places : (a b : OfficeKey) → is_lt (place_cmp (place_of a) (place_of b)) ≡ comes_before (key_numbers a) (key_numbers b)
-before-places (Monitor i) (Monitor j) = lt-site i.site j.site _ _ (lt-then (parameter_number i.pollutant) (parameter_number j.pollutant) _ _ (lt-nat_cmp i.poc j.poc))
-before-places (Primary s p d) (Primary t q e) = lt-site s t _ _ (lt-then (parameter_number p) (parameter_number q) _ _ (lt-nat_cmp d e))
-before-places (Schedule s p d) (Schedule t q e) = lt-site s t _ _ (lt-then (parameter_number p) (parameter_number q) _ _ (lt-nat_cmp d e))
-before-places (Season s d) (Season t e) = lt-site s t _ _ (lt-nat_cmp d e)
-before-places (Makeup s d) (Makeup t e) = lt-site s t _ _ (lt-nat_cmp d e)
-before-places (Event d) (Event e) = lt-nat_cmp d e
-before-places (Concurrence d) (Concurrence e) = lt-nat_cmp d e
-before-places (Approved s d) (Approved t e) = lt-site s t _ _ (lt-nat_cmp d e)
-before-places (Combined s p) (Combined t q) = lt-site s t _ _ (lt-then (parameter_number p) (parameter_number q) (nat_cmp 0 0) false refl)
-before-places a b = refl
+before-places a b = (places a b).0
 
--- two keys are the same if neither comes first
 pub same-places : (a b : OfficeKey) → is_eq (place_cmp (place_of a) (place_of b)) ≡ is_same (key_numbers a) (key_numbers b)
-same-places (Monitor i) (Monitor j) = eq-site i.site j.site _ _ (eq-then (parameter_number i.pollutant) (parameter_number j.pollutant) _ _ (eq-last i.poc j.poc))
-same-places (Primary s p d) (Primary t q e) = eq-site s t _ _ (eq-then (parameter_number p) (parameter_number q) _ _ (eq-last d e))
-same-places (Schedule s p d) (Schedule t q e) = eq-site s t _ _ (eq-then (parameter_number p) (parameter_number q) _ _ (eq-last d e))
-same-places (Season s d) (Season t e) = eq-site s t _ _ (eq-last d e)
-same-places (Makeup s d) (Makeup t e) = eq-site s t _ _ (eq-last d e)
-same-places (Event d) (Event e) = eq-last d e
-same-places (Concurrence d) (Concurrence e) = eq-last d e
-same-places (Approved s d) (Approved t e) = eq-site s t _ _ (eq-last d e)
-same-places (Combined s p) (Combined t q) = eq-site s t _ _ (eq-then (parameter_number p) (parameter_number q) (nat_cmp 0 0) true refl)
-same-places a b = refl
+same-places a b = (places a b).1
 
 -- ---- places that compare alike are one
 

@@ -1,5 +1,5 @@
 -- How far the agreed events up to each one reach.
-use Rattle.std.proofs.Common.{◌≡◌, ℕ, ◌-◌, ◌≤◌, ◌<◌, Bool, true, false, ◌&&◌, ◌||◌, ◌==◌, List, [], ◌∷◌, ◌++◌, cond, Option, Some, None, refl, ap, sym, ◌∙◌, arith, inl, inr, suc, zero}
+use Rattle.std.proofs.Common.{◌≡◌, ℕ, ◌+◌, ◌-◌, ◌≤◌, ◌<◌, Bool, true, false, ◌&&◌, ◌||◌, ◌==◌, List, [], ◌∷◌, ◌++◌, cond, Option, Some, None, refl, ap, sym, ◌∙◌, arith, inl, inr, suc, zero}
 use Rattle.std.specs.Prelude.{length, take, drop, nat_le, nat_lt, bytes_eq, slice_index_or, slice_set, ⊤}
 use Rattle.std.specs.List.{AllByRecursion, list_any, last_or}
 use Rattle.std.proofs.lemmas.Bool.{false≢true, cases_Bool}
@@ -11,6 +11,9 @@ use Rattle.aq_registry.specs.declared.agreed.Span.{Span}
 use Rattle.aq_registry.specs.declared.agreed.Entry.{Entry}
 use Rattle.aq_registry.specs.Agreed.{series_of, is_same_series, starts_before, covers, AreInOrder, spans_of, entry_behind, AreReached, AreChained, AreAgreed, does_reach}
 use Rattle.aq_registry.proofs.AgreedLemmas.{before-itself, equal-lists}
+
+pub next : (i : ℕ) → suc i ≡ i + 1
+next i = omega arith
 
 -- ---- entries one by one
 

@@ -1,5 +1,5 @@
 -- How many sites and events there are once a record is put or dropped.
-use Rattle.std.proofs.Common.{◌≡◌, ℕ, ◌+◌, ◌≤◌, ◌⊎◌, Bool, true, false, cond, not, ◌&&◌, ◌==◌, List, [], ◌∷◌, length, Option, Some, None, is_some, refl, sym, ap, ◌∙◌, arith, inl, inr}
+use Rattle.std.proofs.Common.{◌≡◌, ℕ, ◌+◌, ◌≤◌, ◌⊎◌, Bool, true, false, cond, not, ◌&&◌, ◌==◌, List, [], ◌∷◌, length, Option, Some, None, is_some, refl, sym, subst, ap, ◌∙◌, arith, inl, inr}
 use Rattle.std.specs.Prelude.{filter, count_by, nat_le, option_map}
 use Rattle.std.specs.List.{list_all}
 use Rattle.std.proofs.lemmas.Bool.{false≢true, and_parts, eqb-true, leb-true}
@@ -8,11 +8,12 @@ use Rattle.aq_base.specs.declared.office.OfficeRecord.{OfficeRecord}
 use Rattle.aq_base.specs.declared.office.OfficeRecord.TheVariants.{Monitor, Event}
 use Rattle.aq_base.specs.declared.office.OfficeKey.{OfficeKey}
 use Rattle.aq_base.specs.declared.office.OfficeKey.TheVariants.{Monitor as MonitorKey, Event as EventKey, Concurrence as ConcurrenceKey}
+use Rattle.aq_base.specs.declared.office.OfficeLine.{OfficeLine}
 use Rattle.aq_base.specs.declared.office.OfficeLine.TheVariants.{Put, Change, Drop}
 use Rattle.aq_rules.specs.Limits.{MOST_EVENTS}
 use Rattle.aq_rules.specs.Lines.Canonical.{is_office_line}
 use Rattle.aq_rules.specs.Lines.Reading.{OfOffice}
-use Rattle.aq_rules.specs.Office.Load.{without_key}
+use Rattle.aq_rules.specs.Office.Load.{changed, without_key}
 use Rattle.aq_rules.specs.Office.Refusal.{is_new_site}
 use Rattle.aq_rules.specs.Office.Office.{IsOffice, is_same, comes_before, rises, row_at, with_row, without_row, record_rank, key_numbers, key_of, group_of, with_site, sites_of, fits_records, is_record, has_its_monitor, has_its_event, group_size, most_in_group}
 use Rattle.aq_rules.specs.Office.RowOrder.{without_row-rises}
@@ -135,6 +136,24 @@ events_dropped key rows rise = none (is_some (row_at record_rank (key_numbers ke
     none true h = h
     none false h = h
 
+-- the records as contracts see them
+pub IsOffice-seen : (inside rows : List OfficeRecord) → IsOffice (office_with inside) → inside ≡ rows → IsOffice (office_with rows)
+IsOffice-seen inside rows valid seen = subst (λ (rs : List OfficeRecord). IsOffice (office_with rs)) seen valid
+
+-- the number beside the records, once one is put or dropped
+pub counted-put : (r : OfficeRecord) (inside rows : List OfficeRecord) (count : ℕ) → IsOffice (office_with inside) → inside ≡ rows → count ≡ events_in inside → (new : Bool) → new ≡ adds_event rows r
+    → events_in (with_row record_rank r rows) ≡ one_where new + count
+counted-put r inside rows count valid seen counted new is =
+    events_put r rows (IsOffice-seen inside rows valid seen).keys_rise.records
+    ∙ (λ i. one_where (sym is i) + sym (counted ∙ ap events_in seen) i)
+
+pub counted-dropped : (key : OfficeKey) (inside rows : List OfficeRecord) (count : ℕ) → IsOffice (office_with inside) → inside ≡ rows → count ≡ events_in inside → (stood : Bool) → stood ≡ drops_event rows key
+    → events_in (without_key key (office_with rows)).records + one_where stood ≡ count
+counted-dropped key inside rows count valid seen counted stood is =
+    ap (λ b. events_in (without_key key (office_with rows)).records + one_where b) is
+    ∙ events_dropped key rows (IsOffice-seen inside rows valid seen).keys_rise.records
+    ∙ sym (counted ∙ ap events_in seen)
+
 -- as many events stand as may, at most
 few_of : (all rows : List OfficeRecord) → list_all (fits_records (office_with all)) rows ≡ true → (events_in rows ≡ 0) ⊎ (events_in all ≤ MOST_EVENTS)
 unfolding is_event
@@ -245,6 +264,13 @@ only_records (EventKey number) rows = refl
 only_records key rows = refl
 
 -- ---- what a line changed
+
+-- a line in its form leaves what it leaves
+pub valid-changed : (rows : List OfficeRecord) (line form : OfficeLine) → IsOffice (changed (office_with rows) (OfOffice line)) → line ≡ form → IsOffice (changed (office_with rows) (OfOffice form))
+valid-changed rows line form valid is = subst (λ (l : OfficeLine). IsOffice (changed (office_with rows) (OfOffice l))) is valid
+
+pub changes-seen : (rows new after : List OfficeRecord) (line form : OfficeLine) (made given : Changes) → made ≡ given → given ≡ changes_of rows after form → new ≡ after → line ≡ form → made ≡ changes_of rows new line
+changes-seen rows new after line form made given is by now of = is ∙ by ∙ (λ i. changes_of rows (sym now i) (sym of i))
 
 pub put_changes : (r : OfficeRecord) (rows : List OfficeRecord) → putting rows r ≡ changes_of rows (with_row record_rank r rows) (Put r)
 put_changes r rows = ap (changes_with rows r) (sym (found-with record_rank (record_rank r) r rows ∙ ap (λ b. cond b (Some r) (row_at record_rank (record_rank r) rows)) (same-itself (record_rank r))))

@@ -46,20 +46,15 @@ is_le-from from n = grind (arith, nat_tests)
 
 -- ---- tests in a row
 
+pub and-assoc : (a b c : Bool) → (a && (b && c)) ≡ ((a && b) && c)
+and-assoc true b c = refl
+and-assoc false b c = refl
+
 five : (k a b c d e : Bool) → (k && (a && (b && (c && (d && e))))) ≡ (((((k && a) && b) && c) && d) && e)
-five true true true true d e = refl
-five true true true false d e = refl
-five true true false c d e = refl
-five true false b c d e = refl
-five false a b c d e = refl
+five k a b c d e = and-assoc k a _ ∙ and-assoc (k && a) b _ ∙ and-assoc ((k && a) && b) c _ ∙ and-assoc (((k && a) && b) && c) d e
 
 six : (k a b c d e f : Bool) → (k && (a && (b && (c && (d && (e && f)))))) ≡ ((((((k && a) && b) && c) && d) && e) && f)
-six true true true true true e f = refl
-six true true true true false e f = refl
-six true true true false d e f = refl
-six true true false c d e f = refl
-six true false b c d e f = refl
-six false a b c d e f = refl
+six k a b c d e f = five k a b c d (e && f) ∙ and-assoc ((((k && a) && b) && c) && d) e f
 
 -- ---- places
 

@@ -1,12 +1,12 @@
 -- A monitor's span of some days, put into the tallies of the days one observation after another.
-use Rattle.std.proofs.Common.{◌≡◌, ℕ, zero, suc, replicate, ◌+◌, ◌*◌, ◌/◌, ◌<◌, ◌≤◌, Bool, true, false, cond, ◌&&◌, ◌==◌, Some, None, Option, List, [], ◌∷◌, ◌++◌, length, get_or, set, refl, ap, sym, subst, ◌∙◌, arith, append_assoc}
+use Rattle.std.proofs.Common.{◌≡◌, ℕ, zero, suc, replicate, ◌+◌, ◌-◌, ◌*◌, ◌/◌, ◌<◌, ◌≤◌, Bool, true, false, cond, ◌&&◌, ◌==◌, Some, None, Option, List, [], ◌∷◌, ◌++◌, length, get_or, set, refl, ap, sym, subst, ◌∙◌, arith, append_assoc}
 use Rattle.std.specs.Prelude.{IfSome, ℤ, nat_lt, nat_le, filter, map, option_map, IsTrue}
 use Rattle.std.specs.List.{AllByRecursion, filter_map, cons_option}
 use Rattle.std.specs.Option.{option_to_list}
 use Rattle.std.proofs.lemmas.Bool.{false≢true, and_parts}
 use Rattle.std.proofs.lemmas.Bool.Decides.{nat_tests}
 use Rattle.std.proofs.lemmas.Grind.{get_or-set_at}
-use Rattle.std.proofs.lemmas.List.{append-nil, get_or-set_other, get_or-set_same, set-set}
+use Rattle.std.proofs.lemmas.List.{append-nil, get_or-set_other, get_or-set_same, length-set, set-set}
 use Rattle.aq_base.specs.declared.monitor.Duration.TheVariants.{Hour}
 use Rattle.aq_base.specs.declared.monitor.MonitorId.{MonitorId}
 use Rattle.aq_base.specs.declared.observation.ObsKey.{ObsKey}
@@ -23,11 +23,8 @@ use Rattle.aq_series.specs.declared.day_tally.DayTally.{DayTally}
 use Rattle.aq_series.specs.DayCells.{cell_of, cells_in, hours_of, key_at, IsOfParticles, IsParticle, IsTallyOf}
 use Rattle.aq_series.proofs.DaySteps.{Within}
 use Rattle.aq_series.proofs.MonitorDay.{cells-of_day, give_cell}
-use Rattle.aq_series.proofs.Rising.{Later, same_number}
-use Rattle.aq_series.proofs.Spans.{Item, hour_of}
-
-abbrev as_cell : ℤ → Bool → Cell
-as_cell value excluded = record { value = value; excluded = excluded }
+use Rattle.aq_series.proofs.Rising.{Later, Rising, same_number}
+use Rattle.aq_series.proofs.Spans.{Item, as_cell, hour_of}
 
 module _ (records : List OfficeRecord) (monitor : MonitorId) (first : ℕ) where
   -- what an observation gives to a day
@@ -188,6 +185,32 @@ module _ (days whole : List DayTally) (place : ℕ) (tally : DayTally) (same : s
 
   pub put-over : (after : DayTally) → set whole place after ≡ set days place after
   put-over after = ap (λ (now : List DayTally). set now place after) (sym same) ∙ set-set days place tally after
+
+-- the next hour: `old` has the tallies with the one at hand out of its place `from`, and `days` those after the turn to the hour's place
+module _ (records : List OfficeRecord) (rows : List (ObsKey × Observation)) (monitor : MonitorId) (first start from place number : ℕ) (old days : List DayTally) (tally turned : DayTally) (item : Item) (rest : List Item) where
+  abbrev Stands : List Item → Type 0
+  Stands items = Rising hour_of items × Within (start + 24 * from) (24 * first + 2208) items × Reads records monitor first (observations_in monitor (24 * first) 2208 rows) items (set old from tally)
+
+  pub record AtHour : Type 0 where
+    pub stands : Stands (item ∷ rest)
+    pub small : place < 92
+    pub at : item.0 / 24 ≡ first + place
+    pub many : place < length (set old from tally)
+    pub hand : (d : DayTally) → get_or (set old from tally) place d ≡ turned
+
+  pub at-hour : (items : List Item) → items ≡ item ∷ rest → start ≡ 24 * first → length old ≡ 92 → Stands items → number ≡ item.0 → length days ≡ 92 → place ≡ (number - start) / 24 → set days place turned ≡ set old from tally → AtHour
+  at-hour items is starts long stood numbered long_too turns same =
+      let stands = subst Stands is stood in
+      let hour = stands.1.0 in
+      let small : place < 92 = omega (arith, starts, hour.0, hour.1, numbered, turns) in
+      let there : place < length days = omega (arith, long_too, small) in
+      record {
+        stands = stands;
+        small = small;
+        at = omega (arith, starts, hour.0, numbered, turns);
+        many = omega (arith, length-set old from tally, long, small);
+        hand = λ d. at-hand days (set old from tally) place turned same d there;
+      }
 
 -- ---- days without a value
 

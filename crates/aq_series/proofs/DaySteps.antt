@@ -76,6 +76,10 @@ module _ (records : List OfficeRecord) (rows : List (ObsKey × Observation)) (mo
   abbrev pub Reads : List Item → List HourState → List HourState → Type 0
   Reads items before now = (k : ℕ) (d : HourState) → k < 192 → Read k (found hour_of (24 * day + k) items) (get_or before k d) (get_or now k d)
 
+  -- what a span still has to give
+  abbrev pub Ahead : List HourState → List HourState → List Item → Type 0
+  Ahead before now items = Rising hour_of items × Within (24 * day) (24 * day + 192) items × Reads items before now
+
   unread : (k : ℕ) (state : HourState) (o : Option Item) → option_map (λ (i : Item). i.1) o ≡ content_at (standing_at monitor day k) rows → Read k o state state
   unread k state None is =
       subst (λ (content : Option Observation). Adds monitor.poc (option_and_then (cell_of records (standing_at monitor day k)) content) state state) is refl

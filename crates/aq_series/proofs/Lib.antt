@@ -9,7 +9,6 @@ pub mod DayStages
 pub mod SitePocs
 pub mod MonitorDay
 pub mod DayLists
-pub mod DayMeans
 pub mod SiteDay
 pub mod DaySpans
 pub mod SiteSpans

@@ -17,20 +17,20 @@ use Rattle.aq_base.specs.declared.office.OfficeRecord.TheVariants.{Monitor}
 use Rattle.aq_base.specs.declared.office.OfficeKey.TheVariants.{Monitor as MonitorKey}
 use Rattle.aq_rules.specs.Lines.Spellings.{◌>>=◌}
 use Rattle.aq_rules.specs.Office.Exclusion.{excluded}
-use Rattle.aq_rules.specs.Office.Monitors.{is_same_site, is_same_monitor, is_eligible}
-use Rattle.aq_rules.specs.Office.Office.{IsOffice, comes_before, content_of, duration_at, is_same, key_numbers, monitor_duration, observation_numbers, observation_rank, pollutant_number, record_rank, rises, row_at}
+use Rattle.aq_rules.specs.Office.Monitors.{is_same_monitor, is_eligible}
+use Rattle.aq_rules.specs.Office.Office.{IsOffice, content_of, duration_at, is_same, key_numbers, monitor_duration, observation_numbers, observation_rank, record_rank, rises, row_at}
 use Rattle.aq_rules.specs.Office.Questions.{registration_by, registration_of}
-use Rattle.aq_rules.specs.Office.Sameness.{same_monitor, number_itself}
 use Rattle.aq_rules.specs.Ozone.SiteHour.{Cell}
 use Rattle.aq_rules.specs.Particles.ParticleDay.{day_cell, monitor_day, starts_on}
 use Rattle.aq_rules.specs.Particles.ParticleDay as particle_day
+use Rattle.aq_shelf.proofs.Order.{before_hour, same_hour}
 use Rattle.aq_registry.specs.Registry.{office_with, pair_of}
 use Rattle.aq_series.specs.OfficeView.{office_of}
-use Rattle.aq_series.specs.DayCells.{cell_at, cell_of, cells_in, hours_of, key_at}
-use Rattle.aq_series.proofs.Rising.{Rising, Later, found, found-given, found-under, rising-given, rising-under, same_list, below, last_decides, not_below_itself, row_at-is}
+use Rattle.aq_series.specs.DayCells.{cell_at, cell_of, cells_in, hours_of, key_at, monitor_steps, steps_by}
+use Rattle.aq_series.proofs.Rising.{Rising, Later, found, found-ranked, found-under, rising-ranked, rising-under, same_list, row_at-is}
 use Rattle.aq_series.proofs.Pocs.{eligible_is}
 use Rattle.aq_series.proofs.SitePocs.{same_rank}
-use Rattle.aq_series.proofs.Spans.{and_true, pollutants, regroup}
+use Rattle.aq_series.proofs.Spans.{Entry, as_cell, key_is, key_there}
 
 -- a cell and its hour
 pub record Timed : Type 0 where
@@ -39,12 +39,6 @@ pub record Timed : Type 0 where
 
 abbrev as_timed : ℕ → Cell → Timed
 as_timed hour cell = record { hour = hour; cell = cell }
-
-abbrev as_cell : ℤ → Bool → Cell
-as_cell value excluded = record { value = value; excluded = excluded }
-
-abbrev Entry : Type 0
-Entry = ObsKey × Observation
 
 module _ (records : List OfficeRecord) (rows : List Entry) (monitor : MonitorId) (starts : ℕ → Bool) where
   -- what a row gives, with its hour
@@ -64,12 +58,6 @@ module _ (records : List OfficeRecord) (rows : List Entry) (monitor : MonitorId)
 
   -- ---- one row
 
-  hour_is : (m n : ℕ) → (m == n) ≡ true → m ≡ n
-  hour_is m n h = grind (arith, nat_tests)
-
-  key_is : (key : ObsKey) → is_same_monitor key.monitor monitor ≡ true → key ≡ key_at monitor key.hour
-  key_is key h = let one = same_monitor key.monitor monitor h in λ i. record { monitor = one i; hour = key.hour }
-
   given : (row : Entry) (t : Timed) → give row ≡ Some t → (is_same_monitor row.0.monitor monitor ≡ true) × (row.0.hour ≡ t.hour) × (starts t.hour ≡ true)
   given row t h = by_tests (is_same_monitor row.0.monitor monitor) refl (starts row.0.hour) refl row.1.value h
     where
@@ -84,33 +72,9 @@ module _ (records : List OfficeRecord) (rows : List Entry) (monitor : MonitorId)
   ranked : (row : Entry) (t : Timed) → give row ≡ Some t → observation_rank row ≡ numbers t.hour
   ranked row t h =
       let parts = given row t h in
-      ap observation_numbers (key_is row.0 parts.0) ∙ ap numbers parts.1
-
-  before_hour : (s t : ℕ) → comes_before (numbers s) (numbers t) ≡ nat_lt s t
-  before_hour s t =
-      rw (number_itself monitor.site.state, number_itself monitor.site.county, number_itself monitor.site.number, number_itself (pollutant_number monitor.pollutant), number_itself monitor.poc, not_below_itself monitor.site.state, not_below_itself monitor.site.county, not_below_itself monitor.site.number, not_below_itself (pollutant_number monitor.pollutant), not_below_itself monitor.poc)
-      (last_decides s t)
-
-  in_order : (a b : Entry) (s t : Timed) → give a ≡ Some s → give b ≡ Some t → comes_before (observation_rank a) (observation_rank b) ≡ true → s.hour < t.hour
-  in_order a b s t first second before =
-      below s.hour t.hour (sym (before_hour s.hour t.hour) ∙ (λ i. comes_before (sym (ranked a s first) i) (sym (ranked b t second) i)) ∙ before)
-
-  same_hour : (s t : ℕ) → is_same (numbers s) (numbers t) ≡ (s == t)
-  same_hour s t =
-      rw (number_itself monitor.site.state, number_itself monitor.site.county, number_itself monitor.site.number, number_itself (pollutant_number monitor.pollutant), number_itself monitor.poc) (and_true (s == t))
-
-  tells : (hour : ℕ) (row : Entry) (t : Timed) → give row ≡ Some t → (t.hour == hour) ≡ is_same (observation_rank row) (numbers hour)
-  tells hour row t h = sym (same_hour t.hour hour) ∙ ap (λ k. is_same k (numbers hour)) (sym (ranked row t h))
+      ap observation_numbers (key_is monitor row.0 parts.0) ∙ ap numbers parts.1
 
   -- ---- the row of a key
-
-  key_there : (key : ObsKey) (hour : ℕ) → is_same (observation_numbers key) (numbers hour) ≡ true → (is_same_monitor key.monitor monitor ≡ true) × (key ≡ key_at monitor hour)
-  key_there key hour same =
-      let m = key.monitor in
-      let parts = regroup (m.site.state == monitor.site.state) (m.site.county == monitor.site.county) (m.site.number == monitor.site.number) (pollutant_number m.pollutant == pollutant_number monitor.pollutant) (m.poc == monitor.poc) (key.hour == hour) same in
-      let there : is_same_monitor m monitor ≡ true =
-      ap (λ p. is_same_site m.site monitor.site && p && (m.poc == monitor.poc)) (sym (pollutants m.pollutant monitor.pollutant)) ∙ parts.0 in
-      (there, key_is key there ∙ ap (key_at monitor) (hour_is key.hour hour parts.1))
 
   gives : (key : ObsKey) (content : Observation) (hour : ℕ) → is_same_monitor key.monitor monitor ≡ true → key ≡ key_at monitor hour
       → give (key, content) ≡ cond (starts hour) (option_map (as_timed hour) (cell_of records (key_at monitor hour) content)) None
@@ -133,7 +97,7 @@ module _ (records : List OfficeRecord) (rows : List Entry) (monitor : MonitorId)
       → option_and_then give o ≡ cond (starts hour) (option_map (as_timed hour) (option_and_then (cell_of records (key_at monitor hour)) (option_map content_of o))) None
   row_gives hour None there = either (starts hour) None
   row_gives hour (Some row) there =
-      let parts = key_there row.0 hour (there row refl) in
+      let parts = key_there monitor row.0 hour (there row refl) in
       gives row.0 row.1 hour parts.0 parts.1
 
   -- ---- all of them
@@ -141,7 +105,7 @@ module _ (records : List OfficeRecord) (rows : List Entry) (monitor : MonitorId)
   module _ (rising : IsTrue (rises observation_rank rows)) (hours : List ℕ) (hours_rise : Rising (λ k. k) hours) (are : (hour : ℕ) → list_any (λ k. k == hour) hours ≡ starts hour) where
     found_in_rows : (hour : ℕ) → found (λ (t : Timed). t.hour) hour (filter_map give rows) ≡ cond (starts hour) (at hour) None
     found_in_rows hour =
-        found-given observation_rank (λ (t : Timed). t.hour) give (numbers hour) hour (tells hour) rows rising
+        found-ranked observation_rank numbers (λ (t : Timed). t.hour) give ranked (same_hour monitor) hour rows rising
         ∙ row_gives hour (row_at observation_rank (numbers hour) rows) (row_at-is observation_rank (numbers hour) rows)
 
     numbered : (hour : ℕ) (t : Timed) → at hour ≡ Some t → t.hour ≡ hour
@@ -157,7 +121,7 @@ module _ (records : List OfficeRecord) (rows : List Entry) (monitor : MonitorId)
     timed_are : filter_map give rows ≡ filter_map at hours
     timed_are =
         same_list (λ (t : Timed). t.hour) (filter_map give rows) (filter_map at hours)
-        (rising-given observation_rank (λ (t : Timed). t.hour) give in_order rows rising)
+        (rising-ranked observation_rank numbers (λ (t : Timed). t.hour) give ranked (before_hour monitor) rows rising)
         (rising-under (λ (t : Timed). t.hour) at numbered hours hours_rise)
         (λ n. found_in_rows n ∙ sym (found_in_hours n))
 
@@ -235,9 +199,14 @@ lasts_by m (Monitor id duration eligible ∷ records) =
     by_test rest false = rest
 lasts_by m (r ∷ records) = lasts_by m records
 
-pub lasts : (m : MonitorId) (records : List OfficeRecord) (o : Option (Duration × Bool)) → o ≡ option_map pair_of (registration_of records m) → duration_at (office_with records) m ≡ option_map (λ (p : Duration × Bool). p.0) o
+lasts : (m : MonitorId) (records : List OfficeRecord) (o : Option (Duration × Bool)) → o ≡ option_map pair_of (registration_of records m) → duration_at (office_with records) m ≡ option_map (λ (p : Duration × Bool). p.0) o
 unfolding registration_of
 lasts m records o is = lasts_by m records ∙ ap (option_map (λ (p : Duration × Bool). p.0)) (sym is)
+
+-- the steps of a registered monitor's day
+pub steps-lasting : (m : MonitorId) (records : List OfficeRecord) (stated duration : Duration) (eligible : Bool) → Some (stated, eligible) ≡ option_map pair_of (registration_of records m) → stated ≡ duration
+    → monitor_steps records m ≡ steps_by duration
+steps-lasting m records stated duration eligible is of = ap (λ (o : Option Duration). option_map_or steps_by o 0) (lasts m records (Some (stated, eligible)) is) ∙ ap steps_by of
 
 module _ (records : List OfficeRecord) (rows : List Entry) (monitor : MonitorId) (day : ℕ) (valid : IsOffice (office_with records)) (rising : IsTrue (rises observation_rank rows)) where
   eligible : (o : Option (Duration × Bool)) → o ≡ option_map pair_of (registration_of records monitor) → is_eligible records monitor ≡ option_map_or (λ (p : Duration × Bool). p.1) o false

@@ -1,5 +1,5 @@
 -- Whether a monitor's values count, and the registered ozone POCs of a site.
-use Rattle.std.proofs.Common.{◌≡◌, ℕ, ◌≤◌, Bool, true, false, cond, ◌&&◌, ◌||◌, ◌==◌, Some, None, List, [], ◌∷◌, length, refl, ap, sym, subst, ◌∙◌}
+use Rattle.std.proofs.Common.{◌≡◌, ℕ, ◌≤◌, Bool, true, false, cond, ◌&&◌, ◌||◌, ◌==◌, Option, Some, None, List, [], ◌∷◌, length, refl, ap, sym, subst, ◌∙◌}
 use Rattle.std.specs.Prelude.{slice_get, option_map}
 use Rattle.std.specs.List.{AllByRecursion, filter_map, cons_option, list_any}
 use Rattle.std.specs.Option.{option_map_or}
@@ -72,6 +72,11 @@ pocs-rise site = pollutants.pocs-rise site Ozone
 
 pub pocs-next : (site : Site) (records : List OfficeRecord) (after poc : ℕ) → rises record_rank records ≡ true → next_poc records site Ozone after ≡ Some poc → pocs_above records site after ≡ poc ∷ pocs_above records site poc
 pocs-next site = pollutants.pocs-next site Ozone
+
+-- one fewer after each
+pub pocs-fewer : (site : Site) (records : List OfficeRecord) (after poc : ℕ) (next : Option ℕ) → IsOffice (office_with records) → next ≡ next_poc records site Ozone after → next ≡ Some poc
+    → length (pocs_above records site after) ≡ length (poc ∷ pocs_above records site poc)
+pocs-fewer site records after poc next valid is some = ap length (pocs-next site records after poc valid.keys_rise.records (sym is ∙ some))
 
 pub pocs-end : (site : Site) (records : List OfficeRecord) (after : ℕ) → next_poc records site Ozone after ≡ None → pocs_above records site after ≡ []
 pocs-end site = pollutants.pocs-end site Ozone

@@ -143,6 +143,20 @@ module _ {X : Type 0} (rank : X → List ℕ) where
           by_given rest (Some y) given true same = ap (λ b. cond b (Some y) (found number n (filter_map give rows))) (tells r y given ∙ same) ∙ sym given
           by_given rest (Some y) given false other = ap (λ b. cond b (Some y) (found number n (filter_map give rows))) (tells r y given ∙ other) ∙ rest
 
+-- ---- rows that are ranked by numbers
+
+-- what they give, each with the number by which its row is ranked
+module _ {X Y : Type 0} (rank : X → List ℕ) (numbers : ℕ → List ℕ) (number : Y → ℕ) (give : X → Option Y) (ranked : (x : X) (y : Y) → give x ≡ Some y → rank x ≡ numbers (number y)) where
+  pub rising-ranked : ((m n : ℕ) → comes_before (numbers m) (numbers n) ≡ nat_lt m n) → (rows : List X) → rises rank rows ≡ true → Rising number (filter_map give rows)
+  rising-ranked before = rising-given rank number give in_order
+    where
+      in_order : (a b : X) (s t : Y) → give a ≡ Some s → give b ≡ Some t → comes_before (rank a) (rank b) ≡ true → number s < number t
+      in_order a b s t first second less =
+          below (number s) (number t) (sym (before (number s) (number t)) ∙ (λ i. comes_before (sym (ranked a s first) i) (sym (ranked b t second) i)) ∙ less)
+
+  pub found-ranked : ((m n : ℕ) → is_same (numbers m) (numbers n) ≡ (m == n)) → (n : ℕ) (rows : List X) → rises rank rows ≡ true → found number n (filter_map give rows) ≡ option_and_then give (row_at rank (numbers n) rows)
+  found-ranked same n = found-given rank number give (numbers n) n (λ x y given. sym (same (number y) n) ∙ ap (λ k. is_same k (numbers n)) (sym (ranked x y given)))
+
 -- ---- what numbers give
 
 module _ {Y : Type 0} (number : Y → ℕ) (give : ℕ → Option Y) (numbered : (n : ℕ) (y : Y) → give n ≡ Some y → number y ≡ n) where

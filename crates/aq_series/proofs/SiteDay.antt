@@ -15,21 +15,19 @@ use Rattle.aq_base.specs.declared.monitor.Pollutant.{Pollutant}
 use Rattle.aq_base.specs.declared.monitor.Pollutant.TheVariants.{Pm25, Pm10}
 use Rattle.aq_base.specs.declared.office.OfficeRecord.{OfficeRecord}
 use Rattle.aq_base.specs.declared.office.OfficeRecord.TheVariants.{Monitor}
-use Rattle.aq_base.specs.declared.office.OfficeKey.TheVariants.{Monitor as MonitorKey}
 use Rattle.aq_rules.specs.Lists.{total}
 use Rattle.aq_rules.specs.Office.Designation.{primary_on}
 use Rattle.aq_rules.specs.Office.Monitors.{is_same_site, is_same_pollutant, is_eligible, makes_eligible}
-use Rattle.aq_rules.specs.Office.Office.{IsOffice, Office, comes_before, duration_at, key_numbers, record_rank}
+use Rattle.aq_rules.specs.Office.Office.{IsOffice, Office, duration_at, record_rank}
 use Rattle.aq_rules.specs.Office.Questions.{next_poc}
-use Rattle.aq_rules.specs.Office.Sameness.{same_site, same_pollutant}
 use Rattle.aq_rules.specs.Ozone.SiteHour.{Cell, Sample, chosen, is_of_poc}
 use Rattle.aq_rules.specs.Ozone.SiteHour as hour
 use Rattle.aq_rules.specs.Particles.ParticleDay.{counting_poc, day_of_samples, eligible_poc, eligible_pocs, lower_poc, lowest_poc, monitor_day, sample_on, samples_on, site_day}
 use Rattle.aq_registry.specs.Registry.{office_with}
 use Rattle.aq_series.specs.declared.day_tally.DayTally.{DayTally}
 use Rattle.aq_series.specs.DayCells.{cells_on, mean_of, monitor_at, monitor_steps, pocs_after, pocs_of, site_steps, steps_beside, steps_by, IsTallyOf}
-use Rattle.aq_series.proofs.Rising.{Later, Rising, found, found-under, rising-given, rising-under, same_list, below}
-use Rattle.aq_series.proofs.SitePocs.{before_poc, eligible_there, lasting_there, pocs-end, pocs-few, pocs-next, pocs-rise}
+use Rattle.aq_series.proofs.Rising.{Later, Rising, found, found-under, rising-ranked, rising-under, same_list}
+use Rattle.aq_series.proofs.SitePocs.{before_poc, rank-is, rank_at, eligible_there, lasting_there, pocs-end, pocs-few, pocs-next, pocs-rise}
 
 abbrev as_sample : ℕ → Cell → Sample
 as_sample poc cell = record { poc = poc; cell = cell }
@@ -49,21 +47,11 @@ module _ (records : List OfficeRecord) (site : Site) (pollutant : Pollutant) whe
   tested true false c n s h = cc
   tested false b c n s h = cc
 
-  ranked : (r : OfficeRecord) (s : ℕ) → eligible_poc site pollutant r ≡ Some s → record_rank r ≡ key_numbers (MonitorKey (monitor_at site pollutant s))
+  ranked : (r : OfficeRecord) (s : ℕ) → eligible_poc site pollutant r ≡ Some s → record_rank r ≡ rank_at site pollutant s
   ranked (Monitor id duration eligible) s h =
       let parts = tested (is_same_site id.site site) (is_same_pollutant id.pollutant pollutant) eligible id.poc s h in
-      let one : id ≡ monitor_at site pollutant s =
-      let at = same_site id.site site parts.0 in
-      let of = same_pollutant id.pollutant pollutant parts.1 in
-      let poc = parts.2 in
-      λ i. record { site = at i; pollutant = of i; poc = poc i }
-      in
-      ap (λ k. key_numbers (MonitorKey k)) one
+      rank-is site pollutant id s parts.0 parts.1 parts.2
   ranked r s h = cc
-
-  in_order : (a b : OfficeRecord) (s t : ℕ) → eligible_poc site pollutant a ≡ Some s → eligible_poc site pollutant b ≡ Some t → comes_before (record_rank a) (record_rank b) ≡ true → s < t
-  in_order a b s t first second before =
-      below s t (sym (before_poc site pollutant s t) ∙ (λ i. comes_before (sym (ranked a s first) i) (sym (ranked b t second) i)) ∙ before)
 
   listed : (p : ℕ) (rs : List OfficeRecord) → list_any (λ q. q == p) (filter_map (eligible_poc site pollutant) rs) ≡ list_any (makes_eligible (monitor_at site pollutant p)) rs
   listed p [] = refl
@@ -97,7 +85,7 @@ module _ (records : List OfficeRecord) (site : Site) (pollutant : Pollutant) whe
 
   pub eligible_rise : IsOffice (office_with records) → Rising (λ k. k) (eligible_pocs records site pollutant)
   unfolding eligible_pocs
-  eligible_rise valid = rising-given record_rank (λ k. k) (eligible_poc site pollutant) in_order records valid.keys_rise.records
+  eligible_rise valid = rising-ranked record_rank (rank_at site pollutant) (λ k. k) (eligible_poc site pollutant) ranked (before_poc site pollutant) records valid.keys_rise.records
 
   all_given : (ns : List ℕ) → filter_map (λ n. Some n) ns ≡ ns
   all_given [] = refl

@@ -21,7 +21,7 @@ use Rattle.aq_rules.specs.Office.Sameness.{same_site, same_pollutant, same_monit
 use Rattle.aq_registry.specs.Registry.{office_with}
 use Rattle.aq_registry.proofs.QuestionLemmas.{same-monitors}
 use Rattle.aq_series.specs.DayCells.{monitor_at, pocs_after, pocs_of}
-use Rattle.aq_series.proofs.Rising.{Later, Rising, rising-given, below, last_decides, not_below_itself}
+use Rattle.aq_series.proofs.Rising.{Later, Rising, rising-ranked, last_decides, not_below_itself}
 
 number_itself : (n : ℕ) → (n == n) ≡ true
 number_itself n = grind (arith, nat_tests)
@@ -45,7 +45,7 @@ some_poc id duration eligible office fits =
 -- ---- one record
 
 module _ (site : Site) (pollutant : Pollutant) where
-  abbrev rank_at : ℕ → List ℕ
+  abbrev pub rank_at : ℕ → List ℕ
   rank_at poc = key_numbers (MonitorKey (monitor_at site pollutant poc))
 
   -- the tests of a registered POC
@@ -55,16 +55,17 @@ module _ (site : Site) (pollutant : Pollutant) where
   gives true false c n s h = cc
   gives false b c n s h = cc
 
+  pub rank-is : (id : MonitorId) (poc : ℕ) → is_same_site id.site site ≡ true → is_same_pollutant id.pollutant pollutant ≡ true → id.poc ≡ poc → key_numbers (MonitorKey id) ≡ rank_at poc
+  rank-is id poc here this is =
+      let at = same_site id.site site here in
+      let of = same_pollutant id.pollutant pollutant this in
+      let one : id ≡ monitor_at site pollutant poc = λ i. record { site = at i; pollutant = of i; poc = is i } in
+      ap (λ k. key_numbers (MonitorKey k)) one
+
   ranked : (after : ℕ) (r : OfficeRecord) (s : ℕ) → poc_above site pollutant after r ≡ Some s → record_rank r ≡ rank_at s
   ranked after (Monitor id duration eligible) s h =
       let parts = gives (is_same_site id.site site) (is_same_pollutant id.pollutant pollutant) (nat_lt after id.poc) id.poc s h in
-      let one : id ≡ monitor_at site pollutant s =
-      let at = same_site id.site site parts.0 in
-      let of = same_pollutant id.pollutant pollutant parts.1 in
-      let poc = parts.3 in
-      λ i. record { site = at i; pollutant = of i; poc = poc i }
-      in
-      ap (λ k. key_numbers (MonitorKey k)) one
+      rank-is id s parts.0 parts.1 parts.3
   ranked after r s h = cc
 
   pub before_poc : (s t : ℕ) → comes_before (rank_at s) (rank_at t) ≡ nat_lt s t
@@ -72,12 +73,8 @@ module _ (site : Site) (pollutant : Pollutant) where
       rw (number_itself site.state, number_itself site.county, number_itself site.number, not_below_itself site.state, not_below_itself site.county, not_below_itself site.number, number_itself (parameter_number pollutant), not_below_itself (parameter_number pollutant))
       (last_decides s t)
 
-  in_order : (after : ℕ) (a b : OfficeRecord) (s t : ℕ) → poc_above site pollutant after a ≡ Some s → poc_above site pollutant after b ≡ Some t → comes_before (record_rank a) (record_rank b) ≡ true → s < t
-  in_order after a b s t first second before =
-      below s t (sym (before_poc s t) ∙ (λ i. comes_before (sym (ranked after a s first) i) (sym (ranked after b t second) i)) ∙ before)
-
   pub pocs-rise : (records : List OfficeRecord) (after : ℕ) → rises record_rank records ≡ true → Rising (λ k. k) (pocs_after records site pollutant after)
-  pocs-rise records after rising = rising-given record_rank (λ k. k) (poc_above site pollutant after) (in_order after) records rising
+  pocs-rise records after rising = rising-ranked record_rank rank_at (λ k. k) (poc_above site pollutant after) (ranked after) before_poc records rising
 
   -- ---- the next one
 

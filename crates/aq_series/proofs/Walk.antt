@@ -1,35 +1,29 @@
 -- What the rows of observations give for a site's hour is what its registered POCs give, one after another.
-use Rattle.std.proofs.Common.{◌≡◌, ℕ, ◌<◌, Bool, true, false, cond, ◌&&◌, ◌||◌, ◌==◌, Some, None, Option, List, refl, ap, sym, ◌∙◌, arith}
+use Rattle.std.proofs.Common.{◌≡◌, ℕ, Bool, true, false, cond, ◌&&◌, ◌||◌, ◌==◌, Some, None, Option, List, refl, ap, sym, ◌∙◌, arith}
 use Rattle.std.specs.Prelude.{ℤ, nat_lt, option_map, IsTrue}
 use Rattle.std.specs.List.{list_any}
 use Rattle.std.specs.Option.{option_and_then}
 use Rattle.std.proofs.lemmas.Bool.{false≢true}
 use Rattle.std.proofs.lemmas.Bool.Decides.{nat_tests}
 use Rattle.aq_base.specs.Site.{Site}
-use Rattle.aq_base.specs.declared.monitor.Pollutant.{Pollutant}
-use Rattle.aq_base.specs.declared.monitor.Pollutant.TheVariants.{Ozone, Pm25, Pm10}
+use Rattle.aq_base.specs.declared.monitor.Pollutant.TheVariants.{Ozone}
 use Rattle.aq_base.specs.declared.observation.ObsKey.{ObsKey}
 use Rattle.aq_base.specs.declared.observation.Observation.{Observation}
 use Rattle.aq_base.specs.declared.office.OfficeRecord.{OfficeRecord}
 use Rattle.aq_rules.specs.Office.Exclusion.{excluded}
 use Rattle.aq_rules.specs.Office.Monitors.{is_same_site, is_same_pollutant, is_eligible}
-use Rattle.aq_rules.specs.Office.Office.{IsOffice, comes_before, content_of, is_same, observation_numbers, observation_rank, pollutant_number, rises, row_at}
-use Rattle.aq_rules.specs.Office.Sameness.{same_site, same_pollutant, number_itself}
+use Rattle.aq_rules.specs.Office.Office.{IsOffice, comes_before, content_of, is_same, observation_numbers, observation_rank, rises, row_at}
+use Rattle.aq_rules.specs.Office.Sameness.{same_site, same_pollutant, number_itself, site_itself}
 use Rattle.aq_rules.specs.Ozone.SiteHour.{Cell, Sample, is_ozone_at, sample_of, samples_at}
 use Rattle.aq_registry.specs.Registry.{office_with}
 use Rattle.aq_series.specs.OfficeView.{office_of}
 use Rattle.aq_series.specs.Samples.{cell_at, cell_of, ozone_key, pocs_above, sample_at, samples_above}
-use Rattle.aq_series.proofs.Rising.{found, found-given, found-under, rising-given, rising-under, same_list, below, not_below_itself, row_at-is}
+use Rattle.aq_series.proofs.Rising.{found, found-ranked, found-under, rising-ranked, rising-under, same_list, same_number, not_below_itself, row_at-is}
+use Rattle.aq_series.proofs.Spans.{Entry, as_cell, key_there}
 use Rattle.aq_series.proofs.Pocs.{pocs-rise, eligible_there}
-
-abbrev as_cell : ℤ → Bool → Cell
-as_cell value excluded = record { value = value; excluded = excluded }
 
 abbrev as_sample : ℕ → Cell → Sample
 as_sample poc cell = record { poc = poc; cell = cell }
-
-abbrev Entry : Type 0
-Entry = ObsKey × Observation
 
 module _ (records : List OfficeRecord) (rows : List Entry) (site : Site) (hour : ℕ) where
   abbrev give : Entry → Option Sample
@@ -46,15 +40,12 @@ module _ (records : List OfficeRecord) (rows : List Entry) (site : Site) (hour :
   tested true false c h = cc
   tested false b c h = cc
 
-  hour_is : (m n : ℕ) → (m == n) ≡ true → m ≡ n
-  hour_is m n h = grind (arith, nat_tests)
-
   key_is : (key : ObsKey) → is_ozone_at site hour key ≡ true → key ≡ ozone_key site hour key.monitor.poc
   key_is key h =
       let parts = tested (is_same_pollutant key.monitor.pollutant Ozone) (is_same_site key.monitor.site site) (key.hour == hour) h in
       let of = same_pollutant key.monitor.pollutant Ozone parts.0 in
       let at = same_site key.monitor.site site parts.1 in
-      let when = hour_is key.hour hour parts.2 in
+      let when = same_number key.hour hour parts.2 in
       λ i. record { monitor = record { site = at i; pollutant = of i; poc = key.monitor.poc }; hour = when i }
 
   given : (row : Entry) (s : Sample) → give row ≡ Some s → (is_ozone_at site hour row.0 ≡ true) × (row.0.monitor.poc ≡ s.poc)
@@ -81,10 +72,6 @@ module _ (records : List OfficeRecord) (rows : List Entry) (site : Site) (hour :
       rw (number_itself site.state, number_itself site.county, number_itself site.number, not_below_itself site.state, not_below_itself site.county, not_below_itself site.number)
       (last_decides s t hour)
 
-  in_order : (a b : Entry) (s t : Sample) → give a ≡ Some s → give b ≡ Some t → comes_before (observation_rank a) (observation_rank b) ≡ true → s.poc < t.poc
-  in_order a b s t first second before =
-      below s.poc t.poc (sym (before_poc s.poc t.poc) ∙ (λ i. comes_before (sym (ranked a s first) i) (sym (ranked b t second) i)) ∙ before)
-
   and_same : (b h : Bool) → h ≡ true → (b && (h && true)) ≡ b
   and_same true h is = ap (λ c. c && true) is
   and_same false h is = refl
@@ -93,31 +80,12 @@ module _ (records : List OfficeRecord) (rows : List Entry) (site : Site) (hour :
   same_poc s t =
       rw (number_itself site.state, number_itself site.county, number_itself site.number) (and_same (s == t) (hour == hour) (number_itself hour))
 
-  tells : (poc : ℕ) (row : Entry) (s : Sample) → give row ≡ Some s → (s.poc == poc) ≡ is_same (observation_rank row) (numbers poc)
-  tells poc row s h = sym (same_poc s.poc poc) ∙ ap (λ k. is_same k (numbers poc)) (sym (ranked row s h))
-
   -- ---- the row of a key
 
-  regroup : (s c n p q h : Bool) → (s && (c && (n && (p && (q && (h && true)))))) ≡ true → (((p && ((s && c) && n)) && h) ≡ true) × (q ≡ true)
-  regroup true true true true true true e = (refl, refl)
-  regroup true true true true true false e = cc
-  regroup true true true true false h e = cc
-  regroup true true true false q h e = cc
-  regroup true true false p q h e = cc
-  regroup true false n p q h e = cc
-  regroup false c n p q h e = cc
-
-  ozone_number : (p : Pollutant) → (pollutant_number p == 1) ≡ is_same_pollutant p Ozone
-  ozone_number Ozone = refl
-  ozone_number Pm25 = refl
-  ozone_number Pm10 = refl
-
-  key_there : (key : ObsKey) (poc : ℕ) → is_same (observation_numbers key) (numbers poc) ≡ true → (is_ozone_at site hour key ≡ true) × (key ≡ ozone_key site hour poc)
-  key_there key poc same =
-      let m = key.monitor in
-      let parts = regroup (m.site.state == site.state) (m.site.county == site.county) (m.site.number == site.number) (pollutant_number m.pollutant == 1) (m.poc == poc) (key.hour == hour) same in
-      let there : is_ozone_at site hour key ≡ true = ap (λ p. (p && is_same_site m.site site) && (key.hour == hour)) (sym (ozone_number m.pollutant)) ∙ parts.0 in
-      (there, key_is key there ∙ ap (ozone_key site hour) (hour_is m.poc poc parts.1))
+  there_ozone : (key : ObsKey) (poc : ℕ) → is_same (observation_numbers key) (numbers poc) ≡ true → (is_ozone_at site hour key ≡ true) × (key ≡ ozone_key site hour poc)
+  there_ozone key poc same =
+      let is = (key_there (ozone_key site hour poc).monitor key hour same).1 in
+      (ap (is_ozone_at site hour) is ∙ (λ i. site_itself site i && number_itself hour i), is)
 
   gives : (key : ObsKey) (content : Observation) (poc : ℕ) → is_ozone_at site hour key ≡ true → key ≡ ozone_key site hour poc
       → give (key, content) ≡ option_map (λ (cell : Cell). as_sample poc cell) (cond (is_eligible records (ozone_key site hour poc).monitor) (cell_of records (ozone_key site hour poc) content) None)
@@ -140,7 +108,7 @@ module _ (records : List OfficeRecord) (rows : List Entry) (site : Site) (hour :
       → option_and_then give o ≡ option_map (λ (cell : Cell). as_sample poc cell) (cond (is_eligible records (ozone_key site hour poc).monitor) (option_and_then (cell_of records (ozone_key site hour poc)) (option_map content_of o)) None)
   row_gives poc None there = none_there (is_eligible records (ozone_key site hour poc).monitor) poc
   row_gives poc (Some row) there =
-      let parts = key_there row.0 poc (there row refl) in
+      let parts = there_ozone row.0 poc (there row refl) in
       gives row.0 row.1 poc parts.0 parts.1
 
   -- ---- all of them
@@ -148,7 +116,7 @@ module _ (records : List OfficeRecord) (rows : List Entry) (site : Site) (hour :
   module _ (valid : IsOffice (office_with records)) (rising : IsTrue (rises observation_rank rows)) where
     found_in_rows : (poc : ℕ) → found (λ (s : Sample). s.poc) poc (samples_at (office_of records rows) site hour) ≡ sample_at records rows site hour poc
     found_in_rows poc =
-        found-given observation_rank (λ (s : Sample). s.poc) give (numbers poc) poc (tells poc) rows rising
+        found-ranked observation_rank numbers (λ (s : Sample). s.poc) give ranked same_poc poc rows rising
         ∙ row_gives poc (row_at observation_rank (numbers poc) rows) (row_at-is observation_rank (numbers poc) rows)
 
     numbered : (poc : ℕ) (s : Sample) → sample_at records rows site hour poc ≡ Some s → s.poc ≡ poc
@@ -173,6 +141,6 @@ module _ (records : List OfficeRecord) (rows : List Entry) (site : Site) (hour :
     pub samples-are : samples_at (office_of records rows) site hour ≡ samples_above records rows site hour 0
     samples-are =
         same_list (λ (s : Sample). s.poc) (samples_at (office_of records rows) site hour) (samples_above records rows site hour 0)
-        (rising-given observation_rank (λ (s : Sample). s.poc) give in_order rows rising)
+        (rising-ranked observation_rank numbers (λ (s : Sample). s.poc) give ranked before_poc rows rising)
         (rising-under (λ (s : Sample). s.poc) (sample_at records rows site hour) numbered (pocs_above records site 0) (pocs-rise site records 0 valid.keys_rise.records))
         (λ n. found_in_rows n ∙ sym (found_in_pocs n))

@@ -1,5 +1,5 @@
 -- What an hour's place among rising hours says of their rows.
-use Rattle.std.proofs.Common.{◌≡◌, ◌≢◌, ℕ, zero, suc, ◌<◌, ◌≤◌, Bool, true, false, not, ◌&&◌, ◌==◌, List, [], ◌∷◌, ◌++◌, length, get_or, set, take, drop, cond, Some, None, is_some, refl, ap, sym, ◌∙◌, arith}
+use Rattle.std.proofs.Common.{◌≡◌, ◌≢◌, ℕ, zero, suc, ◌<◌, ◌≤◌, Bool, true, false, not, ◌&&◌, ◌==◌, List, [], ◌∷◌, ◌++◌, length, get_or, set, take, drop, cond, Some, None, is_some, refl, ap, sym, subst, ◌∙◌, arith}
 use Rattle.std.specs.Prelude.{nat_le, nat_lt, filter, option_map}
 use Rattle.std.specs.declared.cmp.Ordering.TheVariants.{Less}
 use Rattle.std.specs.Ordering.{nat_cmp}
@@ -83,30 +83,26 @@ place_up_to hour (e ∷ es) (suc i) f within is more =
 
 -- ---- an hour that stands, and one that does not
 
+-- a place that is not the first is one behind an hour that comes before
+behind-first : (hour : ℕ) (e : ℕ × Observation) (es : List (ℕ × Observation)) (i : ℕ) → suc i ≡ place_of hour (e ∷ es) → (e.0 < hour) × (i ≡ place_of hour es)
+behind-first hour e es i is = at (nat_lt e.0 hour) refl is
+  where
+    at : (b : Bool) → nat_lt e.0 hour ≡ b → suc i ≡ cond b (suc (place_of hour es)) 0 → (e.0 < hour) × (i ≡ place_of hour es)
+    at true less next = (is_below e.0 hour less, omega arith)
+    at false _ none = absurd (omega arith)
+
 pub StandsAt-place : (hour : ℕ) (es : List (ℕ × Observation)) (f : ℕ × Observation) (i : ℕ) → i ≡ place_of hour es → i < length es → f ≡ get_or es i f → f.0 ≡ hour → StandsAt hour es i
 StandsAt-place hour [] f i is within read same = absurd (omega arith)
 StandsAt-place hour (e ∷ es) f zero is within read same = ap (λ (p : ℕ × Observation). p.0) (sym read) ∙ same
 StandsAt-place hour (e ∷ es) f (suc i) is within read same =
-    let at : (b : Bool) → nat_lt e.0 hour ≡ b → suc i ≡ cond b (suc (place_of hour es)) 0 → (e.0 < hour) × StandsAt hour es i =
-    elim [
-      | true ↦ λ less next. (is_below e.0 hour less, StandsAt-place hour es f i (omega arith) (omega arith) read same)
-      | false ↦ λ _ none. absurd (omega arith)
-    ]
-    in
-    at (nat_lt e.0 hour) refl is
+    let behind = behind-first hour e es i is in (behind.0, StandsAt-place hour es f i behind.1 (omega arith) read same)
 
 pub IsGapAt-end : (hour : ℕ) (es : List (ℕ × Observation)) (i : ℕ) → i ≡ place_of hour es → i ≡ length es → IsGapAt hour es i
 IsGapAt-end hour [] zero is end = tt
 IsGapAt-end hour [] (suc i) is end = absurd (omega arith)
 IsGapAt-end hour (e ∷ es) zero is end = absurd (omega arith)
 IsGapAt-end hour (e ∷ es) (suc i) is end =
-    let at : (b : Bool) → nat_lt e.0 hour ≡ b → suc i ≡ cond b (suc (place_of hour es)) 0 → (e.0 < hour) × IsGapAt hour es i =
-    elim [
-      | true ↦ λ less next. (is_below e.0 hour less, IsGapAt-end hour es i (omega arith) (omega arith))
-      | false ↦ λ _ none. absurd (omega arith)
-    ]
-    in
-    at (nat_lt e.0 hour) refl is
+    let behind = behind-first hour e es i is in (behind.0, IsGapAt-end hour es i behind.1 (omega arith))
 
 pub IsGapAt-place : (hour : ℕ) (es : List (ℕ × Observation)) (f : ℕ × Observation) (i : ℕ) → i ≡ place_of hour es → i < length es → f ≡ get_or es i f → f.0 ≢ hour → IsGapAt hour es i
 IsGapAt-place hour [] f i is within read other = absurd (omega arith)
@@ -120,13 +116,7 @@ IsGapAt-place hour (e ∷ es) f zero is within read other =
     in
     at (nat_lt e.0 hour) refl is
 IsGapAt-place hour (e ∷ es) f (suc i) is within read other =
-    let at : (b : Bool) → nat_lt e.0 hour ≡ b → suc i ≡ cond b (suc (place_of hour es)) 0 → (e.0 < hour) × IsGapAt hour es i =
-    elim [
-      | true ↦ λ less next. (is_below e.0 hour less, IsGapAt-place hour es f i (omega arith) (omega arith) read other)
-      | false ↦ λ _ none. absurd (omega arith)
-    ]
-    in
-    at (nat_lt e.0 hour) refl is
+    let behind = behind-first hour e es i is in (behind.0, IsGapAt-place hour es f i behind.1 (omega arith) read other)
 
 -- ---- rising hours are rising rows
 
@@ -270,6 +260,10 @@ module _ (monitor : MonitorId) (hour : ℕ) where
           (same_hour monitor e.0 hour ∙ apart e.0 hour gap, others e es (omega arith) (sorted_head nat_cmp e.0 (keys_of es) sorted))
       all_apart (e ∷ es) (suc i) sorted gap =
           (same_hour monitor e.0 hour ∙ not_same e.0 hour gap.0, all_apart es i (sorted_tail nat_cmp e.0 (keys_of es) sorted) gap.1)
+
+-- as contracts see the hours
+pub absent-at : (key : ObsKey) (es seen : List (ℕ × Observation)) (i : ℕ) → IsStrictlySortedBy nat_cmp (keys_of es) → IsGapAt key.hour es i → es ≡ seen → content_at key (rows_of key.monitor seen) ≡ None
+absent-at key es seen i sorted gap is = subst (λ (hs : List (ℕ × Observation)). content_at key (rows_of key.monitor hs) ≡ None) is (content_at-gap key.monitor key.hour es i sorted gap)
 
 -- ---- the hours between two hours
 

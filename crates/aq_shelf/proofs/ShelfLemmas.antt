@@ -36,12 +36,12 @@ pub length-put : (key : ObsKey) (content : Observation) (rows : Rows) → conten
 length-put key content rows absent =
     length-with_row-new observation_rank (key, content) rows (no_content (row_at observation_rank (observation_numbers key) rows) absent)
 
-pub length-change : (key : ObsKey) (content before : Observation) (rows : Rows) → IsShelf rows → content_at key rows ≡ Some before → length (with_row observation_rank (key, content) rows) ≡ length rows
+length-change : (key : ObsKey) (content before : Observation) (rows : Rows) → IsShelf rows → content_at key rows ≡ Some before → length (with_row observation_rank (key, content) rows) ≡ length rows
 length-change key content before rows shelf found =
     let there = some_content (row_at observation_rank (observation_numbers key) rows) before found in
     length-with_row-there observation_rank (key, content) there.0 rows shelf.rising there.1
 
-pub length-drop : (key : ObsKey) (before : Observation) (rows : Rows) → IsShelf rows → content_at key rows ≡ Some before → length (without_row observation_rank (observation_numbers key) rows) + 1 ≡ length rows
+length-drop : (key : ObsKey) (before : Observation) (rows : Rows) → IsShelf rows → content_at key rows ≡ Some before → length (without_row observation_rank (observation_numbers key) rows) + 1 ≡ length rows
 length-drop key before rows shelf found =
     let there = some_content (row_at observation_rank (observation_numbers key) rows) before found in
     length-without_row observation_rank (observation_numbers key) there.0 rows shelf.rising there.1
@@ -55,12 +55,27 @@ IsShelf-put key content rows new row few shelf is = record {
   standing = rw is (all-with_row observation_rank IsStanding (key, content) rows row shelf.standing);
 }
 
-pub IsShelf-drop : (key : ObsKey) (rows new : Rows) → length new ≤ MOST_OBSERVATIONS → IsShelf rows → new ≡ without_row observation_rank (observation_numbers key) rows → IsShelf new
+IsShelf-drop : (key : ObsKey) (rows new : Rows) → length new ≤ MOST_OBSERVATIONS → IsShelf rows → new ≡ without_row observation_rank (observation_numbers key) rows → IsShelf new
 IsShelf-drop key rows new few shelf is = record {
   rising = rw is (without_row-rises observation_rank (observation_numbers key) rows shelf.rising);
   few = few;
   standing = rw is (all-without_row observation_rank IsStanding (observation_numbers key) rows shelf.standing);
 }
+
+-- a row in another's place, and a row less
+pub IsShelf-change : (key : ObsKey) (content before : Observation) (rows new : Rows) → IsStanding (key, content) → IsShelf rows → content_at key rows ≡ Some before → new ≡ with_row observation_rank (key, content) rows
+    → IsShelf new × (length new ≡ length rows)
+IsShelf-change key content before rows new row shelf found is =
+    let same = ap length is ∙ length-change key content before rows shelf found in
+    let few = shelf.few in
+    (IsShelf-put key content rows new row (omega arith) shelf is, same)
+
+pub IsShelf-less : (key : ObsKey) (before : Observation) (rows new : Rows) → IsShelf rows → content_at key rows ≡ Some before → new ≡ without_row observation_rank (observation_numbers key) rows
+    → IsShelf new × (length new + 1 ≡ length rows)
+IsShelf-less key before rows new shelf found is =
+    let fewer = ap (λ (l : Rows). length l + 1) is ∙ length-drop key before rows shelf found in
+    let few = shelf.few in
+    (IsShelf-drop key rows new (omega arith) shelf is, fewer)
 
 -- ---- a value that is found is in range
 
@@ -124,17 +139,19 @@ nothing_under : (b : Bool) (found : Option (ObsKey × Observation)) → option_m
 nothing_under true found = refl
 nothing_under false found = refl
 
-pub ChangesOnly-put : (key : ObsKey) (content : Observation) (rows : Rows) → ChangesOnly key (Some content) rows (with_row observation_rank (key, content) rows)
-ChangesOnly-put key content rows other =
-    ap (option_map content_of) (found-with observation_rank (observation_numbers other) (key, content) rows)
+pub ChangesOnly-put : (key : ObsKey) (content : Observation) (rows old new : Rows) → new ≡ with_row observation_rank (key, content) rows → rows ≡ old → ChangesOnly key (Some content) old new
+ChangesOnly-put key content rows old new is seen other =
+    ap (content_at other) is
+    ∙ ap (option_map content_of) (found-with observation_rank (observation_numbers other) (key, content) rows)
     ∙ content_under (is_same (observation_numbers key) (observation_numbers other)) (key, content) (row_at observation_rank (observation_numbers other) rows)
-    ∙ ap (λ b. cond b (Some content) (content_at other rows)) (same_rank key other)
+    ∙ (λ i. cond (same_rank key other i) (Some content) (content_at other (seen i)))
 
-pub ChangesOnly-drop : (key : ObsKey) (rows : Rows) → ChangesOnly key None rows (without_row observation_rank (observation_numbers key) rows)
-ChangesOnly-drop key rows other =
-    ap (option_map content_of) (found-without observation_rank (observation_numbers other) (observation_numbers key) rows)
+pub ChangesOnly-drop : (key : ObsKey) (rows old new : Rows) → new ≡ without_row observation_rank (observation_numbers key) rows → rows ≡ old → ChangesOnly key None old new
+ChangesOnly-drop key rows old new is seen other =
+    ap (content_at other) is
+    ∙ ap (option_map content_of) (found-without observation_rank (observation_numbers other) (observation_numbers key) rows)
     ∙ nothing_under (is_same (observation_numbers key) (observation_numbers other)) (row_at observation_rank (observation_numbers other) rows)
-    ∙ ap (λ b. cond b None (content_at other rows)) (same_rank key other)
+    ∙ (λ i. cond (same_rank key other i) None (content_at other (seen i)))
 
 -- ---- why a row is not put
 

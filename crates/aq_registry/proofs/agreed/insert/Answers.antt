@@ -1,13 +1,10 @@
-use Rattle.std.proofs.Common.{◌≡◌, ◌∙◌, ◌+◌, ◌++◌, ◌∷◌, ℕ, List, ap, sym, subst, suc, None, take, drop, true, false, arith}
+use Rattle.std.proofs.Common.{◌≡◌, ◌∙◌, ◌++◌, ◌∷◌, List, ap, sym, subst, suc, None, take, drop, true, false}
 use Rattle.std.specs.List.{AllByRecursion, last_or}
 use Rattle.aq_registry.specs.declared.agreed.Entry.{Entry}
 use Rattle.aq_registry.specs.Agreed.{spans_of, starts_before, entry_behind, AreChained, AreReached}
 use Rattle.aq_registry.proofs.AgreedLemmas.{spans-inserted}
-use Rattle.aq_registry.proofs.ReachLemmas.{chained-inserted, reached-inserted}
+use Rattle.aq_registry.proofs.ReachLemmas.{next, chained-inserted, reached-inserted}
 use Rattle.aq_registry.proofs.agreed.insert.Goals as goal
-
-next : (i : ℕ) → suc i ≡ i + 1
-next i = omega arith
 
 pub returns-in-Ok-clause-spans : goal.returns-in-Ok-clause-spans
 returns-in-Ok-clause-spans c =

@@ -1,14 +1,11 @@
-use Rattle.std.proofs.Common.{rules, ◌≡◌, ◌∙◌, ◌+◌, ◌<◌, ℕ, ap, sym, subst, suc, None, take, length, arith}
+use Rattle.std.proofs.Common.{rules, ◌≡◌, ◌∙◌, ◌<◌, ap, sym, subst, None, take, length}
 use Rattle.std.specs.Prelude.{slice_set}
 use Rattle.std.specs.List.{last_or}
 use Rattle.std.proofs.lemmas.List.{length-set}
 use Rattle.aq_registry.specs.declared.agreed.Entry.{Entry}
 use Rattle.aq_registry.specs.Agreed.{entry_behind, AreReached}
-use Rattle.aq_registry.proofs.ReachLemmas.{reached-set, last-set, spans-set}
+use Rattle.aq_registry.proofs.ReachLemmas.{next, reached-set, last-set, spans-set}
 use Rattle.aq_registry.proofs.agreed.reach.Goals as goal
-
-next : (i : ℕ) → suc i ≡ i + 1
-next i = omega arith
 
 pub loop-i-preserved : goal.loop-i-preserved
 loop-i-preserved c =

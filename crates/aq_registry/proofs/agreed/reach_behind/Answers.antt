@@ -1,15 +1,12 @@
-use Rattle.std.proofs.Common.{rules, ◌≡◌, ◌∙◌, ◌+◌, ◌<◌, ℕ, ap, sym, subst, suc, None, take, drop, length, arith}
+use Rattle.std.proofs.Common.{rules, ◌≡◌, ◌∙◌, ◌<◌, ℕ, ap, sym, subst, None, take, drop, length}
 use Rattle.std.specs.Prelude.{slice_set}
 use Rattle.std.specs.List.{last_or}
 use Rattle.std.proofs.lemmas.List.{length-set}
 use Rattle.aq_registry.specs.declared.agreed.Entry.{Entry}
 use Rattle.aq_registry.specs.declared.agreed.Span.{Span}
 use Rattle.aq_registry.specs.Agreed.{entry_behind, AreChained, AreReached}
-use Rattle.aq_registry.proofs.ReachLemmas.{chained-set, reached-set, reached-whole, last-set, spans-set}
+use Rattle.aq_registry.proofs.ReachLemmas.{next, chained-set, reached-set, reached-whole, last-set, spans-set}
 use Rattle.aq_registry.proofs.agreed.reach_behind.Goals as goal
-
-next : (i : ℕ) → suc i ≡ i + 1
-next i = omega arith
 
 pub loop-i-preserved : goal.loop-i-preserved
 loop-i-preserved c =

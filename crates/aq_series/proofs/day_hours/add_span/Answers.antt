@@ -7,9 +7,8 @@ use Rattle.aq_base.specs.declared.monitor.Pollutant.TheVariants.{Ozone}
 use Rattle.aq_shelf.specs.Standing.{observations_in}
 use Rattle.aq_series.specs.DayStates.{AddsValue, HasRoom}
 use Rattle.aq_series.specs.declared.day_hours.HourState.{HourState}
-use Rattle.aq_series.proofs.DaySteps.{few_within, reads-more, reads-past, reads-start, span-within, unchanged_yet, Reads, Within}
-use Rattle.aq_series.proofs.Rising.{Rising}
-use Rattle.aq_series.proofs.Spans.{Item, hour_of, span-rises}
+use Rattle.aq_series.proofs.DaySteps.{few_within, reads-more, reads-past, reads-start, span-within, unchanged_yet, Ahead, Reads}
+use Rattle.aq_series.proofs.Spans.{Item, span-rises}
 use Rattle.aq_series.proofs.day_hours.add_span.Goals as goal
 
 abbrev AreInRange : List Item → Type 0
@@ -47,38 +46,32 @@ loop-hour-init g c =
 pub add-requires-clause-room : goal.add-requires-clause-room
 add-requires-clause-room g c =
     let before = c.loop-hour.invariant in
-    let items = c.in-Some.ensures.steps in
-    let rising = subst (λ (is : List Item). Rising hour_of is) items before.rising in
-    let within = subst (λ (is : List Item). Within (24 * c.args.day) (24 * c.args.day + 192) is) items before.within in
-    let reads = subst (λ (is : List Item). Reads c.args.registry.now c.args.shelf.now c.args.monitor.now c.args.day is c.args.hours.now c.loop-hour.hours) items before.reads in
+    let ahead = subst (Ahead c.args.registry.now c.args.shelf.now c.args.monitor.now c.args.day c.args.hours.now c.loop-hour.hours) c.in-Some.ensures.steps (before.rising, before.within, before.reads) in
     let place = c.number-in-Some-cell_of.result - 24 * c.from-first.result in
-    let below : place < 192 = omega (arith, before.first, within.0.0, within.0.1, c.number-in-Some-cell_of.ensures.value) in
-    let at : c.in-Some.hour ≡ 24 * c.args.day + place = omega (arith, before.first, within.0.0, c.number-in-Some-cell_of.ensures.value) in
+    let below : place < 192 = omega (arith, before.first, ahead.1.0.0, ahead.1.0.1, c.number-in-Some-cell_of.ensures.value) in
+    let at : c.in-Some.hour ≡ 24 * c.args.day + place = omega (arith, before.first, ahead.1.0.0, c.number-in-Some-cell_of.ensures.value) in
     let d : HourState = record { values = record { sum = pos 0; count = 0; excluded = false }; primary = None; is_settled = false } in
     subst (λ (state : HourState). HasRoom state)
-    (sym (unchanged_yet c.args.registry.now c.args.shelf.now c.args.monitor.now c.args.day (c.in-Some.hour, c.in-Some.content) c.next.new.self rising c.args.hours.now c.loop-hour.hours reads place d below at))
+    (sym (unchanged_yet c.args.registry.now c.args.shelf.now c.args.monitor.now c.args.day (c.in-Some.hour, c.in-Some.content) c.next.new.self ahead.0 c.args.hours.now c.loop-hour.hours ahead.2 place d below at))
     (c.requires.room place d below)
 
 pub loop-hour-preserved-in-Some-cell_of : goal.loop-hour-preserved-in-Some-cell_of
 loop-hour-preserved-in-Some-cell_of g c =
     let before = c.loop-hour.invariant in
-    let items = c.in-Some.ensures.steps in
-    let rising = subst (λ (is : List Item). Rising hour_of is) items before.rising in
-    let within = subst (λ (is : List Item). Within (24 * c.args.day) (24 * c.args.day + 192) is) items before.within in
-    let reads = subst (λ (is : List Item). Reads c.args.registry.now c.args.shelf.now c.args.monitor.now c.args.day is c.args.hours.now c.loop-hour.hours) items before.reads in
+    let ahead = subst (Ahead c.args.registry.now c.args.shelf.now c.args.monitor.now c.args.day c.args.hours.now c.loop-hour.hours) c.in-Some.ensures.steps (before.rising, before.within, before.reads) in
     let place = c.number-in-Some-cell_of.result - 24 * c.from-first.result in
-    let below : place < length c.loop-hour.hours = omega (arith, before.many, before.first, within.0.0, within.0.1, c.number-in-Some-cell_of.ensures.value) in
-    let at : c.in-Some.hour ≡ 24 * c.args.day + place = omega (arith, before.first, within.0.0, c.number-in-Some-cell_of.ensures.value) in
+    let below : place < length c.loop-hour.hours = omega (arith, before.many, before.first, ahead.1.0.0, ahead.1.0.1, c.number-in-Some-cell_of.ensures.value) in
+    let at : c.in-Some.hour ≡ 24 * c.args.day + place = omega (arith, before.first, ahead.1.0.0, c.number-in-Some-cell_of.ensures.value) in
     record {
       can_next = tt;
       is_finite = tt;
       many = length-set c.loop-hour.hours place c.add.new.self ∙ before.many;
       first = before.first;
-      ranges = (subst AreInRange items before.ranges).1;
-      rising = rising.1;
-      within = within.1;
+      ranges = (subst AreInRange c.in-Some.ensures.steps before.ranges).1;
+      rising = ahead.0.1;
+      within = ahead.1.1;
       reads =
-          reads-more c.args.registry.now c.args.shelf.now c.args.monitor.now c.args.day (c.in-Some.hour, c.in-Some.content) c.next.new.self rising c.args.hours.now c.loop-hour.hours reads
+          reads-more c.args.registry.now c.args.shelf.now c.args.monitor.now c.args.day (c.in-Some.hour, c.in-Some.content) c.next.new.self ahead.0 c.args.hours.now c.loop-hour.hours ahead.2
           c.in-Some-cell_of.cell place c.add.new.self (sym c.cell_of.ensures.value ∙ c.in-Some-cell_of.is) at below
           (λ d. subst (λ (state : HourState). AddsValue c.args.monitor.now.poc c.in-Some-cell_of.cell state c.add.new.self) (get_or_default c.loop-hour.hours place _ d below) c.add.ensures);
       steps = before.steps;
@@ -87,20 +80,17 @@ loop-hour-preserved-in-Some-cell_of g c =
 pub loop-hour-preserved : goal.loop-hour-preserved
 loop-hour-preserved g c =
     let before = c.loop-hour.invariant in
-    let items = c.in-Some.ensures.steps in
-    let rising = subst (λ (is : List Item). Rising hour_of is) items before.rising in
-    let within = subst (λ (is : List Item). Within (24 * c.args.day) (24 * c.args.day + 192) is) items before.within in
-    let reads = subst (λ (is : List Item). Reads c.args.registry.now c.args.shelf.now c.args.monitor.now c.args.day is c.args.hours.now c.loop-hour.hours) items before.reads in
+    let ahead = subst (Ahead c.args.registry.now c.args.shelf.now c.args.monitor.now c.args.day c.args.hours.now c.loop-hour.hours) c.in-Some.ensures.steps (before.rising, before.within, before.reads) in
     record {
       can_next = tt;
       is_finite = tt;
       many = before.many;
       first = before.first;
-      ranges = (subst AreInRange items before.ranges).1;
-      rising = rising.1;
-      within = within.1;
+      ranges = (subst AreInRange c.in-Some.ensures.steps before.ranges).1;
+      rising = ahead.0.1;
+      within = ahead.1.1;
       reads =
-          reads-past c.args.registry.now c.args.shelf.now c.args.monitor.now c.args.day (c.in-Some.hour, c.in-Some.content) c.next.new.self rising c.args.hours.now c.loop-hour.hours reads
+          reads-past c.args.registry.now c.args.shelf.now c.args.monitor.now c.args.day (c.in-Some.hour, c.in-Some.content) c.next.new.self ahead.0 c.args.hours.now c.loop-hour.hours ahead.2
           (sym c.cell_of.ensures.value ∙ c.in_default.is);
       steps = before.steps;
     }

@@ -1,10 +1,10 @@
-use Rattle.std.proofs.Common.{ℕ, ◌+◌, ◌*◌, ◌/◌, ◌<◌, None, length, get_or, arith, sym, ap, subst, ◌∙◌}
+use Rattle.std.proofs.Common.{ℕ, ◌+◌, ◌*◌, ◌/◌, ◌<◌, None, get_or, arith, sym, subst, ◌∙◌}
 use Rattle.std.specs.Prelude.{Option, false, pos}
 use Rattle.aq_series.specs.DayStates.{IsUnread, hour_at, primary_in, site_hours}
 use Rattle.aq_series.specs.OfficeView.{office_of}
 use Rattle.aq_series.specs.declared.day_hours.HourState.{HourState}
 use Rattle.aq_series.proofs.DayStages.{at_profile, has_room, hour-given, hours_are, ozone_by, stands-end, stands-more, stands-none}
-use Rattle.aq_series.proofs.Pocs.{pocs-few, pocs-next}
+use Rattle.aq_series.proofs.Pocs.{pocs-few, pocs-fewer}
 use Rattle.aq_series.proofs.day_hours.site_hours.Goals as goal
 
 pub loop-poc-init : goal.loop-poc-init
@@ -24,22 +24,18 @@ add_monitor-requires-clause-room g c k d within =
     (sym c.next_poc.ensures.value ∙ c.in-Some.is) (get_or c.loop-poc.hours k d) (c.loop-poc.invariant.stands k d within)
 
 pub loop-poc-smaller : goal.loop-poc-smaller
-loop-poc-smaller g c =
-    let next = sym c.next_poc.ensures.value ∙ c.in-Some.is in
-    let fewer = ap length (pocs-next c.args.site c.args.registry.now c.loop-poc.after c.in-Some.poc c.next_poc.ensures.valid.keys_rise.records next) in
-    omega (arith, fewer)
+loop-poc-smaller g c = omega (arith, pocs-fewer c.args.site c.args.registry.now c.loop-poc.after c.in-Some.poc c.next_poc.result c.next_poc.ensures.valid c.next_poc.ensures.value c.in-Some.is)
 
 pub loop-poc-preserved : goal.loop-poc-preserved
 loop-poc-preserved g c =
     let next = sym c.next_poc.ensures.value ∙ c.in-Some.is in
-    let fewer = ap length (pocs-next c.args.site c.args.registry.now c.loop-poc.after c.in-Some.poc c.next_poc.ensures.valid.keys_rise.records next) in
     record {
       many = c.add_monitor.array_long;
       stands =
           λ k d within.
           stands-more c.args.registry.now c.args.shelf.now c.args.site (primary_in c.args.registry.now c.args.site (c.args.day + k / 24)) (24 * c.args.day + k) c.loop-poc.after c.in-Some.poc c.next_poc.ensures.valid next
           (get_or c.loop-poc.hours k d) (get_or c.add_monitor.new.hours k d) (c.add_monitor.ensures.hours k d within) (c.loop-poc.invariant.stands k d within);
-      steps = omega (arith, fewer, c.loop-poc.invariant.steps, c.add_monitor.ensures.steps);
+      steps = omega (arith, pocs-fewer c.args.site c.args.registry.now c.loop-poc.after c.in-Some.poc c.next_poc.result c.next_poc.ensures.valid c.next_poc.ensures.value c.in-Some.is, c.loop-poc.invariant.steps, c.add_monitor.ensures.steps);
     }
 
 pub returns-clause-hours : goal.returns-clause-hours

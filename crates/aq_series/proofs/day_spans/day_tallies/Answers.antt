@@ -1,15 +1,14 @@
-use Rattle.std.proofs.Common.{◌≡◌, ℕ, ◌+◌, ◌*◌, ◌/◌, ◌<◌, ◌≤◌, List, ◌++◌, replicate, length, get_or, set, refl, arith, sym, ap, subst, ◌∙◌}
+use Rattle.std.proofs.Common.{◌≡◌, ℕ, ◌+◌, ◌*◌, ◌<◌, ◌≤◌, List, ◌++◌, replicate, set, refl, arith, sym, ap, subst, ◌∙◌}
 use Rattle.std.specs.List.{AllByRecursion}
 use Rattle.std.specs.Option.{option_to_list}
-use Rattle.std.proofs.lemmas.List.{get_or-replicate, length-set}
+use Rattle.std.proofs.lemmas.List.{get_or-replicate}
 use Rattle.aq_base.specs.Values.{HasValueInRange}
 use Rattle.aq_shelf.specs.Standing.{observations_in}
 use Rattle.aq_series.specs.DayCells.{IsOfParticles, IsTallyOf}
 use Rattle.aq_series.specs.declared.day_tally.DayTally.{DayTally}
-use Rattle.aq_series.proofs.DaySpans.{at-hand, particles-next, place-has_room, put-over, read-start, reads-done, reads-next, within-on, AreOfParticles, Read, Reads}
+use Rattle.aq_series.proofs.DaySpans.{at-hour, particles-next, place-has_room, put-over, read-start, reads-done, reads-next, within-on, AreOfParticles, Read, Reads}
 use Rattle.aq_series.proofs.DaySteps.{span-within, Within}
-use Rattle.aq_series.proofs.Rising.{Rising}
-use Rattle.aq_series.proofs.Spans.{Item, hour_of, span-rises}
+use Rattle.aq_series.proofs.Spans.{Item, span-rises}
 use Rattle.aq_series.proofs.day_spans.day_tallies.Goals as goal
 
 pub loop-item-init : goal.loop-item-init
@@ -43,72 +42,44 @@ loop-item-init g c =
 
 pub add-requires-clause-values : goal.add-requires-clause-values
 add-requires-clause-values g c =
-    let before = c.loop-item.invariant in
-    let within = subst (λ (is : List Item). Within (24 * c.from-start.result + 24 * c.loop-item.at_hand.place) (24 * c.args.first + 2208) is) c.in-Some.ensures.some before.within in
-    let place = c.turn.new.self.place in
-    let small : place < 92 = omega (arith, before.start, within.0.0, within.0.1, c.number-in-Some.ensures.value, c.turn.ensures.place) in
-    let turned = c.turn in
-    let there : place < length turned.new.days = omega (arith, turned.ensures.many, small) in
-    subst IsOfParticles (at-hand turned.new.days (set c.loop-item.days c.loop-item.at_hand.place c.loop-item.at_hand.tally) place turned.new.self.tally turned.ensures.same turned.new.self.tally there)
-    (before.values place turned.new.self.tally small)
+    let hour = at-hour c.args.registry.now c.args.shelf.now c.args.monitor.now c.args.first (24 * c.from-start.result) c.loop-item.at_hand.place c.turn.new.self.place c.number-in-Some.result c.loop-item.days c.turn.new.days c.loop-item.at_hand.tally c.turn.new.self.tally c.in-Some.item.now c.next_standing.new.self _ c.in-Some.ensures.some c.loop-item.invariant.start c.loop-item.invariant.many (c.loop-item.invariant.rising, c.loop-item.invariant.within, c.loop-item.invariant.reads) c.number-in-Some.ensures.value c.turn.ensures.many c.turn.ensures.place c.turn.ensures.same in
+    subst IsOfParticles (hour.hand c.turn.new.self.tally) (c.loop-item.invariant.values c.turn.new.self.place c.turn.new.self.tally hour.small)
 
 pub add-requires-clause-count : goal.add-requires-clause-count
 add-requires-clause-count g c =
-    let before = c.loop-item.invariant in
-    let items = c.in-Some.ensures.some in
-    let monitor = c.args.monitor.now in
-    let all = observations_in monitor (24 * c.args.first) 2208 c.args.shelf.now in
-    let whole = set c.loop-item.days c.loop-item.at_hand.place c.loop-item.at_hand.tally in
-    let rising = subst (λ (is : List Item). Rising hour_of is) items before.rising in
-    let within = subst (λ (is : List Item). Within (24 * c.from-start.result + 24 * c.loop-item.at_hand.place) (24 * c.args.first + 2208) is) items before.within in
-    let reads = subst (λ (is : List Item). Reads c.args.registry.now monitor c.args.first all is whole) items before.reads in
-    let place = c.turn.new.self.place in
-    let small : place < 92 = omega (arith, before.start, within.0.0, within.0.1, c.number-in-Some.ensures.value, c.turn.ensures.place) in
-    let at : c.in-Some.item.now.0 / 24 ≡ c.args.first + place = omega (arith, before.start, within.0.0, c.number-in-Some.ensures.value, c.turn.ensures.place) in
-    let turned = c.turn in
-    let there : place < length turned.new.days = omega (arith, turned.ensures.many, small) in
-    let many : place < length whole = omega (arith, length-set c.loop-item.days c.loop-item.at_hand.place c.loop-item.at_hand.tally, before.many, small) in
-    subst (λ (t : DayTally). t.count < 24) (at-hand turned.new.days whole place turned.new.self.tally turned.ensures.same turned.new.self.tally there)
-    (place-has_room c.args.registry.now monitor c.args.first c.in-Some.item.now c.next_standing.new.self all rising.0 whole place at many small reads turned.new.self.tally)
+    let hour = at-hour c.args.registry.now c.args.shelf.now c.args.monitor.now c.args.first (24 * c.from-start.result) c.loop-item.at_hand.place c.turn.new.self.place c.number-in-Some.result c.loop-item.days c.turn.new.days c.loop-item.at_hand.tally c.turn.new.self.tally c.in-Some.item.now c.next_standing.new.self _ c.in-Some.ensures.some c.loop-item.invariant.start c.loop-item.invariant.many (c.loop-item.invariant.rising, c.loop-item.invariant.within, c.loop-item.invariant.reads) c.number-in-Some.ensures.value c.turn.ensures.many c.turn.ensures.place c.turn.ensures.same in
+    subst (λ (t : DayTally). t.count < 24) (hour.hand c.turn.new.self.tally)
+    (place-has_room c.args.registry.now c.args.monitor.now c.args.first c.in-Some.item.now c.next_standing.new.self _ hour.stands.0.0 _ c.turn.new.self.place hour.at hour.many hour.small hour.stands.2 c.turn.new.self.tally)
 
 pub loop-item-preserved : goal.loop-item-preserved
 loop-item-preserved g c =
+    let hour = at-hour c.args.registry.now c.args.shelf.now c.args.monitor.now c.args.first (24 * c.from-start.result) c.loop-item.at_hand.place c.turn.new.self.place c.number-in-Some.result c.loop-item.days c.turn.new.days c.loop-item.at_hand.tally c.turn.new.self.tally c.in-Some.item.now c.next_standing.new.self _ c.in-Some.ensures.some c.loop-item.invariant.start c.loop-item.invariant.many (c.loop-item.invariant.rising, c.loop-item.invariant.within, c.loop-item.invariant.reads) c.number-in-Some.ensures.value c.turn.ensures.many c.turn.ensures.place c.turn.ensures.same in
     let before = c.loop-item.invariant in
-    let items = c.in-Some.ensures.some in
     let monitor = c.args.monitor.now in
     let all = observations_in monitor (24 * c.args.first) 2208 c.args.shelf.now in
     let whole = set c.loop-item.days c.loop-item.at_hand.place c.loop-item.at_hand.tally in
-    let rising = subst (λ (is : List Item). Rising hour_of is) items before.rising in
-    let within = subst (λ (is : List Item). Within (24 * c.from-start.result + 24 * c.loop-item.at_hand.place) (24 * c.args.first + 2208) is) items before.within in
-    let reads = subst (λ (is : List Item). Reads c.args.registry.now monitor c.args.first all is whole) items before.reads in
     let place = c.turn.new.self.place in
-    let small : place < 92 = omega (arith, before.start, within.0.0, within.0.1, c.number-in-Some.ensures.value, c.turn.ensures.place) in
-    let at : c.in-Some.item.now.0 / 24 ≡ c.args.first + place = omega (arith, before.start, within.0.0, c.number-in-Some.ensures.value, c.turn.ensures.place) in
-    let turned = c.turn in
-    let there : place < length turned.new.days = omega (arith, turned.ensures.many, small) in
-    let many : place < length whole = omega (arith, length-set c.loop-item.days c.loop-item.at_hand.place c.loop-item.at_hand.tally, before.many, small) in
-    let hand : (d : DayTally) → get_or whole place d ≡ turned.new.self.tally = λ d. at-hand turned.new.days whole place turned.new.self.tally turned.ensures.same d there in
-    let over = put-over turned.new.days whole place turned.new.self.tally turned.ensures.same c.add.new.self in
+    let over = put-over c.turn.new.days whole place c.turn.new.self.tally c.turn.ensures.same c.add.new.self in
     record {
-      many = turned.ensures.many;
-      place = small;
-      end = turned.ensures.end;
+      many = c.turn.ensures.many;
+      place = hour.small;
+      end = c.turn.ensures.end;
       start = before.start;
-      ranges = (subst (λ (is : List Item). AllByRecursion (λ (item : Item). HasValueInRange monitor.pollutant item.1) is) items before.ranges).1;
-      rising = rising.1;
+      ranges = (subst (λ (is : List Item). AllByRecursion (λ (item : Item). HasValueInRange monitor.pollutant item.1) is) c.in-Some.ensures.some before.ranges).1;
+      rising = hour.stands.0.1;
       within =
           within-on (24 * c.from-start.result + 24 * place) (24 * c.from-start.result + 24 * c.loop-item.at_hand.place) c.in-Some.item.now.0 (24 * c.args.first + 2208)
-          (omega (arith, within.0.0, c.number-in-Some.ensures.value, turned.ensures.place)) c.next_standing.new.self rising.0 within.1;
+          (omega (arith, hour.stands.1.0.0, c.number-in-Some.ensures.value, c.turn.ensures.place)) c.next_standing.new.self hour.stands.0.0 hour.stands.1.1;
       reads =
           subst (λ (now : List DayTally). Reads c.args.registry.now monitor c.args.first all c.next_standing.new.self now) over
-          (reads-next c.args.registry.now monitor c.args.first c.in-Some.item.now c.next_standing.new.self all rising.0 whole place at many small reads c.add.new.self
+          (reads-next c.args.registry.now monitor c.args.first c.in-Some.item.now c.next_standing.new.self all hour.stands.0.0 whole place hour.at hour.many hour.small hour.stands.2 c.add.new.self
           (λ d cells is.
           subst (λ o. IsTallyOf (cells ++ option_to_list o) c.add.new.self) c.particle_of-cell.ensures.value
-          (c.add.ensures.tally cells (subst (λ (t : DayTally). IsTallyOf cells t) (hand d) is)))
-          (λ d. subst (λ (t : DayTally). c.add.new.self.count ≤ t.count + 1) (sym (hand d)) c.add.ensures.count));
+          (c.add.ensures.tally cells (subst (λ (t : DayTally). IsTallyOf cells t) (hour.hand d) is)))
+          (λ d. subst (λ (t : DayTally). c.add.new.self.count ≤ t.count + 1) (sym (hour.hand d)) c.add.ensures.count));
       values =
           subst (λ (now : List DayTally). AreOfParticles c.args.registry.now monitor c.args.first now) over
-          (particles-next c.args.registry.now monitor c.args.first c.in-Some.item.now c.next_standing.new.self all rising.0 whole place at many small reads c.add.new.self before.values c.add.ensures.values);
+          (particles-next c.args.registry.now monitor c.args.first c.in-Some.item.now c.next_standing.new.self all hour.stands.0.0 whole place hour.at hour.many hour.small hour.stands.2 c.add.new.self before.values c.add.ensures.values);
     }
 
 pub returns-clause-tallies : goal.returns-clause-tallies

@@ -1,8 +1,6 @@
-use Rattle.std.proofs.Common.{Option, Some, None, refl, ap, sym, ◌∙◌, arith}
-use Rattle.std.specs.Option.{option_map_or}
-use Rattle.aq_base.specs.declared.monitor.Duration.{Duration}
-use Rattle.aq_series.specs.DayCells.{cell_at, cells_in, hours_of, steps_by}
-use Rattle.aq_series.proofs.MonitorDay.{daily-day, hourly-day, lasts, uncounted-day}
+use Rattle.std.proofs.Common.{Some, None, refl, ap, sym, ◌∙◌, arith}
+use Rattle.aq_series.specs.DayCells.{cell_at, cells_in, hours_of}
+use Rattle.aq_series.proofs.MonitorDay.{daily-day, hourly-day, steps-lasting, uncounted-day}
 use Rattle.aq_series.proofs.days.measured_day.Goals as goal
 
 pub returns-in_err-duration-clause-value : goal.returns-in_err-duration-clause-value
@@ -22,9 +20,7 @@ returns-in-Hour-clause-value g c =
 
 pub returns-in-Hour-clause-steps : goal.returns-in-Hour-clause-steps
 returns-in-Hour-clause-steps g c =
-    let lasting = lasts c.args.monitor.now c.args.registry.now (Some (c.in_ok-duration.duration, c.in_ok-duration.eligible)) (sym c.in_ok-duration.was ∙ c.monitor.ensures) in
-    let most = ap (λ (o : Option Duration). option_map_or steps_by o 0) lasting ∙ ap steps_by c.in-Hour.is in
-    omega (arith, c.hours_of.ensures.steps, most)
+    omega (arith, c.hours_of.ensures.steps, steps-lasting c.args.monitor.now c.args.registry.now c.in_ok-duration.duration _ c.in_ok-duration.eligible (sym c.in_ok-duration.was ∙ c.monitor.ensures) c.in-Hour.is)
 
 pub returns-in-Day-clause-value : goal.returns-in-Day-clause-value
 returns-in-Day-clause-value g c =
@@ -35,6 +31,4 @@ returns-in-Day-clause-value g c =
 
 pub returns-in-Day-clause-steps : goal.returns-in-Day-clause-steps
 returns-in-Day-clause-steps g c =
-    let lasting = lasts c.args.monitor.now c.args.registry.now (Some (c.in_ok-duration.duration, c.in_ok-duration.eligible)) (sym c.in_ok-duration.was ∙ c.monitor.ensures) in
-    let most = ap (λ (o : Option Duration). option_map_or steps_by o 0) lasting ∙ ap steps_by c.in-Day.is in
-    omega (arith, c.cell_at.ensures.steps, most)
+    omega (arith, c.cell_at.ensures.steps, steps-lasting c.args.monitor.now c.args.registry.now c.in_ok-duration.duration _ c.in_ok-duration.eligible (sym c.in_ok-duration.was ∙ c.monitor.ensures) c.in-Day.is)

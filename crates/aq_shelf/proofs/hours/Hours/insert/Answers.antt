@@ -4,18 +4,13 @@ use Rattle.aq_rules.specs.Office.Office.{observation_rank, with_row}
 use Rattle.aq_shelf.specs.Places.{IsGapAt}
 use Rattle.aq_shelf.specs.Standing.{content_at}
 use Rattle.aq_shelf.specs.Stretches.{rows_of}
-use Rattle.aq_shelf.proofs.HourLemmas.{content_at-gap, insert-gap, put-rises, stands-is_some}
+use Rattle.aq_shelf.proofs.HourLemmas.{absent-at, insert-gap, put-rises, stands-is_some}
 use Rattle.aq_shelf.proofs.hours.Hours.insert.Goals as goal
 use Rattle.aq_shelf.proofs.hours.Hours.insert.Goals.{in-Ok-insert, in-Err-insert}
 
 pub returns-then-full-clause-refused : goal.returns-then-full-clause-refused
 returns-then-full-clause-refused c =
-    let key = c.args.key.now in
-    let gap = rw c.as_slice.ensures.value at c.in-Err.ensures.place in (
-      sym (ap (λ (hs : List (ℕ × Observation)). content_at key (rows_of key.monitor hs)) c.self.view_is)
-          ∙ content_at-gap key.monitor key.hour c.self.inside.items.items c.in-Err.place c.self.invariant gap,
-      c.if-full.true,
-    )
+    (absent-at c.args.key.now c.self.inside.items.items _ c.in-Err.place c.self.invariant (rw c.as_slice.ensures.value at c.in-Err.ensures.place) c.self.view_is, c.if-full.true)
 
 pub invariant_of-self : goal.invariant_of-self
 invariant_of-self c =
@@ -51,22 +46,16 @@ returns-after-insert-clause-ok c =
 
 pub returns-after-insert-clause-absent : goal.returns-after-insert-clause-absent
 returns-after-insert-clause-absent c =
-    let key = c.args.key.now in
-    let gap = rw c.as_slice.ensures.value at c.in-Err.ensures.place in
-    let absent = sym (ap (λ (hs : List (ℕ × Observation)). content_at key (rows_of key.monitor hs)) c.self.view_is)
-    ∙ content_at-gap key.monitor key.hour c.self.inside.items.items c.in-Err.place c.self.invariant gap in
     elim c.match-insert.branch [
-      | in-Ok-insert w ↦ rw w.result-is absent
+      | in-Ok-insert w ↦
+          rw w.result-is (absent-at c.args.key.now c.self.inside.items.items _ c.in-Err.place c.self.invariant (rw c.as_slice.ensures.value at c.in-Err.ensures.place) c.self.view_is)
       | in-Err-insert w ↦ rw w.result-is tt
     ]
 
 pub returns-after-insert-clause-refused : goal.returns-after-insert-clause-refused
 returns-after-insert-clause-refused c =
-    let key = c.args.key.now in
-    let gap = rw c.as_slice.ensures.value at c.in-Err.ensures.place in
-    let absent = sym (ap (λ (hs : List (ℕ × Observation)). content_at key (rows_of key.monitor hs)) c.self.view_is)
-    ∙ content_at-gap key.monitor key.hour c.self.inside.items.items c.in-Err.place c.self.invariant gap in
     elim c.match-insert.branch [
       | in-Ok-insert w ↦ rw w.result-is tt
-      | in-Err-insert w ↦ rw w.result-is (absent, c.if-full.false)
+      | in-Err-insert w ↦
+          rw w.result-is (absent-at c.args.key.now c.self.inside.items.items _ c.in-Err.place c.self.invariant (rw c.as_slice.ensures.value at c.in-Err.ensures.place) c.self.view_is, c.if-full.false)
     ]

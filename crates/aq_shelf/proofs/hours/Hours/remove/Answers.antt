@@ -3,7 +3,7 @@ use Rattle.aq_rules.specs.Office.Office.{observation_numbers, observation_rank, 
 use Rattle.aq_base.specs.declared.observation.Observation.{Observation}
 use Rattle.aq_shelf.specs.Standing.{content_at}
 use Rattle.aq_shelf.specs.Stretches.{rows_of}
-use Rattle.aq_shelf.proofs.HourLemmas.{content_at-stands, content_at-gap, remove-stands, drop-rises}
+use Rattle.aq_shelf.proofs.HourLemmas.{content_at-stands, absent-at, remove-stands, drop-rises}
 use Rattle.aq_shelf.proofs.hours.Hours.remove.Goals as goal
 
 pub invariant_of-self : goal.invariant_of-self
@@ -31,7 +31,4 @@ returns-in-Ok-clause-ok c =
 
 pub returns-in-Err-clause-before : goal.returns-in-Err-clause-before
 returns-in-Err-clause-before c =
-    let key = c.args.key.now in
-    let gap = rw c.as_slice.ensures.value at c.in-Err.ensures.place in
-    sym (content_at-gap key.monitor key.hour c.self.inside.items.items c.in-Err.field-0 c.self.invariant gap)
-    ∙ ap (λ (hs : List (ℕ × Observation)). content_at key (rows_of key.monitor hs)) c.self.view_is
+    sym (absent-at c.args.key.now c.self.inside.items.items _ c.in-Err.field-0 c.self.invariant (rw c.as_slice.ensures.value at c.in-Err.ensures.place) c.self.view_is)

@@ -1,10 +1,10 @@
-use Rattle.std.proofs.Common.{◌≡◌, ◌∙◌, ◌<◌, ◌≤◌, ℕ, ap, refl, sym, subst, nat_eq, false, Some, List, length, arith}
+use Rattle.std.proofs.Common.{◌≡◌, ◌∙◌, ◌<◌, ◌≤◌, ℕ, ap, refl, subst, nat_eq, false, List, length, arith}
 use Rattle.std.proofs.lemmas.Bool.Decides.{nat_tests}
 use Rattle.std.proofs.lemmas.Result.{err_from_is_err_and}
 use Rattle.aq_base.specs.declared.observation.ObsKey.{ObsKey}
 use Rattle.aq_base.specs.declared.observation.Observation.{Observation}
 use Rattle.aq_base.specs.declared.limits.TheConstants.{MOST_OBSERVATIONS}
-use Rattle.aq_shelf.specs.Standing.{ChangesOnly, IsInsertFault}
+use Rattle.aq_shelf.specs.Standing.{IsInsertFault}
 use Rattle.aq_shelf.specs.Stretches.{joined}
 use Rattle.aq_shelf.proofs.ShelfLemmas.{IsShelf-put, length-put, ChangesOnly-put, IsInsertFault-put}
 use Rattle.aq_shelf.proofs.shelf.Shelf.insert.Goals as goal
@@ -37,9 +37,4 @@ returns-in_err-put-clause-refused c =
     rw (p.1, p.2) (subst (λ (rows : List (ObsKey × Observation)). IsInsertFault fault c.args.key rows) c.self.view_is why)
 
 pub returns-clause-keys : goal.returns-clause-keys
-returns-clause-keys c =
-    let rows = joined c.self.inside.stretches.entries in
-    let changes : ChangesOnly c.args.key (Some c.args.content) rows (joined c.put.new.stretches.entries) =
-    subst (λ (new : List (ObsKey × Observation)). ChangesOnly c.args.key (Some c.args.content) rows new) (sym c.in_ok-put.ensures.ok) (ChangesOnly-put c.args.key c.args.content rows)
-    in
-    subst (λ (old : List (ObsKey × Observation)). ChangesOnly c.args.key (Some c.args.content) old (joined c.put.new.stretches.entries)) c.self.view_is changes
+returns-clause-keys c = ChangesOnly-put c.args.key c.args.content (joined c.self.inside.stretches.entries) _ _ c.in_ok-put.ensures.ok c.self.view_is
