@@ -1,4 +1,5 @@
 pub mod Head
+pub mod KeptHead
 pub mod Length
 pub mod Places
 pub mod Reply

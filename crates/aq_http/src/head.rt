@@ -30,23 +30,11 @@ impl Model for Head {
 
     ghost Value = { HeadPlaces };
 
-    ghost view = { λ head. record {
-      head_bytes = head.len;
-      body_bytes = head.body;
-      verb = head.verb;
-      start = head.target.start;
-      end = head.target.end;
-      close = head.close;
-    } };
+    ghost use Rattle.aq_http.specs.KeptHead.{places_of};
 
-    ghost invariant = { λ head. IsHeadPlaces (record {
-      head_bytes = head.len;
-      body_bytes = head.body;
-      verb = head.verb;
-      start = head.target.start;
-      end = head.target.end;
-      close = head.close;
-    }) };
+    ghost view = { places_of };
+
+    ghost invariant = { λ head. IsHeadPlaces (places_of head) };
 
     ghost inverse = { λ places. record {
       len = places.head_bytes;

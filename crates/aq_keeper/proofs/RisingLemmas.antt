@@ -66,7 +66,7 @@ before-last key (row ∷ rows) last is rise before =
 
 -- ---- a row that is put
 
-put-past : (row : Row) (front back : List Row) → AreBefore (row_key row) front → put_row row (front ++ back) ≡ front ++ put_row row back
+pub put-past : (row : Row) (front back : List Row) → AreBefore (row_key row) front → put_row row (front ++ back) ≡ front ++ put_row row back
 put-past row [] back before = refl
 put-past row (first ∷ front) back before =
     ap (λ b. cond b (row ∷ first ∷ front ++ back) (cond (is_same_row_key (row_key row) (row_key first)) (row ∷ front ++ back) (first ∷ put_row row (front ++ back)))) (before-not_behind (row_key first) (row_key row) before.0)
@@ -86,13 +86,13 @@ put-at row (first ∷ back) starts = choose (key_before (row_key row) (row_key f
 
 -- ---- a row that is dropped
 
-drop-past : (key : RowKey) (front back : List Row) → AreBefore key front → drop_row key (front ++ back) ≡ front ++ drop_row key back
+pub drop-past : (key : RowKey) (front back : List Row) → AreBefore key front → drop_row key (front ++ back) ≡ front ++ drop_row key back
 drop-past key [] back before = refl
 drop-past key (first ∷ front) back before =
     ap (λ b. cond (not b) (first ∷ drop_row key (front ++ back)) (drop_row key (front ++ back))) (before-not_same (row_key first) key before.0)
     ∙ ap (λ (rows : List Row). first ∷ rows) (drop-past key front back before.1)
 
-drop-none : (key : RowKey) (back : List Row) → AreBehind key (keys_of_rows back) → drop_row key back ≡ back
+pub drop-none : (key : RowKey) (back : List Row) → AreBehind key (keys_of_rows back) → drop_row key back ≡ back
 drop-none key [] behind = refl
 drop-none key (first ∷ back) behind =
     ap (λ b. cond (not b) (first ∷ drop_row key back) (drop_row key back)) (behind-not_same key (row_key first) behind.0)

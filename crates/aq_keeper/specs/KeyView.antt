@@ -1,5 +1,5 @@
--- The key that a content is, as the book of rules has it, the same of one whose text is lent, the order of keys, and which are of loads.
-use Rattle.std.specs.Prelude.{Bool, true, false}
+-- The key that a content is, as the book of rules has it, the same of one whose text is lent, the order of keys, their tables, and which are of loads.
+use Rattle.std.specs.Prelude.{ℕ, Bool, true, false}
 use Rattle.std.specs.declared.cmp.Ordering.{Ordering}
 use Rattle.std.specs.Ordering.{int_cmp}
 use Rattle.std.specs.Cmp.Lexicographic.{slice_cmp}
@@ -28,3 +28,10 @@ key_order a b = slice_cmp int_cmp (row_changes.columns a) (row_changes.columns b
 abbrev pub is_load : row_changes.RowKey → Bool
 is_load (row_changes.LoadRowKey number) = true
 is_load key = false
+
+-- the number of a key's table
+abbrev pub table_of_key : row_changes.RowKey → ℕ
+table_of_key (row_changes.OfficeRowKey kind key) = 0
+table_of_key (row_changes.ObsRowKey site pollutant poc hour) = 1
+table_of_key (row_changes.LoadRowKey number) = 2
+table_of_key (row_changes.SecondRowKey site pollutant poc hour) = 3

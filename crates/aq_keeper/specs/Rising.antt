@@ -1,8 +1,9 @@
--- Rows whose keys rise, by recursion.
-use Rattle.std.specs.Prelude.{◌≡◌, true, false, if◌then◌else◌, List, [], ◌∷◌, map}
+-- Rows whose keys rise, by recursion, and what is of one table.
+use Rattle.std.specs.Prelude.{◌≡◌, ℕ, ◌==◌, true, false, if◌then◌else◌, List, [], ◌∷◌, map, filter}
 use Rattle.std.specs.List.{AllByRecursion}
 use Rattle.aq_rules.specs.Kept.Rows.{Row}
-use Rattle.aq_rules.specs.Kept.RowChanges.{RowKey, RowChange, row_key, key_before, is_same_row_key, PutRow, DropRow}
+use Rattle.aq_rules.specs.Kept.RowChanges.{RowKey, RowChange, row_key, changed_key, key_before, is_same_row_key, PutRow, DropRow}
+use Rattle.aq_keeper.specs.KeyView.{table_of_key}
 
 -- all rows come before a key
 abbrev pub AreBefore : RowKey → List Row → Type 0
@@ -35,3 +36,15 @@ without_first key (row ∷ rows) = if is_same_row_key (row_key row) key then row
 abbrev pub put_rows : RowChange → List Row
 put_rows (PutRow row) = row ∷ []
 put_rows (DropRow key) = []
+
+-- all rows are of a table
+abbrev pub AreIn : ℕ → List Row → Type 0
+AreIn table rows = AllByRecursion (λ row. table_of_key (row_key row) ≡ table) rows
+
+-- the rows of a table, of which the keys rise
+abbrev pub IsTable : ℕ → List Row → Type 0
+IsTable table rows = AreIn table rows × Rise (keys_of_rows rows)
+
+-- the changes that are of a table
+abbrev pub changes_in : ℕ → List RowChange → List RowChange
+changes_in table changes = filter (λ change. table_of_key (changed_key change) == table) changes

@@ -1,7 +1,7 @@
 //! Keys of rows, and their order.
 ghost use Rattle.std.specs.Prelude.{◌≡◌};
 ghost use Rattle.aq_rules.specs.Kept.RowChanges.{batch_before, key_before, is_same_row_key};
-ghost use Rattle.aq_keeper.specs.KeyView.{is_load, key_seen, key_order};
+ghost use Rattle.aq_keeper.specs.KeyView.{is_load, key_seen, key_order, table_of_key};
 
 use crate::row::copy_of;
 use aq_base::{Bytes, Memory};
@@ -214,6 +214,18 @@ fn is_load(key: KeyView<'_>) -> bool
     ensures { result ≡ is_load (key_seen key.entry) }
 {
     matches!(key, KeyView::Load { .. })
+}
+
+/// The number of a key's table.
+pub(crate) fn table_of(key: KeyView<'_>) -> u8
+    ensures { result ≡ table_of_key (key_seen key.entry) }
+{
+    match key {
+        KeyView::Office { .. } => 0,
+        KeyView::Observation { .. } => 1,
+        KeyView::Load { .. } => 2,
+        KeyView::Second { .. } => 3,
+    }
 }
 
 /// Whether two keys are the same.

@@ -1,23 +1,30 @@
 use crate::change::RowChange;
 use crate::keeper::{Keeper, KeeperFault};
-use crate::row::Rows;
-use crate::tables::Tables;
+use crate::row::{Row, Rows};
+use crate::tables::{add_copies, changes_in, later_for, make_all};
 use std::alloc::Global;
 use std::marker::Model;
 
-/// A keeper in memory that never fails. Contracts see the rows of its tables.
+/// A keeper in memory that never fails. It has a list for each table, so that a change moves rows of its own
+/// table alone. Contracts see the rows of its tables.
 #[derive(Drop)]
 pub struct SteadyKeeper {
-    tables: Tables,
+    records: Vec<Row>,
+    observations: Vec<Row>,
+    loads: Vec<Row>,
+    seconds: Vec<Row>,
 }
 
 impl Model for SteadyKeeper {
-    ghost use Rattle.std.specs.Prelude.{List};
+    ghost use Rattle.std.specs.Prelude.{List, ◌++◌};
     ghost use Rattle.aq_rules.specs.Kept.Rows as rows;
+    ghost use Rattle.aq_keeper.specs.Rising.{IsTable};
 
     ghost Value = { List rows.Row };
 
-    ghost view = { λ keeper. keeper.tables };
+    ghost view = { λ keeper. keeper.records.items ++ keeper.observations.items ++ keeper.loads.items ++ keeper.seconds.items };
+
+    ghost invariant = { λ keeper. IsTable 0 keeper.records.items × IsTable 1 keeper.observations.items × IsTable 2 keeper.loads.items × IsTable 3 keeper.seconds.items };
 }
 
 impl SteadyKeeper {
@@ -28,7 +35,10 @@ impl SteadyKeeper {
         ensures { result ≡ [] }
     {
         SteadyKeeper {
-            tables: Tables::empty(alloc),
+            records: Vec::new(alloc),
+            observations: Vec::new(alloc),
+            loads: Vec::new(alloc),
+            seconds: Vec::new(alloc),
         }
     }
 }
@@ -47,7 +57,12 @@ impl Keeper for SteadyKeeper {
         ensures kept { self.new ≡ self.old }
         ensures memory { IfErr result (λ fault. fault ≡ Memory) }
     {
-        Ok(self.tables.read(alloc)?)
+        let mut copies = Vec::new(alloc);
+        add_copies(alloc, &mut copies, &self.records)?;
+        add_copies(alloc, &mut copies, &self.observations)?;
+        add_copies(alloc, &mut copies, &self.loads)?;
+        add_copies(alloc, &mut copies, &self.seconds)?;
+        Ok(Rows::from_vec(copies))
     }
 
     fn commit(&mut self, alloc: Global, batch: &[RowChange]) -> Result<(), KeeperFault>
@@ -56,7 +71,18 @@ impl Keeper for SteadyKeeper {
         ensures kept { OnErr result (self.new ≡ self.old) }
         ensures memory { IfErr result (λ fault. fault ≡ Memory) }
     {
-        self.tables.change(alloc, batch)?;
+        let records = changes_in(alloc, batch, 0)?;
+        let observations = changes_in(alloc, batch, 1)?;
+        let loads = changes_in(alloc, batch, 2)?;
+        let seconds = changes_in(alloc, batch, 3)?;
+        let later_records = later_for(alloc, &mut self.records, records.len())?;
+        let later_observations = later_for(alloc, &mut self.observations, observations.len())?;
+        let later_loads = later_for(alloc, &mut self.loads, loads.len())?;
+        let later_seconds = later_for(alloc, &mut self.seconds, seconds.len())?;
+        make_all(&mut self.records, later_records, records);
+        make_all(&mut self.observations, later_observations, observations);
+        make_all(&mut self.loads, later_loads, loads);
+        make_all(&mut self.seconds, later_seconds, seconds);
         Ok(())
     }
 }

@@ -2,16 +2,16 @@
 ghost use Rattle.std.specs.Prelude.{◌≡◌, ◌+◌, ◌≤◌, true, [], ◌∷◌, ◌++◌, reverse, vec_len, vec_capacity, IfSome, IfNone, MatchOption, IfOk, OnOk, OnErr};
 ghost use Rattle.aq_rules.specs.Kept.RowChanges.{row_key, changed_key, key_before, with_row_change, with_row_changes};
 ghost use Rattle.aq_keeper.specs.KeyView.{key_seen};
-ghost use Rattle.aq_keeper.specs.Rising.{AreBefore, StartsFrom, without_first, put_rows, Rise, keys_of_rows};
+ghost use Rattle.aq_keeper.specs.Rising.{AreBefore, StartsFrom, without_first, put_rows, Rise, keys_of_rows, changes_in};
 
 use crate::change::{ChangeContent, RowChange};
-use crate::key::{KeyView, comes_before, is_same};
+use crate::key::{KeyView, comes_before, is_same, table_of};
 use crate::row::{Row, Rows};
 use aq_base::Memory;
 use std::alloc::Global;
 use std::marker::Model;
 
-/// The rows of the tables in memory, in the order of tables and keys. Contracts see the list of them.
+/// The rows of the tables in one list, in the order of tables and keys. Contracts see the list of them.
 #[derive(Drop)]
 pub(crate) struct Tables {
     rows: Vec<Row>,
@@ -30,17 +30,8 @@ impl Model for Tables {
 }
 
 impl Tables {
-    ghost use Rattle.std.specs.Prelude.{◌≡◌, true, [], map, IfOk, OnOk, OnErr};
+    ghost use Rattle.std.specs.Prelude.{◌≡◌, true, map, IfOk, OnOk, OnErr};
     ghost use Rattle.aq_rules.specs.Kept.RowChanges.{row_key, keys_rise, with_row_changes};
-
-    /// Tables without rows. It takes no memory.
-    pub(crate) fn empty(alloc: Global) -> Tables
-        ensures { result ≡ [] }
-    {
-        Tables {
-            rows: Vec::new(alloc),
-        }
-    }
 
     /// The tables of these rows, which are in order and have distinct keys.
     pub(crate) fn of(rows: Vec<Row>) -> Tables
@@ -54,12 +45,8 @@ impl Tables {
     pub(crate) fn read(&self, alloc: Global) -> Result<Rows, Memory>
         ensures { IfOk result (λ rows. rows ≡ self.now) }
     {
-        let rows = self.rows.as_slice();
-        let mut copies = Vec::with_capacity(alloc, rows.len())?;
-        for place in 0..rows.len() {
-            let row = &rows[place];
-            copies.push(row.copy(alloc)?)?;
-        }
+        let mut copies = Vec::with_capacity(alloc, self.rows.len())?;
+        add_copies(alloc, &mut copies, &self.rows)?;
         Ok(Rows::from_vec(copies))
     }
 
@@ -71,6 +58,17 @@ impl Tables {
         let changes = copies_of(alloc, batch)?;
         change_rows(alloc, &mut self.rows, changes)
     }
+}
+
+/// Adds the same rows once more.
+pub(crate) fn add_copies(alloc: Global, copies: &mut Vec<Row>, rows: &[Row]) -> Result<(), Memory>
+    ensures { OnOk result (copies.new.items ≡ copies.old.items ++ rows.now) }
+{
+    for place in 0..rows.len() {
+        let row = &rows[place];
+        copies.push(row.copy(alloc)?)?;
+    }
+    Ok(())
 }
 
 /// The same changes once more.
@@ -85,6 +83,24 @@ fn copies_of(alloc: Global, batch: &[RowChange]) -> Result<Vec<RowChange>, Memor
     Ok(copies)
 }
 
+/// The changes of a table once more, by its number.
+pub(crate) fn changes_in(
+    alloc: Global,
+    batch: &[RowChange],
+    table: u8,
+) -> Result<Vec<RowChange>, Memory>
+    ensures { IfOk result (λ changes. changes.items ≡ changes_in table batch.now) }
+{
+    let mut changes = Vec::new(alloc);
+    for place in 0..batch.len() {
+        let change = &batch[place];
+        if table_of(change.key()) == table {
+            changes.push(change.copy(alloc)?)?;
+        }
+    }
+    Ok(changes)
+}
+
 /// Makes changes. What memory that needs is taken before a row moves.
 fn change_rows(alloc: Global, rows: &mut Vec<Row>, changes: Vec<RowChange>) -> Result<(), Memory>
     requires { Rise (keys_of_rows rows.old.items) }
@@ -92,15 +108,29 @@ fn change_rows(alloc: Global, rows: &mut Vec<Row>, changes: Vec<RowChange>) -> R
     ensures err { OnErr result (rows.new.items ≡ rows.old.items) }
     ensures rise { Rise (keys_of_rows rows.new.items) }
 {
-    rows.reserve(changes.len())?;
-    let later = Vec::with_capacity(alloc, rows.capacity())?;
+    let later = later_for(alloc, rows, changes.len())?;
     make_all(rows, later, changes);
     Ok(())
 }
 
+/// Takes the memory that so many changes need: room among the rows, and the empty list of the later ones.
+pub(crate) fn later_for(
+    alloc: Global,
+    rows: &mut Vec<Row>,
+    changes: usize,
+) -> Result<Vec<Row>, Memory>
+    ensures rows { rows.new.items ≡ rows.old.items }
+    ensures none { IfOk result (λ later. later.items ≡ []) }
+    ensures room { OnOk result (vec_len rows.new + changes ≤ vec_capacity rows.new) }
+    ensures later_room { IfOk result (λ later. vec_len rows.new + changes ≤ vec_capacity later) }
+{
+    rows.reserve(changes)?;
+    Ok(Vec::with_capacity(alloc, rows.capacity())?)
+}
+
 /// Makes changes one after the other. The rows are cut at each change's place, and the cut moves to the
 /// place of the next: once over the rows if keys rise, and twice in the order of a batch.
-fn make_all(rows: &mut Vec<Row>, later: Vec<Row>, changes: Vec<RowChange>)
+pub(crate) fn make_all(rows: &mut Vec<Row>, later: Vec<Row>, changes: Vec<RowChange>)
     requires none { later.items ≡ [] }
     requires room { vec_len rows.old + vec_len changes ≤ vec_capacity rows.old }
     requires later_room { vec_len rows.old + vec_len changes ≤ vec_capacity later }

@@ -91,6 +91,10 @@ pub request_by : (a b : DoorView) (p q : List ℕ) (step this : ReadHead) → st
     → FetchedSo (IsRequestBy step b q) a b p q → IsRequestBy this b q
 request_by a b p q step this is e = (subst (λ t. FetchedSo (IsRequestBy t b q) a b p q) is e).answer
 
+-- a request that was not fetched, as it was not
+pub fault_by : (a b : DoorView) (p q : List ℕ) (P : ReadHead → Type 0) (why this : FetchFault) → why ≡ this → Fetches P a b p q (Err why) → Fetches P a b p q (Err this)
+fault_by a b p q P why this is e = subst (λ f. Fetches P a b p q (Err f)) is e
+
 abbrev IsRefusal : Step → Type 0
 IsRefusal More = ⊥
 IsRefusal (Refuse status) = ⊤

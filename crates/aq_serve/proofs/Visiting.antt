@@ -1,11 +1,11 @@
 -- One connection after the other.
-use Rattle.std.proofs.Common.{◌≡◌, ℕ, ◌+◌, ◌⊎◌, inl, inr, false, List, [], ◌∷◌, ◌++◌, length, map, refl, sym, ap, ◌∙◌, subst, arith, append_assoc, Result, Ok, Err, Option, Some, None}
+use Rattle.std.proofs.Common.{◌≡◌, ℕ, ◌+◌, ◌⊎◌, inl, inr, Bool, true, false, List, [], ◌∷◌, ◌++◌, length, map, refl, sym, ap, ◌∙◌, subst, arith, append_assoc, Result, Ok, Err, Option, Some, None}
 use Rattle.std.specs.Prelude.{◌==◌}
 use Rattle.std.proofs.lemmas.List.{append-nil}
 use Rattle.aq_base.specs.Faults.{HasRisen}
 use Rattle.aq_base.specs.declared.refusal.Memory.{Memory}
 use Rattle.aq_rules.specs.Office.Office.{Office}
-use Rattle.aq_serve.specs.Door.{Both, DoorView, Ends, Exchange, HasSameTransfers, IsDry, IsIdle, Nobody, Passes, TakesNext, Wire}
+use Rattle.aq_serve.specs.Door.{Both, DoorView, Ends, Exchange, HasSameTransfers, IsAccepted, IsAcceptedNow, IsDry, IsIdle, IsSameDoor, Nobody, Passes, TakesNext, Wire}
 use Rattle.aq_serve.specs.Service.{AreOfOffice, Counts, Keeps, ServiceView}
 use Rattle.aq_serve.specs.Session.{IsFront, IsSession, Turn, failed_commits, office_behind}
 use Rattle.aq_serve.specs.Serving.{AreAll, AreVisits, EndsBy, HavePassed, IsVisitBy, NobodyComes, Rises, Serves, StandsBehind, Visit, World, all_turns, bytes_of, cuts_by_read, cuts_by_write, is_cut_by_read, is_cut_by_write, line_of, office_left}
@@ -82,6 +82,24 @@ pub record IsRound (a b c d : DoorView) : Type 0 where
   pub accepts : d.accepts ≡ a.accepts
   pub taken : HasSameTransfers a b
   pub ended : HasSameTransfers c d
+
+pub round_of : (a b c d : DoorView) (is_there : Bool) → is_there ≡ true → IsAccepted is_there a b → b.listens ≡ true → b.accepts ≡ a.accepts → HasSameTransfers a b
+    → IsSameDoor b c → Both Ends c.wire d.wire → d.is_open ≡ false → d.listens ≡ c.listens → d.accepts ≡ c.accepts → HasSameTransfers c d
+    → a.listens ≡ true → a.is_open ≡ false → IsRound a b c d
+round_of a b c d is_there there accepted listens accepts taken same ends shut listens_still accepts_still ended listened was_shut =
+    let now : IsAcceptedNow a b = subst (λ t. IsAccepted t a b) there accepted in
+    record {
+      takes = now.wire;
+      ends = ends;
+      listens = listens_still ∙ same.listens ∙ listens ∙ sym listened;
+      is_open = shut ∙ sym was_shut;
+      accepts = accepts_still ∙ same.accepts ∙ accepts;
+      taken = taken;
+      ended = ended;
+    }
+
+pub talked_so : (b a : World) (end this : Result End Memory) → end ≡ this → Talks 0 b a [] end → Talks 0 b a [] this
+talked_so b a end this is talk = subst (λ e. Talks 0 b a [] e) is talk
 
 all_bytes : (office : Office) (got : List ℕ) (turns : List Turn) (c : DoorView) → IsSession office got turns → IsAll 0 office got turns c
     → IsSession office (got ++ left_of c.wire) turns
@@ -183,63 +201,42 @@ visit_lost a b c d s t memory round talk n = record {
 
 -- ---- all connections
 
-pub nothing_served : (w : World) → Serves 0 w w (Ok tt)
-nothing_served w = record {
+-- none was served
+unvisited : (n : ℕ) (a b : DoorView) (s : ServiceView) (ending : Result Unit ServeFault) → Both (HavePassed []) a.wire b.wire → b.listens ≡ a.listens → b.is_open ≡ a.is_open → HasSameTransfers a b
+    → EndsBy ending n [] [] (record { door = a; service = s }) (record { door = b; service = s }) → Serves n (record { door = a; service = s }) (record { door = b; service = s }) ending
+unvisited n a b s ending wire listens open_too transfers ends = record {
   visits = [];
   lost = [];
   few = omega arith;
   are = tt;
-  wire = none_passed w.door.wire;
-  listens = refl;
-  is_open = refl;
-  faults = rises_same w.service.faults w.service.faults refl;
-  reads = rises_same w.door.reads w.door.reads refl;
-  writes = rises_same w.door.writes w.door.writes refl;
-  ends = record {
-    all = record { none = refl; office = refl; tables = λ told. become_same w.service told };
-    accepts = refl;
-    last = inl refl;
-  };
-}
-
-pub nobody_served : (a b : DoorView) (s : ServiceView) → IsIdle a b → b.listens ≡ a.listens → a.is_open ≡ false → b.accepts ≡ a.accepts → HasSameTransfers a b
-    → (n : ℕ) → Serves n (record { door = a; service = s }) (record { door = b; service = s }) (Ok tt)
-nobody_served a b s idle listens shut accepts transfers n = record {
-  visits = [];
-  lost = [];
-  few = omega arith;
-  are = tt;
-  wire = idle_passed a.wire b.wire idle.wire;
-  listens = listens;
-  is_open = idle.is_open ∙ sym shut;
-  faults = rises_same s.faults s.faults refl;
-  reads = rises_same a.reads b.reads transfers.reads;
-  writes = rises_same a.writes b.writes transfers.writes;
-  ends = record {
-    all = record { none = refl; office = refl; tables = λ told. become_same s told };
-    accepts = accepts;
-    last = inr (nobody_comes a.wire b.wire idle.wire);
-  };
-}
-
-pub door_failed : (a b : DoorView) (s : ServiceView) → b.wire ≡ a.wire → b.listens ≡ a.listens → b.is_open ≡ a.is_open → HasRisen a.accepts b.accepts → HasSameTransfers a b
-    → (n : ℕ) → Serves n (record { door = a; service = s }) (record { door = b; service = s }) (Err fault.DoorFailed)
-door_failed a b s wire listens open_too risen transfers n = record {
-  visits = [];
-  lost = [];
-  few = omega arith;
-  are = tt;
-  wire = subst (λ w. Both (HavePassed []) a.wire w) (sym wire) (none_passed a.wire);
+  wire = wire;
   listens = listens;
   is_open = open_too;
   faults = rises_same s.faults s.faults refl;
   reads = rises_same a.reads b.reads transfers.reads;
   writes = rises_same a.writes b.writes transfers.writes;
-  ends = record {
-    all = record { none = refl; office = refl; tables = λ told. become_same s told };
-    accepts = risen;
-  };
+  ends = ends;
 }
+
+none_lost : (s : ServiceView) → AreAll [] [] s s
+none_lost s = record { none = refl; office = refl; tables = λ told. become_same s told }
+
+pub nothing_served : (w : World) → Serves 0 w w (Ok tt)
+nothing_served w =
+    unvisited 0 w.door w.door w.service (Ok tt) (none_passed w.door.wire) refl refl (record { reads = refl; writes = refl })
+    (record { all = none_lost w.service; accepts = refl; last = inl refl })
+
+pub nobody_served : (a b : DoorView) (s : ServiceView) → IsIdle a b → b.listens ≡ a.listens → a.is_open ≡ false → b.accepts ≡ a.accepts → HasSameTransfers a b
+    → (n : ℕ) → Serves n (record { door = a; service = s }) (record { door = b; service = s }) (Ok tt)
+nobody_served a b s idle listens shut accepts transfers n =
+    unvisited n a b s (Ok tt) (idle_passed a.wire b.wire idle.wire) listens (idle.is_open ∙ sym shut) transfers
+    (record { all = none_lost s; accepts = accepts; last = inr (nobody_comes a.wire b.wire idle.wire) })
+
+pub door_failed : (a b : DoorView) (s : ServiceView) → b.wire ≡ a.wire → b.listens ≡ a.listens → b.is_open ≡ a.is_open → HasRisen a.accepts b.accepts → HasSameTransfers a b
+    → (n : ℕ) → Serves n (record { door = a; service = s }) (record { door = b; service = s }) (Err fault.DoorFailed)
+door_failed a b s wire listens open_too risen transfers n =
+    unvisited n a b s (Err fault.DoorFailed) (subst (λ w. Both (HavePassed []) a.wire w) (sym wire) (none_passed a.wire)) listens open_too transfers
+    (record { all = none_lost s; accepts = risen })
 
 all_more : (b m a : World) (v : Visited b m) (visits lost : List Visit) → AreAll visits lost m.service a.service → AreAll (v.visit ∷ visits) lost b.service a.service
 all_more b m a v visits lost all = record {

@@ -1,7 +1,9 @@
-use Rattle.std.proofs.Common.{ap, subst, length, arith, Ok}
+use Rattle.std.proofs.Common.{◌≡◌, ℕ, List, ap, subst, length, arith, Ok}
 use Rattle.std.proofs.lemmas.List.{length-take}
 use Rattle.httparse.specs.declared.spans.RequestSpans.{RequestSpans}
 use Rattle.httparse.specs.declared.Error.{Error}
+use Rattle.httparse.specs.declared.Status.{Status}
+use Rattle.httparse.specs.declared.Status.TheVariants.{Partial}
 use Rattle.httparse.specs.Grammar.{HasNoRequest, MayBecomeRequest}
 use Rattle.httparse.specs.Outcome.{IfComplete, OnPartial}
 use Rattle.httparse.specs.Spans.{IsRequestOf}
@@ -25,20 +27,21 @@ returns-in-Ok-Complete c =
       is = c.whole_head.ensures.value;
     }))
 
+-- no whole head was read: there is none yet, and more bytes may make one
+not_whole : (bytes shown : List ℕ) (status : Status RequestSpans) → bytes ≡ shown → status ≡ Partial
+    → OnPartial {A = RequestSpans} {E = Error} (Ok status) (HasNoRequest bytes) → OnPartial {A = RequestSpans} {E = Error} (Ok status) (MayBecomeRequest bytes)
+    → HasNoRequest shown × MayBecomeRequest shown
+not_whole bytes shown status same partial none may = (
+  subst HasNoRequest same (subst (λ s. OnPartial {A = RequestSpans} {E = Error} (Ok s) (HasNoRequest bytes)) partial none),
+  subst MayBecomeRequest same (subst (λ s. OnPartial {A = RequestSpans} {E = Error} (Ok s) (MayBecomeRequest bytes)) partial may),
+)
+
 pub returns-in-Ok-Partial : goal.returns-in-Ok-Partial
 returns-in-Ok-Partial c =
-    full_is_refused c.args.input.now
-    (subst HasNoRequest c.window-window.ensures
-    (subst (λ s. OnPartial {A = RequestSpans} {E = Error} (Ok s) (HasNoRequest c.window-window.result.now)) c.in-Ok-Partial.field-0-is c.in-Ok-Partial.ensures.partial))
-    (subst MayBecomeRequest c.window-window.ensures
-    (subst (λ s. OnPartial {A = RequestSpans} {E = Error} (Ok s) (MayBecomeRequest c.window-window.result.now)) c.in-Ok-Partial.field-0-is c.in-Ok-Partial.ensures.unfinished))
-    (omega arith)
+    let open_head = not_whole _ _ _ c.window-window.ensures c.in-Ok-Partial.field-0-is c.in-Ok-Partial.ensures.partial c.in-Ok-Partial.ensures.unfinished in
+    full_is_refused c.args.input.now open_head.0 open_head.1 (omega arith)
 
 pub returns-in-Ok-Partial-2 : goal.returns-in-Ok-Partial-2
 returns-in-Ok-Partial-2 c =
-    open_waits c.args.input.now
-    (subst HasNoRequest c.window-window.ensures
-    (subst (λ s. OnPartial {A = RequestSpans} {E = Error} (Ok s) (HasNoRequest c.window-window.result.now)) c.in-Ok-Partial.field-0-is c.in-Ok-Partial.ensures.partial))
-    (subst MayBecomeRequest c.window-window.ensures
-    (subst (λ s. OnPartial {A = RequestSpans} {E = Error} (Ok s) (MayBecomeRequest c.window-window.result.now)) c.in-Ok-Partial.field-0-is c.in-Ok-Partial.ensures.unfinished))
-    (omega arith)
+    let open_head = not_whole _ _ _ c.window-window.ensures c.in-Ok-Partial.field-0-is c.in-Ok-Partial.ensures.partial c.in-Ok-Partial.ensures.unfinished in
+    open_waits c.args.input.now open_head.0 open_head.1 (omega arith)

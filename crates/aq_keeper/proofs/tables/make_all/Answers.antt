@@ -15,23 +15,13 @@ loop-change-preserved c =
     let fewer = c.in-Some.ensures.steps.1 in
     let cut = c.cut_at.ensures in
     let made = c.make.ensures in
-    let count = inv.count in
-    let room = inv.room in
-    let later_room = inv.later_room in
-    let long = ap length steps in
-    let cut_count = cut.count in
-    let cut_capacity = cut.capacity in
-    let cut_later = cut.later_capacity in
-    let made_count = made.count in
-    let made_capacity = made.capacity in
-    let made_later = made.later_capacity in
     record {
       whole =
           ap (λ (rows : List Row). with_row_changes rows rest) (made.made ∙ ap (λ (rows : List Row). with_row_change rows change) cut.whole)
           ∙ ap (λ (changes : List RowChange). with_row_changes (at.rows.items ++ reverse at.later.items) changes) (sym steps)
           ∙ inv.whole;
       rise = made.rise;
-      count = omega arith;
-      room = omega arith;
-      later_room = omega arith;
+      count = omega (arith, fewer, inv.count, ap length steps);
+      room = omega (arith, fewer, inv.room, cut.count, cut.capacity, made.count, made.capacity);
+      later_room = omega (arith, fewer, inv.later_room, cut.count, cut.later_capacity, made.count, made.later_capacity);
     }
