@@ -13,6 +13,12 @@ use Rattle.aq_serve.specs.declared.fetch.FetchFault.{FetchFault}
 use Rattle.aq_serve.specs.declared.fetch.FetchFault.TheVariants as fault
 use Rattle.aq_serve.proofs.Wires.{gets_join, took_join}
 
+-- what a loop has read so far, by a buffer whose length stays
+pub record HasFetched (before after : DoorView) (pending now buffer_before buffer : List ℕ) : Type 0 where
+  pub took : Took before after pending now
+  pub reads : after.reads ≡ before.reads
+  pub piece : length buffer ≡ length buffer_before
+
 -- a piece was wanted, and not to be had
 pub no_piece : {A : Type 0} (P : A → Type 0) (a b c : DoorView) (p q r : List ℕ) (f : FetchFault)
     → Took a b p q → b.reads ≡ a.reads → IsStep q More → FetchesPiece b c q r (Err f) → Fetches P a c p r (Err f)
