@@ -1,8 +1,11 @@
 //! The top call: it picks the command of the words.
-ghost use Rattle.std.specs.Prelude.{◌≡◌, ◌↔◌, false, IsNone, IsTrue, IsSome, map, string_bytes};
-ghost use Rattle.aq_desk.specs.Command.{IsStatus, RisesAt, Tells, WritesNothing};
+ghost use Rattle.std.specs.Prelude.{◌≡◌, ◌↔◌, ◌⊎◌, ℕ, false, IsNone, IsTrue, IsSome, List, Option, map, string_bytes};
+ghost use Rattle.std.specs.Option.{option_map};
+ghost use Rattle.aq_rules.specs.Kept.Rows.{Row};
+ghost use Rattle.aq_desk.specs.Command.{IsKept, IsStatus, Keeps, RisesAt, Tells, WritesNothing, opened_rows};
 ghost use Rattle.aq_desk.specs.Ending.{no_memory};
 ghost use Rattle.aq_desk.specs.Run.{Acts, KeeperRises, Runs, connections_for, connections_in, reads_input, uses, uses_keeper, writes_output};
+ghost use Rattle.aq_desk.specs.Serve.{Around, IsServed};
 ghost use Rattle.aq_desk.specs.Stop.{ending_at, status_of};
 ghost use Rattle.aq_words.specs.Words.{command_of, is_command};
 
@@ -76,6 +79,15 @@ pub fn run<K: Keeper, D: Door, S: Source, O: Sink, E: Sink>(
         Err(stop) => tell(&stop, errors),
     }
 }
+
+/// Over a keeper that tells its tables to the end of a run, as those in memory do, what is said of the tables
+/// is exact: those after it, and those that are served once the office is opened.
+pub fn told_runs_are_exact()
+    ensures kept { (rows : List Row) (status : ℕ) (before after : Option (List Row)) → IsSome after → Keeps rows status before after → IsKept status → after ≡ option_map (λ _. rows) before }
+    ensures failed { (rows : List Row) (status : ℕ) (before after : Option (List Row)) → IsSome after → Keeps rows status before after → status ≡ 5 → (after ≡ before) ⊎ (after ≡ option_map opened_rows before) }
+    ensures one { (rows : List Row) (status : ℕ) (before after : Option (List Row)) → IsSome after → Keeps rows status before after → (after ≡ before) ⊎ (after ≡ option_map opened_rows before) ⊎ (after ≡ option_map (λ _. rows) before) }
+    ensures served { (n : ℕ) (rows : List Row) (status : ℕ) (before after : Around) → IsSome after.tables → (is : IsServed n rows status before after) → is.opened ≡ option_map opened_rows before.tables }
+{}
 
 /// Does a command.
 fn perform<K: Keeper, D: Door, S: Source, O: Sink>(

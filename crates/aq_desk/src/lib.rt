@@ -14,14 +14,12 @@ mod scan;
 mod serve;
 mod simulate;
 mod stop;
-mod told;
 mod writing;
 
 pub use aq_serve::{Door, MemoryDoor};
 pub use aq_service::{Posted, post};
 pub use aq_words::{Command, read_words};
-pub use command::{end_without_memory, run};
+pub use command::{end_without_memory, run, told_runs_are_exact};
 pub use memory_sink::MemorySink;
 pub use memory_source::MemorySource;
 pub use outside::{Sink, Source};
-pub use told::told_runs_are_exact;

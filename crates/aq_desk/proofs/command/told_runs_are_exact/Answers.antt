@@ -1,6 +1,6 @@
 use Rattle.aq_desk.proofs.Serving.{served_exact}
 use Rattle.aq_desk.proofs.Tables.{failed_exact, kept_exact, one_exact}
-use Rattle.aq_desk.proofs.told.told_runs_are_exact.Goals as goal
+use Rattle.aq_desk.proofs.command.told_runs_are_exact.Goals as goal
 
 pub returns-clause-kept : goal.returns-clause-kept
 returns-clause-kept c = kept_exact
