@@ -7,8 +7,8 @@ use crate::dates::{day_in, day_name};
 use crate::spelling::{spelling_of, write_line};
 use crate::trouble::Trouble;
 use aq_base::{
-    FEWEST_GENERATED_YEARS, FIRST_YEAR, LAST_YEAR, MOST_BYTES, MOST_GENERATED_SITES,
-    MOST_GENERATED_YEARS, OfficeLine, Rule,
+    Area, Assumed, AssumedList, FEWEST_GENERATED_YEARS, FIRST_YEAR, LAST_YEAR, MOST_BYTES,
+    MOST_GENERATED_SITES, MOST_GENERATED_YEARS, OfficeLine, Rule, SiteId, SiteList,
 };
 use aq_cal::{quarter_of, quarter_span, write_day, year_span};
 use aq_desk::{MemorySink, end_without_memory};
@@ -18,7 +18,7 @@ use aq_http::{Routes, Step, Verb, next_request};
 use aq_keeper::{RowChange, RowKey, do_keys_rise};
 use aq_num::{read_decimal, round_half_up, trunc_div, write_fixed};
 use aq_pm25::rank_of;
-use aq_rd::{has_office_tag, print_rd, read_rd, tag_of};
+use aq_rd::{has_office_tag, print_rd, read_rd, site_word, tag_of};
 use aq_words::read_words;
 use std::alloc::Global;
 
@@ -38,7 +38,7 @@ pub fn answer(alloc: Global, name: &str, arguments: &str) -> Result<String, Trou
     }
 }
 
-/// What a function of numbers or dates answers.
+/// What a function of numbers, dates or short lists answers.
 fn number_answer(alloc: Global, name: &str, arguments: &str) -> Result<String, Trouble> {
     match name {
         "truncated" => truncated(alloc, arguments),
@@ -49,6 +49,9 @@ fn number_answer(alloc: Global, name: &str, arguments: &str) -> Result<String, T
         "year" => year(alloc, arguments),
         "keys_rise" => keys_rise(alloc, arguments),
         "without_memory" => without_memory(alloc),
+        "assumed" => assumed(alloc, arguments),
+        "sites" => sites(alloc, arguments),
+        "holds" => holds(alloc, arguments),
         _ => Err(Trouble::Wrong("there is no such call")),
     }
 }
@@ -352,4 +355,84 @@ fn without_memory(alloc: Global) -> Result<String, Trouble> {
     let status = end_without_memory(&mut errors);
     let told = shown(alloc, errors.written())?;
     Ok(format!(in alloc; "{status} {told}")?)
+}
+
+/// Puts a word after those that are there, with a space between them.
+fn add_word(words: &mut String, word: &str) -> Result<(), Trouble> {
+    if !words.is_empty() {
+        words.push_str(" ")?;
+    }
+    words.push_str(word)?;
+    Ok(())
+}
+
+/// `NUMBER..`: the entries of a list of assumed concurrences to which each is added, a number without
+/// its sign if its event is taken not to be concurred in.
+fn assumed(alloc: Global, arguments: &str) -> Result<String, Trouble> {
+    let mut list = AssumedList::new();
+    for word in arguments.split(' ') {
+        let (digits, agreed) = match word.strip_prefix("-") {
+            Some(digits) => (digits, false),
+            None => (word, true),
+        };
+        let Ok(number) = digits.parse() else {
+            return Err(NOT_SO);
+        };
+        let _ = list.add(Assumed { number, agreed });
+    }
+    let mut all = String::new(alloc);
+    for entry in list.as_slice() {
+        let sign = if entry.agreed { "" } else { "-" };
+        add_word(&mut all, format!(in alloc; "{sign}{}", entry.number)?.as_str())?;
+    }
+    Ok(all)
+}
+
+fn site(word: &str) -> Result<SiteId, Trouble> {
+    match site_word(word.as_bytes()) {
+        Some(site) => Ok(site),
+        None => Err(NOT_SO),
+    }
+}
+
+/// The list of the sites of these words, each added in turn.
+fn site_list(words: &str) -> Result<SiteList, Trouble> {
+    let (first, rest) = cut(words);
+    let mut list = SiteList::new(site(first)?);
+    for word in rest.split(' ') {
+        if !word.is_empty() {
+            let _ = list.add(site(word)?);
+        }
+    }
+    Ok(list)
+}
+
+/// `SITE..`: the sites of an area's list to which each is added.
+fn sites(alloc: Global, arguments: &str) -> Result<String, Trouble> {
+    let list = site_list(arguments)?;
+    let mut all = String::new(alloc);
+    for site in list.as_slice() {
+        let (state, county, number) = (site.state(), site.county(), site.site());
+        add_word(&mut all, format!(in alloc; "{state:02}-{county:03}-{number:04}")?.as_str())?;
+    }
+    Ok(all)
+}
+
+/// `SITE county SITE` or `SITE in SITE..`: whether the area, the county of the second site or the list of
+/// those after it, has the first site.
+fn holds(alloc: Global, arguments: &str) -> Result<String, Trouble> {
+    let (word, rest) = cut(arguments);
+    let (kind, rest) = cut(rest);
+    let area = match kind {
+        "county" => {
+            let of = site(rest)?;
+            Area::County {
+                state: of.state(),
+                county: of.county(),
+            }
+        }
+        "in" => Area::Sites(site_list(rest)?),
+        _ => return Err(NOT_SO),
+    };
+    Ok(format!(in alloc; "{}", area.holds(site(word)?))?)
 }
