@@ -8,7 +8,7 @@ use crate::spelling::{spelling_of, write_line};
 use crate::trouble::Trouble;
 use aq_base::{
     Area, Assumed, AssumedList, FEWEST_GENERATED_YEARS, FIRST_YEAR, LAST_YEAR, MOST_BYTES,
-    MOST_GENERATED_SITES, MOST_GENERATED_YEARS, OfficeLine, Rule, SiteId, SiteList,
+    MOST_GENERATED_SITES, MOST_GENERATED_YEARS, OfficeLine, Rule, SiteList,
 };
 use aq_cal::{quarter_of, quarter_span, write_day, year_span};
 use aq_desk::{MemorySink, end_without_memory};
@@ -383,37 +383,38 @@ fn assumed(alloc: Global, arguments: &str) -> Result<String, Trouble> {
     let mut all = String::new(alloc);
     for entry in list.as_slice() {
         let sign = if entry.agreed { "" } else { "-" };
-        add_word(&mut all, format!(in alloc; "{sign}{}", entry.number)?.as_str())?;
+        add_word(
+            &mut all,
+            format!(in alloc; "{sign}{}", entry.number)?.as_str(),
+        )?;
     }
     Ok(all)
 }
 
-fn site(word: &str) -> Result<SiteId, Trouble> {
-    match site_word(word.as_bytes()) {
-        Some(site) => Ok(site),
-        None => Err(NOT_SO),
-    }
-}
-
 /// The list of the sites of these words, each added in turn.
-fn site_list(words: &str) -> Result<SiteList, Trouble> {
+fn site_list(words: &str) -> Option<SiteList> {
     let (first, rest) = cut(words);
-    let mut list = SiteList::new(site(first)?);
+    let mut list = SiteList::new(site_word(first.as_bytes())?);
     for word in rest.split(' ') {
         if !word.is_empty() {
-            let _ = list.add(site(word)?);
+            let _ = list.add(site_word(word.as_bytes())?);
         }
     }
-    Ok(list)
+    Some(list)
 }
 
 /// `SITE..`: the sites of an area's list to which each is added.
 fn sites(alloc: Global, arguments: &str) -> Result<String, Trouble> {
-    let list = site_list(arguments)?;
+    let Some(list) = site_list(arguments) else {
+        return Err(NOT_SO);
+    };
     let mut all = String::new(alloc);
     for site in list.as_slice() {
         let (state, county, number) = (site.state(), site.county(), site.site());
-        add_word(&mut all, format!(in alloc; "{state:02}-{county:03}-{number:04}")?.as_str())?;
+        add_word(
+            &mut all,
+            format!(in alloc; "{state:02}-{county:03}-{number:04}")?.as_str(),
+        )?;
     }
     Ok(all)
 }
@@ -424,15 +425,21 @@ fn holds(alloc: Global, arguments: &str) -> Result<String, Trouble> {
     let (word, rest) = cut(arguments);
     let (kind, rest) = cut(rest);
     let area = match kind {
-        "county" => {
-            let of = site(rest)?;
-            Area::County {
-                state: of.state(),
-                county: of.county(),
-            }
-        }
-        "in" => Area::Sites(site_list(rest)?),
-        _ => return Err(NOT_SO),
+        "county" => county_of(rest),
+        "in" => site_list(rest).map(Area::Sites),
+        _ => None,
     };
-    Ok(format!(in alloc; "{}", area.holds(site(word)?))?)
+    let (Some(area), Some(site)) = (area, site_word(word.as_bytes())) else {
+        return Err(NOT_SO);
+    };
+    Ok(format!(in alloc; "{}", area.holds(site))?)
+}
+
+/// The county of the site of a word.
+fn county_of(word: &str) -> Option<Area> {
+    let site = site_word(word.as_bytes())?;
+    Some(Area::County {
+        state: site.state(),
+        county: site.county(),
+    })
 }
