@@ -7,7 +7,8 @@ use sqlite::{Connection, File, FileStore};
 use std::alloc::Global;
 
 /// A keeper over a file, which it opens at its first call. After a refused open or preparation the
-/// next call tries again. It tells nothing of its tables.
+/// next call tries again. It tells nothing of its tables. A fault in a later call may shut what was
+/// opened: then each call fails, until the program is started anew.
 ///
 /// From then on until it is dropped nobody else has the file: every call of another keeper of it, in
 /// this program or another one, is refused, for reading too.
@@ -29,7 +30,7 @@ impl<'a> Drop for FileKeeper<'a> {
             faults: _,
         } = self;
         if let Some(keeper) = keeper {
-            let _ = keeper.close();
+            let _ = keeper.into_connection().close();
         }
     }
 }

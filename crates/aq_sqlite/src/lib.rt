@@ -2,12 +2,11 @@
 //! which it opens at its first call.
 #![tactic(auto)]
 
+mod crash;
 mod file_keeper;
-mod reading;
 mod sqlite_keeper;
-mod statements;
-mod writing;
 
+pub use crash::{acknowledged_loads_outlive_a_crash, batches_spare_other_loads};
 pub use file_keeper::FileKeeper;
 pub use sqlite_keeper::SqliteKeeper;
 

@@ -1,78 +1,149 @@
-ghost use Rattle.std.specs.Prelude.{◌≡◌};
+ghost use Rattle.std.specs.Prelude.{◌≡◌, IsTrue, OnOk, OnErr};
+ghost use Rattle.sqlite.specs.Effect.{IsDatabase};
+ghost use Rattle.sqlite.specs.State.{HasCleanDisk, Survives};
+ghost use Rattle.sqlite.specs.Held.{state};
 ghost use Rattle.aq_keeper.specs.Told.{HasCause};
+ghost use Rattle.aq_tables.specs.All.{HasTables};
+ghost use Rattle.aq_tables.specs.Batch.{Becomes, Leaves};
+ghost use Rattle.aq_sqlite.specs.Faults.{answered, fault_of};
 
-use crate::reading::read_tables;
-use crate::writing::{make_changes, make_tables};
 use aq_keeper::{Keeper, KeeperFault, RowChange, Rows};
-use sqlite::{Alter, Connection, Error, ErrorCode, File, FileStore};
+use aq_tables::commit;
+use sqlite::{Alter, Connection, Error, ErrorCode};
 use std::alloc::Global;
 
-/// A keeper over a connection of `sqlite`, whatever its store is. It tells nothing of its tables. Each
-/// refusal but want of memory is a fault.
+/// A keeper over a connection of `sqlite`, whatever its store is. It tells its tables once it has prepared
+/// them, while the connection is open: a fault of the store may shut it in any call. Each refusal but want
+/// of memory is a fault.
 #[derive(Drop)]
 pub struct SqliteKeeper<S: Alter + Drop> {
     connection: Connection<S>,
     faults: u64,
+    prepared: bool,
+    ghost stands: { IsTrue prepared → IsTrue (state S.Store connection).is_open → ∥ HasTables (state S.Store connection).committed ∥₁ },
 }
 
 impl<S: Alter + Drop> SqliteKeeper<S> {
-    ghost use Rattle.std.specs.Prelude.{◌≡◌, false};
+    ghost use Rattle.std.specs.Prelude.{◌≡◌, false, IsTrue, IfSome, OnOk};
+    ghost use Rattle.sqlite.specs.State.{Survives};
+    ghost use Rattle.sqlite.specs.Held.{state};
     ghost use Rattle.aq_keeper.specs.Told.{HasCause};
+    ghost use Rattle.aq_tables.specs.All.{rows_of};
+    ghost use Rattle.aq_tables.specs.Made.{IsMade};
+    ghost use Rattle.aq_sqlite.specs.Telling.{told};
+    ghost use Rattle.aq_sqlite.specs.Crash.{LeavesOnly};
 
-    /// The keeper of a connection without an open transaction. Its tables may be missing yet.
+    /// The keeper of a connection without an open transaction. It tells nothing until its tables are
+    /// prepared.
     pub fn adopt(connection: Connection<S>) -> SqliteKeeper<S>
         requires { connection.in_transaction ≡ false }
         ensures connection { result.connection ≡ connection }
+        ensures prepared { result.prepared ≡ false }
         ensures faults { result.faults ≡ 0 }
     {
         SqliteKeeper {
             connection,
             faults: 0,
+            prepared: false,
         }
     }
 
-    /// Makes the tables that are missing, in one transaction.
+    /// Looks whether each table is as its statement makes it, and makes those that are missing, in one
+    /// transaction. From then on the keeper tells its tables.
+    ///
+    /// It fails, and makes nothing, where a table with one of the names has another form, or where the
+    /// database has tables and none of these.
     pub fn prepare(&mut self) -> Result<(), KeeperFault>
+        ensures begins { OnOk result (IsTrue self.new.prepared) }
+        ensures rows { IfSome (told self.new.prepared (state S.Store self.new.connection)) (λ rows. rows_of (state S.Store self.old.connection).committed ≡ rows) }
         ensures cause { HasCause self.old.faults self.new.faults result }
+
+        // After Ok a crash leaves what is told and nothing else, and after an error also what it could
+        // leave before.
+        ensures left { IfSome (told self.new.prepared (state S.Store self.new.connection)) (λ rows. LeavesOnly (λ left. left ≡ rows) (state S.Store self.new.connection)) }
+        ensures crash { Survives (state S.Store self.old.connection) (state S.Store self.new.connection) (λ trees. (db : _) × IsMade (state S.Store self.old.connection).now db × (trees ≡ db.trees)) }
     {
-        let made = make_tables(&mut self.connection);
+        let made = aq_tables::prepare(&mut self.connection);
+        let _ = self.connection.schema();
+        self.prepared = made.is_ok();
         counted(&mut self.faults, made)
     }
-}
 
-impl SqliteKeeper<FileStore<File>> {
-    /// Copies the log into the file, which then stands for itself, and closes both. If that is
-    /// refused the log keeps what was committed, and the next open finds it.
-    pub(crate) fn close(self) -> Result<(), Error> {
+    pub(crate) fn into_connection(self) -> Connection<S> {
         let SqliteKeeper {
             connection,
             faults: _,
+            prepared: _,
         } = self;
-        connection.close()
+        connection
     }
 }
 
 impl<S: Alter + Drop> Keeper for SqliteKeeper<S> {
-    ghost use Rattle.std.specs.Prelude.{None};
+    ghost use Rattle.std.specs.Prelude.{◌≡◌, ◌≢◌, true, [], map, Some, IsTrue, IfSome, IfOk, OnOk, OnErr};
+    ghost use Rattle.sqlite.specs.State.{Survives};
+    ghost use Rattle.sqlite.specs.Held.{state};
+    ghost use Rattle.aq_rules.specs.Kept.RowChanges.{batch_rises, changed_key};
+    ghost use Rattle.aq_keeper.specs.Told.{HasCause, Stays};
+    ghost use Rattle.aq_sqlite.specs.Telling.{told, with_batch};
+    ghost use Rattle.aq_sqlite.specs.Crash.{AlsoLeaves, LeavesOnly};
 
-    ghost tables = { λ _. None };
+    ghost tables = { λ keeper. told keeper.prepared (state S.Store keeper.connection) };
 
     ghost faults = { λ keeper. keeper.faults };
 
-    fn read_all(&mut self, alloc: Global) -> Result<Rows, KeeperFault> {
-        let rows = read_tables(&mut self.connection, alloc);
+    fn read_all(&mut self, alloc: Global) -> Result<Rows, KeeperFault>
+        ensures rows { IfOk result (λ rows. IfSome (told self.new.prepared (state S.Store self.new.connection)) (λ told. rows ≡ told)) }
+        ensures kept { Stays (told self.old.prepared (state S.Store self.old.connection)) (told self.new.prepared (state S.Store self.new.connection)) }
+        ensures cause { HasCause self.old.faults self.new.faults result }
+
+        // A crash after it leaves what it could leave before.
+        ensures prepared { self.new.prepared ≡ self.old.prepared }
+        ensures crash { Survives (state S.Store self.old.connection) (state S.Store self.new.connection) (λ _. ⊥) }
+    {
+        let rows = aq_tables::read_all(&mut self.connection, alloc);
         counted(&mut self.faults, rows)
     }
 
-    fn commit(&mut self, _alloc: Global, batch: &[RowChange]) -> Result<(), KeeperFault> {
-        let made = make_changes(&mut self.connection, batch);
+    fn commit(&mut self, _alloc: Global, batch: &[RowChange]) -> Result<(), KeeperFault>
+        requires rising { batch_rises (map changed_key batch.now) ≡ true }
+        ensures done { OnOk result (Stays (with_batch batch.now (told self.old.prepared (state S.Store self.old.connection))) (told self.new.prepared (state S.Store self.new.connection))) }
+        ensures kept { OnErr result (Stays (told self.old.prepared (state S.Store self.old.connection)) (told self.new.prepared (state S.Store self.new.connection))) }
+        ensures cause { HasCause self.old.faults self.new.faults result }
+
+        // After Ok of a batch that changes something a crash leaves the tables with the batch and nothing
+        // else, and after an error also what it could leave before.
+        ensures prepared { self.new.prepared ≡ self.old.prepared }
+        ensures left { IsTrue self.old.prepared → OnOk result (LeavesOnly (λ rows. with_batch batch.now (told self.old.prepared (state S.Store self.old.connection)) ≡ Some rows) (state S.Store self.new.connection)) }
+        ensures crash { IsTrue self.old.prepared → batch.now ≢ [] → AlsoLeaves (λ rows. with_batch batch.now (told self.old.prepared (state S.Store self.old.connection)) ≡ Some rows) (state S.Store self.old.connection) (state S.Store self.new.connection) }
+    {
+        let made = commit_alone(&mut self.connection, batch);
         counted(&mut self.faults, made)
     }
 }
 
+/// Commits a batch if no transaction is open, so that what the connection sees was committed.
+fn commit_alone<S: Alter>(connection: &mut Connection<S>, batch: &[RowChange]) -> Result<(), Error>
+    ensures settled { OnOk result (IsTrue (state S.Store connection.old).is_open → (state S.Store connection.old).now ≡ (state S.Store connection.old).committed) }
+    ensures sound { IsTrue (state S.Store connection.old).is_open → IsDatabase (state S.Store connection.old).committed }
+    ensures done { HasCleanDisk (state S.Store connection.new) → OnOk result (Becomes batch.now (state S.Store connection.old).now (state S.Store connection.new).committed) }
+    ensures opened { HasCleanDisk (state S.Store connection.new) → OnOk result (IsTrue (state S.Store connection.new).is_open) }
+    ensures left { HasCleanDisk (state S.Store connection.new) → OnOk result ((trees : _) → (state S.Store connection.new).may_leave trees → trees ≡ (state S.Store connection.new).committed.trees) }
+    ensures kept { HasCleanDisk (state S.Store connection.new) → IsTrue (state S.Store connection.new).is_open → OnErr result ((state S.Store connection.new).committed ≡ (state S.Store connection.old).committed) }
+    ensures was_open { HasCleanDisk (state S.Store connection.new) → IsTrue (state S.Store connection.new).is_open → IsTrue (state S.Store connection.old).is_open }
+    ensures crash { Survives (state S.Store connection.old) (state S.Store connection.new) (λ trees. Leaves batch.now (state S.Store connection.old) trees × (IsTrue (state S.Store connection.old).is_open → (state S.Store connection.old).now ≡ (state S.Store connection.old).committed)) }
+{
+    let _ = connection.schema();
+    if !connection.is_autocommit() {
+        return Err(Error::SqliteFailure(ErrorCode::TransactionState));
+    }
+    commit(connection, batch)
+}
+
 /// An answer with its refusal, which is counted if it is a fault.
 fn counted<T>(faults: &mut u64, answer: Result<T, Error>) -> Result<T, KeeperFault>
-    ensures { HasCause faults.old faults.new result }
+    ensures cause { HasCause faults.old faults.new result }
+    ensures same { result ≡ answered answer }
 {
     match answer {
         Ok(value) => Ok(value),
@@ -88,7 +159,7 @@ fn counted<T>(faults: &mut u64, answer: Result<T, Error>) -> Result<T, KeeperFau
 
 /// What a refusal is: want of memory, or a failure.
 pub(crate) fn fault_of(error: &Error) -> KeeperFault
-    ensures { error.now ≡ Error.SqliteFailure ErrorCode.OutOfMemory → result ≡ KeeperFault.Memory }
+    ensures { result ≡ fault_of error.now }
 {
     match error {
         Error::SqliteFailure(ErrorCode::OutOfMemory) => KeeperFault::Memory,

@@ -1,0 +1,16 @@
+use Rattle.std.proofs.Common.{rules}
+use Rattle.sqlite.specs.Held.{state}
+use Rattle.aq_sqlite.proofs.Keeping.{stands_made, told_made, left_made}
+use Rattle.aq_sqlite.proofs.sqlite_keeper.SqliteKeeper.prepare.Goals as goal
+
+pub invariant_of-self : goal.invariant_of-self
+invariant_of-self g c = record {
+  stands = rw c.is_ok-self.ensures.value (stands_made c.prepare-made.result (state g.S.Store c.args.self.now.connection) (state g.S.Store c.prepare-made.new.conn) c.prepare-made.ensures.stand);
+}
+
+pub returns-clause-rows : goal.returns-clause-rows
+returns-clause-rows g c = rw c.is_ok-self.ensures.value (told_made c.prepare-made.result (state g.S.Store c.args.self.now.connection) (state g.S.Store c.prepare-made.new.conn) c.prepare-made.ensures.same)
+
+pub returns-clause-left : goal.returns-clause-left
+returns-clause-left g c = left_made c.prepare-made.result (state g.S.Store c.args.self.now.connection) (state g.S.Store c.prepare-made.new.conn)
+    (g.met.S.Store.settled c.prepare-made.new.conn.store) (λ h. (c.schema.ensures.live h).1) c.is_ok-self.result

@@ -1,0 +1,26 @@
+use Rattle.std.proofs.Common.{rules}
+use Rattle.sqlite.specs.Held.{state}
+use Rattle.aq_sqlite.proofs.Keeping.{on_ok, on_err, stands_then, done_told, kept_told, left_rows, crash_rows}
+use Rattle.aq_sqlite.proofs.sqlite_keeper.SqliteKeeperKeeper.commit.Goals as goal
+
+pub invariant_of-self : goal.invariant_of-self
+invariant_of-self g c = let e = c.commit_alone-made.ensures in record {
+  stands = stands_then c.args.self.now.prepared (state g.S.Store c.args.self.now.connection) (state g.S.Store c.commit_alone-made.new.connection) c.args.self.now.stands (g.met.S.Store.shut_if_dirty c.commit_alone-made.new.connection.store)
+      c.args.batch.now c.commit_alone-made.result (record { settled = e.settled; sound = e.sound; done = e.done; opened = e.opened; left = e.left; kept = e.kept; was_open = e.was_open; crash = e.crash });
+}
+
+pub returns-clause-done : goal.returns-clause-done
+returns-clause-done g c = let e = c.commit_alone-made.ensures in rw c.counted.ensures.same (on_ok _ c.commit_alone-made.result (done_told c.args.self.now.prepared (state g.S.Store c.args.self.now.connection) (state g.S.Store c.commit_alone-made.new.connection) c.args.self.now.stands (g.met.S.Store.shut_if_dirty c.commit_alone-made.new.connection.store)
+    c.args.batch.now c.commit_alone-made.result (record { settled = e.settled; sound = e.sound; done = e.done; opened = e.opened; left = e.left; kept = e.kept; was_open = e.was_open; crash = e.crash })))
+
+pub returns-clause-kept : goal.returns-clause-kept
+returns-clause-kept g c = let e = c.commit_alone-made.ensures in rw c.counted.ensures.same (on_err _ c.commit_alone-made.result (kept_told c.args.self.now.prepared (state g.S.Store c.args.self.now.connection) (state g.S.Store c.commit_alone-made.new.connection) c.args.self.now.stands (g.met.S.Store.shut_if_dirty c.commit_alone-made.new.connection.store)
+    c.args.batch.now c.commit_alone-made.result (record { settled = e.settled; sound = e.sound; done = e.done; opened = e.opened; left = e.left; kept = e.kept; was_open = e.was_open; crash = e.crash })))
+
+pub returns-clause-left : goal.returns-clause-left
+returns-clause-left g c p = let e = c.commit_alone-made.ensures in rw c.counted.ensures.same (on_ok _ c.commit_alone-made.result (left_rows c.args.self.now.prepared (state g.S.Store c.args.self.now.connection) (state g.S.Store c.commit_alone-made.new.connection) c.args.self.now.stands (g.met.S.Store.shut_if_dirty c.commit_alone-made.new.connection.store)
+    c.args.batch.now c.commit_alone-made.result (record { settled = e.settled; sound = e.sound; done = e.done; opened = e.opened; left = e.left; kept = e.kept; was_open = e.was_open; crash = e.crash }) p))
+
+pub returns-clause-crash : goal.returns-clause-crash
+returns-clause-crash g c = let e = c.commit_alone-made.ensures in crash_rows c.args.self.now.prepared (state g.S.Store c.args.self.now.connection) (state g.S.Store c.commit_alone-made.new.connection) c.args.self.now.stands (g.met.S.Store.shut_if_dirty c.commit_alone-made.new.connection.store)
+    c.args.batch.now c.commit_alone-made.result (record { settled = e.settled; sound = e.sound; done = e.done; opened = e.opened; left = e.left; kept = e.kept; was_open = e.was_open; crash = e.crash })

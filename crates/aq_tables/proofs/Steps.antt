@@ -1,0 +1,32 @@
+-- Statements within a transaction, one after the other.
+use Rattle.std.proofs.Common.{ℕ, List, inl, inr, arith, Result, Ok, Err, refl, ◌∙◌}
+use Rattle.sqlite.specs.declared.error.Error.{Error}
+use Rattle.sqlite.specs.Order.{Row}
+use Rattle.sqlite.specs.Tree.{Trees}
+use Rattle.sqlite.specs.State.{State, Survives, KeepsCommit, IsUnchanged, IsRolledBack, ExecutesInside}
+use Rattle.sqlite.proofs.StateLemmas.{survives_then}
+
+pub survives_here : (s : State) (P : Trees → Type 0) → Survives s s P
+survives_here s P = record { clean = omega arith; shield = λ h. h; counts = omega arith; limit = refl; closes = λ _ stands. inl stands; crash = λ _ db h. inl h }
+
+pub survives_both : (a b c : State) → Survives a b (λ _. ⊥) → Survives b c (λ _. ⊥) → Survives a c (λ _. ⊥)
+survives_both a b c = survives_then a b c _ _ (λ _. ⊥) (λ _ db none. none) (λ _ db none. none)
+
+pub kept_here : (s : State) → KeepsCommit s s
+kept_here s = record { was_open = λ h. h; committed = λ _. refl }
+
+pub kept_both : (a b c : State) → KeepsCommit a b → KeepsCommit b c → KeepsCommit a c
+kept_both a b c p q = record { was_open = λ h. p.was_open (q.was_open h); committed = λ h. q.committed h ∙ p.committed (q.was_open h) }
+
+pub unchanged_keeps : (old new : State) → IsUnchanged old new → KeepsCommit old new
+unchanged_keeps old new h = record { was_open = λ _. h.0.was_open; committed = λ _. h.0.committed_is }
+
+pub undone_keeps : (old new : State) → IsRolledBack old new → KeepsCommit old new
+undone_keeps old new h = record { was_open = h.was_open; committed = λ is. (h.undone is).1 }
+
+-- a statement inside a transaction commits nothing
+pub inside_keeps : (held : ℕ) (sql : List ℕ) (params : Row) (old new : State) (r : Result ℕ Error) → ExecutesInside held sql params old new r → KeepsCommit old new
+inside_keeps held sql params old new (Ok count) h = record { was_open = λ _. h.1.was_open; committed = λ _. h.1.committed_is }
+inside_keeps held sql params old new (Err e) (inl (ran, inl same)) = unchanged_keeps old new same
+inside_keeps held sql params old new (Err e) (inl (ran, inr undone)) = undone_keeps old new undone
+inside_keeps held sql params old new (Err e) (inr barred) = unchanged_keeps old new barred.2

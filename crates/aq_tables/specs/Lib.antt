@@ -1,0 +1,10 @@
+pub mod Forms
+pub mod Texts
+pub mod Standing
+pub mod Told
+pub mod Queries
+pub mod Rowids
+pub mod All
+pub mod Batch
+pub mod Crash
+pub mod Made

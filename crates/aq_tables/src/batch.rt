@@ -1,0 +1,127 @@
+//! Changes of the four tables, and a batch of them in one transaction.
+ghost use Rattle.std.specs.Prelude.{◌≡◌, ◌∷◌, [], false, IsTrue, OnOk, OnErr};
+ghost use Rattle.sqlite.specs.State.{HasCleanDisk, KeepsCommit, Survives};
+ghost use Rattle.sqlite.specs.Held.{state};
+ghost use Rattle.aq_rules.specs.Kept.RowChanges.{row_key};
+ghost use Rattle.aq_tables.specs.Told.{Drops, Puts};
+ghost use Rattle.aq_tables.specs.Batch.{table_at, Becomes, Changes, Leaves};
+
+use crate::loads::{drop_load, put_load};
+use crate::observations::{drop_observation, put_observation};
+use crate::records::{drop_record, put_record};
+use crate::second::{drop_second, put_second};
+use aq_keeper::{ChangeContent, KeyContent, Row, RowChange, RowContent, RowKey};
+use sqlite::{Alter, Connection, Error, ErrorCode, Transaction};
+
+/// Drops the row of a key, if there is one.
+fn drop_key<S: Alter>(tx: &mut Transaction<'_, S>, key: &RowKey) -> Result<(), Error>
+    ensures same_reference { tx.new.conn.ghost_name ≡ tx.old.conn.ghost_name }
+    ensures done { HasCleanDisk (state S.Store tx.new.conn.now) → IsTrue (state S.Store tx.old.conn.now).in_transaction → OnOk result (Drops (table_at key.now) key.now (state S.Store tx.old.conn.now) (state S.Store tx.new.conn.now)) }
+    ensures kept { HasCleanDisk (state S.Store tx.new.conn.now) → IsTrue (state S.Store tx.old.conn.now).in_transaction → KeepsCommit (state S.Store tx.old.conn.now) (state S.Store tx.new.conn.now) }
+    ensures survives { Survives (state S.Store tx.old.conn.now) (state S.Store tx.new.conn.now) (λ _. ⊥) }
+{
+    match &key.content {
+        KeyContent::Office { kind, key } => drop_record(tx, kind, key.as_slice()),
+        KeyContent::Observation {
+            site,
+            pollutant,
+            poc,
+            hour,
+        } => drop_observation(tx, site, pollutant, poc, hour),
+        KeyContent::Load { number } => drop_load(tx, number),
+        KeyContent::Second {
+            site,
+            pollutant,
+            poc,
+            hour,
+        } => drop_second(tx, site, pollutant, poc, hour),
+    }
+}
+
+/// Drops the row that has the key of this one, if there is one.
+fn drop_same<S: Alter>(tx: &mut Transaction<'_, S>, row: &Row) -> Result<(), Error>
+    ensures same_reference { tx.new.conn.ghost_name ≡ tx.old.conn.ghost_name }
+    ensures done { HasCleanDisk (state S.Store tx.new.conn.now) → IsTrue (state S.Store tx.old.conn.now).in_transaction → OnOk result (Drops (table_at (row_key row.now)) (row_key row.now) (state S.Store tx.old.conn.now) (state S.Store tx.new.conn.now)) }
+    ensures kept { HasCleanDisk (state S.Store tx.new.conn.now) → IsTrue (state S.Store tx.old.conn.now).in_transaction → KeepsCommit (state S.Store tx.old.conn.now) (state S.Store tx.new.conn.now) }
+    ensures survives { Survives (state S.Store tx.old.conn.now) (state S.Store tx.new.conn.now) (λ _. ⊥) }
+{
+    match &row.content {
+        RowContent::Office(row) => drop_record(tx, &row.kind, row.key.as_slice()),
+        RowContent::Observation(row) => {
+            drop_observation(tx, &row.site, &row.pollutant, &row.poc, &row.hour)
+        }
+        RowContent::Load(row) => drop_load(tx, &row.number),
+        RowContent::Second(row) => {
+            drop_second(tx, &row.site, &row.pollutant, &row.poc, &row.hour)
+        }
+    }
+}
+
+/// Puts a row, of which none has the key.
+fn put_row<S: Alter>(tx: &mut Transaction<'_, S>, row: &Row) -> Result<(), Error>
+    ensures same_reference { tx.new.conn.ghost_name ≡ tx.old.conn.ghost_name }
+    ensures done { HasCleanDisk (state S.Store tx.new.conn.now) → IsTrue (state S.Store tx.old.conn.now).in_transaction → OnOk result (Puts (table_at (row_key row.now)) row.now (state S.Store tx.old.conn.now) (state S.Store tx.new.conn.now)) }
+    ensures kept { HasCleanDisk (state S.Store tx.new.conn.now) → IsTrue (state S.Store tx.old.conn.now).in_transaction → KeepsCommit (state S.Store tx.old.conn.now) (state S.Store tx.new.conn.now) }
+    ensures survives { Survives (state S.Store tx.old.conn.now) (state S.Store tx.new.conn.now) (λ _. ⊥) }
+{
+    match &row.content {
+        RowContent::Office(row) => put_record(tx, row),
+        RowContent::Observation(row) => put_observation(tx, row),
+        RowContent::Load(row) => put_load(tx, row),
+        RowContent::Second(row) => put_second(tx, row),
+    }
+}
+
+/// Makes a change: a row is put behind a drop of its key.
+fn make<S: Alter>(tx: &mut Transaction<'_, S>, change: &RowChange) -> Result<(), Error>
+    ensures same_reference { tx.new.conn.ghost_name ≡ tx.old.conn.ghost_name }
+    ensures done { HasCleanDisk (state S.Store tx.new.conn.now) → IsTrue (state S.Store tx.old.conn.now).in_transaction → OnOk result (Changes (change.now ∷ []) (state S.Store tx.old.conn.now) (state S.Store tx.new.conn.now)) }
+    ensures kept { HasCleanDisk (state S.Store tx.new.conn.now) → IsTrue (state S.Store tx.old.conn.now).in_transaction → KeepsCommit (state S.Store tx.old.conn.now) (state S.Store tx.new.conn.now) }
+    ensures survives { Survives (state S.Store tx.old.conn.now) (state S.Store tx.new.conn.now) (λ _. ⊥) }
+{
+    match &change.content {
+        ChangeContent::Put(row) => {
+            drop_same(tx, row)?;
+            put_row(tx, row)
+        }
+        ChangeContent::Drop(key) => drop_key(tx, key),
+    }
+}
+
+/// Makes the changes of a batch, one after the other.
+fn make_all<S: Alter>(tx: &mut Transaction<'_, S>, batch: &[RowChange]) -> Result<(), Error>
+    ensures same_reference { tx.new.conn.ghost_name ≡ tx.old.conn.ghost_name }
+    ensures done { HasCleanDisk (state S.Store tx.new.conn.now) → IsTrue (state S.Store tx.old.conn.now).in_transaction → OnOk result (Changes batch.now (state S.Store tx.old.conn.now) (state S.Store tx.new.conn.now)) }
+    ensures kept { HasCleanDisk (state S.Store tx.new.conn.now) → IsTrue (state S.Store tx.old.conn.now).in_transaction → KeepsCommit (state S.Store tx.old.conn.now) (state S.Store tx.new.conn.now) }
+    ensures survives { Survives (state S.Store tx.old.conn.now) (state S.Store tx.new.conn.now) (λ _. ⊥) }
+{
+    for place in 0..batch.len() {
+        make(tx, &batch[place])?;
+    }
+    Ok(())
+}
+
+/// Makes the changes of a batch in one transaction: all of them, or after an error none. A transaction
+/// that is open already is refused. None is left open.
+///
+/// It says what the four tables become if they stand. A crash after it leaves them with the batch, and
+/// one within it, or after an error, also what it could leave before.
+pub fn commit<S: Alter>(conn: &mut Connection<S>, batch: &[RowChange]) -> Result<(), Error>
+    ensures alone { OnOk result ((state S.Store conn.old).in_transaction ≡ false) }
+    ensures done { HasCleanDisk (state S.Store conn.new) → OnOk result (Becomes batch.now (state S.Store conn.old).now (state S.Store conn.new).committed) }
+    ensures opened { HasCleanDisk (state S.Store conn.new) → OnOk result (IsTrue (state S.Store conn.new).is_open) }
+    ensures left { HasCleanDisk (state S.Store conn.new) → OnOk result ((trees : _) → (state S.Store conn.new).may_leave trees → trees ≡ (state S.Store conn.new).committed.trees) }
+    ensures kept { HasCleanDisk (state S.Store conn.new) → IsTrue (state S.Store conn.new).is_open
+        → OnErr result (((state S.Store conn.new).now ≡ (state S.Store conn.old).now) × ((state S.Store conn.new).committed ≡ (state S.Store conn.old).committed)) }
+    ensures crash { Survives (state S.Store conn.old) (state S.Store conn.new) (Leaves batch.now (state S.Store conn.old)) }
+    ensures mode { (state S.Store conn.old).in_transaction ≡ false → (state S.Store conn.new).in_transaction ≡ false }
+    ensures was_open { HasCleanDisk (state S.Store conn.new) → IsTrue (state S.Store conn.new).is_open → IsTrue (state S.Store conn.old).is_open }
+{
+    if !conn.is_autocommit() {
+        return Err(Error::SqliteFailure(ErrorCode::TransactionState));
+    }
+    let mut tx = conn.transaction();
+    make_all(&mut tx, batch)?;
+    tx.commit()?;
+    Ok(())
+}

@@ -1,0 +1,181 @@
+//! Which of the tables are missing.
+ghost use Rattle.std.specs.Prelude.{◌≡◌, ◌&&◌, ◌||◌, true, false, is_some, IsTrue, IfOk, OnOk};
+ghost use Rattle.std.specs.List.{list_any};
+ghost use Rattle.aq_tables.specs.Forms.{column_in, column_of, loads_form, observations_form, records_form, second_form};
+ghost use Rattle.aq_tables.specs.Made.{AreMissing, IsMissing, has_tables, is_ours};
+
+use crate::forms::{ColumnForm, TableForm, is_missing};
+use sqlite::{Error, ErrorCode};
+use sqlite_schema::schema::{Kind, Schema, View};
+
+/// The tables that are missing.
+#[derive(Clone, Copy)]
+pub(crate) struct Missing {
+    pub(crate) records: bool,
+    pub(crate) observations: bool,
+    pub(crate) loads: bool,
+    pub(crate) second: bool,
+}
+
+/// A column that is NOT NULL.
+fn required(name: &'static str, kind: Kind) -> ColumnForm<'static>
+    ensures { column_in result ≡ column_of name.now kind true }
+{
+    ColumnForm {
+        name,
+        kind,
+        not_null: true,
+    }
+}
+
+/// A column that may be NULL.
+fn optional(name: &'static str, kind: Kind) -> ColumnForm<'static>
+    ensures { column_in result ≡ column_of name.now kind false }
+{
+    ColumnForm {
+        name,
+        kind,
+        not_null: false,
+    }
+}
+
+fn are_records_missing(schema: &Schema) -> Result<bool, Error>
+    ensures { IfOk result (λ missing. IsMissing missing schema.now records_form) }
+{
+    let columns = [
+        required("kind", Kind::Integer),
+        required("rowkey", Kind::Text),
+        required("line", Kind::Text),
+    ];
+    let form = TableForm {
+        name: "records",
+        columns: &columns,
+        key: None,
+        primary: &[1, 2],
+    };
+    is_missing(schema, &form)
+}
+
+fn are_observations_missing(schema: &Schema) -> Result<bool, Error>
+    ensures { IfOk result (λ missing. IsMissing missing schema.now observations_form) }
+{
+    let columns = [
+        required("site", Kind::Integer),
+        required("pollutant", Kind::Integer),
+        required("poc", Kind::Integer),
+        required("hour", Kind::Integer),
+        optional("value", Kind::Integer),
+        required("nullcode", Kind::Text),
+        required("quals", Kind::Text),
+    ];
+    let form = TableForm {
+        name: "observations",
+        columns: &columns,
+        key: None,
+        primary: &[1, 2, 3, 4],
+    };
+    is_missing(schema, &form)
+}
+
+fn are_loads_missing(schema: &Schema) -> Result<bool, Error>
+    ensures { IfOk result (λ missing. IsMissing missing schema.now loads_form) }
+{
+    let columns = [
+        optional("number", Kind::Integer),
+        required("digest", Kind::Blob),
+        required("lines", Kind::Integer),
+        required("accepted", Kind::Integer),
+        required("listed", Kind::Text),
+        required("rest", Kind::Text),
+    ];
+    let form = TableForm {
+        name: "loads",
+        columns: &columns,
+        key: Some(0),
+        primary: &[0],
+    };
+    is_missing(schema, &form)
+}
+
+fn are_second_missing(schema: &Schema) -> Result<bool, Error>
+    ensures { IfOk result (λ missing. IsMissing missing schema.now second_form) }
+{
+    let columns = [
+        required("site", Kind::Integer),
+        required("pollutant", Kind::Integer),
+        required("poc", Kind::Integer),
+        required("hour", Kind::Integer),
+        optional("value", Kind::Integer),
+        optional("method", Kind::Integer),
+        required("nullcode", Kind::Text),
+        required("quals", Kind::Text),
+    ];
+    let form = TableForm {
+        name: "observations2",
+        columns: &columns,
+        key: None,
+        primary: &[1, 2, 3, 4],
+    };
+    is_missing(schema, &form)
+}
+
+/// Whether one of these is a table that is kept aside, or belongs to one.
+fn is_any_aside(views: &[View]) -> bool
+    ensures { result ≡ list_any (λ v. is_some v.foreign) views.now }
+{
+    views.iter().any(|v| v.foreign.is_some())
+}
+
+fn has_tables(schema: &Schema) -> bool
+    ensures { result ≡ has_tables schema.now }
+{
+    schema.tables.len() != 0 || is_any_aside(schema.views.as_slice())
+}
+
+impl Missing {
+    ghost use Rattle.std.specs.Prelude.{◌≡◌, ◌&&◌, ◌||◌};
+
+    fn are_all(&self) -> bool
+        ensures { result ≡ (self.now.records && self.now.observations && self.now.loads && self.now.second) }
+    {
+        self.records && self.observations && self.loads && self.second
+    }
+
+    pub(crate) fn is_any(&self) -> bool
+        ensures { result ≡ (self.now.records || self.now.observations || self.now.loads || self.now.second) }
+    {
+        self.records || self.observations || self.loads || self.second
+    }
+}
+
+fn each_missing(schema: &Schema) -> Result<Missing, Error>
+    ensures { IfOk result (λ missing. AreMissing missing schema.now) }
+{
+    Ok(Missing {
+        records: are_records_missing(schema)?,
+        observations: are_observations_missing(schema)?,
+        loads: are_loads_missing(schema)?,
+        second: are_second_missing(schema)?,
+    })
+}
+
+/// Whether one of the tables stands, or there is no table at all.
+fn are_ours(missing: &Missing, schema: &Schema) -> bool
+    ensures { AreMissing missing.now schema.now → result ≡ is_ours schema.now }
+{
+    !(missing.are_all() && has_tables(schema))
+}
+
+/// The tables of ours that are missing. It is refused if one that stands has another form, and if the
+/// database has tables but none of ours.
+pub(crate) fn missing_of(schema: &Schema) -> Result<Missing, Error>
+    ensures missing { IfOk result (λ missing. AreMissing missing schema.now) }
+    ensures ours { OnOk result (IsTrue (is_ours schema.now)) }
+{
+    let missing = each_missing(schema)?;
+    if are_ours(&missing, schema) {
+        Ok(missing)
+    } else {
+        Err(Error::SqliteFailure(ErrorCode::NotADatabase))
+    }
+}

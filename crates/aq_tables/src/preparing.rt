@@ -1,0 +1,138 @@
+//! The tables, looked at, and made if they are missing.
+ghost use Rattle.std.specs.Prelude.{◌≡◌, false, true, IsTrue, IfOk, OnOk};
+ghost use Rattle.sqlite.specs.Effect.{Database};
+ghost use Rattle.sqlite.specs.State.{HasCleanDisk, IsUnchanged, Survives};
+ghost use Rattle.sqlite.specs.Held.{state};
+ghost use Rattle.aq_tables.specs.All.{HasTables, rows_of};
+ghost use Rattle.aq_tables.specs.Forms.{records_form, observations_form, loads_form, second_form};
+ghost use Rattle.aq_tables.specs.Made.{AreMissing, HasForms, Inside, IsMade, MakesIf, IsOffice, MakesMissing, form_of, make_text};
+ghost use Rattle.aq_tables.specs.Rowids.{AreApart};
+
+use crate::missing::{Missing, missing_of};
+use crate::reading::Table;
+use crate::rowids::{are_loads_apart, are_observations_apart, are_records_apart, are_second_apart};
+use sqlite::{Alter, Connection, Error, ErrorCode, Transaction};
+
+const MAKE_RECORDS: &str =
+    "CREATE TABLE records (kind INTEGER NOT NULL, rowkey TEXT NOT NULL, line TEXT NOT NULL, PRIMARY KEY (kind, rowkey)) STRICT";
+
+const MAKE_OBSERVATIONS: &str =
+    "CREATE TABLE observations (site INTEGER NOT NULL, pollutant INTEGER NOT NULL, poc INTEGER NOT NULL, hour INTEGER NOT NULL, value INTEGER, nullcode TEXT NOT NULL, quals TEXT NOT NULL, PRIMARY KEY (site, pollutant, poc, hour)) STRICT";
+
+const MAKE_LOADS: &str =
+    "CREATE TABLE loads (number INTEGER PRIMARY KEY, digest BLOB NOT NULL, lines INTEGER NOT NULL, accepted INTEGER NOT NULL, listed TEXT NOT NULL, rest TEXT NOT NULL) STRICT";
+
+const MAKE_SECOND: &str =
+    "CREATE TABLE observations2 (site INTEGER NOT NULL, pollutant INTEGER NOT NULL, poc INTEGER NOT NULL, hour INTEGER NOT NULL, value INTEGER, method INTEGER, nullcode TEXT NOT NULL, quals TEXT NOT NULL, PRIMARY KEY (site, pollutant, poc, hour)) STRICT";
+
+fn text_of(table: Table) -> &'static str
+    ensures { result.now ≡ make_text table }
+{
+    match table {
+        Table::Records => MAKE_RECORDS,
+        Table::Observations => MAKE_OBSERVATIONS,
+        Table::Loads => MAKE_LOADS,
+        Table::Second => MAKE_SECOND,
+    }
+}
+
+/// Makes a table, if it is missing.
+fn make_if<S: Alter>(
+    tx: &mut Transaction<'_, S>,
+    is_missing: bool,
+    table: Table,
+) -> Result<(), Error>
+    ensures same_reference { tx.new.conn.ghost_name ≡ tx.old.conn.ghost_name }
+    ensures done { HasCleanDisk (state S.Store tx.new.conn.now) → IsTrue (state S.Store tx.old.conn.now).in_transaction → OnOk result (Inside (MakesIf is_missing (form_of table)) (state S.Store tx.old.conn.now) (state S.Store tx.new.conn.now)) }
+    ensures survives { Survives (state S.Store tx.old.conn.now) (state S.Store tx.new.conn.now) (λ _. ⊥) }
+{
+    if !is_missing {
+        return Ok(());
+    }
+    tx.execute(text_of(table), &[])?;
+    Ok(())
+}
+
+/// Makes the missing tables.
+fn make_missing<S: Alter>(tx: &mut Transaction<'_, S>, missing: &Missing) -> Result<(), Error>
+    ensures same_reference { tx.new.conn.ghost_name ≡ tx.old.conn.ghost_name }
+    ensures done { HasCleanDisk (state S.Store tx.new.conn.now) → IsTrue (state S.Store tx.old.conn.now).in_transaction → OnOk result (Inside (MakesMissing missing.now) (state S.Store tx.old.conn.now) (state S.Store tx.new.conn.now)) }
+    ensures survives { Survives (state S.Store tx.old.conn.now) (state S.Store tx.new.conn.now) (λ _. ⊥) }
+{
+    make_if(tx, missing.records, Table::Records)?;
+    make_if(tx, missing.observations, Table::Observations)?;
+    make_if(tx, missing.loads, Table::Loads)?;
+    make_if(tx, missing.second, Table::Second)
+}
+
+/// Commits the missing tables in one transaction. If none is missing it does nothing.
+fn commit_missing<S: Alter>(conn: &mut Connection<S>, missing: &Missing) -> Result<(), Error>
+    requires autocommit { conn.old.in_transaction ≡ false }
+    requires settled { IsTrue (state S.Store conn.old).is_open → (state S.Store conn.old).now ≡ (state S.Store conn.old).committed }
+    requires missing { AreMissing missing.now conn.old.schema }
+    ensures made { HasCleanDisk (state S.Store conn.new) → OnOk result (IsMade (state S.Store conn.old).now (state S.Store conn.new).now) }
+    ensures settled { HasCleanDisk (state S.Store conn.new) → OnOk result (IsTrue (state S.Store conn.new).is_open → (state S.Store conn.new).now ≡ (state S.Store conn.new).committed) }
+    ensures was_open { HasCleanDisk (state S.Store conn.new) → OnOk result (IsTrue (state S.Store conn.new).is_open → IsTrue (state S.Store conn.old).is_open) }
+    ensures crash { Survives (state S.Store conn.old) (state S.Store conn.new) (λ trees. (db : Database) × IsMade (state S.Store conn.old).now db × (trees ≡ db.trees)) }
+{
+    if !missing.is_any() {
+        return Ok(());
+    }
+    let mut tx = conn.transaction();
+    make_missing(&mut tx, missing)?;
+    tx.commit()
+}
+
+/// Whether no two rows of a table have the same rowid.
+fn are_apart<S: Alter>(conn: &mut Connection<S>) -> Result<bool, Error>
+    ensures records { HasCleanDisk (state S.Store conn.new) → IfOk result (λ apart. apart ≡ true → AreApart records_form (state S.Store conn.old).now) }
+    ensures observations { HasCleanDisk (state S.Store conn.new) → IfOk result (λ apart. apart ≡ true → AreApart observations_form (state S.Store conn.old).now) }
+    ensures loads { HasCleanDisk (state S.Store conn.new) → IfOk result (λ apart. apart ≡ true → AreApart loads_form (state S.Store conn.old).now) }
+    ensures second { HasCleanDisk (state S.Store conn.new) → IfOk result (λ apart. apart ≡ true → AreApart second_form (state S.Store conn.old).now) }
+    ensures same { HasCleanDisk (state S.Store conn.new) → OnOk result (IsUnchanged (state S.Store conn.old) (state S.Store conn.new)) }
+    ensures crash { Survives (state S.Store conn.old) (state S.Store conn.new) (λ _. ⊥) }
+{
+    let records = are_records_apart(conn)?;
+    let observations = are_observations_apart(conn)?;
+    let loads = are_loads_apart(conn)?;
+    let second = are_second_apart(conn)?;
+    Ok(records && observations && loads && second)
+}
+
+/// Sees that the rows of tables that stand are ours.
+fn see_rows<S: Alter>(conn: &mut Connection<S>) -> Result<(), Error>
+    ensures tables { HasCleanDisk (state S.Store conn.new) → OnOk result (HasForms conn.old.schema → HasTables (state S.Store conn.old).now) }
+    ensures same { HasCleanDisk (state S.Store conn.new) → OnOk result (IsUnchanged (state S.Store conn.old) (state S.Store conn.new)) }
+    ensures crash { Survives (state S.Store conn.old) (state S.Store conn.new) (λ _. ⊥) }
+{
+    let _ = conn.schema();
+    if are_apart(conn)? {
+        Ok(())
+    } else {
+        Err(Error::SqliteFailure(ErrorCode::DatabaseCorrupt))
+    }
+}
+
+/// Sees that the tables that stand are ours, makes those that are missing in one transaction, and sees
+/// that no two rows of a table have the same rowid. It is refused if a transaction is open, if a table of
+/// one of our names has another form or shares its tree, and if the database has tables but none of ours:
+/// then nothing is made.
+pub fn prepare<S: Alter>(conn: &mut Connection<S>) -> Result<(), Error>
+    ensures alone { OnOk result (conn.old.in_transaction ≡ false) }
+    ensures office { OnOk result (IsOffice conn.old.schema) }
+    ensures other { (IsOffice conn.old.schema → ⊥) → conn.new ≡ conn.old }
+    ensures was_open { OnOk result (IsTrue (state S.Store conn.new).is_open → IsTrue (state S.Store conn.old).is_open) }
+    ensures stand { OnOk result (IsTrue (state S.Store conn.new).is_open → HasTables (state S.Store conn.new).committed) }
+    ensures same { OnOk result (IsTrue (state S.Store conn.new).is_open → rows_of (state S.Store conn.new).committed ≡ rows_of (state S.Store conn.old).committed) }
+    ensures crash { Survives (state S.Store conn.old) (state S.Store conn.new) (λ trees. (db : Database) × IsMade (state S.Store conn.old).now db × (trees ≡ db.trees)) }
+{
+    if !conn.is_autocommit() {
+        return Err(Error::SqliteFailure(ErrorCode::TransactionState));
+    }
+    let missing = missing_of(conn.schema())?;
+    commit_missing(conn, &missing)?;
+    see_rows(conn)
+}
+
+#[cfg(test)]
+mod tests;

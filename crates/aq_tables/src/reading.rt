@@ -1,0 +1,188 @@
+//! The rows that an answer shows.
+ghost use Rattle.std.specs.Prelude.{◌≡◌, false, IfOk, OnOk};
+ghost use Rattle.sqlite.specs.State.{HasCleanDisk, IsUnchanged, KeepsCommit, Survives};
+ghost use Rattle.sqlite.specs.Held.{state};
+ghost use Rattle.sqlite_value.specs.Order.{column, bytes};
+ghost use Rattle.aq_tables.specs.Queries.{IsBareText, Takes, shown_by};
+ghost use Rattle.aq_tables.specs.Texts.{read_text};
+ghost use Rattle.aq_tables.specs.Told.{Reads, load_shown, observation_shown, optional, ours_of, record_shown, second_shown};
+
+use aq_base::Bytes;
+use aq_keeper::{LoadRow, ObsRow, ObsRow2, OfficeRow, Row};
+use sqlite::types::{Type, ValueRef};
+use sqlite::{Alter, Connection, Error, ErrorCode, Row as Columns};
+use std::alloc::Global;
+
+const READ_RECORDS: &str = "SELECT kind, rowkey, line FROM records ORDER BY kind, rowkey";
+
+const READ_OBSERVATIONS: &str =
+    "SELECT site, pollutant, poc, hour, value, nullcode, quals FROM observations ORDER BY site, pollutant, poc, hour";
+
+const READ_LOADS: &str =
+    "SELECT number, digest, lines, accepted, listed, rest FROM loads ORDER BY number";
+
+const READ_SECOND: &str =
+    "SELECT site, pollutant, poc, hour, value, method, nullcode, quals FROM observations2 ORDER BY site, pollutant, poc, hour";
+
+/// A table of the four.
+#[derive(Clone, Copy)]
+pub(crate) enum Table {
+    Records,
+    Observations,
+    Loads,
+    Second,
+}
+
+/// All rows in the order of their keys, as a query.
+fn query_of(table: Table) -> &'static str
+    ensures { result.now ≡ read_text table }
+{
+    match table {
+        Table::Records => READ_RECORDS,
+        Table::Observations => READ_OBSERVATIONS,
+        Table::Loads => READ_LOADS,
+        Table::Second => READ_SECOND,
+    }
+}
+
+/// The bytes of a text.
+fn text_at(columns: &Columns, at: usize, alloc: Global) -> Result<Bytes, Error>
+    ensures { IfOk result (λ found. found ≡ bytes (column columns.now at)) }
+{
+    let value = columns.get_ref(at)?;
+    match value {
+        ValueRef::Text(text) => Ok(Bytes::from_vec(Vec::from_slice(alloc, text)?)),
+        _ => Err(Error::InvalidColumnType(at, Type::of(value))),
+    }
+}
+
+/// The bytes of a blob.
+fn blob_at(columns: &Columns, at: usize, alloc: Global) -> Result<Bytes, Error>
+    ensures { IfOk result (λ found. found ≡ bytes (column columns.now at)) }
+{
+    let value = columns.get_ref(at)?;
+    match value {
+        ValueRef::Blob(blob) => Ok(Bytes::from_vec(Vec::from_slice(alloc, blob)?)),
+        _ => Err(Error::InvalidColumnType(at, Type::of(value))),
+    }
+}
+
+/// The number of a column that may have none.
+fn optional_at(columns: &Columns, at: usize) -> Result<Option<i64>, Error>
+    ensures { IfOk result (λ found. found ≡ optional (column columns.now at)) }
+{
+    let value = columns.get_ref(at)?;
+    match value {
+        ValueRef::Null => Ok(None),
+        ValueRef::Int(number) => Ok(Some(number)),
+        _ => Err(Error::InvalidColumnType(at, Type::of(value))),
+    }
+}
+
+/// The record that the columns of an answer show.
+fn record_in(columns: &Columns, alloc: Global) -> Result<Row, Error>
+    ensures { IfOk result (λ row. row ≡ record_shown columns.now) }
+{
+    Ok(Row::office(OfficeRow {
+        kind: columns.get(0)?,
+        key: text_at(columns, 1, alloc)?,
+        line: text_at(columns, 2, alloc)?,
+    }))
+}
+
+/// The load that the columns of an answer show.
+fn load_in(columns: &Columns, alloc: Global) -> Result<Row, Error>
+    ensures { IfOk result (λ row. row ≡ load_shown columns.now) }
+{
+    Ok(Row::load(LoadRow {
+        number: columns.get(0)?,
+        digest: blob_at(columns, 1, alloc)?,
+        lines: columns.get(2)?,
+        accepted: columns.get(3)?,
+        listed: text_at(columns, 4, alloc)?,
+        rest: text_at(columns, 5, alloc)?,
+    }))
+}
+
+/// The observation of version 1 that the columns of an answer show.
+fn observation_in(columns: &Columns, alloc: Global) -> Result<Row, Error>
+    ensures { IfOk result (λ row. row ≡ observation_shown columns.now) }
+{
+    Ok(Row::observation(ObsRow {
+        site: columns.get(0)?,
+        pollutant: columns.get(1)?,
+        poc: columns.get(2)?,
+        hour: columns.get(3)?,
+        value: optional_at(columns, 4)?,
+        null: text_at(columns, 5, alloc)?,
+        quals: text_at(columns, 6, alloc)?,
+    }))
+}
+
+/// The observation that the columns of an answer show.
+fn second_in(columns: &Columns, alloc: Global) -> Result<Row, Error>
+    ensures { IfOk result (λ row. row ≡ second_shown columns.now) }
+{
+    Ok(Row::second(ObsRow2 {
+        site: columns.get(0)?,
+        pollutant: columns.get(1)?,
+        poc: columns.get(2)?,
+        hour: columns.get(3)?,
+        value: optional_at(columns, 4)?,
+        method: optional_at(columns, 5)?,
+        null: text_at(columns, 6, alloc)?,
+        quals: text_at(columns, 7, alloc)?,
+    }))
+}
+
+fn row_in(table: Table, columns: &Columns, alloc: Global) -> Result<Row, Error>
+    ensures { IfOk result (λ row. row ≡ shown_by table columns.now) }
+{
+    match table {
+        Table::Records => record_in(columns, alloc),
+        Table::Observations => observation_in(columns, alloc),
+        Table::Loads => load_in(columns, alloc),
+        Table::Second => second_in(columns, alloc),
+    }
+}
+
+/// Takes the answer to a query of a table to its end.
+fn take_all<S: Alter>(
+    conn: &mut Connection<S>,
+    text: &str,
+    table: Table,
+    alloc: Global,
+    found: &mut Vec<Row>,
+) -> Result<(), Error>
+    requires { IsBareText text.now }
+    ensures rows { HasCleanDisk (state S.Store conn.new) → OnOk result (Takes (shown_by table) text.now (state S.Store conn.old).now found.old.items found.new.items) }
+    ensures same { HasCleanDisk (state S.Store conn.new) → OnOk result (IsUnchanged (state S.Store conn.old) (state S.Store conn.new)) }
+    ensures kept { HasCleanDisk (state S.Store conn.new) → KeepsCommit (state S.Store conn.old) (state S.Store conn.new) }
+    ensures mode { (state S.Store conn.old).in_transaction ≡ false → (state S.Store conn.new).in_transaction ≡ false }
+    ensures crash { Survives (state S.Store conn.old) (state S.Store conn.new) (λ _. ⊥) }
+{
+    let mut rows = conn.query(text, &[])?;
+    'rows: for _ in 0..u64::MAX {
+        let Some(row) = rows.next()? else {
+            return Ok(());
+        };
+        found.push(row_in(table, row, alloc)?)?;
+    }
+    Err(Error::SqliteFailure(ErrorCode::TooBig))
+}
+
+/// Reads all rows of a table, in the order of their keys, after those that are there.
+pub(crate) fn read_table<S: Alter>(
+    conn: &mut Connection<S>,
+    table: Table,
+    alloc: Global,
+    found: &mut Vec<Row>,
+) -> Result<(), Error>
+    ensures rows { HasCleanDisk (state S.Store conn.new) → OnOk result (Reads (ours_of table) (state S.Store conn.old).now found.old.items found.new.items) }
+    ensures same { HasCleanDisk (state S.Store conn.new) → OnOk result (IsUnchanged (state S.Store conn.old) (state S.Store conn.new)) }
+    ensures kept { HasCleanDisk (state S.Store conn.new) → KeepsCommit (state S.Store conn.old) (state S.Store conn.new) }
+    ensures mode { (state S.Store conn.old).in_transaction ≡ false → (state S.Store conn.new).in_transaction ≡ false }
+    ensures crash { Survives (state S.Store conn.old) (state S.Store conn.new) (λ _. ⊥) }
+{
+    take_all(conn, query_of(table), table, alloc, found)
+}
