@@ -1,11 +1,10 @@
 //! Rows kept in a file.
-use crate::statements::{MAKE_LOADS, MAKE_OBSERVATIONS, MAKE_RECORDS};
 use crate::*;
 use aq_base::Bytes;
 use aq_keeper::{
     Keeper, KeeperFault, LoadRow, ObsRow, ObsRow2, OfficeRow, Row, RowChange, RowKey, do_keys_rise,
 };
-use sqlite::Connection;
+use sqlite::{Connection, MemStore};
 use std::alloc::Global;
 use std::fs;
 use std::process::Abort;
@@ -227,14 +226,35 @@ fn at<'a>(rt: &'a HostRuntime, path: &str) -> Result<FileKeeper<'a>, Fail> {
     Ok(FileKeeper::at_path(rt, String::from_str(rt.alloc(), path)?))
 }
 
+/// The tables of version 1.
+const VERSION_1: &str =
+    "CREATE TABLE IF NOT EXISTS records (kind INTEGER NOT NULL, rowkey TEXT NOT NULL, line TEXT NOT NULL, PRIMARY KEY (kind, rowkey)) STRICT; CREATE TABLE IF NOT EXISTS observations (site INTEGER NOT NULL, pollutant INTEGER NOT NULL, poc INTEGER NOT NULL, hour INTEGER NOT NULL, value INTEGER, nullcode TEXT NOT NULL, quals TEXT NOT NULL, PRIMARY KEY (site, pollutant, poc, hour)) STRICT; CREATE TABLE IF NOT EXISTS loads (number INTEGER PRIMARY KEY, digest BLOB NOT NULL, lines INTEGER NOT NULL, accepted INTEGER NOT NULL, listed TEXT NOT NULL, rest TEXT NOT NULL) STRICT";
+
 /// Makes a file of version 1, which has three tables.
 fn make_version_1(rt: &HostRuntime, path: &str) -> Result<(), Fail> {
     let mut connection = Connection::open(rt, path)?;
-    for statement in [MAKE_RECORDS, MAKE_OBSERVATIONS, MAKE_LOADS] {
-        connection.execute(statement, &[])?;
-    }
+    connection.execute_batch(VERSION_1)?;
     connection.close()?;
     Ok(())
+}
+
+/// The keeper of a database in memory in which these statements were run.
+fn over(alloc: Global, sql: &str) -> Result<SqliteKeeper<MemStore>, Fail> {
+    let mut connection = Connection::open_in_memory(alloc)?;
+    connection.execute_batch(sql)?;
+    if !connection.is_autocommit() {
+        Err("a transaction is open")?;
+    }
+    Ok(SqliteKeeper::adopt(connection))
+}
+
+#[test]
+fn a_database_in_memory_is_prepared_twice_and_kept(rt: HostRuntime) -> Result<(), Fail> {
+    let alloc = rt.alloc();
+    let mut keeper = over(alloc, VERSION_1)?;
+    assert!(rt; keeper.prepare().is_ok());
+    assert!(rt; keeper.prepare().is_ok());
+    keep(&rt, alloc, &mut keeper)
 }
 
 #[test]
