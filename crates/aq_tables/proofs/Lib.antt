@@ -29,3 +29,5 @@ pub mod Fitting
 pub mod AllMade
 pub mod MakeTexts
 pub mod Prepared
+pub mod SixteenPut
+pub mod SixteenRefused

@@ -1,5 +1,5 @@
 -- A statement on one of the four tables: the others stay, and so all four tell the rows with its change.
-use Rattle.std.proofs.Common.{◌≡◌, ◌≢◌, ◌==◌, eqb, ℕ, false, List, [], ◌∷◌, ◌++◌, length, map, Option, Some, None, find, refl, sym, ap, subst, ◌∙◌, slice_get, true}
+use Rattle.std.proofs.Common.{◌≡◌, ◌≢◌, ◌==◌, eqb, ℕ, false, List, [], ◌∷◌, ◌++◌, length, map, Option, Some, None, find, refl, sym, ap, subst, ◌∙◌, true}
 use Rattle.std.proofs.lemmas.Bool.{false≢true, eq-eqb}
 use Rattle.std.specs.Option.{option_map_or}
 use Rattle.std.specs.List.{AllByRecursion}
@@ -10,9 +10,9 @@ use Rattle.sqlite_trees.specs.Tree.{IsAscending}
 use Rattle.sqlite_keyed.proofs.ListLemmas.{ascending-map}
 use Rattle.aq_keeper.specs.Rising.{AreBefore}
 use Rattle.aq_rules.specs.Kept.Rows as the_rows
-use Rattle.aq_rules.specs.Kept.RowChanges.{RowKey, OfficeRowKey, ObsRowKey, LoadRowKey, SecondRowKey, row_key, key_before, put_row, drop_row}
+use Rattle.aq_rules.specs.Kept.RowChanges.{RowKey, OfficeRowKey, ObsRowKey, LoadRowKey, SecondRowKey, row_key, key_before}
 use Rattle.aq_tables.specs.Standing.{Ours, Stands, IsStored, HasTable, HaveOtherKeys}
-use Rattle.aq_tables.specs.Told.{in_order, told, Turns, Reads, records, observations, loads, second}
+use Rattle.aq_tables.specs.Told.{told, Turns, Reads, records, observations, loads, second}
 use Rattle.aq_tables.specs.All.{HasOurs, HasTables, tree_named, rows_in, rows_of}
 use Rattle.aq_tables.specs.Batch.{table_at, Turned}
 use Rattle.aq_tables.proofs.InOrder.{Before, all-in_order, rises}
@@ -39,7 +39,7 @@ all_told P ours db h = go (tree_named db.schema ours.form.name)
     go None = tt
     go (Some tree) = all-in_order P (map ours.says (db.trees tree)) (all-map P ours.says h (db.trees tree))
 
-before : (key : RowKey) (ours : Ours) (db : Database) → ((r : Row) → key_before (row_key (ours.says r)) key ≡ true) → AreBefore key (rows_in ours db)
+pub before : (key : RowKey) (ours : Ours) (db : Database) → ((r : Row) → key_before (row_key (ours.says r)) key ≡ true) → AreBefore key (rows_in ours db)
 before key = all_told (λ row. key_before (row_key row) key ≡ true)
 
 behind : (key : RowKey) (ours : Ours) (db : Database) → ((r : Row) → key_before key (row_key (ours.says r)) ≡ true) → AreBehind key (rows_in ours db)
@@ -77,6 +77,19 @@ module _ (change : List the_rows.Row → List the_rows.Row) (old new : Database)
 
   own_rows : (ours : Ours) (has : HasOurs ours old) → Turns ours change old new has.at has.tree → rows_in ours new ≡ change (rows_in ours old)
   own_rows ours has t = rows_in-is ours new has.at has.tree t.has ∙ t.told_is ∙ ap change (sym (rows_in-is ours old has.at has.tree has.has))
+
+  -- a change of the last table alone
+  pub last_turned : change (rows_of old) ≡ rows_in records old ++ rows_in observations old ++ rows_in loads old ++ change (rows_in second old) → (has : HasTables old) → Turns second change old new has.of_second.at has.of_second.tree → Turned change old new
+  last_turned is has t =
+      let mine = has.of_second in
+      let a = stays second records mine has.of_records refl t in
+      let b = stays second observations mine has.of_observations refl t in
+      let c = stays second loads mine has.of_loads refl t in
+      record {
+        tables = record { of_records = a.has; of_observations = b.has; of_loads = c.has; of_second = record { at = mine.at; tree = mine.tree; has = t.has } };
+        told_is = (λ i. a.rows i ++ b.rows i ++ c.rows i ++ own_rows second mine t i) ∙ sym is;
+        sound = λ _. t.sound;
+      }
 
   pub turned : (key : RowKey) → IsAt key change → ((at tree : ℕ) → HasTable (table_at key) old at tree → Turns (table_at key) change old new at tree) → HasTables old → Turned change old new
   turned (OfficeRowKey kind text) is turns has =
@@ -120,17 +133,7 @@ module _ (change : List the_rows.Row → List the_rows.Row) (old new : Database)
       }
   turned (SecondRowKey site pollutant poc hour) is turns has =
       let key = SecondRowKey site pollutant poc hour in
-      let mine = has.of_second in
-      let t = turns mine.at mine.tree mine.has in
-      let a = stays second records mine has.of_records refl t in
-      let b = stays second observations mine has.of_observations refl t in
-      let c = stays second loads mine has.of_loads refl t in
-      record {
-        tables = record { of_records = a.has; of_observations = b.has; of_loads = c.has; of_second = record { at = mine.at; tree = mine.tree; has = t.has } };
-        told_is = (λ i. a.rows i ++ b.rows i ++ c.rows i ++ own_rows second mine t i)
-            ∙ sym (at_last key change is _ _ _ _ (before key records old (λ r. refl)) (before key observations old (λ r. refl)) (before key loads old (λ r. refl)));
-        sound = λ _. t.sound;
-      }
+      last_turned (at_last key change is _ _ _ _ (before key records old (λ r. refl)) (before key observations old (λ r. refl)) (before key loads old (λ r. refl))) has (turns has.of_second.at has.of_second.tree has.of_second.has)
 
 -- the tables, read one after the other
 pub read_in_turn : (db : Database) → HasTables db → (a b c d : List the_rows.Row) → Reads records db [] a → Reads observations db a b → Reads loads db b c → Reads second db c d → d ≡ rows_of db

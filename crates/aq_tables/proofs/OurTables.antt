@@ -17,7 +17,7 @@ use Rattle.aq_tables.specs.All.{HasOurs, HasTables}
 use Rattle.aq_tables.specs.Forms.{records_form, observations_form, loads_form, second_form}
 use Rattle.aq_tables.specs.Made.{HasForm, HasForms}
 use Rattle.aq_tables.specs.Rowids.{AreApart}
-use Rattle.aq_tables.specs.Standing.{HaveOtherRowids, HaveOtherKeys}
+use Rattle.aq_tables.specs.Standing.{Stands, HasTable, HaveOtherRowids, HaveOtherKeys}
 use Rattle.aq_tables.specs.Told.{records, observations, loads, second, record_stored}
 use Rattle.aq_tables.proofs.Cells.{two_kept, four_kept, same-texts}
 use Rattle.aq_tables.proofs.Storing.{int_cell, optional_cell, text_cell, blob_cell, int_is, IsKnown, keyed, keyed_by_rowid, has_table}
@@ -67,15 +67,15 @@ has_observations db sound h apart = record {
       (four_agree (id_in (column a 1)) (id_in (column a 2)) (id_in (column a 3)) (id_in (column a 4)) (id_in (column b 1)) (id_in (column b 2)) (id_in (column b 3)) (id_in (column b 4)))));
 }
 
+pub second_stands : (db : Database) → IsDatabase db → AreApart second_form db → (at tree : ℕ) → Stands db.schema second_form at tree → HasTable second db at tree
+second_stands db sound apart at tree stands =
+    has_table second db sound at tree stands apart (int_cell, (int_cell, (int_cell, (int_cell, (optional_cell, (optional_cell, (text_cell, (text_cell, tt)))))))) (refl, refl) (λ r. refl)
+    (keyed second db sound at tree stands apart places refl refl
+    (λ a b p q. subst₂ (λ x y. agree plain places x places y ≡ is_same_row_key (row_key (second.says x)) (row_key (second.says y))) (sym p) (sym q)
+    (four_agree (id_in (column a 1)) (id_in (column a 2)) (id_in (column a 3)) (id_in (column a 4)) (id_in (column b 1)) (id_in (column b 2)) (id_in (column b 3)) (id_in (column b 4)))))
+
 has_second : (db : Database) → IsDatabase db → HasForm db.schema second_form → AreApart second_form db → HasOurs second db
-has_second db sound h apart = record {
-  at = h.at;
-  tree = h.tree;
-  has = has_table second db sound h.at h.tree h.stands apart (int_cell, (int_cell, (int_cell, (int_cell, (optional_cell, (optional_cell, (text_cell, (text_cell, tt)))))))) (refl, refl) (λ r. refl)
-      (keyed second db sound h.at h.tree h.stands apart places refl refl
-      (λ a b p q. subst₂ (λ x y. agree plain places x places y ≡ is_same_row_key (row_key (second.says x)) (row_key (second.says y))) (sym p) (sym q)
-      (four_agree (id_in (column a 1)) (id_in (column a 2)) (id_in (column a 3)) (id_in (column a 4)) (id_in (column b 1)) (id_in (column b 2)) (id_in (column b 3)) (id_in (column b 4)))));
-}
+has_second db sound h apart = record { at = h.at; tree = h.tree; has = second_stands db sound apart h.at h.tree h.stands }
 
 -- ---- loads
 

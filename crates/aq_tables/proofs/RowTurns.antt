@@ -15,14 +15,14 @@ use Rattle.sqlite_value.specs.Order.{value_cmp, column, bytes}
 use Rattle.sqlite_value.proofs.OrderLemmas.{value_cmp-Int, value_cmp-Text, then-Equal}
 use Rattle.sqlite_rules.specs.Edit.{id_in, next_rowid}
 use Rattle.aq_rules.specs.Kept.Rows as the_rows
-use Rattle.aq_rules.specs.Kept.Rows.{OfOfficeRow, OfObsRow, OfLoadRow, OfSecondRow}
+use Rattle.aq_rules.specs.Kept.Rows.{ObsRow2, OfOfficeRow, OfObsRow, OfLoadRow, OfSecondRow}
 use Rattle.aq_rules.specs.Kept.RowChanges.{RowKey, OfficeRowKey, ObsRowKey, LoadRowKey, SecondRowKey, row_key, is_same_row_key, put_row, drop_row}
 use Rattle.aq_tables.specs.declared.reading.Table.{Table}
 use Rattle.aq_tables.specs.declared.reading.Table.TheVariants.{Records, Observations, Loads, Second}
 use Rattle.aq_tables.specs.Forms.{table_of}
 use Rattle.aq_tables.specs.Standing.{HasTable}
 use Rattle.aq_tables.specs.Texts.{read_text, drop_text, put_text}
-use Rattle.aq_tables.specs.Told.{ours_of, which_of, key_values, row_values, records, observations, loads, second, record_values, observation_values, load_values, second_values, load_stored, told, HaveNot, Turns, Runs, Drops, Puts}
+use Rattle.aq_tables.specs.Told.{ours_of, which_of, key_values, row_values, records, observations, loads, second, record_values, observation_values, load_values, second_values, second_said, second_stored, load_stored, told, HaveNot, Turns, Runs, Drops, Puts}
 use Rattle.aq_tables.specs.Queries.{Shows, shown_by}
 use Rattle.aq_tables.proofs.Cells.{one_kept, two_kept, four_kept, same-texts, cmp-texts, cast_int, cast_null, cast_cell, optional_cell}
 use Rattle.aq_tables.proofs.InOrder.{order}
@@ -93,15 +93,18 @@ row_reads t db at tree has shown h =
 -- ---- a row is put as it is, since a cast keeps it
 
 -- what an INSERT puts, but for a rowid that it chooses
-abbrev source : the_rows.Row → Row
+abbrev pub source : the_rows.Row → Row
 source (OfLoadRow row) = load_stored row
 source row = Null ∷ row_values row
 
-stays : (row : the_rows.Row) (tree : ℕ) → cast_row (table_of (form_of (which_of (row_key row))) tree) (source row) ≡ source row
+pub stays : (row : the_rows.Row) (tree : ℕ) → cast_row (table_of (form_of (which_of (row_key row))) tree) (source row) ≡ source row
 stays (OfOfficeRow row) tree = rw (cast_null, cast_int row.kind)
 stays (OfObsRow row) tree = rw (cast_null, cast_int row.site, cast_int row.pollutant, cast_int row.poc, cast_int row.hour, cast_cell row.value)
 stays (OfLoadRow row) tree = rw (cast_int row.number, cast_null, cast_int row.lines, cast_int row.accepted)
 stays (OfSecondRow row) tree = rw (cast_null, cast_int row.site, cast_int row.pollutant, cast_int row.poc, cast_int row.hour, cast_cell row.value, cast_cell row.method)
+
+pub says_second : (id : ℤ) (row : ObsRow2) → second_said (second_stored id row) ≡ OfSecondRow row
+says_second id row = λ i. OfSecondRow (record row { value = optional_cell row.value i; method = optional_cell row.method i })
 
 -- ---- what a statement makes that ran within a transaction
 
@@ -118,8 +121,7 @@ module _ (old new : State) (at tree : ℕ) where
   row_puts (OfLoadRow row) count h has none =
       puts loads old new at tree has (OfLoadRow row) (put_text Loads) (load_values row) (terms_of Loads) 7 (source (OfLoadRow row)) row.number count (puts_mean Loads old.now.schema at tree has.stands) refl (stays (OfLoadRow row) tree) refl refl refl none h
   row_puts (OfSecondRow row) count h has none =
-      puts second old new at tree has (OfSecondRow row) (put_text Second) (second_values row) (terms_of Second) 9 (source (OfSecondRow row)) (next_rowid (old.now.trees tree)) count (puts_mean Second old.now.schema at tree has.stands) refl (stays (OfSecondRow row) tree) refl refl
-      (λ i. OfSecondRow (record row { value = optional_cell row.value i; method = optional_cell row.method i })) none h
+      puts second old new at tree has (OfSecondRow row) (put_text Second) (second_values row) (terms_of Second) 9 (source (OfSecondRow row)) (next_rowid (old.now.trees tree)) count (puts_mean Second old.now.schema at tree has.stands) refl (stays (OfSecondRow row) tree) refl refl (says_second (next_rowid (old.now.trees tree)) row) none h
 
 pub dropped : {X E : Type 0} (key : RowKey) (r : Result X E) (old new : State) → OnOk r (Runs (drop_text (which_of key)) (key_values key) old new) → OnOk r (Drops (ours_of (which_of key)) key old new)
 dropped key (Err e) old new h = tt

@@ -3,7 +3,8 @@ use Rattle.std.proofs.Common.{◌≡◌, ◌≢◌, ◌/◌, ℕ, ℤ, List, [],
 use Rattle.std.specs.List.{list_all, AllByRecursion}
 use Rattle.std.specs.Ordering.{match_ordering}
 use Rattle.std.proofs.lemmas.Bool.{false≢true}
-use Rattle.std.proofs.lemmas.List.Sorted.{IsPermutation-refl, IsPermutation-cons, IsPermutation-trans, IsPermutation-middle, IsPermutation-map}
+use Rattle.std.proofs.lemmas.List.Sorted.{IsPermutation-refl, IsPermutation-sym, IsPermutation-cons, IsPermutation-trans, IsPermutation-middle, IsPermutation-map, All-permutation}
+use Rattle.std.proofs.lemmas.List.Elements.{recursion_from_All, All-from_recursion}
 use Rattle.sqlite.specs.declared.types.Value.TheVariants.{Int}
 use Rattle.sqlite.specs.Order.{Row}
 use Rattle.sqlite.specs.Table.{Table}
@@ -28,12 +29,12 @@ use Rattle.sqlite_trees.specs.Tree.{IsAscending}
 use Rattle.sqlite_trees.specs.View.{is_int}
 use Rattle.sqlite_trees.proofs.TreeLemmas.{all-put_row}
 use Rattle.sqlite_schema.specs.declared.schema.Keys.TheVariants.{Enforced}
-use Rattle.sqlite_rules.specs.Edit.{Edit, edit_of, id_in, is_taken, are_fresh, with_rowid, numbered, without_all}
+use Rattle.sqlite_rules.specs.Edit.{Edit, edit_of, id_in, is_taken, are_fresh, with_rowid, numbered, put_all}
 use Rattle.sqlite_rules.specs.Action as action
 use Rattle.sqlite_sql.proofs.QueryLemmas.{output_cmp_total}
 use Rattle.sqlite_keyed.specs.Lists.{insert_sorted, sort_by}
 use Rattle.sqlite_keyed.proofs.SortLemmas.{sorted_is-sort_by, sort_by-map}
-use Rattle.sqlite_keyed.proofs.ListLemmas.{map-map, filter-map, all_weaker, all_both, all-filter, ascending-map, ascending-filter}
+use Rattle.sqlite_keyed.proofs.ListLemmas.{along_permutation, all_unmap, map-map, filter-map, all_weaker, all_both, all-filter, ascending-map, ascending-filter}
 use Rattle.aq_keeper.proofs.KeyOrder.{before_key, same_key}
 use Rattle.aq_rules.specs.Kept.Rows as the_rows
 use Rattle.aq_rules.specs.Kept.RowChanges.{RowKey, row_key, is_same_row_key, put_row, drop_row}
@@ -49,17 +50,7 @@ use Rattle.aq_tables.proofs.Taking.{other_rowids, taken}
 
 -- ---- a row put into a tree
 
--- two of any rows are in a relation that goes both ways
-pairs-put : (R : Row → Row → Type 0) → ((a b : Row) → R a b → R b a) → (new : Row) (rows : List Row) → AllByRecursion (R new) rows → IsAscending R rows → IsAscending R (put_stored new rows)
-pairs-put R turn new [] all up = (tt, tt)
-pairs-put R turn new (r ∷ rows) all up =
-    elim (value_cmp (rowid r) (rowid new)) as (λ o. IsAscending R (match_ordering o (r ∷ put_stored new rows) (new ∷ rows) (new ∷ r ∷ rows))) [
-      | Less ↦ (all-put_row (R r) new rows (turn new r all.0) up.0, pairs-put R turn new rows all.1 up.1)
-      | Equal ↦ (all.1, up.1)
-      | Greater ↦ (all, up)
-    ]
-
-other_ids : (new : Row) (rows : List Row) → is_taken rows new ≡ false → AllByRecursion (HaveOtherRowids new) rows
+pub other_ids : (new : Row) (rows : List Row) → is_taken rows new ≡ false → AllByRecursion (HaveOtherRowids new) rows
 other_ids new [] free = tt
 other_ids new (r ∷ rows) free = go (is_eq (value_cmp (rowid r) (rowid new))) refl free (other_ids new rows)
   where
@@ -67,7 +58,7 @@ other_ids new (r ∷ rows) free = go (is_eq (value_cmp (rowid r) (rowid new))) r
     go true is h more = absurd (false≢true (sym h))
     go false is h more = (other_rowids r new is, more h)
 
-tree-permutes : (new : Row) (rows : List Row) → AllByRecursion (HaveOtherRowids new) rows → IsPermutation (put_stored new rows) (new ∷ rows)
+pub tree-permutes : (new : Row) (rows : List Row) → AllByRecursion (HaveOtherRowids new) rows → IsPermutation (put_stored new rows) (new ∷ rows)
 tree-permutes new [] apart = IsPermutation-refl _
 tree-permutes new (r ∷ rows) apart = go (value_cmp (rowid r) (rowid new)) (other_rowids new r apart.0) (tree-permutes new rows apart.1)
   where
@@ -75,6 +66,15 @@ tree-permutes new (r ∷ rows) apart = go (value_cmp (rowid r) (rowid new)) (oth
     go Less h more = IsPermutation-trans _ _ _ (IsPermutation-cons r _ _ more) (IsPermutation-middle (r ∷ []) new rows)
     go Equal h more = absurd (false≢true (sym h))
     go Greater h more = IsPermutation-refl _
+
+-- two of any rows are in a relation that goes both ways, whatever order they come in
+pub pairs-permute : (R : Row → Row → Type 0) → ((a b : Row) → R a b → R b a) → (xs ys : List Row) → IsPermutation xs ys → IsAscending R xs → IsAscending R ys
+pairs-permute R turn xs ys same up = (along_permutation (λ xs ys. IsPermutation xs ys × (IsAscending R xs → IsAscending R ys))
+    (λ xs. (IsPermutation-refl xs, λ up. up))
+    (λ x xs ys h. (IsPermutation-cons x xs ys h.0, λ up. (recursion_from_All (R x) ys (All-permutation (R x) xs ys h.0 (All-from_recursion (R x) xs up.0)), h.1 up.1)))
+    (λ x y xs. (IsPermutation-middle (x ∷ []) y xs, λ up. ((turn x y up.0.0, up.1.0), (up.0.1, up.1.1))))
+    (λ xs ys zs h k. (IsPermutation-trans xs ys zs h.0 k.0, λ up. k.1 (h.1 up)))
+    xs ys same).1 up
 
 fresh_alone : (rows : List Row) (row : Row) → are_fresh rows (row ∷ []) ≡ true → is_taken rows row ≡ false
 fresh_alone rows row fresh = go (is_taken rows row) fresh
@@ -135,6 +135,19 @@ all_pass (r ∷ rows) = ap (λ l. r ∷ l) (all_pass rows)
 abbrev pub IsTyped : Ours → Row → Type 0
 IsTyped ours r = r ≡ ours.stored (id_in (rowid r)) (ours.says r)
 
+pub other_keys : (ours : Ours) (a b : Row) → HaveOtherKeys (ours.says a) (ours.says b) → HaveOtherKeys (ours.says b) (ours.says a)
+other_keys ours a b other = same-flip (row_key (ours.says b)) (row_key (ours.says a)) ∙ other
+
+abbrev pub HaveKeysApart : Ours → List Row → Type 0
+HaveKeysApart ours = IsAscending (λ a b. HaveOtherKeys (ours.says a) (ours.says b))
+
+-- what a tree says with a row of another rowid and another key
+pub told-put : (ours : Ours) (new : Row) (rows : List Row) → AllByRecursion (HaveOtherRowids new) rows → HaveKeysApart ours (new ∷ rows) → told ours (put_stored new rows) ≡ put_row (ours.says new) (told ours rows)
+told-put ours new rows ids keys =
+    let same = tree-permutes new rows ids in
+    in_order_alike (map ours.says (put_stored new rows)) (map ours.says (new ∷ rows))
+    (ascending-map HaveOtherKeys ours.says _ (pairs-permute _ (other_keys ours) _ _ (IsPermutation-sym _ _ same) keys)) (ascending-map HaveOtherKeys ours.says (new ∷ rows) keys) (IsPermutation-map ours.says _ _ same)
+
 module _ (ours : Ours) (old new : State) (at tree : ℕ) (has : HasTable ours old.now at tree) where
   abbrev rows : List Row
   rows = old.now.trees tree
@@ -181,6 +194,36 @@ module _ (ours : Ours) (old new : State) (at tree : ℕ) (has : HasTable ours ol
       (λ place t stands apart alone. ap (λ (db : Database). db.trees t.tree) d.is ∙ others_keep t.tree old.now.schema Enforced alone place t stands refl old.now.trees d.next _ (λ same. apart (sym same)) d.written)
       w.sound
 
+  -- what an INSERT of values leaves, under the rowids that it chooses
+  pub record Inserts (news : List Row) : Type 0 where
+    pub schema : new.now.schema ≡ old.now.schema
+    pub fresh : are_fresh rows news ≡ true
+    pub left : new.now.trees tree ≡ put_all rows news
+    pub others : Others
+    pub sound : IsDatabase new.now
+
+  pub inserts : (text : List ℕ) (params : Row) (terms : List Term) (width : ℕ) (sources : List Row) (count : ℕ)
+      → Means old.now.schema text (Insert at (Values terms width))
+      → value_rows (stamped (table_of ours.form tree) params) width (length terms / width) terms ≡ sources
+      → map (λ (s : Row). cast_row (table_of ours.form tree) s) sources ≡ sources
+      → Executes text params old new (Ok count) → Inserts (numbered Chosen rows sources)
+  inserts text params terms width sources count means shows stays h =
+      let is = has.stands in
+      let table = table_of ours.form tree in
+      let w = runs_as text params old new old.now.schema refl (Insert at (Values terms width)) means.is means.plain count h in
+      let d = inserted_by old new at ours.form tree (Values terms width) _ params count is.has.stands w in
+      let casts : map (λ (s : Row). cast_row table s) d.rows ≡ sources = ap (map (λ (s : Row). cast_row table s)) (d.read.1 ∙ shows) ∙ stays in
+      let edit : edit_of old.now.trees table [] Chosen 0 d.rows ≡ record { table = table; gone = []; news = numbered Chosen rows sources } = ap (λ (l : List Row). record { table = table; gone = []; news = numbered Chosen rows l }) casts in
+      let written = subst (λ (e : Edit). action.Writes old.now.schema Enforced old.now.trees e (Ok d.next)) edit d.written in
+      let own = own_edit tree old.now.schema Enforced is.childless at table is.has.stands refl old.now.trees d.next _ written in
+      record {
+        schema = ap (λ (db : Database). db.schema) d.is;
+        fresh = own.1.fresh;
+        left = ap (λ (db : Database). db.trees tree) d.is ∙ own.2 ∙ own.1.rows;
+        others = λ place t stands apart alone. ap (λ (db : Database). db.trees t.tree) d.is ∙ others_keep t.tree old.now.schema Enforced alone place t stands refl old.now.trees d.next _ (λ same. apart (sym same)) written;
+        sound = w.sound;
+      }
+
   pub puts : (row : the_rows.Row) (text : List ℕ) (params : Row) (terms : List Term) (width : ℕ) (source : Row) (id : ℤ) (count : ℕ)
       → Means old.now.schema text (Insert at (Values terms width))
       → value_rows (stamped (table_of ours.form tree) params) width (length terms / width) terms ≡ source ∷ []
@@ -189,37 +232,25 @@ module _ (ours : Ours) (old new : State) (at tree : ℕ) (has : HasTable ours ol
       → HaveNot (row_key row) (told ours rows)
       → Executes text params old new (Ok count) → Turns ours (put_row row) old.now new.now at tree
   puts row text params terms width source id count means shows stays made keyed says none h =
-      let is = has.stands in
       let stored = has.stored in
-      let table = table_of ours.form tree in
       let x = ours.stored id row in
-      let w = runs_as text params old new old.now.schema refl (Insert at (Values terms width)) means.is means.plain count h in
-      let d = inserted_by old new at ours.form tree (Values terms width) _ params count is.has.stands w in
-      let casts : map (λ (s : Row). cast_row table s) d.rows ≡ source ∷ [] = ap (map (λ (s : Row). cast_row table s)) (d.read.1 ∙ shows) ∙ ap (λ (r : Row). r ∷ []) stays in
-      let news : numbered Chosen (without_all rows []) (map (λ (s : Row). cast_row table s) d.rows) ≡ x ∷ [] = ap (numbered Chosen rows) casts ∙ ap (λ (r : Row). r ∷ []) made in
-      let edit : edit_of old.now.trees table [] Chosen 0 d.rows ≡ record { table = table; gone = []; news = x ∷ [] } = ap (λ l. record { table = table; gone = []; news = l }) news in
-      let written = subst (λ (e : Edit). action.Writes old.now.schema Enforced old.now.trees e (Ok d.next)) edit d.written in
-      let own = own_edit tree old.now.schema Enforced is.childless at table is.has.stands refl old.now.trees d.next _ written in
-      let ids = other_ids x rows (fresh_alone rows x own.1.fresh) in
+      let it = subst (λ (r : Row). Inserts (r ∷ [])) made (inserts text params terms width (source ∷ []) count means shows (ap (λ (r : Row). r ∷ []) stays) h) in
+      let ids = other_ids x rows (fresh_alone rows x it.fresh) in
+      let same = IsPermutation-sym _ _ (tree-permutes x rows ids) in
       let int : is_int (rowid x) ≡ true = ap is_int keyed in
       let typed : IsTyped ours x = ap₂ ours.stored (sym (ap id_in keyed)) (sym says) in
       let free : AllByRecursion (λ r. HaveOtherKeys (ours.says x) (ours.says r)) rows =
-      all_from_map (λ other. HaveOtherKeys (ours.says x) other) ours.says rows
+      all_unmap (λ other. HaveOtherKeys (ours.says x) other) ours.says rows
       (all_weaker _ (HaveOtherKeys (ours.says x)) (λ other apart. ap (λ (s : the_rows.Row). is_same_row_key (row_key s) (row_key other)) says ∙ same-flip (row_key row) (row_key other) ∙ apart) said (have_not (row_key row) said said_apart none)) in
-      let turn = λ (a b : Row) (other : HaveOtherKeys (ours.says a) (ours.says b)). same-flip (row_key (ours.says b)) (row_key (ours.says a)) ∙ other in
-      let keys = pairs-put (λ a b. HaveOtherKeys (ours.says a) (ours.says b)) turn x rows free stored.keys in
-      let alike : IsPermutation (map ours.says (put_stored x rows)) (row ∷ said) = subst (λ s. IsPermutation (map ours.says (put_stored x rows)) (s ∷ said)) says (IsPermutation-map ours.says _ _ (tree-permutes x rows ids)) in
-      let apart : AllByRecursion (HaveOtherKeys row) said = all_weaker _ (HaveOtherKeys row) (λ other apart. same-flip (row_key row) (row_key other) ∙ apart) said (have_not (row_key row) said said_apart none) in
-      turned (put_row row) (put_stored x rows) (ap (λ (db : Database). db.schema) d.is)
-      (ap (λ (db : Database). db.trees tree) d.is ∙ own.2 ∙ own.1.rows)
-      (record { ints = all-put_row _ x rows int stored.ints; apart = pairs-put HaveOtherRowids other_rowids x rows ids stored.apart; typed = all-put_row _ x rows typed stored.typed; keys = keys })
-      (in_order_alike (map ours.says (put_stored x rows)) (row ∷ said) (ascending-map HaveOtherKeys ours.says (put_stored x rows) keys) (apart, said_apart) alike)
-      (λ place t stands apart alone. ap (λ (db : Database). db.trees t.tree) d.is ∙ others_keep t.tree old.now.schema Enforced alone place t stands refl old.now.trees d.next _ (λ same. apart (sym same)) written)
-      w.sound
-    where
-      all_from_map : (P : the_rows.Row → Type 0) (f : Row → the_rows.Row) (xs : List Row) → AllByRecursion P (map f xs) → AllByRecursion (λ r. P (f r)) xs
-      all_from_map P f [] all = tt
-      all_from_map P f (r ∷ xs) all = (all.0, all_from_map P f xs all.1)
+      turned (put_row row) (put_stored x rows) it.schema it.left
+      (record {
+        ints = all-put_row _ x rows int stored.ints;
+        apart = pairs-permute HaveOtherRowids other_rowids (x ∷ rows) (put_stored x rows) same (ids, stored.apart);
+        typed = all-put_row _ x rows typed stored.typed;
+        keys = pairs-permute _ (other_keys ours) (x ∷ rows) (put_stored x rows) same (free, stored.keys);
+      })
+      (told-put ours x rows ids (free, stored.keys) ∙ ap (λ s. put_row s (told ours rows)) says)
+      it.others it.sound
 
 -- what is plain is understood
 code_of : (r : Result Compiled CompileError) → IsPlain r → (c : Compiled) × (r ≡ Ok c)

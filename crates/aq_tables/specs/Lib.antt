@@ -8,3 +8,4 @@ pub mod All
 pub mod Batch
 pub mod Crash
 pub mod Made
+pub mod Sixteen

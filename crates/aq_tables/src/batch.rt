@@ -10,6 +10,7 @@ use crate::loads::{drop_load, put_load};
 use crate::observations::{drop_observation, put_observation};
 use crate::records::{drop_record, put_record};
 use crate::second::{drop_second, put_second};
+use crate::sixteen::put_sixteen;
 use aq_keeper::{ChangeContent, KeyContent, Row, RowChange, RowContent, RowKey};
 use sqlite::{Alter, Connection, Error, ErrorCode, Transaction};
 
@@ -88,15 +89,42 @@ fn make<S: Alter>(tx: &mut Transaction<'_, S>, change: &RowChange) -> Result<(),
     }
 }
 
-/// Makes the changes of a batch, one after the other.
+/// Makes changes one after the other.
+fn make_each<S: Alter>(tx: &mut Transaction<'_, S>, changes: &[RowChange]) -> Result<(), Error>
+    ensures same_reference { tx.new.conn.ghost_name ≡ tx.old.conn.ghost_name }
+    ensures done { HasCleanDisk (state S.Store tx.new.conn.now) → IsTrue (state S.Store tx.old.conn.now).in_transaction → OnOk result (Changes changes.now (state S.Store tx.old.conn.now) (state S.Store tx.new.conn.now)) }
+    ensures kept { HasCleanDisk (state S.Store tx.new.conn.now) → IsTrue (state S.Store tx.old.conn.now).in_transaction → KeepsCommit (state S.Store tx.old.conn.now) (state S.Store tx.new.conn.now) }
+    ensures survives { Survives (state S.Store tx.old.conn.now) (state S.Store tx.new.conn.now) (λ _. ⊥) }
+{
+    for place in 0..changes.len() {
+        make(tx, &changes[place])?;
+    }
+    Ok(())
+}
+
+/// Makes changes: by one INSERT if they put sixteen rows of `observations2` of which no key stands, and else
+/// one after the other.
+fn make_together<S: Alter>(tx: &mut Transaction<'_, S>, changes: &[RowChange]) -> Result<(), Error>
+    ensures same_reference { tx.new.conn.ghost_name ≡ tx.old.conn.ghost_name }
+    ensures done { HasCleanDisk (state S.Store tx.new.conn.now) → IsTrue (state S.Store tx.old.conn.now).in_transaction → OnOk result (Changes changes.now (state S.Store tx.old.conn.now) (state S.Store tx.new.conn.now)) }
+    ensures kept { HasCleanDisk (state S.Store tx.new.conn.now) → IsTrue (state S.Store tx.old.conn.now).in_transaction → KeepsCommit (state S.Store tx.old.conn.now) (state S.Store tx.new.conn.now) }
+    ensures survives { Survives (state S.Store tx.old.conn.now) (state S.Store tx.new.conn.now) (λ _. ⊥) }
+{
+    if put_sixteen(tx, changes)? {
+        return Ok(());
+    }
+    make_each(tx, changes)
+}
+
+/// Makes the changes of a batch, sixteen at a time.
 fn make_all<S: Alter>(tx: &mut Transaction<'_, S>, batch: &[RowChange]) -> Result<(), Error>
     ensures same_reference { tx.new.conn.ghost_name ≡ tx.old.conn.ghost_name }
     ensures done { HasCleanDisk (state S.Store tx.new.conn.now) → IsTrue (state S.Store tx.old.conn.now).in_transaction → OnOk result (Changes batch.now (state S.Store tx.old.conn.now) (state S.Store tx.new.conn.now)) }
     ensures kept { HasCleanDisk (state S.Store tx.new.conn.now) → IsTrue (state S.Store tx.old.conn.now).in_transaction → KeepsCommit (state S.Store tx.old.conn.now) (state S.Store tx.new.conn.now) }
     ensures survives { Survives (state S.Store tx.old.conn.now) (state S.Store tx.new.conn.now) (λ _. ⊥) }
 {
-    for place in 0..batch.len() {
-        make(tx, &batch[place])?;
+    for changes in batch.chunks(16) {
+        make_together(tx, changes)?;
     }
     Ok(())
 }

@@ -14,6 +14,7 @@ mod reading;
 mod records;
 mod rowids;
 mod second;
+mod sixteen;
 
 pub use all::read_all;
 pub use batch::commit;

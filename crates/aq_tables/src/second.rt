@@ -21,7 +21,7 @@ const PUT_SECOND: &str =
     "INSERT INTO observations2 (site, pollutant, poc, hour, value, method, nullcode, quals) VALUES (?1, ?2, ?3, ?4, ?5, ?6, ?7, ?8)";
 
 /// A row as the statement takes it.
-fn row_values(row: &ObsRow2) -> [ValueRef<'_>; 8]
+pub(crate) fn row_values(row: &ObsRow2) -> [ValueRef<'_>; 8]
     ensures { bound result ≡ second_values row.now }
 {
     [

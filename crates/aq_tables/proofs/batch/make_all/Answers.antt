@@ -1,41 +1,48 @@
-use Rattle.std.proofs.Common.{◌≡◌, ◌∷◌, ◌++◌, ◌+◌, [], take, refl, ◌∙◌, arith}
-use Rattle.std.proofs.lemmas.Grind.{common_steps}
+use Rattle.std.proofs.Common.{ℕ, ◌<◌, ◌++◌, [], refl, sym, ap, subst, ◌∙◌, arith, rules, append_assoc, append-nil}
+use Rattle.std.proofs.lemmas.List.{nil_from_length}
 use Rattle.sqlite.specs.State.{HasCleanDisk}
 use Rattle.sqlite.specs.Held.{state}
+use Rattle.aq_tables.specs.Batch.{Changes}
 use Rattle.aq_tables.proofs.Making.{changes_nothing, changes_then}
 use Rattle.aq_tables.proofs.Steps.{survives_here, survives_both, kept_here, kept_both}
 use Rattle.aq_tables.proofs.batch.make_all.Goals as goal
 
-pub loop-place-init : goal.loop-place-init
-loop-place-init g c = (refl, survives_here _ _, λ clean begun. (changes_nothing _ begun, kept_here _))
+pub loop-changes-init : goal.loop-changes-init
+loop-changes-init g c = (search rules, tt, refl, survives_here _ _, [], search rules, λ clean begun. (changes_nothing _ begun, kept_here _))
 
-pub loop-place-preserved : goal.loop-place-preserved
-loop-place-preserved g c =
+pub loop-changes-preserved : goal.loop-changes-preserved
+loop-changes-preserved g c =
     let old = state g.S.Store c.args.tx.now.conn.now in
-    let mid = state g.S.Store c.loop-place.tx.conn.now in
-    let new = state g.S.Store c.make.new.tx.conn.now in (
-      c.make.ensures.same_reference ∙ c.loop-place.invariant.0,
-      survives_both old mid new c.loop-place.invariant.1 c.make.ensures.survives,
+    let mid = state g.S.Store c.loop-changes.tx.conn.now in
+    let new = state g.S.Store c.make_together.new.tx.conn.now in
+    let was = c.loop-changes.invariant in (
+      subst (λ (n : ℕ). 0 < n) (sym c.in-Some.ensures.steps.0) was.0,
+      tt,
+      c.make_together.ensures.same_reference ∙ was.2,
+      survives_both old mid new was.3 c.make_together.ensures.survives,
+      was.4 ++ c.in-Some.changes.now,
+      append_assoc was.4 _ _ ∙ ap (λ l. was.4 ++ l) (sym c.in-Some.ensures.steps.1.0) ∙ was.5,
       λ clean begun.
-          let before : HasCleanDisk mid = omega (arith, c.make.ensures.survives.clean) in
-          let done = c.loop-place.invariant.2 before begun in
-          let one = c.in_ok-make.ensures.done clean done.0.mode in
-          let all : take (c.loop-place.place + 1) c.args.batch.now ≡ take c.loop-place.place c.args.batch.now ++ (c.index-batch-place.result ∷ []) = grind (arith, common_steps) in
-          (rw all (changes_then _ _ old mid new done.1.was_open done.0 one), kept_both old mid new done.1 (c.make.ensures.kept clean done.0.mode)),
+          let before : HasCleanDisk mid = omega (arith, c.make_together.ensures.survives.clean) in
+          let done = was.6 before begun in
+          let more = c.in_ok-make_together.ensures.done clean done.0.mode in
+          (changes_then _ _ old mid new done.1.was_open done.0 more, kept_both old mid new done.1 (c.make_together.ensures.kept clean done.0.mode)),
     )
 
-pub returns-in_err-make-clause-survives : goal.returns-in_err-make-clause-survives
-returns-in_err-make-clause-survives g c =
-    survives_both (state g.S.Store c.args.tx.now.conn.now) (state g.S.Store c.loop-place.tx.conn.now) (state g.S.Store c.make.new.tx.conn.now) c.loop-place.invariant.1 c.make.ensures.survives
+pub returns-in_err-make_together-clause-survives : goal.returns-in_err-make_together-clause-survives
+returns-in_err-make_together-clause-survives g c =
+    survives_both (state g.S.Store c.args.tx.now.conn.now) (state g.S.Store c.loop-changes.tx.conn.now) (state g.S.Store c.make_together.new.tx.conn.now) c.loop-changes.invariant.3 c.make_together.ensures.survives
 
-pub returns-in_err-make-clause-kept : goal.returns-in_err-make-clause-kept
-returns-in_err-make-clause-kept g c clean begun =
-    let mid = state g.S.Store c.loop-place.tx.conn.now in
-    let before : HasCleanDisk mid = omega (arith, c.make.ensures.survives.clean) in
-    let done = c.loop-place.invariant.2 before begun in
-    kept_both (state g.S.Store c.args.tx.now.conn.now) mid (state g.S.Store c.make.new.tx.conn.now) done.1 (c.make.ensures.kept clean done.0.mode)
+pub returns-in_err-make_together-clause-kept : goal.returns-in_err-make_together-clause-kept
+returns-in_err-make_together-clause-kept g c clean begun =
+    let mid = state g.S.Store c.loop-changes.tx.conn.now in
+    let before : HasCleanDisk mid = omega (arith, c.make_together.ensures.survives.clean) in
+    let done = c.loop-changes.invariant.6 before begun in
+    kept_both (state g.S.Store c.args.tx.now.conn.now) mid (state g.S.Store c.make_together.new.tx.conn.now) done.1 (c.make_together.ensures.kept clean done.0.mode)
 
 pub returns-clause-done : goal.returns-clause-done
 returns-clause-done g c clean begun =
-    let all : take c.loop-place.place c.args.batch.now ≡ c.args.batch.now = grind (arith, common_steps) in
-    rw all at (c.loop-place.invariant.2 clean begun).0
+    let was = c.loop-changes.invariant in
+    let none = nil_from_length _ c.in-None.ensures.steps.1.0 in
+    let all = rw (none, append-nil) at was.5 in
+    subst (λ l. Changes l (state g.S.Store c.args.tx.now.conn.now) (state g.S.Store c.loop-changes.tx.conn.now)) all (was.6 clean begun).0
