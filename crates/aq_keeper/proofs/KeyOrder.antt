@@ -38,7 +38,7 @@ is_eq-then Less p = refl
 is_eq-then Equal p = refl
 is_eq-then Greater p = refl
 
-same-columns : (xs ys : List ℤ) → is_eq (slice_cmp int_cmp xs ys) ≡ pointwise int_eq xs ys
+pub same-columns : (xs ys : List ℤ) → is_eq (slice_cmp int_cmp xs ys) ≡ pointwise int_eq xs ys
 same-columns [] [] = refl
 same-columns (x ∷ xs) [] = refl
 same-columns [] (y ∷ ys) = refl
@@ -60,7 +60,7 @@ batch_by_load a b = refl
 cmp-pos : (x y : ℕ) → nat_cmp x y ≡ int_cmp (pos x) (pos y)
 cmp-pos x y = grind (arith, nat_tests)
 
-cmp-texts : (xs ys : List ℕ) → slice_cmp nat_cmp xs ys ≡ slice_cmp int_cmp (map pos xs) (map pos ys)
+pub cmp-texts : (xs ys : List ℕ) → slice_cmp nat_cmp xs ys ≡ slice_cmp int_cmp (map pos xs) (map pos ys)
 cmp-texts [] [] = refl
 cmp-texts [] (y ∷ ys) = refl
 cmp-texts (x ∷ xs) [] = refl

@@ -2,7 +2,6 @@ pub mod InOrder
 pub mod InPlace
 pub mod OneOfFour
 pub mod Making
-pub mod Crashes
 pub mod Resolving
 pub mod Lowered
 pub mod Selecting

@@ -21,10 +21,11 @@ use Rattle.aq_tables.specs.declared.reading.Table.{Table}
 use Rattle.aq_tables.specs.declared.reading.Table.TheVariants.{Records, Observations, Loads, Second}
 use Rattle.aq_tables.specs.Forms.{table_of}
 use Rattle.aq_tables.specs.Standing.{HasTable}
-use Rattle.aq_tables.specs.Texts.{read_text, drop_text, put_text}
+use Rattle.aq_tables.specs.Texts.{statements}
 use Rattle.aq_tables.specs.Told.{ours_of, which_of, key_values, row_values, records, observations, loads, second, record_values, observation_values, load_values, second_values, second_said, second_stored, load_stored, told, HaveNot, Turns, Runs, Drops, Puts}
 use Rattle.aq_tables.specs.Queries.{Shows, shown_by}
-use Rattle.aq_tables.proofs.Cells.{one_kept, two_kept, four_kept, same-texts, cmp-texts, cast_int, cast_null, cast_cell, optional_cell}
+use Rattle.aq_keeper.proofs.KeyOrder.{cmp-texts}
+use Rattle.aq_tables.proofs.Cells.{one_kept, two_kept, four_kept, same-texts, cast_int, cast_null, cast_cell, optional_cell}
 use Rattle.aq_tables.proofs.InOrder.{order}
 use Rattle.aq_tables.proofs.Scans.{scan}
 use Rattle.aq_tables.proofs.Turning.{IsTyped, drops, puts, reads}
@@ -86,9 +87,9 @@ shown_says Observations tree r = refl
 shown_says Loads tree r = refl
 shown_says Second tree r = refl
 
-pub row_reads : (t : Table) (db : Database) (at tree : ℕ) → HasTable (ours_of t) db at tree → (shown : List Row) → Shows (read_text t) db shown → map (shown_by t) shown ≡ told (ours_of t) (db.trees tree)
+pub row_reads : (t : Table) (db : Database) (at tree : ℕ) → HasTable (ours_of t) db at tree → (shown : List Row) → Shows (statements t).read db shown → map (shown_by t) shown ≡ told (ours_of t) (db.trees tree)
 row_reads t db at tree has shown h =
-    reads (ours_of t) db at tree has (read_text t) (project_of t) (order_of t) _ (shown_by t) shown (reads_mean t db.schema at tree has.stands) (read_no_listing t db.schema at tree has.stands) (shown_says t tree) (alike t tree) h
+    reads (ours_of t) db at tree has (statements t).read (project_of t) (order_of t) _ (shown_by t) shown (reads_mean t db.schema at tree has.stands) (read_no_listing t db.schema at tree has.stands) (shown_says t tree) (alike t tree) h
 
 -- ---- a row is put as it is, since a cast keeps it
 
@@ -109,26 +110,26 @@ says_second id row = λ i. OfSecondRow (record row { value = optional_cell row.v
 -- ---- what a statement makes that ran within a transaction
 
 module _ (old new : State) (at tree : ℕ) where
-  row_drops : (key : RowKey) (count : ℕ) → Executes (drop_text (which_of key)) (key_values key) old new (Ok count) → HasTable (ours_of (which_of key)) old.now at tree → Turns (ours_of (which_of key)) (drop_row key) old.now new.now at tree
-  row_drops key count h has = drops (ours_of (which_of key)) old new at tree has key (drop_text (which_of key)) (key_values key) (tests_of (which_of key)) count (drops_mean (which_of key) old.now.schema at tree has.stands) (tests key) h
+  row_drops : (key : RowKey) (count : ℕ) → Executes (statements (which_of key)).drop (key_values key) old new (Ok count) → HasTable (ours_of (which_of key)) old.now at tree → Turns (ours_of (which_of key)) (drop_row key) old.now new.now at tree
+  row_drops key count h has = drops (ours_of (which_of key)) old new at tree has key (statements (which_of key)).drop (key_values key) (tests_of (which_of key)) count (drops_mean (which_of key) old.now.schema at tree has.stands) (tests key) h
 
   row_puts : (row : the_rows.Row) (count : ℕ) → let t = which_of (row_key row) in
-      Executes (put_text t) (row_values row) old new (Ok count) → HasTable (ours_of t) old.now at tree → HaveNot (row_key row) (told (ours_of t) (old.now.trees tree)) → Turns (ours_of t) (put_row row) old.now new.now at tree
+      Executes (statements t).put (row_values row) old new (Ok count) → HasTable (ours_of t) old.now at tree → HaveNot (row_key row) (told (ours_of t) (old.now.trees tree)) → Turns (ours_of t) (put_row row) old.now new.now at tree
   row_puts (OfOfficeRow row) count h has none =
-      puts records old new at tree has (OfOfficeRow row) (put_text Records) (record_values row) (terms_of Records) 4 (source (OfOfficeRow row)) (next_rowid (old.now.trees tree)) count (puts_mean Records old.now.schema at tree has.stands) refl (stays (OfOfficeRow row) tree) refl refl refl none h
+      puts records old new at tree has (OfOfficeRow row) (statements Records).put (record_values row) (terms_of Records) 4 (source (OfOfficeRow row)) (next_rowid (old.now.trees tree)) count (puts_mean Records old.now.schema at tree has.stands) refl (stays (OfOfficeRow row) tree) refl refl refl none h
   row_puts (OfObsRow row) count h has none =
-      puts observations old new at tree has (OfObsRow row) (put_text Observations) (observation_values row) (terms_of Observations) 8 (source (OfObsRow row)) (next_rowid (old.now.trees tree)) count (puts_mean Observations old.now.schema at tree has.stands) refl (stays (OfObsRow row) tree) refl refl (λ i. OfObsRow (record row { value = optional_cell row.value i })) none h
+      puts observations old new at tree has (OfObsRow row) (statements Observations).put (observation_values row) (terms_of Observations) 8 (source (OfObsRow row)) (next_rowid (old.now.trees tree)) count (puts_mean Observations old.now.schema at tree has.stands) refl (stays (OfObsRow row) tree) refl refl (λ i. OfObsRow (record row { value = optional_cell row.value i })) none h
   row_puts (OfLoadRow row) count h has none =
-      puts loads old new at tree has (OfLoadRow row) (put_text Loads) (load_values row) (terms_of Loads) 7 (source (OfLoadRow row)) row.number count (puts_mean Loads old.now.schema at tree has.stands) refl (stays (OfLoadRow row) tree) refl refl refl none h
+      puts loads old new at tree has (OfLoadRow row) (statements Loads).put (load_values row) (terms_of Loads) 7 (source (OfLoadRow row)) row.number count (puts_mean Loads old.now.schema at tree has.stands) refl (stays (OfLoadRow row) tree) refl refl refl none h
   row_puts (OfSecondRow row) count h has none =
-      puts second old new at tree has (OfSecondRow row) (put_text Second) (second_values row) (terms_of Second) 9 (source (OfSecondRow row)) (next_rowid (old.now.trees tree)) count (puts_mean Second old.now.schema at tree has.stands) refl (stays (OfSecondRow row) tree) refl refl (says_second (next_rowid (old.now.trees tree)) row) none h
+      puts second old new at tree has (OfSecondRow row) (statements Second).put (second_values row) (terms_of Second) 9 (source (OfSecondRow row)) (next_rowid (old.now.trees tree)) count (puts_mean Second old.now.schema at tree has.stands) refl (stays (OfSecondRow row) tree) refl refl (says_second (next_rowid (old.now.trees tree)) row) none h
 
-pub dropped : {X E : Type 0} (key : RowKey) (r : Result X E) (old new : State) → OnOk r (Runs (drop_text (which_of key)) (key_values key) old new) → OnOk r (Drops (ours_of (which_of key)) key old new)
+pub dropped : {X E : Type 0} (key : RowKey) (r : Result X E) (old new : State) → OnOk r (Runs (statements (which_of key)).drop (key_values key) old new) → OnOk r (Drops (ours_of (which_of key)) key old new)
 dropped key (Err e) old new h = tt
 dropped key (Ok x) old new (count, ran) =
     record { was_open = ran.1.was_open; mode = rw ran.1.mode; committed = ran.1.committed_is; turns = λ at tree has allowed. row_drops old new at tree key count ran.0 has }
 
-pub put : {X E : Type 0} (row : the_rows.Row) (r : Result X E) (old new : State) → OnOk r (Runs (put_text (which_of (row_key row))) (row_values row) old new) → OnOk r (Puts (ours_of (which_of (row_key row))) row old new)
+pub put : {X E : Type 0} (row : the_rows.Row) (r : Result X E) (old new : State) → OnOk r (Runs (statements (which_of (row_key row))).put (row_values row) old new) → OnOk r (Puts (ours_of (which_of (row_key row))) row old new)
 put row (Err e) old new h = tt
 put row (Ok x) old new (count, ran) =
     record { was_open = ran.1.was_open; mode = rw ran.1.mode; committed = ran.1.committed_is; turns = λ at tree has free. row_puts old new at tree row count ran.0 has free }

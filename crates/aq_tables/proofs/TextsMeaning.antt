@@ -20,7 +20,7 @@ use Rattle.aq_tables.specs.declared.reading.Table.TheVariants.{Records, Observat
 use Rattle.aq_tables.specs.Forms.{Form, table_of, column_of}
 use Rattle.aq_tables.specs.Standing.{Stands}
 use Rattle.aq_tables.specs.Queries.{IsBareText}
-use Rattle.aq_tables.specs.Texts.{read_text, drop_text, put_text, rowids_text}
+use Rattle.aq_tables.specs.Texts.{statements, rowids_text}
 use Rattle.aq_tables.specs.Told.{ours_of}
 use Rattle.aq_tables.proofs.Parsing.{Means}
 use Rattle.aq_tables.proofs.Scans.{scan}
@@ -62,7 +62,7 @@ order_of Observations = by_place
 order_of Loads = rising 0 ∷ []
 order_of Second = by_place
 
-pub is_read : (t : Table) → IsReadText (form_of t) (read_text t) (shown_of t) (sorted_of t) (project_of t) (order_of t)
+pub is_read : (t : Table) → IsReadText (form_of t) (statements t).read (shown_of t) (sorted_of t) (project_of t) (order_of t)
 unfolding everything
 is_read Records = record { reads = refl; statement = refl; formats = refl; select_is = refl; core_is = refl; source_is = refl; shows = λ tree low. (record { shows = refl; picked = record { is = refl; found = (refl, refl) } }, (record { shows = refl; picked = record { is = refl; found = (refl, refl) } }, (record { shows = refl; picked = record { is = refl; found = (refl, refl) } }, tt))); may_show = (refl, (refl, (refl, tt))); sorts = λ schema at tree stands low. (record { key = refl; rises = refl; plain = refl; picked = record { is = refl; found = (refl, refl) } }, (record { key = refl; rises = refl; plain = refl; picked = record { is = refl; found = (refl, refl) } }, tt)); may_sort = λ tree. (refl, (refl, tt)); projects = λ tree. refl; orders = λ schema at tree stands. refl }
 is_read Observations = record { reads = refl; statement = refl; formats = refl; select_is = refl; core_is = refl; source_is = refl; shows = λ tree low. (record { shows = refl; picked = record { is = refl; found = (refl, refl) } }, (record { shows = refl; picked = record { is = refl; found = (refl, refl) } }, (record { shows = refl; picked = record { is = refl; found = (refl, refl) } }, (record { shows = refl; picked = record { is = refl; found = (refl, refl) } }, (record { shows = refl; picked = record { is = refl; found = (refl, refl) } }, (record { shows = refl; picked = record { is = refl; found = (refl, refl) } }, (record { shows = refl; picked = record { is = refl; found = (refl, refl) } }, tt))))))); may_show = (refl, (refl, (refl, (refl, (refl, (refl, (refl, tt))))))); sorts = λ schema at tree stands low. (record { key = refl; rises = refl; plain = refl; picked = record { is = refl; found = (refl, refl) } }, (record { key = refl; rises = refl; plain = refl; picked = record { is = refl; found = (refl, refl) } }, (record { key = refl; rises = refl; plain = refl; picked = record { is = refl; found = (refl, refl) } }, (record { key = refl; rises = refl; plain = refl; picked = record { is = refl; found = (refl, refl) } }, tt)))); may_sort = λ tree. (refl, (refl, (refl, (refl, tt)))); projects = λ tree. refl; orders = λ schema at tree stands. refl }
@@ -79,13 +79,13 @@ read_typed Second schema at tree stands = rw (stands.low, stands.sole)
 
 module _ (t : Table) (schema : Schema) (at tree : ℕ) (stands : Stands schema (form_of t) at tree) where
   abbrev names : List (List ℕ)
-  names = read_names (form_of t) (read_text t) (shown_of t) (sorted_of t) (project_of t) (order_of t) tree
+  names = read_names (form_of t) (statements t).read (shown_of t) (sorted_of t) (project_of t) (order_of t) tree
 
-  pub reads_mean : Means schema (read_text t) (Select (record { lets = []; body = scan tree [] (project_of t) (order_of t) }) names)
-  reads_mean = read_means (form_of t) (read_text t) (shown_of t) (sorted_of t) (project_of t) (order_of t) (is_read t) schema at tree stands (read_typed t schema at tree stands)
+  pub reads_mean : Means schema (statements t).read (Select (record { lets = []; body = scan tree [] (project_of t) (order_of t) }) names)
+  reads_mean = read_means (form_of t) (statements t).read (shown_of t) (sorted_of t) (project_of t) (order_of t) (is_read t) schema at tree stands (read_typed t schema at tree stands)
 
-  pub read_no_listing : reads_listing schema (read_text t) ≡ false
-  read_no_listing = reads_no_listing (form_of t) (read_text t) (shown_of t) (sorted_of t) (project_of t) (order_of t) (is_read t) schema at tree stands (read_typed t schema at tree stands)
+  pub read_no_listing : reads_listing schema (statements t).read ≡ false
+  read_no_listing = reads_no_listing (form_of t) (statements t).read (shown_of t) (sorted_of t) (project_of t) (order_of t) (is_read t) schema at tree stands (read_typed t schema at tree stands)
 
 -- ---- SELECT of the rowids
 
@@ -131,7 +131,7 @@ tests_of Observations = is_place
 tests_of Loads = equals 0 0 ∷ []
 tests_of Second = is_place
 
-is_drop : (t : Table) → IsDropText (form_of t) (drop_text t) (last_of t) (others_of t) (tests_of t)
+is_drop : (t : Table) → IsDropText (form_of t) (statements t).drop (last_of t) (others_of t) (tests_of t)
 unfolding everything
 is_drop Records = record { reads = refl; statement = refl; formats = refl; depth = 697; deep = refl; may = (refl, (refl, refl, refl), (refl, refl, refl)); tested = λ tree. (record { named = refl; there = refl; binary = refl }, (record { named = refl; there = refl; binary = refl }, tt)); splits = λ tree. refl }
 is_drop Observations = record { reads = refl; statement = refl; formats = refl; depth = 695; deep = refl; may = (refl, (refl, (refl, (refl, refl, refl), (refl, refl, refl)), (refl, refl, refl)), (refl, refl, refl)); tested = λ tree. (record { named = refl; there = refl; binary = refl }, (record { named = refl; there = refl; binary = refl }, (record { named = refl; there = refl; binary = refl }, (record { named = refl; there = refl; binary = refl }, tt)))); splits = λ tree. refl }
@@ -153,9 +153,9 @@ drop_typed Observations schema at tree stands = rw (stands.low, stands.sole)
 drop_typed Loads schema at tree stands = rw (stands.low, stands.sole)
 drop_typed Second schema at tree stands = rw (stands.low, stands.sole)
 
-pub drops_mean : (t : Table) (schema : Schema) (at tree : ℕ) → Stands schema (form_of t) at tree → Means schema (drop_text t) (Delete at (record { lets = []; body = scan tree (tests_of t) (col 1 0 ∷ []) [] }))
+pub drops_mean : (t : Table) (schema : Schema) (at tree : ℕ) → Stands schema (form_of t) at tree → Means schema (statements t).drop (Delete at (record { lets = []; body = scan tree (tests_of t) (col 1 0 ∷ []) [] }))
 drops_mean t schema at tree stands =
-    drop_means (form_of t) (drop_text t) (last_of t) (others_of t) (tests_of t) (is_drop t) schema at tree stands (are_plain t schema at tree stands.has.stands) (drop_typed t schema at tree stands)
+    drop_means (form_of t) (statements t).drop (last_of t) (others_of t) (tests_of t) (is_drop t) schema at tree stands (are_plain t schema at tree stands.has.stands) (drop_typed t schema at tree stands)
 
 -- ---- INSERT
 
@@ -171,20 +171,20 @@ width_of Observations = 8
 width_of Loads = 7
 width_of Second = 9
 
-is_put : (t : Table) → IsPutText (form_of t) (put_text t) (terms_of t) (width_of t)
+is_put : (t : Table) → IsPutText (form_of t) (statements t).put (terms_of t) (width_of t)
 unfolding everything
 is_put Records = record { reads = refl; statement = refl; formats = refl; new = λ schema tree. refl }
 is_put Observations = record { reads = refl; statement = refl; formats = refl; new = λ schema tree. refl }
 is_put Loads = record { reads = refl; statement = refl; formats = refl; new = λ schema tree. refl }
 is_put Second = record { reads = refl; statement = refl; formats = refl; new = λ schema tree. refl }
 
-pub puts_mean : (t : Table) (schema : Schema) (at tree : ℕ) → Stands schema (form_of t) at tree → Means schema (put_text t) (Insert at (Values (terms_of t) (width_of t)))
-puts_mean t = put_means (form_of t) (put_text t) (terms_of t) (width_of t) (is_put t)
+pub puts_mean : (t : Table) (schema : Schema) (at tree : ℕ) → Stands schema (form_of t) at tree → Means schema (statements t).put (Insert at (Values (terms_of t) (width_of t)))
+puts_mean t = put_means (form_of t) (statements t).put (terms_of t) (width_of t) (is_put t)
 
 -- ---- whatever the schema is, a SELECT of these returns no rows of a write, and does not read the time
 
-pub read_bare_of : (t : Table) → IsBareText (read_text t)
-read_bare_of t = bare (form_of t) (read_text t) (shown_of t) (sorted_of t) (project_of t) (order_of t) (is_read t)
+pub read_bare_of : (t : Table) → IsBareText (statements t).read
+read_bare_of t = bare (form_of t) (statements t).read (shown_of t) (sorted_of t) (project_of t) (order_of t) (is_read t)
 
 pub rowids_bare_of : (t : Table) → IsBareText (rowids_text t)
 rowids_bare_of t = bare (form_of t) (rowids_text t) rowids rowids (col 1 0 ∷ []) (rising 0 ∷ []) (is_rowids t)

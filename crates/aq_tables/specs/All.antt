@@ -7,7 +7,7 @@ use Rattle.sqlite.specs.Effect.{Database}
 use Rattle.sqlite_schema.specs.Names.{table_named}
 use Rattle.aq_rules.specs.Kept.Rows as the_rows
 use Rattle.aq_tables.specs.Standing.{Ours, HasTable}
-use Rattle.aq_tables.specs.Told.{told, records, observations, loads, second}
+use Rattle.aq_tables.specs.Told.{OfEach, told, records, observations, loads, second, ours_of}
 
 -- the tree of the table that a name stands for
 abbrev pub tree_named : Schema → List ℕ → Option ℕ
@@ -27,8 +27,5 @@ pub record HasOurs (ours : Ours) (db : Database) : Type 0 where
   pub tree : ℕ
   pub has : HasTable ours db at tree
 
-pub record HasTables (db : Database) : Type 0 where
-  pub of_records : HasOurs records db
-  pub of_observations : HasOurs observations db
-  pub of_loads : HasOurs loads db
-  pub of_second : HasOurs second db
+abbrev pub HasTables : Database → Type 0
+HasTables db = OfEach (λ table. HasOurs (ours_of table) db)

@@ -22,20 +22,7 @@ pub record Form : Type 0 where
 
 -- the table of a form that has this tree
 abbrev pub table_of : Form → ℕ → Table
-table_of form tree = record {
-  name = form.name;
-  tree = tree;
-  columns = form.columns;
-  key = form.key;
-  primary = form.primary;
-  uniques = form.uniques;
-  orders = form.orders;
-  checks = [];
-  references = [];
-  computed = [];
-  stamps = record { places = []; terms = []; formats = [] };
-  is_counted = false;
-}
+table_of form tree = record { name = form.name; tree = tree; columns = form.columns; key = form.key; primary = form.primary; uniques = form.uniques; orders = form.orders; checks = []; references = []; computed = []; stamps = record { places = []; terms = []; formats = [] }; is_counted = false }
 
 abbrev pub column_of : List ℕ → Kind → Bool → Column
 column_of name kind not_null = record { name = name; kind = kind; is_strict = true; not_null = not_null; default = Null; collation = Binary }

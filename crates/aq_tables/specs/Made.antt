@@ -13,7 +13,7 @@ use Rattle.aq_tables.specs.declared.reading.Table.{Table as Which}
 use Rattle.aq_tables.specs.declared.reading.Table.TheVariants.{Records, Observations, Loads, Second}
 use Rattle.aq_tables.specs.Forms.{Form, table_of, records_form, observations_form, loads_form, second_form}
 use Rattle.aq_tables.specs.Standing.{Stands}
-use Rattle.aq_tables.specs.Texts.{make_records, make_observations, make_loads, make_second}
+use Rattle.aq_tables.specs.Told.{OfEach}
 use Rattle.aq_tables.specs.All.{rows_of}
 
 -- ---- before
@@ -30,11 +30,8 @@ pub record HasForm (schema : Schema) (form : Form) : Type 0 where
   pub tree : ℕ
   pub stands : Stands schema form at tree
 
-pub record HasForms (schema : Schema) : Type 0 where
-  pub of_records : HasForm schema records_form
-  pub of_observations : HasForm schema observations_form
-  pub of_loads : HasForm schema loads_form
-  pub of_second : HasForm schema second_form
+abbrev pub HasForms : Schema → Type 0
+HasForms schema = OfEach (λ table. HasForm schema (form_of table))
 
 -- no table has the name, or one of the form stands
 abbrev pub IsMissing : Bool → Schema → Form → Type 0
@@ -93,12 +90,6 @@ pub record IsMade (old new : Database) : Type 0 where
   pub tells : rows_of new ≡ rows_of old
 
 -- ---- within a transaction
-
-abbrev pub make_text : Which → List ℕ
-make_text Records = make_records
-make_text Observations = make_observations
-make_text Loads = make_loads
-make_text Second = make_second
 
 pub record Inside (Changes : Database → Database → Type 0) (old new : State) : Type 0 where
   pub mode : IsTrue new.in_transaction

@@ -170,6 +170,13 @@ ours_of Observations = observations
 ours_of Loads = loads
 ours_of Second = second
 
+-- the same of each of them
+pub record OfEach (Holds : Which → Type 0) : Type 0 where
+  pub of_records : Holds Records
+  pub of_observations : Holds Observations
+  pub of_loads : Holds Loads
+  pub of_second : Holds Second
+
 -- the table of a key, and the key as a statement takes it
 abbrev pub which_of : RowKey → Which
 which_of (OfficeRowKey kind key) = Records

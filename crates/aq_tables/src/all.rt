@@ -4,10 +4,7 @@ ghost use Rattle.sqlite.specs.State.{HasCleanDisk, IsUnchanged, KeepsCommit, Sur
 ghost use Rattle.sqlite.specs.Held.{state};
 ghost use Rattle.aq_tables.specs.All.{HasTables, rows_of};
 
-use crate::loads::read_loads;
-use crate::observations::read_observations;
-use crate::records::read_records;
-use crate::second::read_second;
+use crate::reading::{Table, read_table};
 use aq_keeper::Rows;
 use sqlite::{Alter, Connection, Error, ErrorCode};
 use std::alloc::Global;
@@ -26,9 +23,9 @@ pub fn read_all<S: Alter>(conn: &mut Connection<S>, alloc: Global) -> Result<Row
         return Err(Error::SqliteFailure(ErrorCode::TransactionState));
     }
     let mut found = Vec::new(alloc);
-    read_records(conn, alloc, &mut found)?;
-    read_observations(conn, alloc, &mut found)?;
-    read_loads(conn, alloc, &mut found)?;
-    read_second(conn, alloc, &mut found)?;
+    read_table(conn, Table::Records, alloc, &mut found)?;
+    read_table(conn, Table::Observations, alloc, &mut found)?;
+    read_table(conn, Table::Loads, alloc, &mut found)?;
+    read_table(conn, Table::Second, alloc, &mut found)?;
     Ok(Rows::from_vec(found))
 }

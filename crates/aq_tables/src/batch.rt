@@ -6,11 +6,13 @@ ghost use Rattle.aq_rules.specs.Kept.RowChanges.{row_key};
 ghost use Rattle.aq_tables.specs.Told.{Drops, Puts};
 ghost use Rattle.aq_tables.specs.Batch.{table_at, Becomes, Changes, Leaves};
 
-use crate::loads::{drop_load, put_load};
-use crate::observations::{drop_observation, put_observation};
-use crate::records::{drop_record, put_record};
-use crate::second::{drop_second, put_second};
+use crate::binding::{place_values, run};
+use crate::loads::{DROP_LOAD, PUT_LOAD};
+use crate::observations::{DROP_OBSERVATION, PUT_OBSERVATION};
+use crate::records::{DROP_RECORD, PUT_RECORD};
+use crate::second::{DROP_SECOND, PUT_SECOND};
 use crate::sixteen::put_sixteen;
+use crate::{loads, observations, records, second};
 use aq_keeper::{ChangeContent, KeyContent, Row, RowChange, RowContent, RowKey};
 use sqlite::{Alter, Connection, Error, ErrorCode, Transaction};
 
@@ -22,20 +24,26 @@ fn drop_key<S: Alter>(tx: &mut Transaction<'_, S>, key: &RowKey) -> Result<(), E
     ensures survives { Survives (state S.Store tx.old.conn.now) (state S.Store tx.new.conn.now) (λ _. ⊥) }
 {
     match &key.content {
-        KeyContent::Office { kind, key } => drop_record(tx, kind, key.as_slice()),
+        KeyContent::Office { kind, key } => {
+            run(tx, DROP_RECORD, &records::key_values(kind, key.as_slice()))
+        }
         KeyContent::Observation {
             site,
             pollutant,
             poc,
             hour,
-        } => drop_observation(tx, site, pollutant, poc, hour),
-        KeyContent::Load { number } => drop_load(tx, number),
+        } => run(
+            tx,
+            DROP_OBSERVATION,
+            &place_values(site, pollutant, poc, hour),
+        ),
+        KeyContent::Load { number } => run(tx, DROP_LOAD, &loads::key_values(number)),
         KeyContent::Second {
             site,
             pollutant,
             poc,
             hour,
-        } => drop_second(tx, site, pollutant, poc, hour),
+        } => run(tx, DROP_SECOND, &place_values(site, pollutant, poc, hour)),
     }
 }
 
@@ -47,13 +55,27 @@ fn drop_same<S: Alter>(tx: &mut Transaction<'_, S>, row: &Row) -> Result<(), Err
     ensures survives { Survives (state S.Store tx.old.conn.now) (state S.Store tx.new.conn.now) (λ _. ⊥) }
 {
     match &row.content {
-        RowContent::Office(row) => drop_record(tx, &row.kind, row.key.as_slice()),
-        RowContent::Observation(row) => {
-            drop_observation(tx, &row.site, &row.pollutant, &row.poc, &row.hour)
+        RowContent::Office(row) => {
+            run(
+                tx,
+                DROP_RECORD,
+                &records::key_values(&row.kind, row.key.as_slice()),
+            )
         }
-        RowContent::Load(row) => drop_load(tx, &row.number),
+        RowContent::Observation(row) => {
+            run(
+                tx,
+                DROP_OBSERVATION,
+                &place_values(&row.site, &row.pollutant, &row.poc, &row.hour),
+            )
+        }
+        RowContent::Load(row) => run(tx, DROP_LOAD, &loads::key_values(&row.number)),
         RowContent::Second(row) => {
-            drop_second(tx, &row.site, &row.pollutant, &row.poc, &row.hour)
+            run(
+                tx,
+                DROP_SECOND,
+                &place_values(&row.site, &row.pollutant, &row.poc, &row.hour),
+            )
         }
     }
 }
@@ -66,10 +88,10 @@ fn put_row<S: Alter>(tx: &mut Transaction<'_, S>, row: &Row) -> Result<(), Error
     ensures survives { Survives (state S.Store tx.old.conn.now) (state S.Store tx.new.conn.now) (λ _. ⊥) }
 {
     match &row.content {
-        RowContent::Office(row) => put_record(tx, row),
-        RowContent::Observation(row) => put_observation(tx, row),
-        RowContent::Load(row) => put_load(tx, row),
-        RowContent::Second(row) => put_second(tx, row),
+        RowContent::Office(row) => run(tx, PUT_RECORD, &records::row_values(row)),
+        RowContent::Observation(row) => run(tx, PUT_OBSERVATION, &observations::row_values(row)),
+        RowContent::Load(row) => run(tx, PUT_LOAD, &loads::row_values(row)),
+        RowContent::Second(row) => run(tx, PUT_SECOND, &second::row_values(row)),
     }
 }
 

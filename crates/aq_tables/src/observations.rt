@@ -1,27 +1,20 @@
 //! The table `observations`.
-ghost use Rattle.std.specs.Prelude.{◌≡◌, false, IsTrue, OnOk};
-ghost use Rattle.sqlite.specs.State.{HasCleanDisk, IsUnchanged, KeepsCommit, Survives};
+ghost use Rattle.std.specs.Prelude.{◌≡◌};
 ghost use Rattle.sqlite.specs.Values.{bound};
-ghost use Rattle.sqlite.specs.Held.{state};
-ghost use Rattle.aq_rules.specs.Kept.Rows.{OfObsRow};
-ghost use Rattle.aq_rules.specs.Kept.RowChanges.{ObsRowKey};
-ghost use Rattle.aq_tables.specs.Told.{Drops, Puts, Reads, observation_values, observations};
+ghost use Rattle.aq_tables.specs.Told.{observation_values};
 
-use crate::binding::{cell_of, place_values, run};
-use crate::reading::{Table, read_table};
-use aq_keeper::{ObsRow, Row};
+use crate::binding::cell_of;
+use aq_keeper::ObsRow;
 use sqlite::types::ValueRef;
-use sqlite::{Alter, Connection, Error, Transaction};
-use std::alloc::Global;
 
-const DROP_OBSERVATION: &str =
+pub(crate) const DROP_OBSERVATION: &str =
     "DELETE FROM observations WHERE site = ?1 AND pollutant = ?2 AND poc = ?3 AND hour = ?4";
 
-const PUT_OBSERVATION: &str =
+pub(crate) const PUT_OBSERVATION: &str =
     "INSERT INTO observations (site, pollutant, poc, hour, value, nullcode, quals) VALUES (?1, ?2, ?3, ?4, ?5, ?6, ?7)";
 
 /// A row as the statement takes it.
-fn row_values(row: &ObsRow) -> [ValueRef<'_>; 7]
+pub(crate) fn row_values(row: &ObsRow) -> [ValueRef<'_>; 7]
     ensures { bound result ≡ observation_values row.now }
 {
     [
@@ -33,49 +26,4 @@ fn row_values(row: &ObsRow) -> [ValueRef<'_>; 7]
         ValueRef::Text(row.null.as_slice()),
         ValueRef::Text(row.quals.as_slice()),
     ]
-}
-
-/// Drops the row of an observation, if there is one.
-pub fn drop_observation<S: Alter>(
-    tx: &mut Transaction<'_, S>,
-    site: &i64,
-    pollutant: &i64,
-    poc: &i64,
-    hour: &i64,
-) -> Result<(), Error>
-    ensures same_reference { tx.new.conn.ghost_name ≡ tx.old.conn.ghost_name }
-    ensures done { HasCleanDisk (state S.Store tx.new.conn.now) → IsTrue (state S.Store tx.old.conn.now).in_transaction → OnOk result (Drops observations (ObsRowKey site.now pollutant.now poc.now hour.now) (state S.Store tx.old.conn.now) (state S.Store tx.new.conn.now)) }
-    ensures kept { HasCleanDisk (state S.Store tx.new.conn.now) → IsTrue (state S.Store tx.old.conn.now).in_transaction → KeepsCommit (state S.Store tx.old.conn.now) (state S.Store tx.new.conn.now) }
-    ensures survives { Survives (state S.Store tx.old.conn.now) (state S.Store tx.new.conn.now) (λ _. ⊥) }
-{
-    run(
-        tx,
-        DROP_OBSERVATION,
-        &place_values(site, pollutant, poc, hour),
-    )
-}
-
-/// Puts the row of an observation, of which none has the key.
-pub fn put_observation<S: Alter>(tx: &mut Transaction<'_, S>, row: &ObsRow) -> Result<(), Error>
-    ensures same_reference { tx.new.conn.ghost_name ≡ tx.old.conn.ghost_name }
-    ensures done { HasCleanDisk (state S.Store tx.new.conn.now) → IsTrue (state S.Store tx.old.conn.now).in_transaction → OnOk result (Puts observations (OfObsRow row.now) (state S.Store tx.old.conn.now) (state S.Store tx.new.conn.now)) }
-    ensures kept { HasCleanDisk (state S.Store tx.new.conn.now) → IsTrue (state S.Store tx.old.conn.now).in_transaction → KeepsCommit (state S.Store tx.old.conn.now) (state S.Store tx.new.conn.now) }
-    ensures survives { Survives (state S.Store tx.old.conn.now) (state S.Store tx.new.conn.now) (λ _. ⊥) }
-{
-    run(tx, PUT_OBSERVATION, &row_values(row))
-}
-
-/// Reads the rows of all observations, in the order of their keys, after those that are there.
-pub fn read_observations<S: Alter>(
-    conn: &mut Connection<S>,
-    alloc: Global,
-    found: &mut Vec<Row>,
-) -> Result<(), Error>
-    ensures rows { HasCleanDisk (state S.Store conn.new) → OnOk result (Reads observations (state S.Store conn.old).now found.old.items found.new.items) }
-    ensures same { HasCleanDisk (state S.Store conn.new) → OnOk result (IsUnchanged (state S.Store conn.old) (state S.Store conn.new)) }
-    ensures kept { HasCleanDisk (state S.Store conn.new) → KeepsCommit (state S.Store conn.old) (state S.Store conn.new) }
-    ensures mode { (state S.Store conn.old).in_transaction ≡ false → (state S.Store conn.new).in_transaction ≡ false }
-    ensures crash { Survives (state S.Store conn.old) (state S.Store conn.new) (λ _. ⊥) }
-{
-    read_table(conn, Table::Observations, alloc, found)
 }

@@ -5,34 +5,27 @@ ghost use Rattle.sqlite.specs.State.{HasCleanDisk, IsUnchanged, Survives};
 ghost use Rattle.sqlite.specs.Held.{state};
 ghost use Rattle.aq_tables.specs.All.{HasTables, rows_of};
 ghost use Rattle.aq_tables.specs.Forms.{records_form, observations_form, loads_form, second_form};
-ghost use Rattle.aq_tables.specs.Made.{AreMissing, HasForms, Inside, IsMade, MakesIf, IsOffice, MakesMissing, form_of, make_text};
+ghost use Rattle.aq_tables.specs.Made.{AreMissing, HasForms, Inside, IsMade, MakesIf, IsOffice, MakesMissing, form_of};
+ghost use Rattle.aq_tables.specs.Texts.{statements};
 ghost use Rattle.aq_tables.specs.Rowids.{AreApart};
 
 use crate::missing::{Missing, missing_of};
 use crate::reading::Table;
-use crate::rowids::{are_loads_apart, are_observations_apart, are_records_apart, are_second_apart};
+use crate::rowids::are_apart;
 use sqlite::{Alter, Connection, Error, ErrorCode, Transaction};
 
-const MAKE_RECORDS: &str =
-    "CREATE TABLE records (kind INTEGER NOT NULL, rowkey TEXT NOT NULL, line TEXT NOT NULL, PRIMARY KEY (kind, rowkey)) STRICT";
-
-const MAKE_OBSERVATIONS: &str =
-    "CREATE TABLE observations (site INTEGER NOT NULL, pollutant INTEGER NOT NULL, poc INTEGER NOT NULL, hour INTEGER NOT NULL, value INTEGER, nullcode TEXT NOT NULL, quals TEXT NOT NULL, PRIMARY KEY (site, pollutant, poc, hour)) STRICT";
-
-const MAKE_LOADS: &str =
-    "CREATE TABLE loads (number INTEGER PRIMARY KEY, digest BLOB NOT NULL, lines INTEGER NOT NULL, accepted INTEGER NOT NULL, listed TEXT NOT NULL, rest TEXT NOT NULL) STRICT";
-
-const MAKE_SECOND: &str =
-    "CREATE TABLE observations2 (site INTEGER NOT NULL, pollutant INTEGER NOT NULL, poc INTEGER NOT NULL, hour INTEGER NOT NULL, value INTEGER, method INTEGER, nullcode TEXT NOT NULL, quals TEXT NOT NULL, PRIMARY KEY (site, pollutant, poc, hour)) STRICT";
-
 fn text_of(table: Table) -> &'static str
-    ensures { result.now ≡ make_text table }
+    ensures { result.now ≡ (statements table).make }
 {
     match table {
-        Table::Records => MAKE_RECORDS,
-        Table::Observations => MAKE_OBSERVATIONS,
-        Table::Loads => MAKE_LOADS,
-        Table::Second => MAKE_SECOND,
+        Table::Records =>
+            "CREATE TABLE records (kind INTEGER NOT NULL, rowkey TEXT NOT NULL, line TEXT NOT NULL, PRIMARY KEY (kind, rowkey)) STRICT",
+        Table::Observations =>
+            "CREATE TABLE observations (site INTEGER NOT NULL, pollutant INTEGER NOT NULL, poc INTEGER NOT NULL, hour INTEGER NOT NULL, value INTEGER, nullcode TEXT NOT NULL, quals TEXT NOT NULL, PRIMARY KEY (site, pollutant, poc, hour)) STRICT",
+        Table::Loads =>
+            "CREATE TABLE loads (number INTEGER PRIMARY KEY, digest BLOB NOT NULL, lines INTEGER NOT NULL, accepted INTEGER NOT NULL, listed TEXT NOT NULL, rest TEXT NOT NULL) STRICT",
+        Table::Second =>
+            "CREATE TABLE observations2 (site INTEGER NOT NULL, pollutant INTEGER NOT NULL, poc INTEGER NOT NULL, hour INTEGER NOT NULL, value INTEGER, method INTEGER, nullcode TEXT NOT NULL, quals TEXT NOT NULL, PRIMARY KEY (site, pollutant, poc, hour)) STRICT",
     }
 }
 
@@ -84,7 +77,7 @@ fn commit_missing<S: Alter>(conn: &mut Connection<S>, missing: &Missing) -> Resu
 }
 
 /// Whether no two rows of a table have the same rowid.
-fn are_apart<S: Alter>(conn: &mut Connection<S>) -> Result<bool, Error>
+fn are_all_apart<S: Alter>(conn: &mut Connection<S>) -> Result<bool, Error>
     ensures records { HasCleanDisk (state S.Store conn.new) → IfOk result (λ apart. apart ≡ true → AreApart records_form (state S.Store conn.old).now) }
     ensures observations { HasCleanDisk (state S.Store conn.new) → IfOk result (λ apart. apart ≡ true → AreApart observations_form (state S.Store conn.old).now) }
     ensures loads { HasCleanDisk (state S.Store conn.new) → IfOk result (λ apart. apart ≡ true → AreApart loads_form (state S.Store conn.old).now) }
@@ -92,10 +85,10 @@ fn are_apart<S: Alter>(conn: &mut Connection<S>) -> Result<bool, Error>
     ensures same { HasCleanDisk (state S.Store conn.new) → OnOk result (IsUnchanged (state S.Store conn.old) (state S.Store conn.new)) }
     ensures crash { Survives (state S.Store conn.old) (state S.Store conn.new) (λ _. ⊥) }
 {
-    let records = are_records_apart(conn)?;
-    let observations = are_observations_apart(conn)?;
-    let loads = are_loads_apart(conn)?;
-    let second = are_second_apart(conn)?;
+    let records = are_apart(conn, Table::Records)?;
+    let observations = are_apart(conn, Table::Observations)?;
+    let loads = are_apart(conn, Table::Loads)?;
+    let second = are_apart(conn, Table::Second)?;
     Ok(records && observations && loads && second)
 }
 
@@ -106,7 +99,7 @@ fn see_rows<S: Alter>(conn: &mut Connection<S>) -> Result<(), Error>
     ensures crash { Survives (state S.Store conn.old) (state S.Store conn.new) (λ _. ⊥) }
 {
     let _ = conn.schema();
-    if are_apart(conn)? {
+    if are_all_apart(conn)? {
         Ok(())
     } else {
         Err(Error::SqliteFailure(ErrorCode::DatabaseCorrupt))

@@ -4,7 +4,7 @@ ghost use Rattle.sqlite.specs.State.{HasCleanDisk, IsUnchanged, KeepsCommit, Sur
 ghost use Rattle.sqlite.specs.Held.{state};
 ghost use Rattle.sqlite_value.specs.Order.{column, bytes};
 ghost use Rattle.aq_tables.specs.Queries.{IsBareText, Takes, shown_by};
-ghost use Rattle.aq_tables.specs.Texts.{read_text};
+ghost use Rattle.aq_tables.specs.Texts.{statements};
 ghost use Rattle.aq_tables.specs.Told.{Reads, load_shown, observation_shown, optional, ours_of, record_shown, second_shown};
 
 use aq_base::Bytes;
@@ -12,17 +12,6 @@ use aq_keeper::{LoadRow, ObsRow, ObsRow2, OfficeRow, Row};
 use sqlite::types::{Type, ValueRef};
 use sqlite::{Alter, Connection, Error, ErrorCode, Row as Columns};
 use std::alloc::Global;
-
-const READ_RECORDS: &str = "SELECT kind, rowkey, line FROM records ORDER BY kind, rowkey";
-
-const READ_OBSERVATIONS: &str =
-    "SELECT site, pollutant, poc, hour, value, nullcode, quals FROM observations ORDER BY site, pollutant, poc, hour";
-
-const READ_LOADS: &str =
-    "SELECT number, digest, lines, accepted, listed, rest FROM loads ORDER BY number";
-
-const READ_SECOND: &str =
-    "SELECT site, pollutant, poc, hour, value, method, nullcode, quals FROM observations2 ORDER BY site, pollutant, poc, hour";
 
 /// A table of the four.
 #[derive(Clone, Copy)]
@@ -35,13 +24,16 @@ pub(crate) enum Table {
 
 /// All rows in the order of their keys, as a query.
 fn query_of(table: Table) -> &'static str
-    ensures { result.now ≡ read_text table }
+    ensures { result.now ≡ (statements table).read }
 {
     match table {
-        Table::Records => READ_RECORDS,
-        Table::Observations => READ_OBSERVATIONS,
-        Table::Loads => READ_LOADS,
-        Table::Second => READ_SECOND,
+        Table::Records => "SELECT kind, rowkey, line FROM records ORDER BY kind, rowkey",
+        Table::Observations =>
+            "SELECT site, pollutant, poc, hour, value, nullcode, quals FROM observations ORDER BY site, pollutant, poc, hour",
+        Table::Loads =>
+            "SELECT number, digest, lines, accepted, listed, rest FROM loads ORDER BY number",
+        Table::Second =>
+            "SELECT site, pollutant, poc, hour, value, method, nullcode, quals FROM observations2 ORDER BY site, pollutant, poc, hour",
     }
 }
 
