@@ -6,7 +6,7 @@ use Rattle.std.specs.List.{filter_map, cons_option, range_with_len}
 use Rattle.std.proofs.lemmas.List.{append_assoc}
 use Rattle.std.proofs.lemmas.List.Elements.{filter_map-append}
 use Rattle.aq_rules.specs.Particles.Strata.{first_day_onto, first_days_after, strata_from}
-use Rattle.aq_pm10.specs.declared.days.DayOfQuarter.{DayOfQuarter}
+use Rattle.aq_pm10.specs.declared.site_quarter.DayOfQuarter.{DayOfQuarter}
 use Rattle.aq_pm10.specs.StrataSoFar.{StrataCut, all_ended, with_day, with_sample}
 use Rattle.aq_pm10.specs.QuarterDays.{with_one}
 

@@ -1,9 +1,10 @@
 -- The tally of a quarter's days is the quarter.
 use Rattle.std.proofs.Common.{◌≡◌, ℕ, zero, suc, ◌+◌, ◌≤◌, Bool, true, false, ◌||◌, ◌&&◌, ◌==◌, cond, List, [], ◌∷◌, ◌++◌, length, map, refl, ap, sym, subst, ◌∙◌, arith}
-use Rattle.std.specs.Prelude.{ℤ, Option, fold}
+use Rattle.std.specs.Prelude.{ℤ, Option, fold, sum}
 use Rattle.std.specs.List.{count_by, filter, filter_map, range_with_len}
 use Rattle.std.proofs.lemmas.List.FromFn.{length-map-range_with_len, map-range_with_len_more}
-use Rattle.std.proofs.lemmas.List.Sums.{count_by-le-length, sum_by-cons, length-filter}
+use Rattle.std.proofs.lemmas.List.Sums.{count_by-le-length, sum_by-cons, sum-map, length-filter}
+use Rattle.std.proofs.lemmas.Simd.{map-map}
 use Rattle.aq_base.specs.Calendar.{quarter_first, days_in_quarter}
 use Rattle.aq_base.specs.Site.{Site}
 use Rattle.aq_base.specs.declared.monitor.Pollutant.TheVariants.{Pm10}
@@ -13,8 +14,8 @@ use Rattle.aq_rules.specs.Particles.ParticleDay.{net_day}
 use Rattle.aq_rules.specs.Particles.QuarterCounts.{days_of_quarter, is_sampled}
 use Rattle.aq_rules.specs.Particles.Strata.{first_days, first_days_after, first_days_among, strata_from, strata_of}
 use Rattle.aq_rules.specs.Particles.Pm10Estimate.{Pm10Quarter, is_exceedance, pm10_quarter, quarter_of_strata}
-use Rattle.aq_pm10.specs.declared.days.DayOfQuarter.{DayOfQuarter}
-use Rattle.aq_pm10.specs.declared.days.QuarterTally.{QuarterTally}
+use Rattle.aq_pm10.specs.declared.site_quarter.DayOfQuarter.{DayOfQuarter}
+use Rattle.aq_pm10.specs.declared.site_quarter.QuarterTally.{QuarterTally}
 use Rattle.aq_pm10.specs.declared.strata.Totals.{Totals}
 use Rattle.aq_pm10.specs.StrataSoFar.{AreStrataOf, AreTotalsOf, StrataCut, all_ended, with_sample}
 use Rattle.aq_pm10.specs.QuarterDays.{cut_of, day_in, exceeds_as_scheduled, is_captured, with_one, IsTallyOf}
@@ -23,11 +24,8 @@ use Rattle.aq_pm10.proofs.CutLemmas.{rest_cut, one_or_none}
 -- ---- counts
 
 count_map : {X Y : Type 0} (p : Y → Bool) (f : X → Y) (list : List X) → count_by p (map f list) ≡ count_by (λ x. p (f x)) list
-count_map p f [] = refl
-count_map {X} {Y} p f (x ∷ list) =
-    sum_by-cons (λ (y : Y). cond (p y) 1 0) (f x) (map f list)
-    ∙ ap (λ (n : ℕ). cond (p (f x)) 1 0 + n) (count_map p f list)
-    ∙ sym (sum_by-cons (λ (y : X). cond (p (f y)) 1 0) x list)
+count_map {X} {Y} p f list =
+    sym (sum-map (λ (y : Y). cond (p y) 1 0) (map f list)) ∙ ap sum (map-map (λ (y : Y). cond (p y) 1 0) f list) ∙ sum-map (λ (x : X). cond (p (f x)) 1 0) list
 
 count_filter : {X : Type 0} (p q : X → Bool) (list : List X) → count_by (λ x. p x && q x) list ≡ count_by q (filter p list)
 count_filter p q [] = refl
@@ -90,28 +88,10 @@ module _ (office : Office) (site : Site) (quarter first count : ℕ) (tally : Qu
   exceeding_are n a = count_map exceeds_as_scheduled (day_in office site) (range_with_len a n) ∙ count_filter (is_scheduled office.records site Pm10) (is_exceedance office site) (range_with_len a n)
 
   abbrev pub quarter_kept : Pm10Quarter
-  quarter_kept = record {
-    calendar_days = count;
-    scheduled = tally.scheduled;
-    captured = tally.captured;
-    strata = totals.strata;
-    samples = totals.samples;
-    exceedances = totals.exceedances;
-    scheduled_exceedances = tally.scheduled_exceedances;
-    sixtieths = totals.sixtieths;
-  }
+  quarter_kept = record { calendar_days = count; scheduled = tally.scheduled; captured = tally.captured; strata = totals.strata; samples = totals.samples; exceedances = totals.exceedances; scheduled_exceedances = tally.scheduled_exceedances; sixtieths = totals.sixtieths }
 
   counted : quarter_kept ≡ quarter_of_strata count tally.scheduled tally.captured tally.scheduled_exceedances (all_ended (cut_of first (days office site first count)))
-  counted = λ i. record {
-    calendar_days = count;
-    scheduled = tally.scheduled;
-    captured = tally.captured;
-    strata = ends.totals_are.strata_with_samples i;
-    samples = ends.totals_are.samples i;
-    exceedances = ends.totals_are.exceedances i;
-    scheduled_exceedances = tally.scheduled_exceedances;
-    sixtieths = ends.totals_are.sixtieths i;
-  }
+  counted = λ i. record { calendar_days = count; scheduled = tally.scheduled; captured = tally.captured; strata = ends.totals_are.strata_with_samples i; samples = ends.totals_are.samples i; exceedances = ends.totals_are.exceedances i; scheduled_exceedances = tally.scheduled_exceedances; sixtieths = ends.totals_are.sixtieths i }
 
   abbrev pub quarter_by : ℕ → ℕ → Pm10Quarter
   quarter_by a n =

@@ -8,8 +8,8 @@ use Rattle.aq_rules.specs.Office.Schedule.{is_scheduled}
 use Rattle.aq_rules.specs.Particles.ParticleDay.{net_day}
 use Rattle.aq_rules.specs.Particles.QuarterCounts.{is_sampled}
 use Rattle.aq_rules.specs.Particles.Pm10Estimate.{exceeds}
-use Rattle.aq_pm10.specs.declared.days.DayOfQuarter.{DayOfQuarter}
-use Rattle.aq_pm10.specs.declared.days.QuarterTally.{QuarterTally}
+use Rattle.aq_pm10.specs.declared.site_quarter.DayOfQuarter.{DayOfQuarter}
+use Rattle.aq_pm10.specs.declared.site_quarter.QuarterTally.{QuarterTally}
 use Rattle.aq_pm10.specs.StrataSoFar.{AreStrataOf, StrataCut, no_strata, with_day}
 
 -- a day of a quarter

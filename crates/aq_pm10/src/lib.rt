@@ -2,7 +2,6 @@
 //! of them exceed. It takes no memory.
 #![tactic(auto)]
 
-mod days;
 mod site_quarter;
 mod strata;
 

@@ -1,13 +1,18 @@
 //! The PM10 quarters of a site (40 CFR Part 50, Appendix K, 2.3 and 3.1).
-ghost use Rattle.std.specs.Prelude.{◌≡◌, ◌<◌, ◌≤◌, option_and_then};
+ghost use Rattle.std.specs.Prelude.{◌≡◌, ◌<◌, ◌≤◌, ◌+◌, ℕ, ◌∷◌, ◌++◌, [], List, option_and_then};
 ghost use Rattle.aq_base.specs.Calendar.{quarter_number};
-ghost use Rattle.aq_base.specs.declared.day.TheConstants.{FIRST_YEAR, LAST_YEAR};
-ghost use Rattle.aq_rules.specs.Particles.ParticleDay.{unless_excluded};
+ghost use Rattle.aq_base.specs.declared.day.TheConstants.{FIRST_YEAR, LAST_DAY, LAST_YEAR};
+ghost use Rattle.aq_base.specs.declared.monitor.Pollutant.TheVariants.{Pm10};
+ghost use Rattle.aq_base.specs.declared.observation.ObsKey.{ObsKey};
+ghost use Rattle.aq_base.specs.declared.observation.Observation.{Observation};
+ghost use Rattle.aq_rules.specs.Particles.ParticleDay.{site_day, unless_excluded};
 ghost use Rattle.aq_rules.specs.Particles.Pm10Estimate.{pm10_quarter, pm10_year};
 ghost use Rattle.aq_series.specs.OfficeView.{office_of};
-ghost use Rattle.aq_pm10.specs.QuarterDays.{day_in};
+ghost use Rattle.aq_pm10.specs.QuarterDays.{day_in, IsTallyOf};
+ghost use Rattle.aq_pm10.specs.StrataSoFar.{IsStrata, samples_in};
+ghost use Rattle.aq_pm10.specs.declared.site_quarter.DayOfQuarter.{DayOfQuarter};
 
-use crate::days::{DayOfQuarter, QuarterTally};
+use crate::strata::{Strata, exceeds};
 use aq_base::{Day, FIRST_YEAR, Pollutant, Quarter, SiteId, Steps};
 use aq_cal::quarter_span;
 use aq_registry::Registry;
@@ -36,7 +41,8 @@ pub fn quarter<L: Ledger>(
     let mut so_far = QuarterTally::new(first.number());
     for count in 0..days {
         let day = Day::new(first.number() + u16::from(count));
-        so_far = so_far.with(day_of_quarter(shelf, registry, site, day, steps));
+        let cell = site_day(shelf, registry, site, Pollutant::Pm10, day, steps);
+        so_far = so_far.with(day_of_quarter(registry, site, day, &cell));
     }
     let strata = so_far.strata.totals();
     Pm10Quarter::new(
@@ -80,22 +86,15 @@ fn quarter_in(year: u16, part: u16) -> Quarter
     Quarter::new(4 * (year - FIRST_YEAR) + part)
 }
 
-/// What a day of a quarter gives it.
-fn day_of_quarter<L: Ledger>(
-    shelf: &Shelf,
-    registry: &Registry,
-    site: SiteId,
-    day: Day,
-    steps: &mut Steps<L>,
-) -> DayOfQuarter
-    ensures { result ≡ day_in (office_of registry.now shelf.now) site day }
+/// What a day of a quarter gives it, by the site's value for the day.
+fn day_of_quarter(registry: &Registry, site: SiteId, day: Day, cell: &Option<Cell>) -> DayOfQuarter
+    ensures { (rows : List (ObsKey × Observation)) → cell.now ≡ site_day (office_of registry.now rows) site Pm10 day → result ≡ day_in (office_of registry.now rows) site day }
 {
-    let cell = site_day(shelf, registry, site, Pollutant::Pm10, day, steps);
     DayOfQuarter {
         number: day.number(),
         is_scheduled: registry.is_scheduled(site, Pollutant::Pm10, day),
         is_sampled: cell.is_some(),
-        sample: sample_of(&cell),
+        sample: sample_of(cell),
     }
 }
 
@@ -112,5 +111,65 @@ fn sample_of(cell: &Option<Cell>) -> Option<i32>
             }
         }
         None => None,
+    }
+}
+
+/// A day of a quarter: its number, whether it is scheduled, whether there is a sample, and its value in
+/// tenths of a µg/m3 unless it is excluded.
+#[derive(Clone, Copy)]
+struct DayOfQuarter {
+    number: u16,
+    is_scheduled: bool,
+    is_sampled: bool,
+    sample: Option<i32>,
+}
+
+/// What the days of a quarter so far give: the scheduled ones, those of them with a sample, those of them
+/// that exceed, and the strata.
+#[derive(Clone, Copy)]
+struct QuarterTally {
+    scheduled: u8,
+    captured: u8,
+    scheduled_exceedances: u8,
+    strata: Strata,
+}
+
+impl QuarterTally {
+    /// Of no days of a quarter that begins with this one.
+    fn new(first: u16) -> QuarterTally
+        ensures of { IsTallyOf first [] result }
+        ensures facts { IsStrata result.strata }
+        ensures samples { samples_in result.strata ≡ 0 }
+    {
+        QuarterTally {
+            scheduled: 0,
+            captured: 0,
+            scheduled_exceedances: 0,
+            strata: Strata::starting(first),
+        }
+    }
+
+    /// With the next day.
+    fn with(self, day: DayOfQuarter) -> QuarterTally
+        requires scheduled { self.scheduled ≤ 91 }
+        requires captured { self.captured ≤ 91 }
+        requires exceedances { self.scheduled_exceedances ≤ 91 }
+        requires samples { samples_in self.strata ≤ 91 }
+        requires before { self.strata.first ≤ day.number }
+        requires day { day.number ≤ LAST_DAY }
+        requires facts { IsStrata self.strata }
+        ensures of { (first : ℕ) (days : List DayOfQuarter) → IsTallyOf first days self → IsTallyOf first (days ++ day ∷ []) result }
+        ensures facts { IsStrata result.strata }
+        ensures samples { samples_in result.strata ≤ samples_in self.strata + 1 }
+        ensures first { result.strata.first ≤ day.number }
+    {
+        let captured = day.is_scheduled && day.is_sampled;
+        let exceeds = day.is_scheduled && day.sample.is_some_and(exceeds);
+        QuarterTally {
+            scheduled: self.scheduled + u8::from(day.is_scheduled),
+            captured: self.captured + u8::from(captured),
+            scheduled_exceedances: self.scheduled_exceedances + u8::from(exceeds),
+            strata: self.strata.with(day.number, day.is_scheduled, day.sample),
+        }
     }
 }

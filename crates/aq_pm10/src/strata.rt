@@ -69,20 +69,6 @@ pub(crate) struct Totals {
 }
 
 impl Totals {
-    /// Of no strata.
-    fn new() -> Totals
-        ensures of { AreTotalsOf [] result }
-        ensures facts { AreTotals result }
-        ensures samples { result.samples ≡ 0 }
-    {
-        Totals {
-            strata: 0,
-            samples: 0,
-            exceedances: 0,
-            sixtieths: 0,
-        }
-    }
-
     /// With one more stratum.
     fn with(self, stratum: Stratum) -> Totals
         requires few { self.samples + stratum.samples ≤ 92 }
@@ -122,7 +108,12 @@ impl Strata {
         ensures samples { samples_in result ≡ 0 }
     {
         Strata {
-            ended: Totals::new(),
+            ended: Totals {
+                strata: 0,
+                samples: 0,
+                exceedances: 0,
+                sixtieths: 0,
+            },
             first,
             last: Stratum::new(),
         }

@@ -8,6 +8,7 @@ use Rattle.std.proofs.lemmas.List.{length-map}
 use Rattle.std.proofs.lemmas.List.FromFn.{length-range_with_len, map-range_with_len_more}
 use Rattle.std.proofs.lemmas.List.Elements.{filter_map-append}
 use Rattle.std.proofs.lemmas.List.Sums.{count_by-le-length, sum_by_push}
+use Rattle.aq_rules.proofs.Pm10Facts.{length-kept}
 use Rattle.aq_pm25.specs.QuarterValues.{AreOf}
 use Rattle.aq_pm25.specs.QuarterDays.{values_of, IsTallyOf}
 use Rattle.aq_pm25.specs.declared.quarter_days.DayOfQuarter.{DayOfQuarter}
@@ -42,15 +43,6 @@ tally-more before days day tally a b c values is ai bi ci more = record {
 
 -- ---- no more than the days
 
-few_values : (days : List DayOfQuarter) → length (values_of days) ≤ length days
-few_values [] = omega arith
-few_values (day ∷ days) =
-    let rest = few_values days in
-    elim day.value as (λ o. length (cons_option o (values_of days)) ≤ length (day ∷ days)) [
-      | None ↦ omega (arith, rest)
-      | Some v ↦ omega (arith, rest)
-    ]
-
 pub record AreFew (count : ℕ) (tally : QuarterTally) : Type 0 where
   pub scheduled : tally.scheduled ≤ count
   pub creditable : tally.creditable ≤ count
@@ -65,7 +57,7 @@ few day before first count tally is =
       scheduled = omega (arith, is.scheduled, many, count_by-le-length (λ (d : DayOfQuarter). d.scheduled) days);
       creditable = omega (arith, is.creditable, many, count_by-le-length (λ (d : DayOfQuarter). d.creditable) days);
       counted = omega (arith, is.counted, many, count_by-le-length (λ (d : DayOfQuarter). d.counted) days);
-      values = omega (arith, is.values.count, many, few_values days);
+      values = omega (arith, is.values.count, many, length-kept (λ (d : DayOfQuarter). d.value) days);
     }
 
 pub days-more : (f : ℕ → DayOfQuarter) (first count number : ℕ) (day : DayOfQuarter) → first + count ≡ number → day ≡ f number → map f (range_with_len first count) ++ day ∷ [] ≡ map f (range_with_len first (count + 1))

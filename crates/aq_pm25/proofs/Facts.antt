@@ -25,8 +25,8 @@ use Rattle.aq_rules.proofs.Pm25Facts.{greatest-there, least-there, no-sum, sum-w
 use Rattle.aq_rules.proofs.ValueRange.{IfValueTo, InRangeTo, greatest-in_range, least-in_range, to_test}
 use Rattle.aq_registry.specs.Registry.{office_with}
 use Rattle.aq_series.specs.OfficeView.{office_of}
-use Rattle.aq_pm25.specs.QuarterDays.{credited, day_in, makeup_cell, summary_of, values_of, IsTallyOf}
-use Rattle.aq_pm25.specs.QuarterValues.{AreParticles}
+use Rattle.aq_pm25.specs.QuarterDays.{credited, day_in, makeup_cell, summary_of, values_of, IsQuarterOf, IsTallyOf}
+use Rattle.aq_pm25.specs.QuarterValues.{top_after, AreParticles}
 use Rattle.aq_pm25.specs.declared.quarter_days.DayOfQuarter.{DayOfQuarter}
 use Rattle.aq_pm25.specs.declared.quarters.QuarterTally.{QuarterTally}
 use Rattle.aq_pm25.proofs.Counts.{count-both, counted-in, length-passing}
@@ -131,11 +131,11 @@ module _ (records : List OfficeRecord) (rows : List (ObsKey × Observation)) (si
     counted_days_are : tally.counted ≡ count_by (λ d. net (credited office site d)) days
     counted_days_are = of_days.counted ∙ count_map (λ (d : DayOfQuarter). d.counted) (day_in office site) days
 
-    pub quarter-values : values_of (map (day_in office site) (days_of_quarter quarter)) ≡ quarter_values office site Pm25 quarter
+    quarter-values : values_of (map (day_in office site) (days_of_quarter quarter)) ≡ quarter_values office site Pm25 quarter
     unfolding days_of_quarter quarter_values
     quarter-values = values_are days
 
-    pub summary-is : summary_of tally ≡ summary_of_quarter (pm25_quarter office site quarter)
+    summary-is : summary_of tally ≡ summary_of_quarter (pm25_quarter office site quarter)
     unfolding quarter_counts days_of_quarter
     summary-is =
         let a : tally.scheduled ≡ length (filter scheduled days) = scheduled_days_are ∙ sym (length-filter scheduled days) in
@@ -189,7 +189,7 @@ module _ (records : List OfficeRecord) (rows : List (ObsKey × Observation)) (si
             let parts = and_parts (gives_credit office site m) (kept m.makeup) h in
             joined (kept m.makeup) (not (scheduled m.makeup)) parts.1 (credit_unscheduled m parts.0)
 
-    pub facts-kept : KeepsPmQuarter (summary_of_quarter (pm25_quarter office site quarter))
+    facts-kept : KeepsPmQuarter (summary_of_quarter (pm25_quarter office site quarter))
     facts-kept =
         let values = quarter_values office site Pm25 quarter in
         let every : Every (InRangeTo 99999) values = every_of values (subst AreParticles quarter-values is.values.range) in
@@ -230,3 +230,11 @@ module _ (records : List OfficeRecord) (rows : List (ObsKey × Observation)) (si
           sum_within = sum-within (pm25_quarter office site quarter);
           no_sum = no-sum values;
         }
+
+    pub quarter-is : IsQuarterOf office site quarter before tally
+    quarter-is = record {
+      summary = summary-is;
+      facts = subst KeepsPmQuarter (sym summary-is) facts-kept;
+      top = is.values.top ∙ ap (top_after before) quarter-values;
+      range = subst AreParticles quarter-values is.values.range;
+    }

@@ -19,6 +19,7 @@ use Rattle.aq_rules.proofs.Elements.{Every}
 use Rattle.aq_rules.proofs.Pm10Facts.{count-filter}
 use Rattle.aq_rules.proofs.Pm25Counts.{is_record-of}
 use Rattle.aq_rules.proofs.Spans.{fit, on}
+use Rattle.aq_rules.proofs.ValidRecords.{site_is}
 use Rattle.aq_registry.specs.Registry.{office_with}
 use Rattle.aq_pm25.proofs.Makeups.{HoldsSpan, as_makeup}
 
@@ -90,17 +91,10 @@ module _ (records : List OfficeRecord) (site : Site) (quarter first many : ℕ) 
         )
     made_few (r ∷ rs) = omega (arith, made_few rs, count_cons (makes_up_on site d) r rs)
 
-    same_numbers : (a b : Site) → site_numbers a ≡ site_numbers b → a ≡ b
-    same_numbers a b e =
-        let state : a.state ≡ b.state = cc in
-        let county : a.county ≡ b.county = cc in
-        let number : a.number ≡ b.number = cc in
-        λ i. record { state = state i; county = county i; number = number i }
-
     own_day : (r : OfficeRecord) → makes_up_on site d r ≡ true → is_alone (office_with records) r ≡ true → count_by (makes_up_on site d) records ≤ 1
     own_day (MakeupRecord other missed makeup) on_day own =
         let parts = and_parts (is_same (site_numbers other) (site_numbers site)) (makeup == d) on_day in
-        let s : other ≡ site = same_numbers other site ((bytes_eq-Decides (site_numbers other) (site_numbers site)).0 parts.0) in
+        let s : other ≡ site = site_is other site ((bytes_eq-Decides (site_numbers other) (site_numbers site)).0 parts.0) in
         let m : makeup ≡ d = eqb-true makeup d parts.1 in
         let one : makeups_on (office_with records) other makeup ≡ 1 = eqb-true (makeups_on (office_with records) other makeup) 1 own in
         let here : makeups_on (office_with records) site d ≡ 1 = (λ i. makeups_on (office_with records) (sym s i) (sym m i)) ∙ one in

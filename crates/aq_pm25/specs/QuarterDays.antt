@@ -1,17 +1,18 @@
 -- What the days of a quarter give it, and what some of them give together.
-use Rattle.std.specs.Prelude.{◌≡◌, ℕ, ◌+◌, ◌-◌, Bool, not, ◌&&◌, ◌||◌, ◌==◌, if◌then◌else◌, Option, None, is_some, option_and_then, List, count_by, filter_map, ℤ}
+use Rattle.std.specs.Prelude.{◌≡◌, ◌<◌, ℕ, ◌+◌, ◌-◌, Bool, not, ◌&&◌, ◌||◌, ◌==◌, if◌then◌else◌, Option, None, is_some, option_and_then, List, count_by, filter_map, ℤ}
 use Rattle.std.specs.List.{list_any, range_with_len}
 use Rattle.std.specs.Option.{option_or}
 use Rattle.aq_base.specs.Site.{Site}
 use Rattle.aq_base.specs.declared.monitor.Pollutant.TheVariants.{Pm25}
 use Rattle.aq_base.specs.declared.office.OfficeRecord.{OfficeRecord}
-use Rattle.aq_rules.specs.Kept.Summaries.{PmQuarter}
+use Rattle.aq_rules.specs.Kept.Summaries.{KeepsPmQuarter, PmQuarter, summary_of_quarter}
 use Rattle.aq_rules.specs.Office.Office.{Office}
 use Rattle.aq_rules.specs.Office.Questions.{makeup_of}
 use Rattle.aq_rules.specs.Office.Schedule.{is_scheduled}
 use Rattle.aq_rules.specs.Ozone.SiteHour.{Cell}
 use Rattle.aq_rules.specs.Particles.ParticleDay.{site_day, net_day, unless_excluded}
-use Rattle.aq_pm25.specs.QuarterValues.{AreOf}
+use Rattle.aq_rules.specs.Particles.QuarterCounts.{pm25_quarter, quarter_values}
+use Rattle.aq_pm25.specs.QuarterValues.{top_after, AreOf, AreParticles}
 use Rattle.aq_pm25.specs.declared.quarter_days.DayOfQuarter.{DayOfQuarter}
 use Rattle.aq_pm25.specs.declared.quarters.QuarterTally.{QuarterTally}
 
@@ -50,14 +51,20 @@ pub record IsTallyOf (before : List ℤ) (days : List DayOfQuarter) (tally : Qua
   pub counted : tally.counted ≡ count_by (λ (day : DayOfQuarter). day.counted) days
   pub values : AreOf before (values_of days) tally.values
 
+-- a tally that another day may join
+pub record HasRoom (tally : QuarterTally) : Type 0 where
+  pub scheduled : tally.scheduled < 92
+  pub creditable : tally.creditable < 92
+  pub counted : tally.counted < 92
+  pub values : tally.values.count < 92
+
 -- what is kept of a tally
 abbrev pub summary_of : QuarterTally → PmQuarter
-summary_of tally = record {
-  scheduled = tally.scheduled;
-  creditable = tally.creditable;
-  counted = tally.counted;
-  net_days = tally.values.count;
-  sum = tally.values.sum;
-  least = tally.values.least;
-  greatest = tally.values.greatest;
-}
+summary_of tally = record { scheduled = tally.scheduled; creditable = tally.creditable; counted = tally.counted; net_days = tally.values.count; sum = tally.values.sum; least = tally.values.least; greatest = tally.values.greatest }
+
+-- the tally of a quarter of an office, whose values join the greatest of earlier ones
+pub record IsQuarterOf (office : Office) (site : Site) (quarter : ℕ) (before : List ℤ) (tally : QuarterTally) : Type 0 where
+  pub summary : summary_of tally ≡ summary_of_quarter (pm25_quarter office site quarter)
+  pub facts : KeepsPmQuarter (summary_of tally)
+  pub top : tally.values.top ≡ top_after before (quarter_values office site Pm25 quarter)
+  pub range : AreParticles (quarter_values office site Pm25 quarter)

@@ -1,7 +1,7 @@
 use Rattle.std.proofs.Common.{◌≡◌, ◌+◌, List, sym, subst, ◌∙◌, arith}
 use Rattle.aq_rules.specs.Kept.Summaries.{KeepsPm10Quarter}
 use Rattle.aq_series.specs.OfficeView.{office_of}
-use Rattle.aq_pm10.specs.declared.days.DayOfQuarter.{DayOfQuarter}
+use Rattle.aq_pm10.specs.declared.site_quarter.DayOfQuarter.{DayOfQuarter}
 use Rattle.aq_pm10.specs.QuarterDays.{IsTallyOf}
 use Rattle.aq_pm10.proofs.QuarterLemmas.{days, days-more, ends-quarter, few, quarter_is}
 use Rattle.aq_pm10.proofs.site_quarter.quarter.Goals as goal
@@ -26,11 +26,12 @@ loop-count-preserved g c =
     let office = office_of c.args.registry.now c.args.shelf.now in
     let first = c.quarter_span-first.result.0 in
     let at : first + c.loop-count.count ≡ c.new-day.result = omega (arith, c.new-day.ensures, c.number-in-loop-count.ensures.value, c.from.ensures) in
-    let number : c.day_of_quarter.result.number ≡ c.new-day.result = λ i. (c.day_of_quarter.ensures i).number in
+    let day = c.day_of_quarter.ensures c.args.shelf.now c.site_day-cell.ensures.value in
+    let number : c.day_of_quarter.result.number ≡ c.new-day.result = λ i. (day i).number in
     record {
       tally =
           subst (λ (days : List DayOfQuarter). IsTallyOf first days c.with-so_far.result)
-          (days-more office c.args.site first c.loop-count.count c.new-day.result c.day_of_quarter.result at c.day_of_quarter.ensures)
+          (days-more office c.args.site first c.loop-count.count c.new-day.result c.day_of_quarter.result at day)
           (c.with-so_far.ensures.of first (days office c.args.site first c.loop-count.count) c.loop-count.invariant.tally);
       facts = c.with-so_far.ensures.facts;
       samples = omega (arith, c.with-so_far.ensures.samples, c.loop-count.invariant.samples);

@@ -1,34 +1,26 @@
-use Rattle.std.proofs.Common.{◌≡◌, ◌+◌, List, map, subst, ◌∙◌, arith}
+use Rattle.std.proofs.Common.{◌≡◌, ◌+◌, ◌<◌, List, map, subst, ◌∙◌, arith}
 use Rattle.std.specs.List.{range_with_len}
 use Rattle.aq_rules.specs.Particles.QuarterCounts.{days_of_quarter}
 use Rattle.aq_series.specs.OfficeView.{office_of}
 use Rattle.aq_pm25.specs.QuarterDays.{day_in, IsTallyOf}
 use Rattle.aq_pm25.specs.declared.quarter_days.DayOfQuarter.{DayOfQuarter}
 use Rattle.aq_pm25.proofs.DayTallies.{days-more, few}
+use Rattle.aq_pm25.proofs.Facts.{quarter-is}
 use Rattle.aq_pm25.proofs.quarters.tally_of.Goals as goal
 
 pub loop-count-init : goal.loop-count-init
 loop-count-init g c = record { tally = c.new-so_far.ensures.tally; sum = c.new-so_far.ensures.sum }
 
-pub with-so_far-requires-clause-scheduled : goal.with-so_far-requires-clause-scheduled
-with-so_far-requires-clause-scheduled g c =
+pub with-so_far-requires-clause-room : goal.with-so_far-requires-clause-room
+with-so_far-requires-clause-room g c =
     let least = few _ _ c.quarter_span-first.result.0 c.loop-count.count c.loop-count.so_far c.loop-count.invariant.tally in
-    omega (arith, least.scheduled, c.loop-count-test.true, c.quarter_span-first.ensures.days_range.1)
-
-pub with-so_far-requires-clause-creditable : goal.with-so_far-requires-clause-creditable
-with-so_far-requires-clause-creditable g c =
-    let least = few _ _ c.quarter_span-first.result.0 c.loop-count.count c.loop-count.so_far c.loop-count.invariant.tally in
-    omega (arith, least.creditable, c.loop-count-test.true, c.quarter_span-first.ensures.days_range.1)
-
-pub with-so_far-requires-clause-counted : goal.with-so_far-requires-clause-counted
-with-so_far-requires-clause-counted g c =
-    let least = few _ _ c.quarter_span-first.result.0 c.loop-count.count c.loop-count.so_far c.loop-count.invariant.tally in
-    omega (arith, least.counted, c.loop-count-test.true, c.quarter_span-first.ensures.days_range.1)
-
-pub with-so_far-requires-clause-values : goal.with-so_far-requires-clause-values
-with-so_far-requires-clause-values g c =
-    let least = few _ _ c.quarter_span-first.result.0 c.loop-count.count c.loop-count.so_far c.loop-count.invariant.tally in
-    omega (arith, least.values, c.loop-count-test.true, c.quarter_span-first.ensures.days_range.1)
+    let room : c.loop-count.count < 92 = omega (arith, c.loop-count-test.true, c.quarter_span-first.ensures.days_range.1) in
+    record {
+      scheduled = omega (arith, least.scheduled, room);
+      creditable = omega (arith, least.creditable, room);
+      counted = omega (arith, least.counted, room);
+      values = omega (arith, least.values, room);
+    }
 
 pub with-so_far-requires-clause-sum : goal.with-so_far-requires-clause-sum
 with-so_far-requires-clause-sum g c = c.loop-count.invariant.sum
@@ -46,11 +38,14 @@ loop-count-preserved g c =
       sum = c.with-so_far.ensures.sum;
     }
 
-pub returns : goal.returns
+pub returns-clause-quarter : goal.returns-clause-quarter
 unfolding days_of_quarter
-returns g c =
+returns-clause-quarter g c =
     let day = day_in (office_of c.args.registry.now c.args.shelf.now) c.args.site.now in
     let all : c.loop-count.count ≡ c.quarter_span-first.result.1 = omega (arith, c.loop-count-test.false, c.loop-count.auto.count-end) in
+    let tally =
     subst (λ (days : List DayOfQuarter). IsTallyOf c.args.top days c.loop-count.so_far)
     (λ i. map day (range_with_len (c.quarter_span-first.ensures.first i) ((all ∙ c.quarter_span-first.ensures.days) i)))
     c.loop-count.invariant.tally
+    in
+    quarter-is c.args.registry.now c.args.shelf.now c.args.site.now c.args.quarter c.next_poc.ensures.valid (c.a_quarter_holds_the_days_of_its_span.ensures c.args.quarter) c.args.top c.loop-count.so_far tally

@@ -1,5 +1,5 @@
 use Rattle.std.proofs.Common.{subst, take, ap, ◌∙◌, w32}
-use Rattle.std.specs.Prelude.{ℤ, Option, Some, IfSome}
+use Rattle.std.specs.Prelude.{ℤ, Option, IfSome}
 use Rattle.std.proofs.lemmas.Int.{to_z-of_z}
 use Rattle.aq_rules.specs.Lists.{greater, lesser, ranked_in}
 use Rattle.aq_series.specs.DayCells.{IsParticle}
