@@ -29,7 +29,7 @@ impl<S: Alter + Drop> SqliteKeeper<S> {
     ghost use Rattle.sqlite.specs.Held.{state};
     ghost use Rattle.aq_keeper.specs.Told.{HasCause};
     ghost use Rattle.aq_tables.specs.All.{rows_of};
-    ghost use Rattle.aq_tables.specs.Made.{IsMade};
+    ghost use Rattle.aq_tables.specs.Made.{IsMade, IsOffice};
     ghost use Rattle.aq_sqlite.specs.Telling.{told};
     ghost use Rattle.aq_sqlite.specs.Crash.{LeavesOnly};
 
@@ -57,6 +57,10 @@ impl<S: Alter + Drop> SqliteKeeper<S> {
         ensures begins { OnOk result (IsTrue self.new.prepared) }
         ensures rows { IfSome (told self.new.prepared (state S.Store self.new.connection)) (λ rows. rows_of (state S.Store self.old.connection).committed ≡ rows) }
         ensures cause { HasCause self.old.faults self.new.faults result }
+
+        // It takes the databases of an office and of nobody, and leaves any other as it is.
+        ensures office { OnOk result (IsOffice self.old.connection.schema) }
+        ensures other { (IsOffice self.old.connection.schema → ⊥) → self.new.connection ≡ self.old.connection }
 
         // After Ok a crash leaves what is told and nothing else, and after an error also what it could
         // leave before.

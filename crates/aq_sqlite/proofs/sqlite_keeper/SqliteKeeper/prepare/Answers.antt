@@ -1,6 +1,6 @@
 use Rattle.std.proofs.Common.{rules}
 use Rattle.sqlite.specs.Held.{state}
-use Rattle.aq_sqlite.proofs.Keeping.{stands_made, told_made, left_made}
+use Rattle.aq_sqlite.proofs.Keeping.{on_ok, stands_made, told_made, left_made}
 use Rattle.aq_sqlite.proofs.sqlite_keeper.SqliteKeeper.prepare.Goals as goal
 
 pub invariant_of-self : goal.invariant_of-self
@@ -14,3 +14,6 @@ returns-clause-rows g c = rw c.is_ok-self.ensures.value (told_made c.prepare-mad
 pub returns-clause-left : goal.returns-clause-left
 returns-clause-left g c = left_made c.prepare-made.result (state g.S.Store c.args.self.now.connection) (state g.S.Store c.prepare-made.new.conn)
     (g.met.S.Store.settled c.prepare-made.new.conn.store) (λ h. (c.schema.ensures.live h).1) c.is_ok-self.result
+
+pub returns-clause-office : goal.returns-clause-office
+returns-clause-office g c = rw c.counted.ensures.same (on_ok _ c.prepare-made.result c.prepare-made.ensures.office)
