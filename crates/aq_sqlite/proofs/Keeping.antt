@@ -1,5 +1,5 @@
 -- What a call keeps of what a keeper tells, and what a crash leaves after it.
-use Rattle.std.proofs.Common.{◌≡◌, ◌≢◌, ◌∙◌, ◌⊎◌, inl, inr, ◌&&◌, Bool, true, false, List, [], Option, Some, None, Result, Ok, Err, IsTrue, OnOk, OnErr, IfOk, IfSome, is_ok, refl, sym, ap, subst, arith}
+use Rattle.std.proofs.Common.{◌≡◌, ◌≢◌, ◌∙◌, ◌⊎◌, inl, inr, ◌&&◌, Bool, true, false, List, [], Some, Result, Ok, Err, IsTrue, OnOk, OnErr, IfOk, IfSome, is_ok, refl, sym, ap, subst, arith}
 use Rattle.std.specs.Option.{option_map}
 use Rattle.std.proofs.Math.Logic.{∥∥₁_elim, ∥∥₁_map}
 use Rattle.std.specs.Coded.{coded_list}

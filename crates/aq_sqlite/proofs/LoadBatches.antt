@@ -1,6 +1,5 @@
 -- Batches have no change of the row of another load.
-use Rattle.std.proofs.Common.{◌≡◌, ◌≢◌, ◌∙◌, ℕ, ℤ, pos, ◌==◌, Bool, true, false, cond, List, [], ◌∷◌, ◌++◌, map, filter, Option, Some, None, IfSome, refl, sym, ap}
-use Rattle.std.proofs.lemmas.Bool.{false≢true}
+use Rattle.std.proofs.Common.{◌≡◌, ◌≢◌, ℕ, ℤ, pos, ◌==◌, Bool, true, false, cond, List, [], ◌∷◌, ◌++◌, map, filter, Option, Some, None, IfSome, refl}
 use Rattle.std.specs.List.{AllByRecursion, cons_option, filter_map}
 use Rattle.std.proofs.lemmas.Bool.Decides.{Decides-int_eq}
 use lib.Pointwise.{pointwise_decides}
@@ -9,10 +8,10 @@ use Rattle.aq_base.specs.declared.observation.Observation.{Observation}
 use Rattle.aq_base.specs.declared.office.OfficeRecord.{OfficeRecord}
 use Rattle.aq_base.specs.declared.office.OfficeKey.{OfficeKey}
 use Rattle.aq_rules.specs.Lines.Lines.{body_lines}
-use Rattle.aq_rules.specs.Office.Office.{Office, StoredLoad, key_of, key_numbers, observation_numbers, observation_key, record_at, observation_at}
-use Rattle.aq_rules.specs.Office.Load.{OfficeChange, PutRecord, PutObservation, PutLoad, is_same_record, is_same_content, record_change, observation_change, record_changes, observation_changes, keys_of_either, load_change, batch, stored, after_all}
+use Rattle.aq_rules.specs.Office.Office.{Office, StoredLoad, record_at, observation_at}
+use Rattle.aq_rules.specs.Office.Load.{OfficeChange, PutRecord, PutObservation, PutLoad, is_same_record, is_same_content, record_change, observation_change, record_changes, observation_changes, load_change, batch, stored, after_all}
 use Rattle.aq_rules.specs.Kept.Rows.{Row, OfOfficeRow, OfObsRow, OfLoadRow, OfSecondRow}
-use Rattle.aq_rules.specs.Kept.RowChanges.{RowKey, LoadRowKey, RowChange, PutRow, DropRow, columns, row_key, changed_key, is_same_row_key, row_change, row_batch}
+use Rattle.aq_rules.specs.Kept.RowChanges.{LoadRowKey, RowChange, PutRow, DropRow, columns, row_key, changed_key, is_same_row_key, row_change, row_batch}
 use Rattle.aq_rules.specs.Kept.Migration.{is_first, migrated_row, migration_batch}
 use Rattle.aq_sqlite.specs.Loads.{Spares}
 

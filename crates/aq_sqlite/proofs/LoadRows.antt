@@ -1,5 +1,5 @@
 -- The row of a load stands through changes of other rows, and so in all that a crash leaves.
-use Rattle.std.proofs.Common.{◌≡◌, ◌⊎◌, inl, inr, ◌∙◌, ℤ, Bool, true, false, cond, not, List, [], ◌∷◌, ◌++◌, Option, Some, None, refl, sym, ap, subst}
+use Rattle.std.proofs.Common.{◌≡◌, inl, inr, ◌∙◌, Bool, true, false, cond, not, List, [], ◌∷◌, ◌++◌, Option, Some, None, refl, sym, ap, subst}
 use Rattle.std.proofs.lemmas.Bool.{false≢true}
 use Rattle.std.specs.Ordering.{int_eq}
 use Rattle.std.specs.List.{AllByRecursion}
@@ -8,7 +8,7 @@ use lib.Pointwise.{pointwise, pointwise_decides}
 use Rattle.sqlite.specs.Held.{Held, state}
 use Rattle.sqlite_trees.specs.declared.store.Store.{Ghosts}
 use Rattle.aq_rules.specs.Kept.Rows.{Row, LoadRow, OfLoadRow}
-use Rattle.aq_rules.specs.Kept.RowChanges.{RowKey, LoadRowKey, RowChange, PutRow, DropRow, row_key, changed_key, columns, key_before, is_same_row_key, put_row, drop_row, row_with, with_row_change, with_row_changes}
+use Rattle.aq_rules.specs.Kept.RowChanges.{RowKey, LoadRowKey, RowChange, PutRow, DropRow, row_key, columns, key_before, is_same_row_key, put_row, drop_row, row_with, with_row_change, with_row_changes}
 use Rattle.aq_tables.specs.Crash.{Kept, Attempt, kept_after, kept_with}
 use Rattle.aq_sqlite.specs.Crash.{AreCalled, IsKept, IsOneOf, LeavesOnly, kept_through, last_after}
 use Rattle.aq_sqlite.specs.Loads.{HasLoad, Spares, SparesCall, with_load}

@@ -1,7 +1,6 @@
 -- What stands, and what a crash leaves, through any calls.
-use Rattle.std.proofs.Common.{◌≡◌, ◌⊎◌, inl, inr, Bool, true, false, List, [], ◌∷◌, Option, Some, None, arith}
-use Rattle.sqlite.specs.Effect.{Database, IsDatabase}
-use Rattle.sqlite.specs.State.{State, HasCleanDisk}
+use Rattle.std.proofs.Common.{◌≡◌, inl, inr, Bool, true, false, List, [], ◌∷◌, Option, Some, None, arith}
+use Rattle.sqlite.specs.State.{State}
 use Rattle.sqlite.specs.Held.{Held, state}
 use Rattle.sqlite_trees.specs.declared.store.Store.{Ghosts}
 use Rattle.aq_rules.specs.Kept.Rows.{Row}
@@ -10,8 +9,8 @@ use Rattle.aq_keeper.specs.Told.{Stays}
 use Rattle.aq_keeper.proofs.Telling.{stays_join, stays_still}
 use Rattle.aq_tables.specs.All.{rows_of}
 use Rattle.aq_tables.specs.Crash.{Kept, Attempt, kept_after, kept_with}
-use Rattle.aq_sqlite.specs.Telling.{told, with_batch}
-use Rattle.aq_sqlite.specs.Crash.{AreCalled, IsKept, IsOneOf, SaysOf, SaysOfCommit, kept_through, last_after}
+use Rattle.aq_sqlite.specs.Telling.{with_batch}
+use Rattle.aq_sqlite.specs.Crash.{AreCalled, IsKept, SaysOf, SaysOfCommit, kept_through, last_after}
 
 -- rows with a batch are those that stand, with the batch
 expected_is : (rows left : List Row) (batch : List RowChange) (tells : Option (List Row)) → Stays (Some rows) tells → with_batch batch tells ≡ Some left → left ≡ with_row_changes rows batch

@@ -1,4 +1,3 @@
-use Rattle.std.proofs.Common.{rules}
 use Rattle.sqlite.specs.Held.{state}
 use Rattle.aq_sqlite.proofs.Keeping.{on_ok, stands_made, told_made, left_made}
 use Rattle.aq_sqlite.proofs.sqlite_keeper.SqliteKeeper.prepare.Goals as goal

@@ -1,4 +1,3 @@
-use Rattle.std.proofs.Common.{rules}
 use Rattle.sqlite.specs.Held.{state}
 use Rattle.aq_sqlite.proofs.Keeping.{on_ok, on_err, stands_then, done_told, kept_told, left_rows, crash_rows}
 use Rattle.aq_sqlite.proofs.sqlite_keeper.SqliteKeeperKeeper.commit.Goals as goal

@@ -1,4 +1,3 @@
-use Rattle.std.proofs.Common.{rules}
 use Rattle.sqlite.specs.Held.{state}
 use Rattle.aq_sqlite.proofs.Keeping.{stands_read, told_read, rows_read}
 use Rattle.aq_sqlite.proofs.sqlite_keeper.SqliteKeeperKeeper.read_all.Goals as goal
