@@ -10,6 +10,8 @@ use std::fs;
 use std::process::Abort;
 use std::test::Fail;
 
+mod stops;
+
 fn bytes(alloc: Global, text: &str) -> Result<Bytes, Fail> {
     Ok(Bytes::from_vec(text.as_bytes().to_vec(alloc)?))
 }
@@ -255,6 +257,177 @@ fn a_database_in_memory_is_prepared_twice_and_kept(rt: HostRuntime) -> Result<()
     assert!(rt; keeper.prepare().is_ok());
     assert!(rt; keeper.prepare().is_ok());
     keep(&rt, alloc, &mut keeper)
+}
+
+/// Databases of an office: further tables, indexes and views bear on nothing.
+const OFFICES: [&str; 4] = [
+    "",
+    "CREATE TABLE records (kind INTEGER NOT NULL, rowkey TEXT NOT NULL, line TEXT NOT NULL, PRIMARY KEY (kind, rowkey)) STRICT; CREATE TABLE other (a)",
+    "CREATE TABLE records (kind INTEGER NOT NULL, rowkey TEXT NOT NULL, line TEXT NOT NULL, PRIMARY KEY (kind, rowkey)) STRICT; CREATE VIEW lines AS SELECT line FROM records",
+    APART,
+];
+
+/// A further index, in which no two values may be the same.
+const APART: &str =
+    "CREATE TABLE observations2 (site INTEGER NOT NULL, pollutant INTEGER NOT NULL, poc INTEGER NOT NULL, hour INTEGER NOT NULL, value INTEGER, method INTEGER, nullcode TEXT NOT NULL, quals TEXT NOT NULL, PRIMARY KEY (site, pollutant, poc, hour)) STRICT; CREATE UNIQUE INDEX apart ON observations2 (value)";
+
+/// A drop, and a value that stands.
+const CLASH: [Change; 2] = [
+    Change::DropFirst(214_762),
+    Change::Put(Kept::Second(214_765, Some(72), None, "")),
+];
+
+/// Databases that are none: another program's, and those with a table of ours in another form.
+const OTHERS: [&str; 5] = [
+    "CREATE TABLE other (a)",
+    "CREATE TABLE records (kind INTEGER NOT NULL, rowkey TEXT NOT NULL, line TEXT, PRIMARY KEY (kind, rowkey)) STRICT",
+    "CREATE TABLE records (kind INTEGER NOT NULL, rowkey TEXT NOT NULL, line TEXT NOT NULL, more TEXT, PRIMARY KEY (kind, rowkey)) STRICT",
+    "CREATE TABLE records (kind INTEGER NOT NULL, rowkey TEXT NOT NULL, line TEXT NOT NULL UNIQUE, PRIMARY KEY (kind, rowkey)) STRICT",
+    "CREATE TABLE loads (number INTEGER PRIMARY KEY, digest BLOB NOT NULL, lines INTEGER NOT NULL, accepted INTEGER NOT NULL, listed TEXT NOT NULL, rest TEXT NOT NULL)",
+];
+
+#[test]
+fn an_office_is_kept_whatever_stands_beside_it(rt: HostRuntime) -> Result<(), Fail> {
+    let alloc = rt.alloc();
+    for sql in OFFICES {
+        let mut keeper = over(alloc, sql)?;
+        assert!(rt; keeper.prepare().is_ok());
+        take(&rt, alloc, &mut keeper, &STORED, &BEFORE)?;
+    }
+    Ok(())
+}
+
+#[test]
+fn a_batch_that_clashes_is_refused_whole(rt: HostRuntime) -> Result<(), Fail> {
+    let alloc = rt.alloc();
+    let mut keeper = over(alloc, APART)?;
+    assert!(rt; keeper.prepare().is_ok());
+    take(&rt, alloc, &mut keeper, &STORED, &BEFORE)?;
+    let batch = batch_of(alloc, &CLASH)?;
+    assert!(rt; commit(&rt, alloc, &mut keeper, &batch) == Err(KeeperFault::Failed));
+    assert!(rt; reads(alloc, &mut keeper, &BEFORE)?);
+    Ok(())
+}
+
+#[test]
+fn the_tables_of_another_program_are_refused(rt: HostRuntime) -> Result<(), Fail> {
+    let alloc = rt.alloc();
+    for sql in OTHERS {
+        let mut keeper = over(alloc, sql)?;
+        assert!(rt; keeper.prepare() == Err(KeeperFault::Failed));
+        // Nothing was made.
+        assert!(rt; keeper.prepare() == Err(KeeperFault::Failed));
+    }
+    Ok(())
+}
+
+/// The tables in the order of a batch, and of rows.
+#[derive(Clone, Copy)]
+enum Table {
+    Records,
+    First,
+    Loads,
+    Second,
+}
+
+const IN_BATCH: [Table; 4] = [Table::Records, Table::First, Table::Second, Table::Loads];
+
+const IN_ORDER: [Table; 4] = [Table::Records, Table::First, Table::Loads, Table::Second];
+
+fn spelled(alloc: Global, word: &str, number: i64) -> Result<Bytes, Fail> {
+    let text = format!(in alloc; "{word} {number}")?;
+    bytes(alloc, text.as_str())
+}
+
+/// A row by its number, of which no two columns are alike.
+fn numbered(alloc: Global, table: Table, number: i64) -> Result<Row, Fail> {
+    match table {
+        Table::Records => numbered_record(alloc, number),
+        Table::First => numbered_first(alloc, number),
+        Table::Loads => numbered_load(alloc, number),
+        Table::Second => numbered_second(alloc, number),
+    }
+}
+
+fn numbered_record(alloc: Global, number: i64) -> Result<Row, Fail> {
+    Ok(Row::office(OfficeRow {
+        kind: number,
+        key: spelled(alloc, "key", number)?,
+        line: spelled(alloc, "line", number)?,
+    }))
+}
+
+fn numbered_first(alloc: Global, number: i64) -> Result<Row, Fail> {
+    Ok(Row::observation(ObsRow {
+        site: 60_371_103,
+        pollutant: 2,
+        poc: number.wrapping_add(10_000),
+        hour: number.wrapping_sub(87_648),
+        value: if number % 2 == 0 {
+            Some(number.wrapping_add(20_000))
+        } else {
+            None
+        },
+        null: spelled(alloc, "null", number)?,
+        quals: spelled(alloc, "quals", number)?,
+    }))
+}
+
+fn numbered_load(alloc: Global, number: i64) -> Result<Row, Fail> {
+    Ok(Row::load(LoadRow {
+        number,
+        digest: spelled(alloc, "digest", number)?,
+        lines: number.wrapping_add(10_000),
+        accepted: number.wrapping_add(20_000),
+        listed: spelled(alloc, "listed", number)?,
+        rest: spelled(alloc, "rest", number)?,
+    }))
+}
+
+fn numbered_second(alloc: Global, number: i64) -> Result<Row, Fail> {
+    Ok(Row::second(ObsRow2 {
+        site: number,
+        pollutant: 3,
+        poc: number.wrapping_add(10_000),
+        hour: number.wrapping_sub(87_648),
+        value: if number % 2 == 0 {
+            Some(number.wrapping_add(20_000))
+        } else {
+            None
+        },
+        method: if number % 3 == 0 {
+            Some(number.wrapping_add(30_000))
+        } else {
+            None
+        },
+        null: spelled(alloc, "null", number)?,
+        quals: spelled(alloc, "quals", number)?,
+    }))
+}
+
+fn many(alloc: Global, tables: &[Table]) -> Result<Vec<Row>, Fail> {
+    let mut rows = Vec::new(alloc);
+    for table in tables {
+        for number in 0..250 {
+            rows.push(numbered(alloc, *table, number)?)?;
+        }
+    }
+    Ok(rows)
+}
+
+#[test]
+fn a_thousand_rows_come_back_as_they_were(rt: HostRuntime) -> Result<(), Fail> {
+    let alloc = rt.alloc();
+    let mut keeper = over(alloc, "")?;
+    assert!(rt; keeper.prepare().is_ok());
+    let mut batch = Vec::new(alloc);
+    for row in many(alloc, &IN_BATCH)? {
+        batch.push(RowChange::put(row))?;
+    }
+    assert!(rt; commit(&rt, alloc, &mut keeper, &batch).is_ok());
+    let found = keeper.read_all(alloc).ok().ok_or("read")?;
+    assert!(rt; are_same(alloc, found.as_slice(), &many(alloc, &IN_ORDER)?)?);
+    Ok(())
 }
 
 #[test]
