@@ -7,9 +7,10 @@ use Rattle.aq_tables.specs.declared.missing.Missing.{Missing}
 use Rattle.aq_tables.specs.All.{rows_in}
 use Rattle.aq_tables.specs.Forms.{Form, records_form, observations_form, loads_form, second_form}
 use Rattle.aq_tables.specs.Made.{HasForm, IsMissing, AreMissing, Extends, MakesIf, MakesMissing, has_tables, is_named, is_ours}
+use Rattle.aq_tables.specs.Rowids.{AreApart}
 use Rattle.aq_tables.specs.Standing.{Ours}
 use Rattle.aq_tables.specs.Told.{told, records, observations, loads, second}
-use Rattle.aq_tables.proofs.Extending.{extends_here, extends_then, still_formed, rows_are, rows_missing, rows_still}
+use Rattle.aq_tables.proofs.Extending.{apart_made, apart_still, extends_here, extends_then, still_formed, rows_are, rows_missing, rows_still}
 
 -- ---- whose tables they are
 
@@ -39,16 +40,18 @@ extends_if false form old new h = subst (Extends old) (sym h) (extends_here old)
 -- one table, which is made or stands, from the first database to the last
 record Stays (ours : Ours) (first last : Database) : Type 0 where
   formed : HasForm last.schema ours.form
+  apart : AreApart ours.form first → AreApart ours.form last
   tells : rows_in ours last ≡ rows_in ours first
 
 one_table : (ours : Ours) (missing : Bool) (first before after last : Database) → Extends first before → MakesIf missing ours.form before after → Extends after last → IsMissing missing first.schema ours.form → Stays ours first last
 one_table ours true first before after last to_here made from_here none = record {
   formed = still_formed after last ours.form from_here made.formed;
+  apart = λ _. apart_made after last ours.form from_here made.formed made.empty;
   tells = rows_still ours after last from_here made.formed ∙ rows_are ours after made.formed.at made.formed.tree made.formed.stands ∙ ap (told ours) made.empty ∙ sym (rows_missing ours first none);
 }
 one_table ours false first before after last to_here same from_here has =
     let all = extends_then first before last to_here (subst (λ db. Extends db last) same from_here) in
-    record { formed = still_formed first last ours.form all has; tells = rows_still ours first last all has }
+    record { formed = still_formed first last ours.form all has; apart = apart_still first last ours.form all has; tells = rows_still ours first last all has }
 
 -- where nothing is missing nothing is made
 none_of : (r o l s : Bool) → (r || o || l || s) ≡ false → (r ≡ false) × (o ≡ false) × (l ≡ false) × (s ≡ false)
@@ -68,6 +71,7 @@ none_made missing db none are =
         of_loads = subst (λ b. IsMissing b db.schema loads_form) each.2 are.of_loads;
         of_second = subst (λ b. IsMissing b db.schema second_form) each.3 are.of_second;
       };
+      apart = λ h. h;
       tells = refl;
     }
 
@@ -89,5 +93,6 @@ all_made missing a b c d e r o l s are =
     record {
       extends = extends_then a b e ab be;
       forms = record { of_records = of_records.formed; of_observations = of_observations.formed; of_loads = of_loads.formed; of_second = of_second.formed };
+      apart = λ h. record { of_records = of_records.apart h.of_records; of_observations = of_observations.apart h.of_observations; of_loads = of_loads.apart h.of_loads; of_second = of_second.apart h.of_second };
       tells = λ i. of_records.tells i ++ of_observations.tells i ++ of_loads.tells i ++ of_second.tells i;
     }

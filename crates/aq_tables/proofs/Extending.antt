@@ -6,8 +6,11 @@ use Rattle.std.proofs.lemmas.List.{append-nil, append_assoc}
 use Rattle.std.proofs.lemmas.List.Folds.{find-append}
 use Rattle.sqlite.specs.Schema.{Schema}
 use Rattle.sqlite.specs.Table.{Table}
-use Rattle.sqlite.specs.Tree.{Trees}
+use Rattle.sqlite.specs.Order.{Row}
+use Rattle.sqlite.specs.Tree.{Trees, rowid}
 use Rattle.sqlite.specs.Effect.{Database}
+use Rattle.sqlite_trees.specs.Tree.{IsAscending}
+use Rattle.sqlite_trees.specs.View.{is_int}
 use Rattle.sqlite_keyed.proofs.ListLemmas.{all-append, all_weaker}
 use Rattle.sqlite_schema.specs.Names.{table_named, same_name}
 use Rattle.sqlite_rules.specs.Lists.{Has as Holds}
@@ -17,7 +20,8 @@ use Rattle.sqlite_catalog.specs.Listing.{IsSound, IsTableRow}
 use Rattle.sqlite_catalog.proofs.LayoutLemmas.{zipped_left}
 use Rattle.sqlite_catalog.proofs.AlterLemmas.{rows_trans, rows_fewer, place_has}
 use Rattle.aq_tables.specs.Forms.{Form, table_of}
-use Rattle.aq_tables.specs.Standing.{Ours, IsChildless, Stands}
+use Rattle.aq_tables.specs.Standing.{Ours, HaveOtherRowids, IsChildless, Stands}
+use Rattle.aq_tables.specs.Rowids.{AreApart}
 use Rattle.aq_tables.specs.Told.{told}
 use Rattle.aq_tables.specs.All.{rows_in}
 use Rattle.aq_tables.specs.Made.{HasForm, IsAdded, Extends}
@@ -107,6 +111,38 @@ still_stands old new form at tree e s =
 abbrev pub still_formed : (old new : Database) (form : Form) → Extends old new → HasForm old.schema form → HasForm new.schema form
 still_formed old new form e h = record { at = h.at; tree = h.tree; stands = still_stands old new form h.at h.tree e h.stands }
 
+-- ---- their rows
+
+trees_still : (old new : Database) (form : Form) → Extends old new → (h : HasForm old.schema form) → new.trees h.tree ≡ old.trees h.tree
+trees_still old new form e h =
+    all_has (λ (t : Table). new.trees t.tree ≡ old.trees t.tree) old.schema.tables (table_of form h.tree) e.rows (place_has old.schema.tables h.at (table_of form h.tree) h.stands.has.stands)
+
+-- one table alone stands for a form
+one_tree : (schema : Schema) (form : Form) (at tree at' tree' : ℕ) → Stands schema form at tree → Stands schema form at' tree' → tree ≡ tree'
+one_tree schema form at tree at' tree' s t =
+    let place : at ≡ at' = same_value (sym s.has.named ∙ t.has.named) in
+    let there : Some (table_of form tree) ≡ Some (table_of form tree') = sym s.has.stands ∙ ap (slice_get schema.tables) place ∙ t.has.stands in
+    ap (λ (u : Table). u.tree) (same_value there)
+  where
+    same_value : {X : Type 0} {x y : X} → Some x ≡ Some y → x ≡ y
+    same_value h = cc
+
+abbrev RowsApart : List Row → Type 0
+RowsApart rows = IsAscending HaveOtherRowids rows × AllByRecursion (λ r. is_int (rowid r) ≡ true) rows
+
+apart_if : (db : Database) (form : Form) (h : HasForm db.schema form) → RowsApart (db.trees h.tree) → AreApart form db
+apart_if db form h rows at tree s = subst (λ tree. RowsApart (db.trees tree)) (one_tree db.schema form h.at h.tree at tree h.stands s) rows
+
+pub apart_missing : (db : Database) (form : Form) → table_named db.schema form.name ≡ None → AreApart form db
+apart_missing db form none at tree s = absurd cc
+
+-- a table that is made has no rows
+pub apart_made : (after last : Database) (form : Form) → Extends after last → (h : HasForm after.schema form) → after.trees h.tree ≡ [] → AreApart form last
+apart_made after last form e h empty = apart_if last form (still_formed after last form e h) (subst RowsApart (sym (trees_still after last form e h ∙ empty)) (tt, tt))
+
+pub apart_still : (old new : Database) (form : Form) → Extends old new → HasForm old.schema form → AreApart form old → AreApart form new
+apart_still old new form e h apart = apart_if new form (still_formed old new form e h) (subst RowsApart (sym (trees_still old new form e h)) (apart h.at h.tree h.stands))
+
 -- ---- what they tell
 
 pub rows_are : (ours : Ours) (db : Database) (at tree : ℕ) → Stands db.schema ours.form at tree → rows_in ours db ≡ told ours (db.trees tree)
@@ -117,7 +153,6 @@ rows_missing ours db missing = rw missing
 
 pub rows_still : (ours : Ours) (old new : Database) → Extends old new → HasForm old.schema ours.form → rows_in ours new ≡ rows_in ours old
 rows_still ours old new e h =
-    let t = table_of ours.form h.tree in
     rows_are ours new h.at h.tree (still_stands old new ours.form h.at h.tree e h.stands)
-    ∙ ap (told ours) (all_has (λ (t : Table). new.trees t.tree ≡ old.trees t.tree) old.schema.tables t e.rows (place_has old.schema.tables h.at t h.stands.has.stands))
+    ∙ ap (told ours) (trees_still old new ours.form e h)
     ∙ sym (rows_are ours old h.at h.tree h.stands)

@@ -15,7 +15,7 @@ use Rattle.aq_rules.specs.Kept.Rows.{OfficeRow}
 use Rattle.aq_rules.specs.Kept.RowChanges.{OfficeRowKey, LoadRowKey, row_key, is_same_row_key}
 use Rattle.aq_tables.specs.All.{HasOurs, HasTables}
 use Rattle.aq_tables.specs.Forms.{records_form, observations_form, loads_form, second_form}
-use Rattle.aq_tables.specs.Made.{HasForm, HasForms}
+use Rattle.aq_tables.specs.Made.{AreAllApart, HasForm, HasForms}
 use Rattle.aq_tables.specs.Rowids.{AreApart}
 use Rattle.aq_tables.specs.Standing.{Stands, HasTable, HaveOtherRowids, HaveOtherKeys}
 use Rattle.aq_tables.specs.Told.{records, observations, loads, second, record_stored}
@@ -96,10 +96,10 @@ has_loads db sound h apart = record {
 
 -- ---- all four
 
-pub has_tables : (db : Database) → IsDatabase db → HasForms db.schema → AreApart records_form db → AreApart observations_form db → AreApart loads_form db → AreApart second_form db → HasTables db
-has_tables db sound forms r o l s = record {
-  of_records = has_records db sound forms.of_records r;
-  of_observations = has_observations db sound forms.of_observations o;
-  of_loads = has_loads db sound forms.of_loads l;
-  of_second = has_second db sound forms.of_second s;
+pub has_tables : (db : Database) → IsDatabase db → HasForms db.schema → AreAllApart db → HasTables db
+has_tables db sound forms apart = record {
+  of_records = has_records db sound forms.of_records apart.of_records;
+  of_observations = has_observations db sound forms.of_observations apart.of_observations;
+  of_loads = has_loads db sound forms.of_loads apart.of_loads;
+  of_second = has_second db sound forms.of_second apart.of_second;
 }

@@ -1,16 +1,27 @@
 -- Statements within a transaction, one after the other.
-use Rattle.std.proofs.Common.{ℕ, List, inl, inr, arith, Result, Ok, Err, refl, ◌∙◌}
+use Rattle.std.proofs.Common.{◌≡◌, true, ℕ, List, inl, inr, arith, Result, Ok, Err, refl, sym, subst, ◌∙◌}
 use Rattle.sqlite.specs.declared.error.Error.{Error}
 use Rattle.sqlite.specs.Order.{Row}
 use Rattle.sqlite.specs.Tree.{Trees}
-use Rattle.sqlite.specs.State.{State, Survives, KeepsCommit, IsUnchanged, IsRolledBack, ExecutesInside}
+use Rattle.sqlite.specs.State.{State, HasCleanDisk, Survives, KeepsCommit, IsUnchanged, IsRolledBack, ExecutesInside}
+use Rattle.sqlite.specs.Held.{Held, state}
 use Rattle.sqlite.proofs.StateLemmas.{survives_then}
+use Rattle.sqlite.proofs.Callers.{survives_begin}
+use Rattle.sqlite_trees.specs.declared.store.Store.{Ghosts}
 
 pub survives_here : (s : State) (P : Trees → Type 0) → Survives s s P
 survives_here s P = record { clean = omega arith; shield = λ h. h; counts = omega arith; limit = refl; closes = λ _ stands. inl stands; crash = λ _ db h. inl h }
 
 pub survives_both : (a b c : State) → Survives a b (λ _. ⊥) → Survives b c (λ _. ⊥) → Survives a c (λ _. ⊥)
 survives_both a b c = survives_then a b c _ _ (λ _. ⊥) (λ _ db none. none) (λ _ db none. none)
+
+-- what a commit may leave is what its transaction has made
+pub survives_whole : {S : Type 0} (g : Ghosts S) (Leaves : Trees → Type 0) (first end given : Held S) (last : State) → end ≡ given
+    → Survives (state g (record first { in_transaction = true })) last (λ _. ⊥) → (HasCleanDisk last → Leaves last.now.trees)
+    → Survives last (state g end) (λ trees. trees ≡ last.now.trees) → Survives (state g first) (state g given) Leaves
+survives_whole g Leaves first end given last same before made after =
+    subst (λ h. Survives (state g first) (state g h) Leaves) same (survives_then (state g first) last (state g end) _ _ Leaves (λ _ db none. absurd none)
+    (λ clean db is. subst Leaves (sym is) (made (omega (arith, after.clean)))) (survives_begin g first last _ before) after)
 
 pub kept_here : (s : State) → KeepsCommit s s
 kept_here s = record { was_open = λ h. h; committed = λ _. refl }

@@ -13,6 +13,7 @@ use Rattle.aq_tables.specs.declared.reading.Table.{Table as Which}
 use Rattle.aq_tables.specs.declared.reading.Table.TheVariants.{Records, Observations, Loads, Second}
 use Rattle.aq_tables.specs.Forms.{Form, table_of, records_form, observations_form, loads_form, second_form}
 use Rattle.aq_tables.specs.Standing.{Stands}
+use Rattle.aq_tables.specs.Rowids.{AreApart}
 use Rattle.aq_tables.specs.Told.{OfEach}
 use Rattle.aq_tables.specs.All.{rows_of}
 
@@ -32,6 +33,10 @@ pub record HasForm (schema : Schema) (form : Form) : Type 0 where
 
 abbrev pub HasForms : Schema → Type 0
 HasForms schema = OfEach (λ table. HasForm schema (form_of table))
+
+-- no two rows of one of the tables that stand have one rowid
+abbrev pub AreAllApart : Database → Type 0
+AreAllApart db = OfEach (λ table. AreApart (form_of table) db)
 
 -- no table has the name, or one of the form stands
 abbrev pub IsMissing : Bool → Schema → Form → Type 0
@@ -87,6 +92,7 @@ pub record MakesForm (form : Form) (old new : Database) : Type 0 where
 pub record IsMade (old new : Database) : Type 0 where
   pub extends : Extends old new
   pub forms : HasForms new.schema
+  pub apart : AreAllApart old → AreAllApart new
   pub tells : rows_of new ≡ rows_of old
 
 -- ---- within a transaction

@@ -1,11 +1,10 @@
 //! The tables, looked at, and made if they are missing.
 ghost use Rattle.std.specs.Prelude.{◌≡◌, false, true, IsTrue, IfOk, OnOk};
 ghost use Rattle.sqlite.specs.Effect.{Database};
-ghost use Rattle.sqlite.specs.State.{HasCleanDisk, IsUnchanged, Survives};
+ghost use Rattle.sqlite.specs.State.{HasCleanDisk, Survives};
 ghost use Rattle.sqlite.specs.Held.{state};
 ghost use Rattle.aq_tables.specs.All.{HasTables, rows_of};
-ghost use Rattle.aq_tables.specs.Forms.{records_form, observations_form, loads_form, second_form};
-ghost use Rattle.aq_tables.specs.Made.{AreMissing, HasForms, Inside, IsMade, MakesIf, IsOffice, MakesMissing, form_of};
+ghost use Rattle.aq_tables.specs.Made.{AreAllApart, AreMissing, Inside, IsMade, IsMissing, IsOffice, MakesIf, MakesMissing, form_of, is_ours};
 ghost use Rattle.aq_tables.specs.Texts.{statements};
 ghost use Rattle.aq_tables.specs.Rowids.{AreApart};
 
@@ -76,40 +75,59 @@ fn commit_missing<S: Alter>(conn: &mut Connection<S>, missing: &Missing) -> Resu
     tx.commit()
 }
 
-/// Whether no two rows of a table have the same rowid.
-fn are_all_apart<S: Alter>(conn: &mut Connection<S>) -> Result<bool, Error>
-    ensures records { HasCleanDisk (state S.Store conn.new) → IfOk result (λ apart. apart ≡ true → AreApart records_form (state S.Store conn.old).now) }
-    ensures observations { HasCleanDisk (state S.Store conn.new) → IfOk result (λ apart. apart ≡ true → AreApart observations_form (state S.Store conn.old).now) }
-    ensures loads { HasCleanDisk (state S.Store conn.new) → IfOk result (λ apart. apart ≡ true → AreApart loads_form (state S.Store conn.old).now) }
-    ensures second { HasCleanDisk (state S.Store conn.new) → IfOk result (λ apart. apart ≡ true → AreApart second_form (state S.Store conn.old).now) }
-    ensures same { HasCleanDisk (state S.Store conn.new) → OnOk result (IsUnchanged (state S.Store conn.old) (state S.Store conn.new)) }
+/// Sees that no two rows of a table have the same rowid, if it stands.
+fn see_table<S: Alter>(
+    conn: &mut Connection<S>,
+    is_missing: bool,
+    table: Table,
+) -> Result<(), Error>
+    ensures apart { HasCleanDisk (state S.Store conn.new) → OnOk result (IsMissing is_missing (state S.Store conn.old).now.schema (form_of table) → AreApart (form_of table) (state S.Store conn.old).now) }
+    ensures same { HasCleanDisk (state S.Store conn.new) → OnOk result ((state S.Store conn.new).now ≡ (state S.Store conn.old).now) }
+    ensures was_open { HasCleanDisk (state S.Store conn.new) → OnOk result (IsTrue (state S.Store conn.new).is_open → IsTrue (state S.Store conn.old).is_open) }
     ensures crash { Survives (state S.Store conn.old) (state S.Store conn.new) (λ _. ⊥) }
 {
-    let records = are_apart(conn, Table::Records)?;
-    let observations = are_apart(conn, Table::Observations)?;
-    let loads = are_apart(conn, Table::Loads)?;
-    let second = are_apart(conn, Table::Second)?;
-    Ok(records && observations && loads && second)
-}
-
-/// Sees that the rows of tables that stand are ours.
-fn see_rows<S: Alter>(conn: &mut Connection<S>) -> Result<(), Error>
-    ensures tables { HasCleanDisk (state S.Store conn.new) → OnOk result (HasForms conn.old.schema → HasTables (state S.Store conn.old).now) }
-    ensures same { HasCleanDisk (state S.Store conn.new) → OnOk result (IsUnchanged (state S.Store conn.old) (state S.Store conn.new)) }
-    ensures crash { Survives (state S.Store conn.old) (state S.Store conn.new) (λ _. ⊥) }
-{
-    let _ = conn.schema();
-    if are_all_apart(conn)? {
+    if is_missing {
+        return Ok(());
+    }
+    if are_apart(conn, table)? {
         Ok(())
     } else {
         Err(Error::SqliteFailure(ErrorCode::DatabaseCorrupt))
     }
 }
 
-/// Sees that the tables that stand are ours, makes those that are missing in one transaction, and sees
-/// that no two rows of a table have the same rowid. It is refused if a transaction is open, if a table of
-/// one of our names has another form or shares its tree, and if the database has tables but none of ours:
-/// then nothing is made.
+/// Sees that no two rows of a table that stands have the same rowid.
+fn see_rows<S: Alter>(conn: &mut Connection<S>, missing: &Missing) -> Result<(), Error>
+    ensures apart { HasCleanDisk (state S.Store conn.new) → OnOk result (AreMissing missing.now (state S.Store conn.old).now.schema → AreAllApart (state S.Store conn.old).now) }
+    ensures same { HasCleanDisk (state S.Store conn.new) → OnOk result ((state S.Store conn.new).now ≡ (state S.Store conn.old).now) }
+    ensures was_open { HasCleanDisk (state S.Store conn.new) → OnOk result (IsTrue (state S.Store conn.new).is_open → IsTrue (state S.Store conn.old).is_open) }
+    ensures crash { Survives (state S.Store conn.old) (state S.Store conn.new) (λ _. ⊥) }
+{
+    see_table(conn, missing.records, Table::Records)?;
+    see_table(conn, missing.observations, Table::Observations)?;
+    see_table(conn, missing.loads, Table::Loads)?;
+    see_table(conn, missing.second, Table::Second)?;
+    Ok(())
+}
+
+/// The tables that are missing. It is refused if a transaction is open, and if the tables that stand are
+/// not ours.
+fn see_tables<S: Alter>(conn: &Connection<S>) -> Result<Missing, Error>
+    ensures alone { OnOk result (conn.now.in_transaction ≡ false) }
+    ensures settled { OnOk result (IsTrue (state S.Store conn.now).is_open → (state S.Store conn.now).now ≡ (state S.Store conn.now).committed) }
+    ensures missing { IfOk result (λ missing. AreMissing missing conn.now.schema) }
+    ensures ours { OnOk result (IsTrue (is_ours conn.now.schema)) }
+{
+    if !conn.is_autocommit() {
+        return Err(Error::SqliteFailure(ErrorCode::TransactionState));
+    }
+    missing_of(conn.schema())
+}
+
+/// Sees that the tables that stand are ours, and that no two rows of one of them have the same rowid;
+/// then it makes those that are missing, in one transaction. It is refused if a transaction is open, if
+/// a table of one of our names has another form or shares its tree, if two of its rows have the same
+/// rowid, and if the database has tables but none of ours: then nothing is made.
 pub fn prepare<S: Alter>(conn: &mut Connection<S>) -> Result<(), Error>
     ensures alone { OnOk result (conn.old.in_transaction ≡ false) }
     ensures office { OnOk result (IsOffice conn.old.schema) }
@@ -119,12 +137,13 @@ pub fn prepare<S: Alter>(conn: &mut Connection<S>) -> Result<(), Error>
     ensures same { OnOk result (IsTrue (state S.Store conn.new).is_open → rows_of (state S.Store conn.new).committed ≡ rows_of (state S.Store conn.old).committed) }
     ensures crash { Survives (state S.Store conn.old) (state S.Store conn.new) (λ trees. (db : Database) × IsMade (state S.Store conn.old).now db × (trees ≡ db.trees)) }
 {
-    if !conn.is_autocommit() {
-        return Err(Error::SqliteFailure(ErrorCode::TransactionState));
-    }
-    let missing = missing_of(conn.schema())?;
+    let missing = see_tables(conn)?;
+    see_rows(conn, &missing)?;
+    // Whatever the store did while it was read, what is made is missing now.
+    let missing = see_tables(conn)?;
     commit_missing(conn, &missing)?;
-    see_rows(conn)
+    let _ = conn.schema();
+    Ok(())
 }
 
 #[cfg(test)]

@@ -99,3 +99,16 @@ fn an_open_transaction_is_refused(rt: HostRuntime) -> Result<(), Fail> {
     assert!(rt; prepare(&mut conn).is_err());
     Ok(())
 }
+
+// That two rows have one rowid is not to be had by SQL.
+#[test]
+fn a_rowid_is_taken_once(rt: HostRuntime) -> Result<(), Fail> {
+    let mut conn = Connection::open_in_memory(rt.alloc())?;
+    prepare(&mut conn)?;
+    let once = "INSERT INTO records (rowid, kind, rowkey, line) VALUES (1, 1, 'one', '')";
+    let again = "INSERT INTO records (rowid, kind, rowkey, line) VALUES (1, 1, 'another', '')";
+    conn.execute(once, &[])?;
+    assert!(rt; conn.execute(again, &[]).is_err());
+    assert!(rt; prepare(&mut conn).is_ok());
+    Ok(())
+}

@@ -1,21 +1,14 @@
-use Rattle.std.proofs.Common.{◌≡◌, List, true, sym, subst, arith, rules}
-use Rattle.sqlite.specs.State.{State, HasCleanDisk, Survives}
+use Rattle.std.proofs.Common.{◌≡◌, List, true, refl, sym, subst, arith, rules}
+use Rattle.sqlite.specs.State.{State, HasCleanDisk}
 use Rattle.sqlite.specs.Held.{Held, state}
-use Rattle.sqlite.proofs.StateLemmas.{survives_then}
-use Rattle.sqlite.proofs.Callers.{survives_begin}
 use Rattle.sqlite_trees.specs.declared.store.Store.{Ghosts}
 use Rattle.aq_rules.specs.Kept.RowChanges.{RowChange}
 use Rattle.aq_tables.specs.Batch.{Becomes, Changes, Leaves}
+use Rattle.aq_tables.proofs.Steps.{survives_whole}
 use Rattle.aq_tables.proofs.batch.commit.Goals as goal
 
--- what a commit may leave is what its transaction has made
-crash_whole : {S : Type 0} (g : Ghosts S) (batch : List RowChange) (first end given : Held S) (last : State) → end ≡ given
-    → Survives (state g (record first { in_transaction = true })) last (λ _. ⊥) → (HasCleanDisk last → Changes batch (state g (record first { in_transaction = true })) last)
-    → Survives last (state g end) (λ trees. trees ≡ last.now.trees) → Survives (state g first) (state g given) (Leaves batch (state g first))
-crash_whole g batch first end given last same before changes after =
-    subst (λ h. Survives (state g first) (state g h) (Leaves batch (state g first))) same (survives_then (state g first) last (state g end) _ _ (Leaves batch (state g first)) (λ _ db none. absurd none)
-    (λ clean db is. let made = changes (omega (arith, after.clean)) in record { was_open = made.was_open; db = last.now; becomes = made.becomes; is = is })
-    (survives_begin g first last _ before) after)
+leaves : {S : Type 0} (batch : List RowChange) (g : Ghosts S) (first : Held S) (last : State) → Changes batch (state g (record first { in_transaction = true })) last → Leaves batch (state g first) last.now.trees
+leaves batch g first last made = record { was_open = made.was_open; db = last.now; becomes = made.becomes; is = refl }
 
 pub returns-clause-done : goal.returns-clause-done
 returns-clause-done g c clean =
@@ -31,14 +24,16 @@ returns-clause-done g c clean =
 pub returns-clause-crash : goal.returns-clause-crash
 returns-clause-crash g c =
     let begun = c.transaction-tx.ensures.begun in
-    crash_whole g.S.Store c.args.batch.now c.args.conn.now c.commit.new.self.0 c.conn-2-1.given.0 (state g.S.Store c.make_all.new.tx.conn.now) (search rules)
-    (rw begun at c.make_all.ensures.survives) (λ clean. rw begun at (c.in_ok-make_all.ensures.done clean (rw begun))) c.commit.ensures.survives
+    let last = state g.S.Store c.make_all.new.tx.conn.now in
+    survives_whole g.S.Store (Leaves c.args.batch.now (state g.S.Store c.args.conn.now)) c.args.conn.now c.commit.new.self.0 c.conn-2-1.given.0 last (search rules) (rw begun at c.make_all.ensures.survives)
+    (λ clean. leaves c.args.batch.now g.S.Store c.args.conn.now last (rw begun at (c.in_ok-make_all.ensures.done clean (rw begun)))) c.commit.ensures.survives
 
 pub returns-in_err-commit-clause-crash : goal.returns-in_err-commit-clause-crash
 returns-in_err-commit-clause-crash g c =
     let begun = c.transaction-tx.ensures.begun in
-    crash_whole g.S.Store c.args.batch.now c.args.conn.now c.commit.new.self.0 c.conn-2-1.given.0 (state g.S.Store c.make_all.new.tx.conn.now) (search rules)
-    (rw begun at c.make_all.ensures.survives) (λ clean. rw begun at (c.in_ok-make_all.ensures.done clean (rw begun))) c.commit.ensures.survives
+    let last = state g.S.Store c.make_all.new.tx.conn.now in
+    survives_whole g.S.Store (Leaves c.args.batch.now (state g.S.Store c.args.conn.now)) c.args.conn.now c.commit.new.self.0 c.conn-2-1.given.0 last (search rules) (rw begun at c.make_all.ensures.survives)
+    (λ clean. leaves c.args.batch.now g.S.Store c.args.conn.now last (rw begun at (c.in_ok-make_all.ensures.done clean (rw begun)))) c.commit.ensures.survives
 
 pub returns-clause-left : goal.returns-clause-left
 returns-clause-left g c clean trees h =
