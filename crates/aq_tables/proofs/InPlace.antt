@@ -1,5 +1,5 @@
 -- Rows that are changed at a key: those of the tables before and behind it stay as they are.
-use Rattle.std.proofs.Common.{◌≡◌, Bool, true, false, not, cond, List, [], ◌∷◌, ◌++◌, refl, sym, ap, ◌∙◌, append-nil}
+use Rattle.std.proofs.Common.{◌≡◌, Bool, true, false, not, cond, List, [], ◌∷◌, ◌++◌, refl, sym, ap, ◌∙◌}
 use Rattle.std.specs.List.{AllByRecursion}
 use Rattle.std.proofs.lemmas.List.Elements.{filter-append}
 use Rattle.sqlite_trees.specs.Tree.{IsAscending}
@@ -7,7 +7,7 @@ use Rattle.sqlite_keyed.proofs.ListLemmas.{all-append, all_weaker}
 use Rattle.aq_keeper.specs.Rising.{AreBefore}
 use Rattle.aq_keeper.proofs.KeyOrder.{before-trans, before-not_behind, before-not_same, behind-not_same, same-before}
 use Rattle.aq_rules.specs.Kept.Rows.{Row}
-use Rattle.aq_rules.specs.Kept.RowChanges.{RowKey, OfficeRowKey, ObsRowKey, LoadRowKey, SecondRowKey, row_key, key_before, is_same_row_key, put_row, drop_row}
+use Rattle.aq_rules.specs.Kept.RowChanges.{RowKey, row_key, key_before, is_same_row_key, put_row, drop_row}
 use Rattle.aq_tables.specs.Told.{HaveNot}
 use Rattle.aq_tables.proofs.InOrder.{Before, same-flip}
 

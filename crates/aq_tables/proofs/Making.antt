@@ -1,5 +1,5 @@
 -- Changes within a transaction, one after the other.
-use Rattle.std.proofs.Common.{◌≡◌, ◌≢◌, arith, length, ℕ, List, [], ◌∷◌, ◌++◌, Some, refl, sym, ap, subst, ◌∙◌, slice_get, IsTrue}
+use Rattle.std.proofs.Common.{◌≡◌, ◌≢◌, arith, length, List, [], ◌∷◌, ◌++◌, Some, refl, sym, ap, subst, ◌∙◌, slice_get, IsTrue}
 use Rattle.std.specs.List.{AllByRecursion}
 use Rattle.std.proofs.lemmas.List.Sums.{fold-append}
 use Rattle.sqlite.specs.Schema.{Schema}

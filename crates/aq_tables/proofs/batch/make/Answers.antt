@@ -1,4 +1,4 @@
-use Rattle.std.proofs.Common.{rules, arith, OnOk, Ok, Err, Result}
+use Rattle.std.proofs.Common.{arith, OnOk, Ok, Err, Result}
 use Rattle.sqlite.specs.State.{HasCleanDisk}
 use Rattle.sqlite.specs.Held.{state}
 use Rattle.aq_tables.proofs.Making.{put_changes, drop_changes}
