@@ -1,12 +1,16 @@
 -- One item more or less in a sum and a number.
 use Rattle.std.specs.Prelude.{neg_ℤ, ◌≤ℤ◌, ◌+ℤ◌, ◌-ℤ◌, unsigned_abs}
-use Rattle.std.proofs.Common.{◌≡◌, ℕ, ◌+◌, ◌-◌, ◌*◌, ◌<◌, ◌≤◌, List, [], ◌∷◌, length, ◌∙◌, arith, ℤ, pos, FitsSigned, w64, of_z, to_z}
+use Rattle.std.proofs.Common.{◌≡◌, ℕ, ◌+◌, ◌-◌, ◌*◌, ◌<◌, ◌≤◌, List, [], ◌∷◌, length, ◌∙◌, arith, ℤ, pos, negsuc, FitsSigned, w32, w64, of_z, to_z}
 use Rattle.std.specs.List.{All}
 use Rattle.std.proofs.lemmas.Int.{ints, fits_signed_from_abs, to_z-of_z}
 use Rattle.std.proofs.lemmas.List.Elements.{All-cons, All-head, All-tail}
 use Rattle.aq_rules.specs.Lists.{total}
 use Rattle.aq_rules.proofs.Sums.{total-cons}
 use Rattle.aq_agg.specs.Sums.{AreOf, IsWhole32}
+
+pub whole_32 : (value : ℤ) → FitsSigned w32 value → IsWhole32 value
+whole_32 (pos n) fits = let few : n < 2147483648 = fits.sfits in (omega (arith, ints), omega (arith, ints, few))
+whole_32 (negsuc n) fits = let few : n < 2147483648 = fits.sfits in (omega (arith, ints, few), omega (arith, ints))
 
 -- between so many times the least and the greatest value of 32 bits
 abbrev Within : ℕ → ℤ → Type 0

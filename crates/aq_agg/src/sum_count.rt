@@ -3,7 +3,7 @@ use crate::aggregate::Aggregate;
 use aq_base::Memory;
 use std::alloc::Global;
 
-/// The sum of the values in a bag, and their number. Each value of 32 bits may be in it.
+/// The sum of the values in a bag, and their number.
 #[derive(Drop)]
 pub struct SumCount {
     sum: i64,
@@ -11,14 +11,15 @@ pub struct SumCount {
 }
 
 impl Aggregate for SumCount {
+    ghost use Rattle.std.specs.Prelude.{⊤};
     ghost use Rattle.aq_agg.specs.AnyOrder.{sums-any_order};
-    ghost use Rattle.aq_agg.specs.Sums.{AreOf, IsWhole32, sum_and_number};
+    ghost use Rattle.aq_agg.specs.Sums.{AreOf, sum_and_number};
 
     type Item = i32;
 
     type Answer = (i64, u32);
 
-    ghost may_hold = { IsWhole32 };
+    ghost may_hold = { λ item. ⊤ };
 
     ghost is_of = { λ bag kept. AreOf bag kept.sum kept.number };
 
