@@ -1,5 +1,5 @@
 //! What the answers about bags are.
-ghost use Rattle.std.specs.Prelude.{◌≡◌, List, [], ◌∷◌, ◌++◌, ℤ, pos, neg_ℤ, length, map, replicate, sum_by, filter_map, slice_get, slice_index_or, Some, None};
+ghost use Rattle.std.specs.Prelude.{◌≡◌, List, [], ◌∷◌, ◌++◌, ℤ, pos, neg_ℤ, length, map, replicate, sum_by, filter_map, slice_index_or, IsPermutation, Some, None};
 ghost use Rattle.aq_rules.specs.Kept.Summaries.{eight_greatest};
 ghost use Rattle.aq_rules.specs.Lists.{greatest, ranked};
 ghost use Rattle.aq_rules.specs.Ozone.OzoneYear.{fourth_of};
@@ -7,6 +7,9 @@ ghost use Rattle.aq_rules.specs.Particles.Pm10Estimate.{sampled_strata, sixtieth
 ghost use Rattle.aq_agg.specs.Ranks.{top_eight};
 ghost use Rattle.aq_agg.specs.StratumSums.{number_and_sixtieths, stratum_with};
 ghost use Rattle.aq_agg.specs.Sums.{sum_and_number};
+ghost use Rattle.aq_agg.specs.Tallies.{BagAt};
+
+use crate::aggregate::Aggregate;
 
 /// Values of 41 and 44 thousandths have the sum 85; one below zero takes away from it. Equal values
 /// each have a place of their own among the eight greatest, a ninth value has none, and where there
@@ -46,4 +49,10 @@ pub fn fourth_of_the_top_eight()
 pub fn strata_give_what_their_samples_give()
     ensures { (strata : List (List ℤ)) → number_and_sixtieths (map stratum_with (sampled_strata strata))
         ≡ (length (sampled_strata strata), sum_by sixtieths_of (sampled_strata strata)) }
+{}
+
+/// The order of the bag under a key of a tally says nothing.
+pub fn bags_of_a_tally_have_no_order<K: Ord + Copy, A: Aggregate>()
+    ensures { (key : K) (a b : List A.Item) (entries : List (K × A)) → IsPermutation a b
+        → BagAt K.cmp A.is_of key a entries → BagAt K.cmp A.is_of key b entries }
 {}

@@ -18,8 +18,8 @@ mod tally;
 
 pub use aggregate::Aggregate;
 pub use laws::{
-    answers_of_bags, fourth_of_the_top_eight, strata_give_what_their_samples_give,
-    top_eight_are_the_eight_greatest,
+    answers_of_bags, bags_of_a_tally_have_no_order, fourth_of_the_top_eight,
+    strata_give_what_their_samples_give, top_eight_are_the_eight_greatest,
 };
 pub use max_of::MaxOf;
 pub use ranked_bag::RankedBag;
