@@ -1,5 +1,5 @@
 //! What the answers about bags are.
-ghost use Rattle.std.specs.Prelude.{◌≡◌, List, [], ◌∷◌, ◌++◌, ℤ, pos, neg_ℤ, length, map, replicate, sum_by, filter_map, slice_index_or, IsPermutation, Some, None};
+ghost use Rattle.std.specs.Prelude.{◌≡◌, List, [], ◌∷◌, ℤ, pos, neg_ℤ, length, map, replicate, sum_by, filter_map, slice_index_or, IsPermutation, Some, None};
 ghost use Rattle.aq_rules.specs.Kept.Summaries.{eight_greatest};
 ghost use Rattle.aq_rules.specs.Lists.{greatest, ranked};
 ghost use Rattle.aq_rules.specs.Ozone.OzoneYear.{fourth_of};
