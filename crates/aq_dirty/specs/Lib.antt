@@ -1,0 +1,3 @@
+pub mod Spans
+pub mod Marked
+pub mod Reach
