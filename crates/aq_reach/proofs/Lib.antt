@@ -1,0 +1,4 @@
+-- Lemmas for the laws.
+pub mod Hours
+pub mod Windows
+pub mod Years

@@ -1,0 +1,2 @@
+-- Examples for the laws.
+pub mod Examples
