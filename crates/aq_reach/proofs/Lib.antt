@@ -2,3 +2,5 @@
 pub mod Hours
 pub mod Windows
 pub mod Years
+pub mod Alike
+pub mod PmDays

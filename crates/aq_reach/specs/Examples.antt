@@ -1,10 +1,10 @@
 -- An office before and after a small change, on which the laws show what is in reach and what is not.
 use Rattle.std.specs.Prelude.{◌+◌, true, [], ◌∷◌, map}
 use Rattle.std.specs.List.{range_with_len}
-use Rattle.aq_base.specs.declared.monitor.Duration.TheVariants.{Hour}
-use Rattle.aq_base.specs.declared.monitor.Pollutant.TheVariants.{Ozone}
+use Rattle.aq_base.specs.declared.monitor.Duration.TheVariants.{Hour, Day}
+use Rattle.aq_base.specs.declared.monitor.Pollutant.TheVariants.{Ozone, Pm25, Pm10}
 use Rattle.aq_rules.specs.Office.Office.{Office}
-use Rattle.aq_rules.specs.Office.OfficeExamples.{west, east, monitor_at, measured, noon}
+use Rattle.aq_rules.specs.Office.OfficeExamples.{west, east, monitor_at, measured, noon, plain_day, sampled}
 use Rattle.aq_base.specs.declared.office.OfficeRecord.TheVariants.{Monitor}
 
 -- an ozone monitor in the west and one in the east, and in the west 0.060 ppm from 12:00 to 19:00 of 1 July 2024
@@ -18,3 +18,19 @@ afternoon = record {
 -- the same office after a correction: 0.084 ppm at noon
 abbrev pub corrected : Office
 corrected = record afternoon { observations = measured west Ozone 1 84 [] noon ∷ map (measured west Ozone 1 60 []) (range_with_len (noon + 1) 7) }
+
+-- a PM10 and a PM2.5 sampler in the west, each with a sample on 1 July 2024
+abbrev pub samplers : Office
+samplers = record {
+  records = Monitor (monitor_at west Pm10 3) Day true ∷ Monitor (monitor_at west Pm25 4) Day true ∷ [];
+  observations = sampled west Pm25 4 120 plain_day ∷ sampled west Pm10 3 50 plain_day ∷ [];
+  loads = [];
+}
+
+-- the same office with a second PM2.5 sampler, which has a sample on the next day
+abbrev pub joined_by_another : Office
+joined_by_another = record {
+  records = Monitor (monitor_at west Pm10 3) Day true ∷ Monitor (monitor_at west Pm25 4) Day true ∷ Monitor (monitor_at west Pm25 5) Day true ∷ [];
+  observations = sampled west Pm25 4 120 plain_day ∷ sampled west Pm25 5 300 (plain_day + 1) ∷ sampled west Pm10 3 50 plain_day ∷ [];
+  loads = [];
+}

@@ -6,7 +6,9 @@
 //! An hour has such a law in the book itself. An average reads what its eight hours read; an ozone day
 //! what the hours of its averages read; an ozone year what its days read, and beside that its season and
 //! its approved days, which no hour reads. So a row that one of the hours reads is read by the whole, and
-//! if the whole is not in reach, neither are its hours.
+//! if the whole is not in reach, neither are its hours. A day of PM2.5 or PM10 reads its observations
+//! and records itself.
 #![tactic(auto)]
 
 pub mod ozone;
+pub mod particles;
