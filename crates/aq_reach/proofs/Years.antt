@@ -143,7 +143,7 @@ module _ (a b : Office) (site : Site) (year : ℕ) (valid : IsOffice a) (after :
       (hours-same a b site valid after (OzoneYearCell site year) (24 * day + 7) 24
       (λ records hour low high. subst (λ y. ReadsAt (OzoneYearCell site y) records site Ozone hour) is (year-reads records site day hour low (omega (arith, high)))) out)
 
-  valid-same : (day : ℕ) → year_of day ≡ year → counts_as_valid a site day ≡ counts_as_valid b site day
+  pub valid-same : (day : ℕ) → year_of day ≡ year → counts_as_valid a site day ≡ counts_as_valid b site day
   valid-same day is = λ i. (day-same day is i).valid || approved-out_of_reach a b site day (subst (λ y. member (OzoneYearCell site y) (reach a b) ≡ false) (sym is) out) i
 
   module _ (inside : is_year year ≡ true) where

@@ -1,7 +1,8 @@
 //! What is not in reach of a change is as before. The reach of a change from one office to another is
 //! the set of cells that read a changed row; `Kept::Reach` of the book of rules has the table of what
-//! reads what. The laws here say, for each kind of cell, that the table leaves out nothing that counts:
-//! what is kept of a cell outside the reach needs no look at the office to be right for the new one.
+//! reads what. The laws here say of averages, days and years of ozone, and of days of PM2.5 and PM10,
+//! that the table leaves out nothing that counts: what is kept of such a cell outside the reach is right
+//! for the new office without a look at it.
 //!
 //! An hour has such a law in the book itself. An average reads what its eight hours read; an ozone day
 //! what the hours of its averages read; an ozone year what its days read, and beside that its season and

@@ -13,7 +13,7 @@ ghost use Rattle.aq_rules.specs.Office.OfficeExamples.{east, noon, plain_day, we
 ghost use Rattle.aq_rules.specs.Office.Season.{season_of};
 ghost use Rattle.aq_rules.specs.Ozone.EightHour.{window};
 ghost use Rattle.aq_rules.specs.Ozone.OzoneDay.{ozone_day};
-ghost use Rattle.aq_rules.specs.Ozone.OzoneYear.{ozone_days, ozone_year};
+ghost use Rattle.aq_rules.specs.Ozone.OzoneYear.{counts_as_valid, ozone_days, ozone_year};
 ghost use Rattle.aq_reach.specs.Examples.{afternoon, corrected};
 
 /// A correction of the ozone at noon of 1 July 2024 reaches the averages that start at 05:00 to noon, the
@@ -69,15 +69,20 @@ pub fn seasons_and_approvals_out_of_reach_are_as_before()
 {}
 
 /// An ozone year that is not in reach is as before. It reads the hours of its days, so each of them has
-/// the averages, the validity and the maximum that it had; with its season and approvals, how many days
-/// are of the season, how many of those count as valid, how many maxima are ranked, and the fourth
-/// highest. A year is one of the profile's.
+/// the averages, the validity and the maximum that it had, and counts as valid, by its averages or by
+/// approval, if it did. With its season, the year has as many days of the season as before and as many of
+/// them that count, as many ranked maxima, and the same fourth highest. A year is one of the profile's.
 pub fn ozone_years_out_of_reach_are_as_before()
     ensures day { (old new : Office) (site : Site) (day : ℕ)
         → IsOffice old
         → IsOffice new
         → list_any (is_same_cell (OzoneYearCell site (year_of day))) (reach old new) ≡ false
         → ozone_day old site day ≡ ozone_day new site day }
+    ensures counts { (old new : Office) (site : Site) (day : ℕ)
+        → IsOffice old
+        → IsOffice new
+        → list_any (is_same_cell (OzoneYearCell site (year_of day))) (reach old new) ≡ false
+        → counts_as_valid old site day ≡ counts_as_valid new site day }
     ensures days { (old new : Office) (site : Site) (year : ℕ)
         → is_year year ≡ true
         → IsOffice old
