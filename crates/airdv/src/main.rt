@@ -8,19 +8,16 @@ ghost use Rattle.aq_desk.specs.Ending.{no_memory};
 ghost use Rattle.aq_desk.specs.Run.{Runs, uses, uses_keeper};
 ghost use Rattle.aq_words.specs.Words.{command_of};
 
-mod streams;
-mod tcp_door;
-
 use aq_base::Memory;
-use aq_desk::{Door, Sink, Source, end_without_memory, run};
+use aq_desk::{end_without_memory, run};
+use aq_host::{Reading, TcpDoor, Writing};
 use aq_keeper::Keeper;
+use aq_serve::{Door, Sink, Source};
 use aq_sqlite::FileKeeper;
 use std::alloc::Global;
 use std::io::ErrorKind;
 use std::process::ExitCode;
 use std::{env, io};
-use streams::{Reading, Writing};
-use tcp_door::TcpDoor;
 
 /// The file of the tables, in the working folder. It is made at the keeper's first call.
 const FILE: &str = "airdv.sqlite";

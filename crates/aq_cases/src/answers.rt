@@ -11,7 +11,7 @@ use aq_base::{
     MOST_GENERATED_SITES, MOST_GENERATED_YEARS, OfficeLine, Rule, SiteList,
 };
 use aq_cal::{quarter_of, quarter_span, write_day, year_span};
-use aq_desk::{MemorySink, end_without_memory};
+use aq_desk::end_without_memory;
 use aq_forms::{count_lines, lines_of, print_key, print_office, read_office};
 use aq_generator::generate;
 use aq_http::{Routes, Step, Verb, next_request};
@@ -19,6 +19,7 @@ use aq_keeper::{RowChange, RowKey, do_keys_rise};
 use aq_num::{read_decimal, round_half_up, trunc_div, write_fixed};
 use aq_pm25::rank_of;
 use aq_rd::{has_office_tag, print_rd, read_rd, site_word, tag_of};
+use aq_serve::MemorySink;
 use aq_words::read_words;
 use std::alloc::Global;
 

@@ -5,8 +5,8 @@ use crate::compare::difference;
 use crate::rows::{read_rows, rows_text};
 use crate::trouble::Trouble;
 use aq_base::Memory;
-use aq_desk::{MemoryDoor, MemorySink, MemorySource};
 use aq_keeper::{Keeper, MemoryKeeper, are_in_order};
+use aq_serve::{MemoryDoor, MemorySink, MemorySource};
 use std::alloc::Global;
 
 /// What a run answered and wrote.

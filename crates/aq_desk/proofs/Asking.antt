@@ -17,7 +17,7 @@ use Rattle.aq_desk.proofs.Tables.{cut_gives, keeps_opened, printed_gives, stoppe
 use Rattle.aq_desk.specs.Ask.{IsNoSite, IsStopOf, IsUnanswered, MayBe, answered, ask_outcome}
 use Rattle.aq_desk.specs.Command.{Keeps, Outcome, Printout, leaving, printed, unwritten}
 use Rattle.aq_desk.specs.Office.{HasOpened, IsOpened, IsUnopened}
-use Rattle.aq_desk.specs.Outside.{OfTold}
+use Rattle.aq_serve.specs.Outside.{OfTold}
 use Rattle.aq_desk.specs.Stop.{Gives, IsUnprinted, ending_at, status_of}
 use Rattle.aq_desk.specs.declared.stop.Stop.{Stop}
 use Rattle.aq_desk.specs.declared.stop.Stop.TheVariants as stops

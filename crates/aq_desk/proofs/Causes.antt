@@ -10,7 +10,7 @@ use Rattle.aq_desk.proofs.Serving.{serve_status}
 use Rattle.aq_desk.proofs.Tables.{keeps_same, of_any, of_told, with_tables}
 use Rattle.aq_desk.specs.Command.{Follows, IsWhole, Outcome, Printout, RisesAt, Tells, leaving, message_for}
 use Rattle.aq_desk.specs.Ending.{no_command}
-use Rattle.aq_desk.specs.Outside.{IsAll, OfTold}
+use Rattle.aq_serve.specs.Outside.{IsAll, OfTold}
 use Rattle.aq_desk.specs.Run.{Acts, KeeperRises, Runs, Surroundings, connections_for, connections_in, outcome_of, reads_input}
 use Rattle.aq_desk.specs.Serve.{Around, HasServed, serve_outcome}
 use Rattle.aq_desk.specs.Simulate.{simulate_outcome}

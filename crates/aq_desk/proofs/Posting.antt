@@ -30,7 +30,7 @@ use Rattle.aq_desk.specs.Command as commands
 use Rattle.aq_desk.specs.Ending.{loads_full}
 use Rattle.aq_desk.specs.Load.{IsAnswered, IsKeptText, IsTextOf, load_answer, posted_outcome}
 use Rattle.aq_desk.specs.Office.{HasOpened, IsOpened, IsUnopened}
-use Rattle.aq_desk.specs.Outside.{IsAll, OfTold}
+use Rattle.aq_serve.specs.Outside.{IsAll, OfTold}
 use Rattle.aq_desk.specs.Stop.{Gives, IsUnprinted, ending_at, status_of}
 use Rattle.aq_desk.specs.declared.stop.Stop.{Stop}
 use Rattle.aq_desk.specs.declared.stop.Stop.TheVariants as stops

@@ -19,7 +19,7 @@ use Rattle.aq_desk.proofs.Unread.{stays_at_from, stopped_by}
 use Rattle.aq_desk.specs.Command.{AtMostOpened, IsWhole, Outcome, RisesAt, leaving, opened_rows, unwritten}
 use Rattle.aq_desk.specs.Ending.{damaged, done}
 use Rattle.aq_desk.specs.Office.{HasOpened, IsOpened, IsUnopened}
-use Rattle.aq_desk.specs.Outside.{IsAll, OfTold}
+use Rattle.aq_serve.specs.Outside.{IsAll, OfTold}
 use Rattle.aq_desk.specs.Run.{KeeperRises}
 use Rattle.aq_desk.specs.Serve.{Around, CannotListen, HasAttended, HasListened, HasServed, IsServed, IsUnserved, holding, serve_outcome, serving, status_served, stop_served}
 use Rattle.aq_desk.specs.Stop.{EndsAs, ending_of, status_of}

@@ -1,5 +1,3 @@
-pub mod Outside
-pub mod Memories
 pub mod Ending
 pub mod Body
 pub mod Writing

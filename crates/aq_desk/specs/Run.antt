@@ -10,7 +10,7 @@ use Rattle.aq_desk.specs.Ask.{ask_outcome}
 use Rattle.aq_desk.specs.Command.{Follows, Outcome, Tells, leaving, message_for, unwritten}
 use Rattle.aq_desk.specs.Ending.{no_command}
 use Rattle.aq_desk.specs.Load.{load_outcome}
-use Rattle.aq_desk.specs.Outside.{IsAll}
+use Rattle.aq_serve.specs.Outside.{IsAll}
 use Rattle.aq_desk.specs.Scan.{scan_outcome}
 use Rattle.aq_desk.specs.Serve.{Around, HasServed, serve_outcome}
 use Rattle.aq_desk.specs.Simulate.{simulate_outcome}

@@ -10,17 +10,17 @@ ghost use Rattle.aq_words.specs.Words.{is_question};
 ghost use Rattle.aq_desk.specs.Ask.{HasSite, IsStopOf, IsUnanswered, MayBe, answered, ask_outcome, without_answer};
 ghost use Rattle.aq_desk.specs.Command.{RisesAt, WritesNothing, printed};
 ghost use Rattle.aq_desk.specs.Ending.{no_site};
-ghost use Rattle.aq_desk.specs.Outside.{OfTold};
+ghost use Rattle.aq_serve.specs.Outside.{OfTold};
 ghost use Rattle.aq_desk.specs.Stop.{Gives, IsUnprinted, Performs, status_of};
 
 use crate::office::open;
-use crate::outside::Sink;
 use crate::stop::Stop;
 use crate::writing::print_text;
 use aq_base::{Ask, Bytes, Pollutant, SiteId};
 use aq_book::Book;
 use aq_keeper::Keeper;
 use aq_reports::text_of;
+use aq_serve::Sink;
 use aq_service::{Unanswered, export_of, sheet_of};
 use std::alloc::Global;
 

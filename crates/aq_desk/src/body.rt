@@ -2,11 +2,11 @@
 ghost use Rattle.std.specs.Prelude.{◌≡◌, ◌<◌, ◌≤◌, length, vec_len, [], IfOk, IfErr, OnOk};
 ghost use Rattle.aq_rules.specs.Lines.Lines.{line_count};
 ghost use Rattle.aq_desk.specs.Body.{Extends, HasTooManyBytes, HasTooManyLines, IsBodyFault};
-ghost use Rattle.aq_desk.specs.Outside.{IsAll};
+ghost use Rattle.aq_serve.specs.Outside.{IsAll};
 
-use crate::outside::Source;
 use aq_base::{Failed, MOST_BYTES, MOST_LINES};
 use aq_forms::count_lines;
+use aq_serve::Source;
 use std::alloc::{AllocError, Global};
 
 const PIECE: usize = 65_536;

@@ -11,14 +11,13 @@ ghost use Rattle.aq_words.specs.Words.{command_of, is_command};
 
 use crate::ask::ask;
 use crate::load::load;
-use crate::outside::{Sink, Source};
 use crate::scan::scan;
 use crate::serve::serve;
 use crate::simulate::simulate;
 use crate::stop::Stop;
 use crate::writing::write_all;
 use aq_keeper::Keeper;
-use aq_serve::Door;
+use aq_serve::{Door, Sink, Source};
 use aq_words::{Command, read_words};
 use std::alloc::Global;
 

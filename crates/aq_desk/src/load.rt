@@ -7,18 +7,18 @@ ghost use Rattle.aq_rules.specs.Office.Office.{load_at};
 ghost use Rattle.aq_rules.specs.Shown.Answer.{is_load_number};
 ghost use Rattle.aq_desk.specs.Command.{RisesAt, WritesNothing};
 ghost use Rattle.aq_desk.specs.Load.{IsAnswered, IsKeptText, IsTextOf, load_answer, load_outcome};
-ghost use Rattle.aq_desk.specs.Outside.{OfTold};
+ghost use Rattle.aq_serve.specs.Outside.{OfTold};
 ghost use Rattle.aq_desk.specs.Stop.{Gives, HasCauses, IsMeasured, IsUnprinted, Performs, status_of};
 ghost use Rattle.aq_desk.specs.declared.stop.Stop.TheVariants.{Conflict};
 
 use crate::body::read_body;
 use crate::office::open;
-use crate::outside::{Sink, Source};
 use crate::stop::Stop;
 use crate::writing::{print_text, text_of_load};
 use aq_base::Bytes;
 use aq_book::Book;
 use aq_keeper::Keeper;
+use aq_serve::{Sink, Source};
 use aq_service::{Posted, post};
 use std::alloc::Global;
 

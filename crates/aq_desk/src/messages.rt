@@ -5,11 +5,11 @@ ghost use Rattle.aq_rules.specs.Shown.OtherSheets.{digest_text};
 ghost use Rattle.aq_desk.specs.Ending.{conflict, damaged, no_site, too_many_lines};
 ghost use Rattle.aq_desk.specs.Writing.{Writes};
 
-use crate::outside::Sink;
 use crate::writing::write_all;
 use aq_base::{Failed, SiteId};
 use aq_book::Place;
 use aq_reports::{hex_digits, site_text};
+use aq_serve::Sink;
 
 /// Writes the place of the first damaged row, by its table's number and its index there.
 pub(crate) fn write_damaged<E: Sink>(table: u8, index: u64, errors: &mut E) -> Result<(), Failed>

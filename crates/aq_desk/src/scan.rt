@@ -8,17 +8,17 @@ ghost use Rattle.aq_rules.specs.Shown.Answer.{Windows};
 ghost use Rattle.aq_rules.specs.Shown.Sheet.{text_of};
 ghost use Rattle.aq_rules.specs.Shown.Sheets.{load_sheet};
 ghost use Rattle.aq_desk.specs.Command.{after_text, printed, RisesAt, WritesNothing};
-ghost use Rattle.aq_desk.specs.Outside.{OfTold};
+ghost use Rattle.aq_serve.specs.Outside.{OfTold};
 ghost use Rattle.aq_desk.specs.Scan.{scan_answer, scan_outcome, sheet_or_no_site};
 ghost use Rattle.aq_desk.specs.Stop.{HasCauses, IsCutShort, IsMeasured, IsTaken, Obeys, status_of};
 
 use crate::body::read_body;
-use crate::outside::{Sink, Source};
 use crate::stop::Stop;
 use crate::writing::print_sheet;
 use aq_base::{Ask, Day, SiteId};
 use aq_book::{Book, Staged};
 use aq_reports::load_sheet;
+use aq_serve::{Sink, Source};
 use aq_service::{Unanswered, sheet_of};
 use std::alloc::Global;
 

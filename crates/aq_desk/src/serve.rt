@@ -2,7 +2,7 @@
 ghost use Rattle.std.specs.Prelude.{◌≡◌, ◌⊎◌, false};
 ghost use Rattle.aq_base.specs.Faults.{HasRisen};
 ghost use Rattle.aq_keeper.specs.Told.{told_through};
-ghost use Rattle.aq_desk.specs.Outside.{OfTold};
+ghost use Rattle.aq_serve.specs.Outside.{OfTold};
 ghost use Rattle.aq_desk.specs.Serve.{HasAttended, HasServed, serve_outcome};
 ghost use Rattle.aq_desk.specs.Stop.{EndsAs, status_of};
 

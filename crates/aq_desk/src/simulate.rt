@@ -5,9 +5,9 @@ ghost use Rattle.aq_desk.specs.Simulate.{simulate_outcome};
 ghost use Rattle.aq_desk.specs.Stop.{IsCutShort, Obeys, status_of};
 ghost use Rattle.aq_rules.specs.Limits.{MOST_GENERATED_SITES, FEWEST_GENERATED_YEARS, MOST_GENERATED_YEARS};
 
-use crate::outside::Sink;
 use crate::stop::Stop;
 use crate::writing::print_text;
+use aq_serve::Sink;
 use aq_simulation::simulation;
 use std::alloc::Global;
 

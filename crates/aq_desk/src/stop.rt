@@ -5,11 +5,11 @@ ghost use Rattle.aq_desk.specs.Writing.{Writes};
 
 use crate::body::BodyFault;
 use crate::messages::{write_conflict, write_damaged, write_lines, write_no_site};
-use crate::outside::Sink;
 use crate::writing::write_all;
 use aq_base::{Failed, SiteId};
 use aq_book::{OpenFault, Place};
 use aq_keeper::KeeperFault;
+use aq_serve::Sink;
 
 /// What stops a command before it has done all.
 #[derive(Clone, Copy, Debug, PartialEq, Eq)]

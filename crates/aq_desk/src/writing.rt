@@ -7,10 +7,10 @@ ghost use Rattle.aq_desk.specs.Stop.{IsCutShort, Obeys, status_of};
 ghost use Rattle.aq_desk.specs.Writing.{Writes};
 ghost use Rattle.aq_desk.specs.declared.stop.Stop.TheVariants.{OutputFailed};
 
-use crate::outside::Sink;
 use crate::stop::Stop;
 use aq_base::{Bytes, Failed, LoadReply, Memory};
 use aq_reports::{Sheet, load_sheet, text_of};
+use aq_serve::Sink;
 use std::alloc::Global;
 
 /// Writes all bytes of a text. After `Failed` a front of them was written.

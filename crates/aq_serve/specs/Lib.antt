@@ -1,5 +1,7 @@
 pub mod Door
 pub mod Memories
+pub mod Outside
+pub mod MemoryStreams
 pub mod Answered
 pub mod Service
 pub mod Session

@@ -85,8 +85,8 @@ impl MemoryLine {
     }
 }
 
-// Copies the front of what is left, as far as there is room.
-fn copy_front(left: &[u8], buffer: &mut [u8]) -> usize
+/// Copies the front of what is left, as far as there is room.
+pub(crate) fn copy_front(left: &[u8], buffer: &mut [u8]) -> usize
     ensures short { result ≤ length left.now }
     ensures within { result ≤ length buffer.new }
     ensures moved { left.now ≡ take result buffer.new ++ drop result left.now }
@@ -97,8 +97,8 @@ fn copy_front(left: &[u8], buffer: &mut [u8]) -> usize
     n
 }
 
-// Adds bytes for which there is room.
-fn push_all(bytes: &mut Vec<u8>, piece: &[u8])
+/// Adds bytes for which there is room.
+pub(crate) fn push_all(bytes: &mut Vec<u8>, piece: &[u8])
     requires { vec_len bytes.old + length piece.now ≤ vec_capacity bytes.old }
     ensures items { bytes.new.items ≡ bytes.old.items ++ piece.now }
     ensures capacity { vec_capacity bytes.old ≤ vec_capacity bytes.new }

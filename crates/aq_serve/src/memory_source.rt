@@ -1,6 +1,4 @@
-ghost use Rattle.std.specs.Prelude.{Some, drop};
-ghost use Rattle.aq_desk.specs.Outside.{Moves};
-
+use crate::memory_line::copy_front;
 use crate::outside::Source;
 use aq_base::Failed;
 use std::marker::Model;
@@ -17,7 +15,7 @@ pub struct MemorySource {
 
 impl Model for MemorySource {
     ghost use Rattle.std.specs.Prelude.{◌≤◌, drop, vec_len};
-    ghost use Rattle.aq_desk.specs.Memories.{SourceState};
+    ghost use Rattle.aq_serve.specs.MemoryStreams.{SourceState};
 
     ghost Value = { SourceState };
 
@@ -43,19 +41,11 @@ impl MemorySource {
     }
 }
 
-// Copies the front of what is left, as far as there is room.
-fn copy_front(left: &[u8], buffer: &mut [u8]) -> usize
-    ensures { Moves (Some left.now) (Some (drop result left.now)) buffer.new result }
-{
-    let n = left.len().min(buffer.len());
-    buffer[..n].copy_from_slice(&left[..n]);
-    n
-}
-
 impl Source for MemorySource {
     ghost use Rattle.std.specs.Prelude.{◌≡◌, ◌↔◌, IsTrue, IsErr, IfOk, OnErr, Some};
     ghost use Rattle.aq_base.specs.Faults.{is_listed, next};
-    ghost use Rattle.aq_desk.specs.Outside.{HasCause, Moves, faults_after};
+    ghost use Rattle.aq_serve.specs.Door.{HasCause, faults_after};
+    ghost use Rattle.aq_serve.specs.Outside.{Moves};
 
     ghost left = { λ source. Some source.left };
 

@@ -1,11 +1,11 @@
-//! The standard streams as a source and sinks. They tell none of their bytes. What the stream beneath
+//! A reader as a source, and a writer as a sink. They tell none of their bytes. What the stream beneath
 //! gives is passed on as it is, and what is given reaches it; the streams' own words for that are the
 //! contracts'.
 ghost use Rattle.std.specs.Prelude.{◌≤◌, length, IfOk};
 ghost use Rattle.std.specs.Io.KnownBytes.{ReadConsumes, WriteAppends};
 
 use aq_base::Failed;
-use aq_desk::{Sink, Source};
+use aq_serve::{Sink, Source};
 use std::io::{ErrorKind, Read, Write};
 
 /// So often is a call that a signal interrupts made again; past that it is a fault.
@@ -31,7 +31,8 @@ impl<R: Read> Reading<R> {
 impl<R: Read> Source for Reading<R> {
     ghost use Rattle.std.specs.Prelude.{◌≡◌, None, IfOk};
     ghost use Rattle.std.specs.Io.KnownBytes.{ReadConsumes};
-    ghost use Rattle.aq_desk.specs.Outside.{HasCause, Moves, faults_after};
+    ghost use Rattle.aq_serve.specs.Door.{HasCause, faults_after};
+    ghost use Rattle.aq_serve.specs.Outside.{Moves};
 
     ghost left = { λ _. None };
 
@@ -90,7 +91,8 @@ impl<W: Write> Writing<W> {
 impl<W: Write> Sink for Writing<W> {
     ghost use Rattle.std.specs.Prelude.{◌≡◌, None, IfOk};
     ghost use Rattle.std.specs.Io.KnownBytes.{WriteAppends};
-    ghost use Rattle.aq_desk.specs.Outside.{HasCause, Takes, faults_after};
+    ghost use Rattle.aq_serve.specs.Door.{HasCause, faults_after};
+    ghost use Rattle.aq_serve.specs.Outside.{Takes};
 
     ghost written = { λ _. None };
 

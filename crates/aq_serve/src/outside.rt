@@ -2,7 +2,8 @@
 //! counts its faults. A count rises at a call that fails, and at no other; one at its greatest value
 //! counts as risen.
 ghost use Rattle.std.specs.Prelude.{◌≡◌, ℕ, List, Option, IfOk, OnErr};
-ghost use Rattle.aq_desk.specs.Outside.{HasCause, Moves, Takes};
+ghost use Rattle.aq_serve.specs.Door.{HasCause};
+ghost use Rattle.aq_serve.specs.Outside.{Moves, Takes};
 
 use aq_base::Failed;
 

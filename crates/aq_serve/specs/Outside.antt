@@ -1,7 +1,6 @@
--- What contracts see of the outside: bytes that an object tells or does not tell, and its count of faults (own).
+-- What contracts see of a source and of a sink: bytes that an object tells or does not tell (own).
 use Rattle.std.specs.Prelude.{◌≡◌, ℕ, ◌<◌, ◌≤◌, List, [], ◌++◌, length, take, Option, IfSome}
 use Rattle.std.specs.Option.{option_map}
-pub use Rattle.aq_serve.specs.Door.{HasCause, faults_after}
 
 -- all that an object tells
 abbrev pub IsAll : {A : Type 0} → Option (List A) → List A → Type 0

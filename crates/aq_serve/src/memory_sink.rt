@@ -1,5 +1,4 @@
-ghost use Rattle.std.specs.Prelude.{◌≡◌, ◌+◌, ◌≤◌, ◌++◌, length, vec_len, vec_capacity};
-
+use crate::memory_line::push_all;
 use crate::outside::Sink;
 use aq_base::{Failed, Memory};
 use std::alloc::Global;
@@ -18,7 +17,7 @@ pub struct MemorySink {
 
 impl Model for MemorySink {
     ghost use Rattle.std.specs.Prelude.{◌≤◌, vec_len, vec_capacity};
-    ghost use Rattle.aq_desk.specs.Memories.{SinkState};
+    ghost use Rattle.aq_serve.specs.MemoryStreams.{SinkState};
 
     ghost Value = { SinkState };
 
@@ -56,8 +55,9 @@ impl MemorySink {
 impl Sink for MemorySink {
     ghost use Rattle.std.specs.Prelude.{◌≡◌, ◌↔◌, ◌&&◌, ◌||◌, ◌==◌, not, length, IsTrue, IsErr, IfOk, OnErr, Some};
     ghost use Rattle.aq_base.specs.Faults.{is_listed, next};
-    ghost use Rattle.aq_desk.specs.Outside.{HasCause, Takes, faults_after};
-    ghost use Rattle.aq_desk.specs.Memories.{finds_no_room};
+    ghost use Rattle.aq_serve.specs.Door.{HasCause, faults_after};
+    ghost use Rattle.aq_serve.specs.Outside.{Takes};
+    ghost use Rattle.aq_serve.specs.MemoryStreams.{finds_no_room};
 
     ghost written = { λ sink. Some sink.written };
 
@@ -83,16 +83,5 @@ impl Sink for MemorySink {
         }
         push_all(&mut self.bytes, &piece[..n]);
         Ok(n)
-    }
-}
-
-// Adds bytes for which there is room.
-fn push_all(bytes: &mut Vec<u8>, piece: &[u8])
-    requires { vec_len bytes.old + length piece.now ≤ vec_capacity bytes.old }
-    ensures items { bytes.new.items ≡ bytes.old.items ++ piece.now }
-    ensures capacity { vec_capacity bytes.old ≤ vec_capacity bytes.new }
-{
-    if bytes.extend_from_slice(piece).is_err() {
-        unreachable!()
     }
 }
