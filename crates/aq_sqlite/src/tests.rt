@@ -4,7 +4,7 @@ use aq_base::Bytes;
 use aq_keeper::{
     Keeper, KeeperFault, LoadRow, ObsRow, ObsRow2, OfficeRow, Row, RowChange, RowKey, do_keys_rise,
 };
-use sqlite::{Connection, MemStore};
+use sqlite::{Alter, Connection, MemStore};
 use std::alloc::Global;
 use std::fs;
 use std::process::Abort;
@@ -130,66 +130,89 @@ fn commit<K: Keeper>(
     keeper.commit(alloc, batch)
 }
 
-/// Whether a keeper reads these rows, in this order, with all their fields.
-fn reads<K: Keeper>(alloc: Global, keeper: &mut K, rows: &[Kept]) -> Result<bool, Fail> {
-    let Ok(found) = keeper.read_all(alloc) else {
-        return Ok(false);
-    };
-    are_same(alloc, found.as_slice(), &rows_of(alloc, rows)?)
+/// Rows in their order, with all their fields.
+fn text_of(alloc: Global, rows: &[Row]) -> Result<String, Fail> {
+    Ok(format!(in alloc; "{rows:?}")?)
 }
 
-fn are_same(alloc: Global, a: &[Row], b: &[Row]) -> Result<bool, Fail> {
-    let a = format!(in alloc; "{a:?}")?;
-    let b = format!(in alloc; "{b:?}")?;
-    Ok(a.as_str() == b.as_str())
+fn text_of_kept(alloc: Global, rows: &[Kept]) -> Result<String, Fail> {
+    let rows = rows_of(alloc, rows)?;
+    text_of(alloc, &rows)
+}
+
+/// The rows that a keeper reads; no text if it is refused.
+fn text_read<K: Keeper>(alloc: Global, keeper: &mut K) -> Result<String, Fail> {
+    match keeper.read_all(alloc) {
+        Ok(rows) => text_of(alloc, rows.as_slice()),
+        Err(_) => Ok(String::new(alloc)),
+    }
+}
+
+/// Whether a keeper reads these rows, in this order, with all their fields.
+fn reads<K: Keeper>(alloc: Global, keeper: &mut K, rows: &[Kept]) -> Result<bool, Fail> {
+    let found = text_read(alloc, keeper)?;
+    let wanted = text_of_kept(alloc, rows)?;
+    Ok(found.as_str() == wanted.as_str())
 }
 
 /// Rows of all four tables.
-const STORED: [Change; 5] = [
-    Change::Put(Kept::Monitor("XM|Y")),
-    Change::Put(Kept::First(214_762, Some(71), "")),
-    Change::Put(Kept::First(214_763, None, "AN")),
-    Change::Put(Kept::Second(214_764, Some(72), Some(87), "")),
-    Change::Put(Kept::Load),
-];
+fn stored() -> [Change; 5] {
+    [
+        Change::Put(Kept::Monitor("XM|Y")),
+        Change::Put(Kept::First(214_762, Some(71), "")),
+        Change::Put(Kept::First(214_763, None, "AN")),
+        Change::Put(Kept::Second(214_764, Some(72), Some(87), "")),
+        Change::Put(Kept::Load),
+    ]
+}
 
-const BEFORE: [Kept; 5] = [
-    Kept::Monitor("XM|Y"),
-    Kept::First(214_762, Some(71), ""),
-    Kept::First(214_763, None, "AN"),
-    Kept::Load,
-    Kept::Second(214_764, Some(72), Some(87), ""),
-];
+fn before() -> [Kept; 5] {
+    [
+        Kept::Monitor("XM|Y"),
+        Kept::First(214_762, Some(71), ""),
+        Kept::First(214_763, None, "AN"),
+        Kept::Load,
+        Kept::Second(214_764, Some(72), Some(87), ""),
+    ]
+}
 
 /// The batch of a migration.
-const MIGRATION: [Change; 4] = [
-    Change::DropFirst(214_762),
-    Change::DropFirst(214_763),
-    Change::Put(Kept::Second(214_762, Some(71), None, "")),
-    Change::Put(Kept::Second(214_763, None, None, "AN")),
-];
+fn migration() -> [Change; 4] {
+    [
+        Change::DropFirst(214_762),
+        Change::DropFirst(214_763),
+        Change::Put(Kept::Second(214_762, Some(71), None, "")),
+        Change::Put(Kept::Second(214_763, None, None, "AN")),
+    ]
+}
 
-const MIGRATED: [Kept; 5] = [
-    Kept::Monitor("XM|Y"),
-    Kept::Load,
-    Kept::Second(214_762, Some(71), None, ""),
-    Kept::Second(214_763, None, None, "AN"),
-    Kept::Second(214_764, Some(72), Some(87), ""),
-];
+fn migrated() -> [Kept; 5] {
+    [
+        Kept::Monitor("XM|Y"),
+        Kept::Load,
+        Kept::Second(214_762, Some(71), None, ""),
+        Kept::Second(214_763, None, None, "AN"),
+        Kept::Second(214_764, Some(72), Some(87), ""),
+    ]
+}
 
 /// Rows in the places of others, and drops.
-const CHANGES: [Change; 5] = [
-    Change::Put(Kept::Monitor("XM|N")),
-    Change::DropSecond(214_762),
-    Change::Put(Kept::Second(214_763, Some(70), Some(0), "")),
-    Change::DropSecond(214_764),
-    Change::DropLoad,
-];
+fn changes() -> [Change; 5] {
+    [
+        Change::Put(Kept::Monitor("XM|N")),
+        Change::DropSecond(214_762),
+        Change::Put(Kept::Second(214_763, Some(70), Some(0), "")),
+        Change::DropSecond(214_764),
+        Change::DropLoad,
+    ]
+}
 
-const CHANGED: [Kept; 2] = [
-    Kept::Monitor("XM|N"),
-    Kept::Second(214_763, Some(70), Some(0), ""),
-];
+fn changed() -> [Kept; 2] {
+    [
+        Kept::Monitor("XM|N"),
+        Kept::Second(214_763, Some(70), Some(0), ""),
+    ]
+}
 
 /// Commits a batch and reads the rows that then stand.
 fn take<K: Keeper>(
@@ -207,9 +230,9 @@ fn take<K: Keeper>(
 
 /// What a keeper of empty tables does with one batch after another.
 fn keep<K: Keeper>(rt: &impl Abort, alloc: Global, keeper: &mut K) -> Result<(), Fail> {
-    take(rt, alloc, keeper, &STORED, &BEFORE)?;
-    take(rt, alloc, keeper, &MIGRATION, &MIGRATED)?;
-    take(rt, alloc, keeper, &CHANGES, &CHANGED)
+    take(rt, alloc, keeper, &stored(), &before())?;
+    take(rt, alloc, keeper, &migration(), &migrated())?;
+    take(rt, alloc, keeper, &changes(), &changed())
 }
 
 /// What a keeper does whose tables cannot be reached.
@@ -229,94 +252,139 @@ fn at<'a>(rt: &'a HostRuntime, path: &str) -> Result<FileKeeper<'a>, Fail> {
 }
 
 /// The tables of version 1.
-const VERSION_1: &str =
-    "CREATE TABLE IF NOT EXISTS records (kind INTEGER NOT NULL, rowkey TEXT NOT NULL, line TEXT NOT NULL, PRIMARY KEY (kind, rowkey)) STRICT; CREATE TABLE IF NOT EXISTS observations (site INTEGER NOT NULL, pollutant INTEGER NOT NULL, poc INTEGER NOT NULL, hour INTEGER NOT NULL, value INTEGER, nullcode TEXT NOT NULL, quals TEXT NOT NULL, PRIMARY KEY (site, pollutant, poc, hour)) STRICT; CREATE TABLE IF NOT EXISTS loads (number INTEGER PRIMARY KEY, digest BLOB NOT NULL, lines INTEGER NOT NULL, accepted INTEGER NOT NULL, listed TEXT NOT NULL, rest TEXT NOT NULL) STRICT";
+fn version_1() -> &'static str {
+    "CREATE TABLE IF NOT EXISTS records (kind INTEGER NOT NULL, rowkey TEXT NOT NULL, line TEXT NOT NULL, PRIMARY KEY (kind, rowkey)) STRICT; CREATE TABLE IF NOT EXISTS observations (site INTEGER NOT NULL, pollutant INTEGER NOT NULL, poc INTEGER NOT NULL, hour INTEGER NOT NULL, value INTEGER, nullcode TEXT NOT NULL, quals TEXT NOT NULL, PRIMARY KEY (site, pollutant, poc, hour)) STRICT; CREATE TABLE IF NOT EXISTS loads (number INTEGER PRIMARY KEY, digest BLOB NOT NULL, lines INTEGER NOT NULL, accepted INTEGER NOT NULL, listed TEXT NOT NULL, rest TEXT NOT NULL) STRICT"
+}
+
+fn run<S: Alter>(connection: &mut Connection<S>, sql: &str) -> Result<(), Fail> {
+    connection.execute_batch(sql)?;
+    Ok(())
+}
 
 /// Makes a file of version 1, which has three tables.
 fn make_version_1(rt: &HostRuntime, path: &str) -> Result<(), Fail> {
     let mut connection = Connection::open(rt, path)?;
-    connection.execute_batch(VERSION_1)?;
+    run(&mut connection, version_1())?;
     connection.close()?;
     Ok(())
 }
 
-/// The keeper of a database in memory in which these statements were run.
-fn over(alloc: Global, sql: &str) -> Result<SqliteKeeper<MemStore>, Fail> {
+/// A database in memory in which these statements were run.
+fn made(alloc: Global, sql: &str) -> Result<Connection<MemStore>, Fail> {
     let mut connection = Connection::open_in_memory(alloc)?;
-    connection.execute_batch(sql)?;
+    run(&mut connection, sql)?;
+    Ok(connection)
+}
+
+/// The keeper of a connection without an open transaction.
+fn adopted<S: Alter + Drop>(connection: Connection<S>) -> Option<SqliteKeeper<S>> {
     if !connection.is_autocommit() {
-        Err("a transaction is open")?;
+        return None;
     }
-    Ok(SqliteKeeper::adopt(connection))
+    Some(SqliteKeeper::adopt(connection))
+}
+
+fn prepare<S: Alter + Drop>(keeper: &mut SqliteKeeper<S>) -> Result<(), KeeperFault> {
+    keeper.prepare()
+}
+
+/// A keeper whose tables are prepared, if that is not refused.
+fn prepared<S: Alter + Drop>(connection: Connection<S>) -> Option<SqliteKeeper<S>> {
+    let mut keeper = adopted(connection)?;
+    if prepare(&mut keeper).is_err() {
+        return None;
+    }
+    Some(keeper)
+}
+
+/// Whether the tables are refused, twice, so that nothing was made.
+fn is_refused<S: Alter + Drop>(connection: Connection<S>) -> bool {
+    let Some(mut keeper) = adopted(connection) else {
+        return false;
+    };
+    let first = prepare(&mut keeper) == Err(KeeperFault::Failed);
+    let again = prepare(&mut keeper) == Err(KeeperFault::Failed);
+    first && again
+}
+
+/// The prepared keeper of a database in memory in which these statements were run.
+fn office(alloc: Global, sql: &str) -> Result<SqliteKeeper<MemStore>, Fail> {
+    Ok(prepared(made(alloc, sql)?).ok_or("prepared")?)
 }
 
 #[test]
 fn a_database_in_memory_is_prepared_twice_and_kept(rt: HostRuntime) -> Result<(), Fail> {
     let alloc = rt.alloc();
-    let mut keeper = over(alloc, VERSION_1)?;
-    assert!(rt; keeper.prepare().is_ok());
-    assert!(rt; keeper.prepare().is_ok());
+    let mut keeper = office(alloc, version_1())?;
+    assert!(rt; prepare(&mut keeper).is_ok());
     keep(&rt, alloc, &mut keeper)
 }
 
 /// Databases of an office: further tables, indexes and views bear on nothing.
-const OFFICES: [&str; 4] = [
-    "",
-    "CREATE TABLE records (kind INTEGER NOT NULL, rowkey TEXT NOT NULL, line TEXT NOT NULL, PRIMARY KEY (kind, rowkey)) STRICT; CREATE TABLE other (a)",
-    "CREATE TABLE records (kind INTEGER NOT NULL, rowkey TEXT NOT NULL, line TEXT NOT NULL, PRIMARY KEY (kind, rowkey)) STRICT; CREATE VIEW lines AS SELECT line FROM records",
-    APART,
-];
+fn offices() -> [&'static str; 4] {
+    [
+        "",
+        "CREATE TABLE records (kind INTEGER NOT NULL, rowkey TEXT NOT NULL, line TEXT NOT NULL, PRIMARY KEY (kind, rowkey)) STRICT; CREATE TABLE other (a)",
+        "CREATE TABLE records (kind INTEGER NOT NULL, rowkey TEXT NOT NULL, line TEXT NOT NULL, PRIMARY KEY (kind, rowkey)) STRICT; CREATE VIEW lines AS SELECT line FROM records",
+        apart(),
+    ]
+}
 
 /// A further index, in which no two values may be the same.
-const APART: &str =
-    "CREATE TABLE observations2 (site INTEGER NOT NULL, pollutant INTEGER NOT NULL, poc INTEGER NOT NULL, hour INTEGER NOT NULL, value INTEGER, method INTEGER, nullcode TEXT NOT NULL, quals TEXT NOT NULL, PRIMARY KEY (site, pollutant, poc, hour)) STRICT; CREATE UNIQUE INDEX apart ON observations2 (value)";
+fn apart() -> &'static str {
+    "CREATE TABLE observations2 (site INTEGER NOT NULL, pollutant INTEGER NOT NULL, poc INTEGER NOT NULL, hour INTEGER NOT NULL, value INTEGER, method INTEGER, nullcode TEXT NOT NULL, quals TEXT NOT NULL, PRIMARY KEY (site, pollutant, poc, hour)) STRICT; CREATE UNIQUE INDEX apart ON observations2 (value)"
+}
 
 /// A drop, and a value that stands.
-const CLASH: [Change; 2] = [
-    Change::DropFirst(214_762),
-    Change::Put(Kept::Second(214_765, Some(72), None, "")),
-];
+fn clash() -> [Change; 2] {
+    [
+        Change::DropFirst(214_762),
+        Change::Put(Kept::Second(214_765, Some(72), None, "")),
+    ]
+}
 
 /// Databases that are none: another program's, and those with a table of ours in another form.
-const OTHERS: [&str; 5] = [
-    "CREATE TABLE other (a)",
-    "CREATE TABLE records (kind INTEGER NOT NULL, rowkey TEXT NOT NULL, line TEXT, PRIMARY KEY (kind, rowkey)) STRICT",
-    "CREATE TABLE records (kind INTEGER NOT NULL, rowkey TEXT NOT NULL, line TEXT NOT NULL, more TEXT, PRIMARY KEY (kind, rowkey)) STRICT",
-    "CREATE TABLE records (kind INTEGER NOT NULL, rowkey TEXT NOT NULL, line TEXT NOT NULL UNIQUE, PRIMARY KEY (kind, rowkey)) STRICT",
-    "CREATE TABLE loads (number INTEGER PRIMARY KEY, digest BLOB NOT NULL, lines INTEGER NOT NULL, accepted INTEGER NOT NULL, listed TEXT NOT NULL, rest TEXT NOT NULL)",
-];
+fn others() -> [&'static str; 5] {
+    [
+        "CREATE TABLE other (a)",
+        "CREATE TABLE records (kind INTEGER NOT NULL, rowkey TEXT NOT NULL, line TEXT, PRIMARY KEY (kind, rowkey)) STRICT",
+        "CREATE TABLE records (kind INTEGER NOT NULL, rowkey TEXT NOT NULL, line TEXT NOT NULL, more TEXT, PRIMARY KEY (kind, rowkey)) STRICT",
+        "CREATE TABLE records (kind INTEGER NOT NULL, rowkey TEXT NOT NULL, line TEXT NOT NULL UNIQUE, PRIMARY KEY (kind, rowkey)) STRICT",
+        "CREATE TABLE loads (number INTEGER PRIMARY KEY, digest BLOB NOT NULL, lines INTEGER NOT NULL, accepted INTEGER NOT NULL, listed TEXT NOT NULL, rest TEXT NOT NULL)",
+    ]
+}
+
+fn keep_office(rt: &impl Abort, alloc: Global, sql: &str) -> Result<(), Fail> {
+    let mut keeper = office(alloc, sql)?;
+    take(rt, alloc, &mut keeper, &stored(), &before())
+}
 
 #[test]
 fn an_office_is_kept_whatever_stands_beside_it(rt: HostRuntime) -> Result<(), Fail> {
-    let alloc = rt.alloc();
-    for sql in OFFICES {
-        let mut keeper = over(alloc, sql)?;
-        assert!(rt; keeper.prepare().is_ok());
-        take(&rt, alloc, &mut keeper, &STORED, &BEFORE)?;
+    for sql in offices() {
+        keep_office(&rt, rt.alloc(), sql)?;
     }
+    Ok(())
+}
+
+fn refuse_clash<K: Keeper>(rt: &impl Abort, alloc: Global, keeper: &mut K) -> Result<(), Fail> {
+    take(rt, alloc, keeper, &stored(), &before())?;
+    let batch = batch_of(alloc, &clash())?;
+    assert!(rt; commit(rt, alloc, keeper, &batch) == Err(KeeperFault::Failed));
+    assert!(rt; reads(alloc, keeper, &before())?);
     Ok(())
 }
 
 #[test]
 fn a_batch_that_clashes_is_refused_whole(rt: HostRuntime) -> Result<(), Fail> {
-    let alloc = rt.alloc();
-    let mut keeper = over(alloc, APART)?;
-    assert!(rt; keeper.prepare().is_ok());
-    take(&rt, alloc, &mut keeper, &STORED, &BEFORE)?;
-    let batch = batch_of(alloc, &CLASH)?;
-    assert!(rt; commit(&rt, alloc, &mut keeper, &batch) == Err(KeeperFault::Failed));
-    assert!(rt; reads(alloc, &mut keeper, &BEFORE)?);
-    Ok(())
+    let mut keeper = office(rt.alloc(), apart())?;
+    refuse_clash(&rt, rt.alloc(), &mut keeper)
 }
 
 #[test]
 fn the_tables_of_another_program_are_refused(rt: HostRuntime) -> Result<(), Fail> {
-    let alloc = rt.alloc();
-    for sql in OTHERS {
-        let mut keeper = over(alloc, sql)?;
-        assert!(rt; keeper.prepare() == Err(KeeperFault::Failed));
-        // Nothing was made.
-        assert!(rt; keeper.prepare() == Err(KeeperFault::Failed));
+    for sql in others() {
+        assert!(rt; is_refused(made(rt.alloc(), sql)?));
     }
     Ok(())
 }
@@ -330,13 +398,35 @@ enum Table {
     Second,
 }
 
-const IN_BATCH: [Table; 4] = [Table::Records, Table::First, Table::Second, Table::Loads];
+fn in_batch() -> [Table; 4] {
+    [Table::Records, Table::First, Table::Second, Table::Loads]
+}
 
-const IN_ORDER: [Table; 4] = [Table::Records, Table::First, Table::Loads, Table::Second];
+fn in_order() -> [Table; 4] {
+    [Table::Records, Table::First, Table::Loads, Table::Second]
+}
 
 fn spelled(alloc: Global, word: &str, number: i64) -> Result<Bytes, Fail> {
     let text = format!(in alloc; "{word} {number}")?;
     bytes(alloc, text.as_str())
+}
+
+/// A number that one row in two has.
+fn in_second(number: i64) -> Option<i64> {
+    if number % 2 == 0 {
+        Some(number.wrapping_add(20_000))
+    } else {
+        None
+    }
+}
+
+/// A number that one row in three has.
+fn in_third(number: i64) -> Option<i64> {
+    if number % 3 == 0 {
+        Some(number.wrapping_add(30_000))
+    } else {
+        None
+    }
 }
 
 /// A row by its number, of which no two columns are alike.
@@ -363,11 +453,7 @@ fn numbered_first(alloc: Global, number: i64) -> Result<Row, Fail> {
         pollutant: 2,
         poc: number.wrapping_add(10_000),
         hour: number.wrapping_sub(87_648),
-        value: if number % 2 == 0 {
-            Some(number.wrapping_add(20_000))
-        } else {
-            None
-        },
+        value: in_second(number),
         null: spelled(alloc, "null", number)?,
         quals: spelled(alloc, "quals", number)?,
     }))
@@ -390,16 +476,8 @@ fn numbered_second(alloc: Global, number: i64) -> Result<Row, Fail> {
         pollutant: 3,
         poc: number.wrapping_add(10_000),
         hour: number.wrapping_sub(87_648),
-        value: if number % 2 == 0 {
-            Some(number.wrapping_add(20_000))
-        } else {
-            None
-        },
-        method: if number % 3 == 0 {
-            Some(number.wrapping_add(30_000))
-        } else {
-            None
-        },
+        value: in_second(number),
+        method: in_third(number),
         null: spelled(alloc, "null", number)?,
         quals: spelled(alloc, "quals", number)?,
     }))
@@ -415,37 +493,54 @@ fn many(alloc: Global, tables: &[Table]) -> Result<Vec<Row>, Fail> {
     Ok(rows)
 }
 
-#[test]
-fn a_thousand_rows_come_back_as_they_were(rt: HostRuntime) -> Result<(), Fail> {
-    let alloc = rt.alloc();
-    let mut keeper = over(alloc, "")?;
-    assert!(rt; keeper.prepare().is_ok());
+fn puts(alloc: Global, rows: Vec<Row>) -> Result<Vec<RowChange>, Fail> {
     let mut batch = Vec::new(alloc);
-    for row in many(alloc, &IN_BATCH)? {
+    for row in rows {
         batch.push(RowChange::put(row))?;
     }
-    assert!(rt; commit(&rt, alloc, &mut keeper, &batch).is_ok());
-    let found = keeper.read_all(alloc).ok().ok_or("read")?;
-    assert!(rt; are_same(alloc, found.as_slice(), &many(alloc, &IN_ORDER)?)?);
+    Ok(batch)
+}
+
+fn keep_many<K: Keeper>(rt: &impl Abort, alloc: Global, keeper: &mut K) -> Result<(), Fail> {
+    let batch = puts(alloc, many(alloc, &in_batch())?)?;
+    assert!(rt; commit(rt, alloc, keeper, &batch).is_ok());
+    let found = text_read(alloc, keeper)?;
+    let wanted = text_of(alloc, &many(alloc, &in_order())?)?;
+    assert!(rt; found.as_str() == wanted.as_str());
     Ok(())
 }
 
 #[test]
+fn a_thousand_rows_come_back_as_they_were(rt: HostRuntime) -> Result<(), Fail> {
+    let mut keeper = office(rt.alloc(), "")?;
+    keep_many(&rt, rt.alloc(), &mut keeper)
+}
+
+/// What two keepers of one file do.
+fn exclude<K: Keeper>(
+    rt: &impl Abort,
+    alloc: Global,
+    first: &mut K,
+    second: &mut K,
+) -> Result<(), Fail> {
+    assert!(rt; reads(alloc, first, &[])?);
+    refuse(rt, alloc, second)?;
+    keep(rt, alloc, first)?;
+    refuse(rt, alloc, second)
+}
+
+#[test]
 fn a_file_has_one_keeper_at_a_time(rt: HostRuntime) -> Result<(), Fail> {
-    let alloc = rt.alloc();
     let _ = fs::remove_dir_all(&rt, FOLDER);
     fs::create_dir(&rt, FOLDER)?;
     make_version_1(&rt, PATH)?;
     let mut first = at(&rt, PATH)?;
     let mut second = at(&rt, PATH)?;
-    assert!(rt; reads(alloc, &mut first, &[])?);
-    refuse(&rt, alloc, &mut second)?;
-    keep(&rt, alloc, &mut first)?;
-    refuse(&rt, alloc, &mut second)?;
+    exclude(&rt, rt.alloc(), &mut first, &mut second)?;
     drop(first);
     // The file stands for itself.
     fs::remove_file(&rt, "aq_sqlite_test/airdv.sqlite-wal")?;
-    assert!(rt; reads(alloc, &mut second, &CHANGED)?);
+    assert!(rt; reads(rt.alloc(), &mut second, &changed())?);
     fs::remove_dir_all(&rt, FOLDER)?;
     Ok(())
 }

@@ -1,43 +1,53 @@
 //! A commit that a stop of the machine cuts short.
-ghost use Rattle.std.specs.Prelude.{IfOk, IsTrue};
-ghost use Rattle.sqlite_disk.specs.Memory.{memory_is_usable};
-
 use super::{
-    BEFORE, Change, Kept, MIGRATED, MIGRATION, STORED, are_same, batch_of, commit, rows_of,
+    Change, Kept, batch_of, before, commit, migrated, migration, prepared, stored, text_of_kept,
+    text_read,
 };
 use crate::sqlite_keeper::SqliteKeeper;
-use aq_keeper::{Keeper, Row, RowChange, Rows};
+use aq_keeper::RowChange;
 use sqlite::{Alter, Connection, FileStore, Files, Options};
 use sqlite_disk::{Crash, Disk, Fuse, Memory};
 use std::alloc::Global;
 use std::process::Abort;
 use std::test::Fail;
 
-type Fused = FileStore<Fuse<Memory>>;
-
 /// Rows of three tables.
-const THREE: [Change; 3] = [
-    Change::Put(Kept::Monitor("XM|Y")),
-    Change::Put(Kept::Second(214_762, Some(71), None, "")),
-    Change::Put(Kept::Load),
-];
+fn three() -> [Change; 3] {
+    [
+        Change::Put(Kept::Monitor("XM|Y")),
+        Change::Put(Kept::Second(214_762, Some(71), None, "")),
+        Change::Put(Kept::Load),
+    ]
+}
 
-const AFTER_THREE: [Kept; 3] = [
-    Kept::Monitor("XM|Y"),
-    Kept::Load,
-    Kept::Second(214_762, Some(71), None, ""),
-];
+fn after_three() -> [Kept; 3] {
+    [
+        Kept::Monitor("XM|Y"),
+        Kept::Load,
+        Kept::Second(214_762, Some(71), None, ""),
+    ]
+}
 
-/// A keeper whose tables are prepared, if that is not stopped.
-fn prepared<S: Alter + Drop>(connection: Connection<S>) -> Option<SqliteKeeper<S>> {
-    if !connection.is_autocommit() {
+/// A keeper of these files whose tables are prepared, if that is not stopped.
+fn open<D: Disk + Drop>(alloc: Global, files: Files<D>) -> Option<SqliteKeeper<FileStore<D>>> {
+    if !files.may_be_used() {
         return None;
     }
-    let mut keeper = SqliteKeeper::adopt(connection);
-    if keeper.prepare().is_err() {
-        return None;
+    match Connection::open_files(alloc, files, Options::new(1)) {
+        Ok(connection) => prepared(connection),
+        Err(_) => None,
     }
-    Some(keeper)
+}
+
+/// The connection of a keeper, once it took a batch.
+fn taken<S: Alter + Drop>(
+    rt: &impl Abort,
+    alloc: Global,
+    mut keeper: SqliteKeeper<S>,
+    batch: &[RowChange],
+) -> (bool, Connection<S>) {
+    let is_done = commit(rt, alloc, &mut keeper, batch).is_ok();
+    (is_done, keeper.into_connection())
 }
 
 /// A file whose tables have these rows, and its log.
@@ -46,54 +56,69 @@ fn files(rt: &impl Abort, alloc: Global, stored: &[Change]) -> Result<Files<Memo
         log: Memory::new(alloc),
         db: Memory::new(alloc),
     };
-    let connection = Connection::open_files(alloc, files, Options::new(1))
-        .ok()
-        .ok_or("opened")?;
-    let mut keeper = prepared(connection).ok_or("prepared")?;
-    assert!(rt; commit(rt, alloc, &mut keeper, &batch_of(alloc, stored)?).is_ok());
-    Ok(keeper.into_connection().close_files().ok().ok_or("closed")?)
+    let keeper = open(alloc, files).ok_or("opened")?;
+    let (is_done, connection) = taken(rt, alloc, keeper, &batch_of(alloc, stored)?);
+    assert!(rt; is_done);
+    Ok(connection.close_files().ok().ok_or("closed")?)
 }
 
-/// A disk with these bytes.
-fn disk(alloc: Global, bytes: &[u8]) -> Result<Memory, Fail>
-    ensures { IfOk result (λ disk. IsTrue (memory_is_usable disk)) }
-{
+/// A disk with these bytes that passes so many calls on.
+fn disk(alloc: Global, bytes: &[u8], calls: u64) -> Result<Fuse<Memory>, Fail> {
     let mut disk = Memory::new(alloc);
     disk.write_at(0, bytes)?;
     disk.sync()?;
-    Ok(disk)
+    Ok(Fuse::new(disk, calls))
 }
 
-/// A keeper over a copy of the files, of which the log or the file passes so many calls on: none if they
-/// do not suffice to prepare it.
-fn open(
+/// A copy of the files, of which the log or the file passes so many calls on.
+fn copy(
     alloc: Global,
     files: &Files<Memory>,
     is_log: bool,
     calls: u64,
-) -> Result<Option<SqliteKeeper<Fused>>, Fail> {
-    let log = disk(alloc, files.log.bytes())?;
-    let db = disk(alloc, files.db.bytes())?;
-    let files = Files {
-        log: Fuse::new(log, if is_log { calls } else { u64::MAX }),
-        db: Fuse::new(db, if is_log { u64::MAX } else { calls }),
+) -> Result<Files<Fuse<Memory>>, Fail> {
+    let (of_log, of_db) = if is_log {
+        (calls, u64::MAX)
+    } else {
+        (u64::MAX, calls)
     };
-    match Connection::open_files(alloc, files, Options::new(1)) {
-        Ok(connection) => Ok(prepared(connection)),
-        Err(_) => Ok(None),
-    }
+    Ok(Files {
+        log: disk(alloc, files.log.bytes(), of_log)?,
+        db: disk(alloc, files.db.bytes(), of_db)?,
+    })
 }
 
-/// The rows that are found after a stop.
-fn rows_after(alloc: Global, connection: Connection<Fused>) -> Result<Rows, Fail> {
+/// What a stop leaves of the files.
+fn left<D: Crash + Drop>(connection: Connection<FileStore<D>>) -> Files<D> {
     let mut files = connection.into_store().close();
     files.log.crash();
     files.db.crash();
-    let connection = Connection::open_files(alloc, files, Options::new(1))
-        .ok()
-        .ok_or("opened")?;
-    let mut keeper = prepared(connection).ok_or("prepared")?;
-    Ok(keeper.read_all(alloc).ok().ok_or("rows")?)
+    files
+}
+
+/// The rows that are found after a stop.
+fn text_left<D: Crash + Drop>(
+    alloc: Global,
+    connection: Connection<FileStore<D>>,
+) -> Result<String, Fail> {
+    let mut keeper = open(alloc, left(connection)).ok_or("opened")?;
+    text_read(alloc, &mut keeper)
+}
+
+/// Whether a commit over the files was done, and the rows that are found after a stop; nothing if the calls
+/// do not suffice to prepare the tables.
+fn stop<D: Crash + Drop>(
+    rt: &impl Abort,
+    alloc: Global,
+    files: Files<D>,
+    batch: &[RowChange],
+) -> Result<Option<(bool, String)>, Fail> {
+    let Some(keeper) = open(alloc, files) else {
+        return Ok(None);
+    };
+    let (is_done, connection) = taken(rt, alloc, keeper, batch);
+    let found = text_left(alloc, connection)?;
+    Ok(Some((is_done, found)))
 }
 
 /// Stops a commit at each call of the log or of the file in turn, until it is done.
@@ -103,23 +128,22 @@ fn stop_each(
     files: &Files<Memory>,
     is_log: bool,
     batch: &[RowChange],
-    before: &[Row],
-    after: &[Row],
+    before: &str,
+    after: &str,
 ) -> Result<(), Fail> {
     let mut is_stopped = false;
     for calls in 0..200 {
-        let Some(mut keeper) = open(alloc, files, is_log, calls)? else {
+        let files = copy(alloc, files, is_log, calls)?;
+        let Some((is_done, found)) = stop(rt, alloc, files, batch)? else {
             continue;
         };
-        let is_done = commit(rt, alloc, &mut keeper, batch).is_ok();
-        let found = rows_after(alloc, keeper.into_connection())?;
-        let is_after = are_same(alloc, found.as_slice(), after)?;
+        let is_after = found.as_str() == after;
         if is_done {
             assert!(rt; is_after);
             assert!(rt; is_stopped || !is_log);
             return Ok(());
         }
-        let is_before = are_same(alloc, found.as_slice(), before)?;
+        let is_before = found.as_str() == before;
         assert!(rt; is_before || is_after);
         is_stopped = true;
     }
@@ -127,19 +151,46 @@ fn stop_each(
 }
 
 /// The log is written alone, and the file when it is closed.
-#[test]
-fn a_commit_that_is_stopped_is_done_or_not(rt: HostRuntime) -> Result<(), Fail> {
-    let alloc = rt.alloc();
-    let empty = files(&rt, alloc, &[])?;
-    let stored = files(&rt, alloc, &STORED)?;
-    let three = batch_of(alloc, &THREE)?;
-    let migration = batch_of(alloc, &MIGRATION)?;
-    let after_three = rows_of(alloc, &AFTER_THREE)?;
-    let before = rows_of(alloc, &BEFORE)?;
-    let migrated = rows_of(alloc, &MIGRATED)?;
+fn stop_both(
+    rt: &impl Abort,
+    alloc: Global,
+    files: &Files<Memory>,
+    batch: &[Change],
+    before: &[Kept],
+    after: &[Kept],
+) -> Result<(), Fail> {
+    let batch = batch_of(alloc, batch)?;
+    let before = text_of_kept(alloc, before)?;
+    let after = text_of_kept(alloc, after)?;
     for is_log in [true, false] {
-        stop_each(&rt, alloc, &empty, is_log, &three, &[], &after_three)?;
-        stop_each(&rt, alloc, &stored, is_log, &migration, &before, &migrated)?;
+        stop_each(
+            rt,
+            alloc,
+            files,
+            is_log,
+            &batch,
+            before.as_str(),
+            after.as_str(),
+        )?;
     }
     Ok(())
+}
+
+#[test]
+fn a_first_commit_that_is_stopped_is_done_or_not(rt: HostRuntime) -> Result<(), Fail> {
+    let empty = files(&rt, rt.alloc(), &[])?;
+    stop_both(&rt, rt.alloc(), &empty, &three(), &[], &after_three())
+}
+
+#[test]
+fn a_migration_that_is_stopped_is_done_or_not(rt: HostRuntime) -> Result<(), Fail> {
+    let files = files(&rt, rt.alloc(), &stored())?;
+    stop_both(
+        &rt,
+        rt.alloc(),
+        &files,
+        &migration(),
+        &before(),
+        &migrated(),
+    )
 }
