@@ -26,26 +26,26 @@ use Rattle.aq_rules.proofs.UnreachedRows.{reach-is}
 
 -- ---- tests of lists
 
-either : (p q r s : Bool) → (p ≡ true → r ≡ true) → (q ≡ true → s ≡ true) → (p || q) ≡ true → (r || s) ≡ true
+pub either : (p q r s : Bool) → (p ≡ true → r ≡ true) → (q ≡ true → s ≡ true) → (p || q) ≡ true → (r || s) ≡ true
 either true q r s first second is = or_left r s (first refl)
 either false q r s first second is = or_right r s (second is)
 
-any-implied : {X : Type 0} (p q : X → Bool) → ((x : X) → p x ≡ true → q x ≡ true) → (xs : List X) → list_any p xs ≡ true → list_any q xs ≡ true
+pub any-implied : {X : Type 0} (p q : X → Bool) → ((x : X) → p x ≡ true → q x ≡ true) → (xs : List X) → list_any p xs ≡ true → list_any q xs ≡ true
 any-implied p q onto [] any = any
 any-implied p q onto (x ∷ xs) any = either (p x) (list_any p xs) (q x) (list_any q xs) (onto x) (any-implied p q onto xs) any
 
-any-in_all : {X Y : Type 0} (p q : Y → Bool) (f : X → List Y) → ((x : X) → list_any p (f x) ≡ true → list_any q (f x) ≡ true) → (xs : List X) → list_any p (flat_map f xs) ≡ true → list_any q (flat_map f xs) ≡ true
+pub any-in_all : {X Y : Type 0} (p q : Y → Bool) (f : X → List Y) → ((x : X) → list_any p (f x) ≡ true → list_any q (f x) ≡ true) → (xs : List X) → list_any p (flat_map f xs) ≡ true → list_any q (flat_map f xs) ≡ true
 any-in_all p q f onto [] any = any
 any-in_all p q f onto (x ∷ xs) any =
     list_any-append q (f x) (flat_map f xs)
     ∙ either (list_any p (f x)) (list_any p (flat_map f xs)) (list_any q (f x)) (list_any q (flat_map f xs)) (onto x) (any-in_all p q f onto xs)
     (sym (list_any-append p (f x) (flat_map f xs)) ∙ any)
 
-none-made : {X Y : Type 0} (p : Y → Bool) (f : X → Y) → ((x : X) → p (f x) ≡ false) → (xs : List X) → list_any p (map f xs) ≡ false
+pub none-made : {X Y : Type 0} (p : Y → Bool) (f : X → Y) → ((x : X) → p (f x) ≡ false) → (xs : List X) → list_any p (map f xs) ≡ false
 none-made p f off [] = refl
 none-made p f off (x ∷ xs) = rw (off x) (none-made p f off xs)
 
-none-in_all : {X Y : Type 0} (p : Y → Bool) (f : X → List Y) → ((x : X) → list_any p (f x) ≡ false) → (xs : List X) → list_any p (flat_map f xs) ≡ false
+pub none-in_all : {X Y : Type 0} (p : Y → Bool) (f : X → List Y) → ((x : X) → list_any p (f x) ≡ false) → (xs : List X) → list_any p (flat_map f xs) ≡ false
 none-in_all p f off [] = refl
 none-in_all p f off (x ∷ xs) = list_any-append p (f x) (flat_map f xs) ∙ rw (off x) (none-in_all p f off xs)
 
@@ -67,7 +67,7 @@ record IsOwn (site : Site) (hour : ℕ) (s : Site) (p : Pollutant) (h : ℕ) : T
   of_hour : hour ≡ h
 
 -- the cells of an hour: itself, its averages, its day and its year
-ozone-parts : (cell : CellName) (s : Site) (h : ℕ) → list_any (is_same_cell cell) (ozone_cells_at s h)
+pub ozone-parts : (cell : CellName) (s : Site) (h : ℕ) → list_any (is_same_cell cell) (ozone_cells_at s h)
     ≡ (is_same_cell cell (HourCell s h)
     || ((list_any (is_same_cell cell) (map (WindowCell s) (windows_reading h)) || list_any (is_same_cell cell) (map (OzoneDayCell s) (days_reading h)))
     || list_any (is_same_cell cell) (map (λ day. OzoneYearCell s (year_of day)) (days_reading h))))

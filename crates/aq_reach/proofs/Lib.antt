@@ -4,3 +4,7 @@ pub mod Windows
 pub mod Years
 pub mod Alike
 pub mod PmDays
+pub mod DaysOfQuarters
+pub mod DaysRead
+pub mod Schedules
+pub mod PmQuarters

@@ -113,7 +113,7 @@ rise-by : (k n m : ℕ) → k + n ≡ m → days_of_years k ≤ days_of_years m
 rise-by k zero m e = let same : k ≡ m = omega (arith, e) in subst (λ x. days_of_years k ≤ days_of_years x) same (omega arith)
 rise-by k (suc n) m e = omega (arith, years_rise k, rise-by (k + 1) n m (omega (arith, e)))
 
-all-years : days_of_years years ≡ LAST_DAY + 1
+pub all-years : days_of_years years ≡ LAST_DAY + 1
 unfolding days_of_years
 all-years = refl
 

@@ -5,7 +5,7 @@ use Rattle.aq_base.specs.declared.monitor.Duration.TheVariants.{Hour, Day}
 use Rattle.aq_base.specs.declared.monitor.Pollutant.TheVariants.{Ozone, Pm25, Pm10}
 use Rattle.aq_rules.specs.Office.Office.{Office}
 use Rattle.aq_rules.specs.Office.OfficeExamples.{west, east, monitor_at, measured, noon, plain_day, sampled}
-use Rattle.aq_base.specs.declared.office.OfficeRecord.TheVariants.{Monitor}
+use Rattle.aq_base.specs.declared.office.OfficeRecord.TheVariants.{Monitor, Schedule, Makeup}
 
 -- an ozone monitor in the west and one in the east, and in the west 0.060 ppm from 12:00 to 19:00 of 1 July 2024
 abbrev pub afternoon : Office
@@ -33,4 +33,22 @@ joined_by_another = record {
   records = Monitor (monitor_at west Pm10 3) Day true ∷ Monitor (monitor_at west Pm25 4) Day true ∷ Monitor (monitor_at west Pm25 5) Day true ∷ [];
   observations = sampled west Pm25 4 120 plain_day ∷ sampled west Pm25 5 300 (plain_day + 1) ∷ sampled west Pm10 3 50 plain_day ∷ [];
   loads = [];
+}
+
+-- a PM10 and a PM2.5 sampler in the west, with a sample on every sixth day from 1 July 2024 on. That of 1 July was taken, of PM2.5 too; that of 7 July was missed, and PM2.5 has a sample on 9 July
+abbrev pub scheduled : Office
+scheduled = record {
+  records =
+      Monitor (monitor_at west Pm10 3) Day true ∷ Monitor (monitor_at west Pm25 4) Day true
+      ∷ Schedule west Pm10 plain_day 6 plain_day ∷ Schedule west Pm25 plain_day 6 plain_day ∷ [];
+  observations = sampled west Pm25 4 120 plain_day ∷ sampled west Pm25 4 130 (plain_day + 8) ∷ sampled west Pm10 3 50 plain_day ∷ [];
+  loads = [];
+}
+
+-- the same office with a record that the sample of 9 July makes up for 7 July
+abbrev pub made_up : Office
+made_up = record scheduled {
+  records =
+      Monitor (monitor_at west Pm10 3) Day true ∷ Monitor (monitor_at west Pm25 4) Day true
+      ∷ Schedule west Pm10 plain_day 6 plain_day ∷ Schedule west Pm25 plain_day 6 plain_day ∷ Makeup west (plain_day + 6) (plain_day + 8) ∷ [];
 }

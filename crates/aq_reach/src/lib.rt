@@ -8,8 +8,9 @@
 //! what the hours of its averages read; an ozone year what its days read, and beside that its season and
 //! its approved days, which no hour reads. So a row that one of the hours reads is read by the whole, and
 //! if the whole is not in reach, neither are its hours. A day of PM2.5 or PM10 reads its observations
-//! and records itself.
+//! and records itself, and a quarter what its days read, with its schedules and make-ups.
 #![tactic(auto)]
 
 pub mod ozone;
 pub mod particles;
+pub mod quarters;
