@@ -104,3 +104,23 @@ quarters-rise d e most last =
     let a = date_of d (omega (arith, most, last)) in
     let b = date_of e last in
     most-along (quarter_of d) _ (quarter_of e) _ (quarter_of-date d _ _ a) (quarter_of-date e _ _ b) (rise-dates d e _ _ _ _ a b most)
+
+-- ---- years of quarters
+
+date-year : (d y j : ℕ) → IsDate d y j → year_of d ≡ quarter_year (quarter_number y (j / 3))
+date-year d y j is =
+    let year = is.year in
+    let few = is.few in
+    let low = is.in_profile.0 in
+    year ∙ omega (arith, few, low)
+
+pub year-of_quarter : (quarter day : ℕ) → InQuarter quarter day → year_of day ≡ quarter_year quarter
+year-of_quarter quarter day is =
+    let date = date_of day is.in_profile in
+    date-year day _ _ date ∙ ap quarter_year (sym (quarter_of-date day _ _ date) ∙ is.is_of)
+
+-- the quarters of a year lie in it
+pub quarter-in_year : (year part : ℕ) → part < 4 → is_year year ≡ true → quarter_year (quarter_number year part) ≡ year
+quarter-in_year year part few inside =
+    let low : FIRST_YEAR ≤ year = leb-true FIRST_YEAR year (and_parts (nat_le FIRST_YEAR year) (nat_le year LAST_YEAR) inside).0 in
+    omega (arith, few, low)

@@ -8,3 +8,4 @@ pub mod DaysOfQuarters
 pub mod DaysRead
 pub mod Schedules
 pub mod PmQuarters
+pub mod PmYears

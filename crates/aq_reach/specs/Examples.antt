@@ -52,3 +52,7 @@ made_up = record scheduled {
       Monitor (monitor_at west Pm10 3) Day true ∷ Monitor (monitor_at west Pm25 4) Day true
       ∷ Schedule west Pm10 plain_day 6 plain_day ∷ Schedule west Pm25 plain_day 6 plain_day ∷ Makeup west (plain_day + 6) (plain_day + 8) ∷ [];
 }
+
+-- the same office after a correction: 30.0 µg/m3 of PM2.5 on 9 July
+abbrev pub corrected_sample : Office
+corrected_sample = record scheduled { observations = sampled west Pm25 4 120 plain_day ∷ sampled west Pm25 4 300 (plain_day + 8) ∷ sampled west Pm10 3 50 plain_day ∷ [] }

@@ -1,7 +1,7 @@
-//! Quarters of PM2.5 and PM10 that are not in reach.
+//! Quarters and years of PM2.5 and PM10 that are not in reach.
 #![tactic(auto)]
 
-ghost use Rattle.std.specs.Prelude.{◌≡◌, ℕ, ◌+◌, ◌-◌, false, true, [], ◌∷◌, map};
+ghost use Rattle.std.specs.Prelude.{◌≡◌, ℕ, ◌+◌, ◌-◌, false, true, pos, [], ◌∷◌, map};
 ghost use Rattle.std.specs.List.{list_any, range_with_len};
 ghost use Rattle.aq_base.specs.Calendar.{is_year, quarter_of, quarter_year};
 ghost use Rattle.aq_base.specs.Site.{Site};
@@ -9,11 +9,12 @@ ghost use Rattle.aq_base.specs.declared.monitor.Pollutant.{Pollutant};
 ghost use Rattle.aq_base.specs.declared.monitor.Pollutant.TheVariants.{Pm25, Pm10};
 ghost use Rattle.aq_rules.specs.Kept.Cells.{PmYearCell, QuarterCell, is_same_cell};
 ghost use Rattle.aq_rules.specs.Kept.Reach.{reach};
+ghost use Rattle.aq_rules.specs.Kept.Summaries.{eight_greatest, pm25_summary};
 ghost use Rattle.aq_rules.specs.Office.Office.{IsOffice, Office};
 ghost use Rattle.aq_rules.specs.Office.OfficeExamples.{plain_day, west};
-ghost use Rattle.aq_rules.specs.Particles.Pm10Estimate.{pm10_quarter};
-ghost use Rattle.aq_rules.specs.Particles.QuarterCounts.{credits, pm25_quarter, quarter_counts, quarter_values, scheduled_days};
-ghost use Rattle.aq_reach.specs.Examples.{made_up, scheduled};
+ghost use Rattle.aq_rules.specs.Particles.Pm10Estimate.{pm10_quarter, pm10_year};
+ghost use Rattle.aq_rules.specs.Particles.QuarterCounts.{credits, pm25_quarter, pm25_year, quarter_counts, quarter_values, quarters_of, scheduled_days, values_in};
+ghost use Rattle.aq_reach.specs.Examples.{corrected_sample, made_up, scheduled};
 
 /// A make-up record reaches the quarter of its missed day: of the 16 scheduled days two now have a
 /// creditable sample in place of one. The quarters beside it are out of reach, that of PM10, with its one
@@ -26,6 +27,8 @@ pub fn a_makeup_record_reaches_this()
         ≡ false ∷ true ∷ false ∷ [] }
     ensures of_pm10 { list_any (is_same_cell (QuarterCell west Pm10 (quarter_of plain_day))) (reach scheduled made_up) ≡ false }
     ensures year { list_any (is_same_cell (PmYearCell west 2024)) (reach scheduled made_up) ≡ false }
+    ensures year_before { list_any (λ quarter. list_any (is_same_cell (QuarterCell west Pm25 quarter)) (reach scheduled made_up)) (quarters_of 2023) ≡ false }
+    ensures year_of_pm10 { list_any (λ quarter. list_any (is_same_cell (QuarterCell west Pm10 quarter)) (reach scheduled made_up)) (quarters_of 2024) ≡ false }
     ensures counts { quarter_counts scheduled west (quarter_of plain_day) ≡ record { scheduled = 16; creditable = 1; counted = 1 } }
     ensures new_counts { quarter_counts made_up west (quarter_of plain_day) ≡ record { scheduled = 16; creditable = 2; counted = 2 } }
     ensures samples_of_pm10 { (pm10_quarter scheduled west (quarter_of plain_day)).samples ≡ 1 }
@@ -69,4 +72,55 @@ pub fn quarters_out_of_reach_are_as_before()
         → IsOffice new
         → list_any (is_same_cell (QuarterCell site Pm10 quarter)) (reach old new) ≡ false
         → pm10_quarter old site quarter ≡ pm10_quarter new site quarter }
+{}
+
+/// A corrected sample of PM2.5 reaches its year, whose greatest value is a new one. The years beside it are
+/// out of reach.
+pub fn a_corrected_sample_reaches_this()
+    ensures valid_after { IsOffice corrected_sample }
+    ensures years { map (λ year. list_any (is_same_cell (PmYearCell west year)) (reach scheduled corrected_sample)) (range_with_len 2023 3)
+        ≡ false ∷ true ∷ false ∷ [] }
+    ensures greatest { eight_greatest (values_in (pm25_year scheduled west 2024)) ≡ map pos (130 ∷ 120 ∷ []) }
+    ensures new_greatest { eight_greatest (values_in (pm25_year corrected_sample west 2024)) ≡ map pos (300 ∷ 120 ∷ []) }
+{}
+
+/// A PM2.5 year that is not in reach has the values that it had, and so the same eight greatest ones. It
+/// reads what its days read, and no schedule and no make-up, so its counts may change: they are kept with
+/// its quarters. A year is one of the profile's.
+pub fn values_of_a_pm25_year_out_of_reach_are_as_before()
+    ensures values { (old new : Office) (site : Site) (year : ℕ)
+        → is_year year ≡ true
+        → IsOffice old
+        → IsOffice new
+        → list_any (is_same_cell (PmYearCell site year)) (reach old new) ≡ false
+        → values_in (pm25_year old site year) ≡ values_in (pm25_year new site year) }
+    ensures greatest { (old new : Office) (site : Site) (year : ℕ)
+        → is_year year ≡ true
+        → IsOffice old
+        → IsOffice new
+        → list_any (is_same_cell (PmYearCell site year)) (reach old new) ≡ false
+        → (pm25_summary old site year).top ≡ (pm25_summary new site year).top }
+{}
+
+/// A year of PM2.5 or PM10 is as before if none of its four quarters is in reach: each quarter with its
+/// counts and values, and of PM2.5 also what is kept of them.
+pub fn years_whose_quarters_are_out_of_reach_are_as_before()
+    ensures pm25 { (old new : Office) (site : Site) (year : ℕ)
+        → is_year year ≡ true
+        → IsOffice old
+        → IsOffice new
+        → list_any (λ quarter. list_any (is_same_cell (QuarterCell site Pm25 quarter)) (reach old new)) (quarters_of year) ≡ false
+        → pm25_year old site year ≡ pm25_year new site year }
+    ensures kept { (old new : Office) (site : Site) (year : ℕ)
+        → is_year year ≡ true
+        → IsOffice old
+        → IsOffice new
+        → list_any (λ quarter. list_any (is_same_cell (QuarterCell site Pm25 quarter)) (reach old new)) (quarters_of year) ≡ false
+        → pm25_summary old site year ≡ pm25_summary new site year }
+    ensures pm10 { (old new : Office) (site : Site) (year : ℕ)
+        → is_year year ≡ true
+        → IsOffice old
+        → IsOffice new
+        → list_any (λ quarter. list_any (is_same_cell (QuarterCell site Pm10 quarter)) (reach old new)) (quarters_of year) ≡ false
+        → pm10_year old site year ≡ pm10_year new site year }
 {}
