@@ -1,7 +1,7 @@
 -- The days of a quarter of the profile lie in that quarter, and quarters rise with the days.
 use Rattle.std.proofs.Common.{◌≡◌, ℕ, ◌+◌, ◌-◌, ◌*◌, ◌/◌, ◌%◌, ◌<◌, ◌≤◌, true, refl, sym, ap, ◌∙◌, subst, arith, inl, inr}
 use Rattle.std.specs.Prelude.{nat_le}
-use Rattle.std.proofs.lemmas.Bool.{and_parts, cases_order, leb-true}
+use Rattle.std.proofs.lemmas.Bool.{and_from, and_parts, cases_order, leb-true, le-leb}
 use Rattle.aq_base.specs.Calendar.{years, is_year, year_of, days_of_years, days_of_months, quarter_of, quarter_number, quarter_year, quarter_first, days_in_quarter}
 use Rattle.aq_base.specs.declared.day.TheConstants.{FIRST_YEAR, LAST_YEAR, LAST_DAY}
 use Rattle.aq_rules.proofs.Days.{IsDate, date_of, months_next, twelve_months, years_next}
@@ -124,3 +124,9 @@ pub quarter-in_year : (year part : ℕ) → part < 4 → is_year year ≡ true �
 quarter-in_year year part few inside =
     let low : FIRST_YEAR ≤ year = leb-true FIRST_YEAR year (and_parts (nat_le FIRST_YEAR year) (nat_le year LAST_YEAR) inside).0 in
     omega (arith, few, low)
+
+pub quarter_of-is_year : (day : ℕ) → day ≤ LAST_DAY → is_year (quarter_year (quarter_of day)) ≡ true
+quarter_of-is_year day small =
+    let date = date_of day small in
+    let year = sym (year-of_quarter (quarter_of day) day (record { is_of = refl; in_profile = small })) ∙ date.year in
+    subst (λ y. is_year y ≡ true) (sym year) (and_from _ _ (le-leb FIRST_YEAR _ date.in_profile.0) (le-leb _ LAST_YEAR date.in_profile.1))

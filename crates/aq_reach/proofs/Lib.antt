@@ -9,3 +9,4 @@ pub mod DaysRead
 pub mod Schedules
 pub mod PmQuarters
 pub mod PmYears
+pub mod StrataReached

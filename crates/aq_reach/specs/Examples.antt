@@ -56,3 +56,23 @@ made_up = record scheduled {
 -- the same office after a correction: 30.0 µg/m3 of PM2.5 on 9 July
 abbrev pub corrected_sample : Office
 corrected_sample = record scheduled { observations = sampled west Pm25 4 120 plain_day ∷ sampled west Pm25 4 300 (plain_day + 8) ∷ sampled west Pm10 3 50 plain_day ∷ [] }
+
+-- a PM10 sampler in the west with a sample on every sixth day from 1 July 2024 on, and on again from 1 January 2025: 5.0 µg/m3 on 1 July and 160.0 on 8 July
+abbrev pub every_sixth : Office
+every_sixth = record {
+  records = Monitor (monitor_at west Pm10 3) Day true ∷ Schedule west Pm10 plain_day 6 plain_day ∷ Schedule west Pm10 (plain_day + 184) 6 (plain_day + 184) ∷ [];
+  observations = sampled west Pm10 3 50 plain_day ∷ sampled west Pm10 3 1600 (plain_day + 7) ∷ [];
+  loads = [];
+}
+
+-- the same office after a correction: 170.0 µg/m3 on 1 July
+abbrev pub corrected_pm10 : Office
+corrected_pm10 = record every_sixth { observations = sampled west Pm10 3 1700 plain_day ∷ sampled west Pm10 3 1600 (plain_day + 7) ∷ [] }
+
+-- the same office with a schedule more, of every third day from 1 October to 31 December 2024
+abbrev pub every_third : Office
+every_third = record every_sixth {
+  records =
+      Monitor (monitor_at west Pm10 3) Day true
+      ∷ Schedule west Pm10 plain_day 6 plain_day ∷ Schedule west Pm10 (plain_day + 92) 3 (plain_day + 92) ∷ Schedule west Pm10 (plain_day + 184) 6 (plain_day + 184) ∷ [];
+}
