@@ -1,7 +1,7 @@
 //! Quarters and years of PM2.5 and PM10 that are not in reach.
 #![tactic(auto)]
 
-ghost use Rattle.std.specs.Prelude.{◌≡◌, ℕ, ◌+◌, ◌-◌, false, true, pos, [], ◌∷◌, map};
+ghost use Rattle.std.specs.Prelude.{◌≡◌, ℕ, ◌-◌, false, true, pos, [], ◌∷◌, map};
 ghost use Rattle.std.specs.List.{list_any, range_with_len};
 ghost use Rattle.aq_base.specs.Calendar.{is_year, quarter_of, quarter_year};
 ghost use Rattle.aq_base.specs.Site.{Site};
