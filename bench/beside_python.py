@@ -9,7 +9,6 @@ counted by valgrind, and told only where that is at hand. The program has to be 
 """
 
 import os
-import pathlib
 import re
 import shutil
 import subprocess
@@ -17,7 +16,8 @@ import sys
 import tempfile
 import time
 
-TOP = pathlib.Path(__file__).resolve().parent.parent
+import common
+
 MOST_RATIO = 0.1
 RUNS = 15
 TIMES = 20
@@ -71,23 +71,11 @@ def instructions(command):
     return int(re.search(r"Collected : (\d+)", process.stderr)[1])
 
 
-def program():
-    """The program that the environment names, or the one that is built from these sources."""
-    if "AQ_MEASURE" in os.environ:
-        return os.environ["AQ_MEASURE"]
-    built = TOP / "crates" / "aq_measure" / "out" / "aq_measure"
-    sources = subprocess.run([TOP / "bin" / "sources"], capture_output=True, text=True, check=True).stdout
-    stamp = pathlib.Path(f"{built}.sources")
-    if not stamp.exists() or stamp.read_text().strip() != sources.strip():
-        sys.exit("bench: aq_measure is not built from these sources; run bin/build measure")
-    return str(built)
-
-
 def measure(mode, monitors, plain_computation, wanted, told):
     """Prints the figures of a site with so many monitors. `wanted` is what the program prints for so many
     runs with what the plain computation gives, and `told` is what is printed of it here. Answers whether the
     limit is broken."""
-    command = [program(), mode, str(monitors)]
+    command = [common.program("aq_measure"), mode, str(monitors)]
     values = made_up(monitors)
     none, many, plain = [], [], []
     # In turn, so that what else runs on the machine bears on all of them.
