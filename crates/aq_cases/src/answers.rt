@@ -3,12 +3,12 @@
 ghost use Rattle.std.specs.Int.{IsInRange};
 ghost use Rattle.std.specs.Prelude.{◌≤◌, IfOk};
 
-use crate::dates::{day_in, day_name};
+use crate::dates::{day_in, day_name, hour_in};
 use crate::spelling::{spelling_of, write_line};
 use crate::trouble::Trouble;
 use aq_base::{
     Area, Assumed, AssumedList, FEWEST_GENERATED_YEARS, FIRST_YEAR, LAST_YEAR, MOST_BYTES,
-    MOST_GENERATED_SITES, MOST_GENERATED_YEARS, OfficeLine, Rule, SiteList,
+    MOST_GENERATED_SITES, MOST_GENERATED_YEARS, Memory, OfficeLine, Rule, SiteList,
 };
 use aq_cal::{quarter_of, quarter_span, write_day, year_span};
 use aq_desk::end_without_memory;
@@ -19,6 +19,7 @@ use aq_keeper::{RowChange, RowKey, do_keys_rise};
 use aq_num::{read_decimal, round_half_up, trunc_div, write_fixed};
 use aq_pm25::rank_of;
 use aq_rd::{has_office_tag, print_rd, read_rd, site_word, tag_of};
+use aq_registry::Registry;
 use aq_serve::MemorySink;
 use aq_words::read_words;
 use std::alloc::Global;
@@ -53,6 +54,7 @@ fn number_answer(alloc: Global, name: &str, arguments: &str) -> Result<String, T
         "assumed" => assumed(alloc, arguments),
         "sites" => sites(alloc, arguments),
         "holds" => holds(alloc, arguments),
+        "covers" => covers(alloc, arguments),
         _ => Err(Trouble::Wrong("there is no such call")),
     }
 }
@@ -359,7 +361,7 @@ fn without_memory(alloc: Global) -> Result<String, Trouble> {
 }
 
 /// Puts a word after those that are there, with a space between them.
-fn add_word(words: &mut String, word: &str) -> Result<(), Trouble> {
+fn add_word(words: &mut String, word: &str) -> Result<(), Memory> {
     if !words.is_empty() {
         words.push_str(" ")?;
     }
@@ -392,21 +394,31 @@ fn assumed(alloc: Global, arguments: &str) -> Result<String, Trouble> {
     Ok(all)
 }
 
-/// The list of the sites of these words, each added in turn.
-fn site_list(words: &str) -> Option<SiteList> {
+/// The list of the sites of these words, each added in turn. What is not taken is put after `refused`.
+fn site_list(words: &str, refused: &mut String) -> Result<Option<SiteList>, Memory> {
     let (first, rest) = cut(words);
-    let mut list = SiteList::new(site_word(first.as_bytes())?);
+    let Some(first) = site_word(first.as_bytes()) else {
+        return Ok(None);
+    };
+    let mut list = SiteList::new(first);
     for word in rest.split(' ') {
         if !word.is_empty() {
-            let _ = list.add(site_word(word.as_bytes())?);
+            let Some(site) = site_word(word.as_bytes()) else {
+                return Ok(None);
+            };
+            if !list.add(site) {
+                add_word(refused, word)?;
+            }
         }
     }
-    Some(list)
+    Ok(Some(list))
 }
 
-/// `SITE..`: the sites of an area's list to which each is added.
+/// `SITE..`: the sites of an area's list to which each is added, and after `not` those that it answers not
+/// to have taken.
 fn sites(alloc: Global, arguments: &str) -> Result<String, Trouble> {
-    let Some(list) = site_list(arguments) else {
+    let mut refused = String::new(alloc);
+    let Some(list) = site_list(arguments, &mut refused)? else {
         return Err(NOT_SO);
     };
     let mut all = String::new(alloc);
@@ -417,6 +429,10 @@ fn sites(alloc: Global, arguments: &str) -> Result<String, Trouble> {
             format!(in alloc; "{state:02}-{county:03}-{number:04}")?.as_str(),
         )?;
     }
+    if !refused.is_empty() {
+        add_word(&mut all, "not")?;
+        add_word(&mut all, refused.as_str())?;
+    }
     Ok(all)
 }
 
@@ -425,9 +441,10 @@ fn sites(alloc: Global, arguments: &str) -> Result<String, Trouble> {
 fn holds(alloc: Global, arguments: &str) -> Result<String, Trouble> {
     let (word, rest) = cut(arguments);
     let (kind, rest) = cut(rest);
+    let mut refused = String::new(alloc);
     let area = match kind {
         "county" => county_of(rest),
-        "in" => site_list(rest).map(Area::Sites),
+        "in" => site_list(rest, &mut refused)?.map(Area::Sites),
         _ => None,
     };
     let (Some(area), Some(site)) = (area, site_word(word.as_bytes())) else {
@@ -443,4 +460,41 @@ fn county_of(word: &str) -> Option<Area> {
         state: site.state(),
         county: site.county(),
     })
+}
+
+/// `NUMBER YYYY-MM-DD HH:00 LINE..`: whether the event of a number holds an hour in its span, once these
+/// lines are applied to no records, or `none`.
+fn covers(alloc: Global, arguments: &str) -> Result<String, Trouble> {
+    let (number, rest) = cut(arguments);
+    let (day, rest) = cut(rest);
+    let (time, lines) = cut(rest);
+    let (Some(day), Ok(number)) = (day_in(day), number.parse()) else {
+        return Err(NOT_SO);
+    };
+    let Some(hour) = hour_in(day, time) else {
+        return Err(NOT_SO);
+    };
+    let mut registry = Registry::new(alloc);
+    for line in lines.split(' ') {
+        apply_line(&mut registry, line.as_bytes())?;
+    }
+    match registry.covers(number, hour) {
+        Some(covers) => Ok(format!(in alloc; "{covers}")?),
+        None => text(alloc, "none"),
+    }
+}
+
+/// Applies a line of the agency's own forms.
+#[tactic(auto, using(aq_forms::specs::OfficeTags::no_rd_tag))]
+fn apply_line(registry: &mut Registry, line: &[u8]) -> Result<(), Trouble> {
+    if !has_office_tag(line) {
+        return Err(NOT_SO);
+    }
+    let Ok(line) = read_office(line) else {
+        return Err(NOT_SO);
+    };
+    match registry.apply(line) {
+        Ok(_) => Ok(()),
+        Err(_) => Err(NOT_SO),
+    }
 }
