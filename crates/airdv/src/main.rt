@@ -77,6 +77,3 @@ fn words_of(rt: &HostRuntime) -> Result<Vec<String>, Memory> {
         Err(_) => Ok(Vec::new(rt.alloc())),
     }
 }
-
-#[cfg(test)]
-mod tests;

@@ -9,6 +9,8 @@ pub struct Case {
     /// The rows that the keeper has before the first run.
     pub rows: Vec<u8>,
     pub failing_keeper: Vec<u64>,
+    /// The keeper is that of a new database, which has no rows and never fails.
+    pub is_in_database: bool,
     /// Calls of single functions, each with its answer, a line for each.
     pub calls: String,
     pub runs: Vec<Run>,

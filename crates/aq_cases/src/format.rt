@@ -18,6 +18,8 @@
 //! - `rows`, a block: the rows that the keeper has before the first run, as `rows` says in its module.
 //! - `keeper fails at NUMBERS`: these calls of the keeper fail, counted from 1. Comparing its rows after a
 //!   run is a call too.
+//! - `keeper in a database`: it is that of `aq_sqlite`, over a new database on a disk in memory. Such a case
+//!   has no `rows`.
 //! - `calls`, a block: calls of single functions, `NAME ARGUMENTS => ANSWER`, by the names of `answers`. Its
 //!   lines stand for themselves alone.
 //! - `run WORDS`: the program's words, with one space between them.
@@ -174,6 +176,7 @@ fn new_case(alloc: Global, name: &str) -> Result<Case, Memory> {
         wrong: None,
         rows: Vec::new(alloc),
         failing_keeper: Vec::new(alloc),
+        is_in_database: false,
         calls: String::new(alloc),
         runs: Vec::new(alloc),
     })
@@ -189,6 +192,10 @@ fn open_in_case(alloc: Global, case: &mut Case, word: &str, rest: &str) -> Resul
         }
         "rows" if rest.is_empty() => Ok(Block::Rows),
         "calls" if rest.is_empty() => Ok(Block::Calls),
+        "keeper" if rest == "in a database" => {
+            case.is_in_database = true;
+            Ok(Block::None)
+        }
         "keeper" => {
             let Some(numbers) = rest.strip_prefix("fails at ") else {
                 return Err(UNKNOWN);

@@ -11,6 +11,7 @@ mod blocks;
 mod calls;
 mod case;
 mod compare;
+mod database;
 mod dates;
 mod format;
 mod rows;

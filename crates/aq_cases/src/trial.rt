@@ -2,6 +2,7 @@
 use crate::calls::try_calls;
 use crate::case::{Case, Extent, Failing, Given, Run, Subject, Wanted};
 use crate::compare::difference;
+use crate::database::new_keeper;
 use crate::rows::{read_rows, rows_text};
 use crate::trouble::Trouble;
 use aq_base::Memory;
@@ -25,6 +26,7 @@ pub fn try_case(alloc: Global, case: Case) -> Result<Option<String>, Memory> {
         wrong,
         rows,
         failing_keeper,
+        is_in_database,
         calls,
         runs,
     } = case;
@@ -36,6 +38,12 @@ pub fn try_case(alloc: Global, case: Case) -> Result<Option<String>, Memory> {
     }
     if let Some(found) = try_calls(alloc, calls.as_str())? {
         return Ok(Some(found));
+    }
+    if is_in_database {
+        return match new_keeper(alloc) {
+            Some(mut keeper) => try_runs(alloc, runs, &mut keeper),
+            None => said(alloc, "the database cannot be opened"),
+        };
     }
     let rows = match read_rows(alloc, &rows) {
         Ok(rows) => rows,
@@ -54,10 +62,10 @@ fn said(alloc: Global, text: &str) -> Result<Option<String>, Memory> {
 }
 
 /// The first difference of runs over a keeper.
-fn try_runs(
+fn try_runs<K: Keeper>(
     alloc: Global,
     runs: Vec<Run>,
-    keeper: &mut MemoryKeeper,
+    keeper: &mut K,
 ) -> Result<Option<String>, Memory> {
     let mut number = 0u32;
     for run in runs {
@@ -70,7 +78,7 @@ fn try_runs(
 }
 
 /// The first difference of a run.
-fn try_run(alloc: Global, run: Run, keeper: &mut MemoryKeeper) -> Result<Option<String>, Memory> {
+fn try_run<K: Keeper>(alloc: Global, run: Run, keeper: &mut K) -> Result<Option<String>, Memory> {
     let Run {
         words,
         given,
@@ -95,11 +103,11 @@ fn try_run(alloc: Global, run: Run, keeper: &mut MemoryKeeper) -> Result<Option<
 }
 
 /// Runs the program's words over what is given.
-fn perform(
+fn perform<K: Keeper>(
     alloc: Global,
     words: &[String],
     given: Given,
-    keeper: &mut MemoryKeeper,
+    keeper: &mut K,
 ) -> Result<Outcome, Memory> {
     let Given {
         input,
@@ -147,11 +155,11 @@ fn replies_of(alloc: Global, door: &MemoryDoor, count: usize) -> Result<Vec<Vec<
 }
 
 /// The first difference from one thing that is wanted.
-fn compare(
+fn compare<K: Keeper>(
     alloc: Global,
     wanted: &Wanted,
     outcome: &Outcome,
-    keeper: &mut MemoryKeeper,
+    keeper: &mut K,
 ) -> Result<Option<String>, Memory> {
     let (extent, text) = (wanted.extent, wanted.text.as_slice());
     match wanted.subject {
@@ -175,11 +183,11 @@ fn compare(
 }
 
 /// The first difference of a keeper's rows.
-fn compare_tables(
+fn compare_tables<K: Keeper>(
     alloc: Global,
     extent: Extent,
     wanted: &[u8],
-    keeper: &mut MemoryKeeper,
+    keeper: &mut K,
 ) -> Result<Option<String>, Memory> {
     let rows = match keeper.read_all(alloc) {
         Ok(rows) => rows_text(alloc, rows.as_slice())?,

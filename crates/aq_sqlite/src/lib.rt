@@ -9,6 +9,3 @@ mod sqlite_keeper;
 pub use crash::{acknowledged_loads_outlive_a_crash, batches_spare_other_loads};
 pub use file_keeper::FileKeeper;
 pub use sqlite_keeper::SqliteKeeper;
-
-#[cfg(test)]
-mod tests;

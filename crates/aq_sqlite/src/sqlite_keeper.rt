@@ -73,7 +73,10 @@ impl<S: Alter + Drop> SqliteKeeper<S> {
         counted(&mut self.faults, made)
     }
 
-    pub(crate) fn into_connection(self) -> Connection<S> {
+    /// The connection, as the last call left it.
+    pub fn into_connection(self) -> Connection<S>
+        ensures { result ≡ self.connection }
+    {
         let SqliteKeeper {
             connection,
             faults: _,
