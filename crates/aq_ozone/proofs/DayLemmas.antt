@@ -23,7 +23,7 @@ shifted {Y} f a b (suc n) =
     let e : a + (b + 1) ≡ a + b + 1 = omega arith in
     ap (λ (l : List Y). f (a + b) ∷ l) (shifted f a (b + 1) n ∙ ap (λ (k : ℕ). map f (range_with_len k n)) e)
 
-list_by : {Y : Type 0} (d : Y) (f : ℕ → Y) (list : List Y) (first n : ℕ) → length list ≡ n → ((k : ℕ) → k < n → get_or list k d ≡ f (first + k)) → list ≡ map f (range_with_len first n)
+pub list_by : {Y : Type 0} (d : Y) (f : ℕ → Y) (list : List Y) (first n : ℕ) → length list ≡ n → ((k : ℕ) → k < n → get_or list k d ≡ f (first + k)) → list ≡ map f (range_with_len first n)
 list_by d f list first n many each =
     let e : first + 0 ≡ first = omega arith in
     fill_by_all (λ k. f (first + k)) list n d many each ∙ shifted f first 0 n ∙ ap (λ (k : ℕ). map f (range_with_len k n)) e
@@ -58,13 +58,17 @@ ozone_at [] k all = tt
 ozone_at (hour ∷ hours) zero all = all.0
 ozone_at (hour ∷ hours) (suc k) all = ozone_at hours k all.1
 
-cells_are : (office : Office) (site : Site) (hours : List ℕ) → cells_in (map (hour_at office site) hours) ≡ filter_map (site_hour office site) (filter (λ hour. nat_le hour LAST_HOUR) hours)
-cells_are office site [] = refl
-cells_are office site (hour ∷ hours) = by_test (nat_le hour LAST_HOUR) (cells_are office site hours)
+-- what hours have, and none past the profile
+abbrev within_profile : (ℕ → Option Cell) → ℕ → Option Cell
+within_profile f hour = cond (nat_le hour LAST_HOUR) (f hour) None
+
+pub cells_are : (f : ℕ → Option Cell) (hours : List ℕ) → cells_in (map (within_profile f) hours) ≡ filter_map f (filter (λ hour. nat_le hour LAST_HOUR) hours)
+cells_are f [] = refl
+cells_are f (hour ∷ hours) = by_test (nat_le hour LAST_HOUR) (cells_are f hours)
   where
-    by_test : (b : Bool) → cells_in (map (hour_at office site) hours) ≡ filter_map (site_hour office site) (filter (λ h. nat_le h LAST_HOUR) hours)
-        → cons_option (cond b (site_hour office site hour) None) (cells_in (map (hour_at office site) hours)) ≡ filter_map (site_hour office site) (cond b (hour ∷ filter (λ h. nat_le h LAST_HOUR) hours) (filter (λ h. nat_le h LAST_HOUR) hours))
-    by_test true rest = ap (λ (l : List Cell). cons_option (site_hour office site hour) l) rest
+    by_test : (b : Bool) → cells_in (map (within_profile f) hours) ≡ filter_map f (filter (λ h. nat_le h LAST_HOUR) hours)
+        → cons_option (cond b (f hour) None) (cells_in (map (within_profile f) hours)) ≡ filter_map f (cond b (hour ∷ filter (λ h. nat_le h LAST_HOUR) hours) (filter (λ h. nat_le h LAST_HOUR) hours))
+    by_test true rest = ap (λ (l : List Cell). cons_option (f hour) l) rest
     by_test false rest = rest
 
 -- ---- the hours of a calendar day
@@ -152,7 +156,7 @@ module _ (today tomorrow hours : List (Option Cell)) (many : length hours ≡ 24
 
 window_is : (office : Office) (site : Site) (start : ℕ) → row_of (cells_in (map (hour_at office site) (range_with_len start 8))) ≡ window office site start
 unfolding window eight_hours
-window_is office site start = ap row_of (cells_are office site (range_with_len start 8))
+window_is office site start = ap row_of (cells_are (site_hour office site) (range_with_len start 8))
 
 pub row_is : (office : Office) (site : Site) (day k : ℕ) → k < 17 → row_of (cells_in (take 8 (drop k (day_hours office site day)))) ≡ window office site (24 * day + 7 + k)
 unfolding day_hours

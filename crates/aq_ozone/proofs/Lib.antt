@@ -1,4 +1,9 @@
+pub mod DayExchange
 pub mod DayLemmas
+pub mod KeptDayLemmas
 pub mod RangeLemmas
+pub mod SettleLemmas
+pub mod TallyLemmas
 pub mod TopLemmas
+pub mod YearExchange
 pub mod YearLemmas

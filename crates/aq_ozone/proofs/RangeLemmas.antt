@@ -71,10 +71,20 @@ net_values_range (Some cell ∷ hours) all =
       | false ↦ net_values_range hours all.1
     ]
 
-net_range : (hours : List (Option Cell)) → AreOzone hours → IfOzone (row_of (cells_in hours)).net
+pub net_range : (hours : List (Option Cell)) → AreOzone hours → IfOzone (row_of (cells_in hours)).net
 net_range hours all =
     let values = net_values (cells_in hours) in
     average_range (length values) (total values) (sums values 0 (length values) (pos 0) (omega arith) (omega (arith, ints), omega (arith, ints)) (net_values_range hours all))
+
+full_values_range : (hours : List (Option Cell)) → AreOzone hours → Ozones (full_values (cells_in hours))
+full_values_range [] all = tt
+full_values_range (None ∷ hours) all = full_values_range hours all.1
+full_values_range (Some cell ∷ hours) all = (all.0, full_values_range hours all.1)
+
+pub full_range : (hours : List (Option Cell)) → AreOzone hours → IfOzone (row_of (cells_in hours)).full
+full_range hours all =
+    let values = full_values (cells_in hours) in
+    average_range (length values) (total values) (sums values 0 (length values) (pos 0) (omega arith) (omega (arith, ints), omega (arith, ints)) (full_values_range hours all))
 
 -- ---- the averages of a day
 
@@ -115,6 +125,9 @@ onto (Some v) values h all = (h, all)
 net_averages_range : (rows : List WindowRow) → AreNetOzone rows → Ozones (net_averages rows)
 net_averages_range [] all = tt
 net_averages_range (row ∷ rows) all = onto row.net (net_averages rows) all.0 (net_averages_range rows all.1)
+
+pub day_maximum_range : (rows : List WindowRow) → AreNetOzone rows → IfOzone (day_of_windows rows).maximum
+day_maximum_range rows all = greatest_range None (net_averages rows) tt (net_averages_range rows all)
 
 pub maximum_range : (rows : List WindowRow) → AreNetOzone rows → IfOzone (ranked_maximum (day_of_windows rows))
 maximum_range rows all =

@@ -30,7 +30,7 @@ use Rattle.aq_ozone.proofs.RangeLemmas.{Ozones, fourth_range}
 abbrev pub Ranking : Type 0
 Ranking = (a b : List ℤ) → IsPermutation a b → ranked a ≡ ranked b
 
-count_more : {X : Type 0} (p : X → Bool) (list : List X) (x : X) → count_by p (list ++ x ∷ []) ≡ count_by p list + cond (p x) 1 0
+pub count_more : {X : Type 0} (p : X → Bool) (list : List X) (x : X) → count_by p (list ++ x ∷ []) ≡ count_by p list + cond (p x) 1 0
 count_more {X} p list x = sum_by_push (λ (y : X). cond (p y) 1 0) list x
 
 maxima_some : (days : List DayOfYear) (day : DayOfYear) (maximum : ℤ) → day.maximum ≡ Some maximum → maxima_of (days ++ day ∷ []) ≡ maxima_of days ++ maximum ∷ []
@@ -147,12 +147,12 @@ length_ranked_in v (w ∷ ws) =
     let rest = length_ranked_in v ws in
     elim (int_lt v w) as (λ b. length (cond b (w ∷ ranked_in v ws) (v ∷ w ∷ ws)) ≡ suc (length (w ∷ ws))) [ true ↦ ap suc rest | false ↦ refl ]
 
-length_ranked : (values : List ℤ) → length (ranked values) ≡ length values
+pub length_ranked : (values : List ℤ) → length (ranked values) ≡ length values
 unfolding ranked
 length_ranked [] = refl
 length_ranked (v ∷ vs) = length_ranked_in v (ranked vs) ∙ ap suc (length_ranked vs)
 
-fourth_there : (values : List ℤ) → is_some (slice_get values 3) ≡ nat_le 4 (length values)
+pub fourth_there : (values : List ℤ) → is_some (slice_get values 3) ≡ nat_le 4 (length values)
 fourth_there [] = refl
 fourth_there (a ∷ []) = refl
 fourth_there (a ∷ b ∷ []) = refl

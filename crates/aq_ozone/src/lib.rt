@@ -5,10 +5,15 @@
 mod day_span;
 mod days;
 mod eight_hour;
+mod held_days;
+mod kept_days;
+mod kept_window;
 mod ozone_day;
 mod ozone_year;
+mod ranked_maxima;
 mod top_four;
 mod windows;
+mod year_tallies;
 
 pub use days::Days;
 pub use eight_hour::{DayWindows, WINDOWS, WindowRow, average};
