@@ -1,21 +1,18 @@
 -- An answer over the office of the tables.
-use Rattle.std.proofs.Common.{◌≡◌, ℕ, Bool, true, false, List, Option, sym, ap, subst, ◌∙◌, arith}
+use Rattle.std.proofs.Common.{◌≡◌, ℕ, Bool, true, false, List, Option, sym, subst, arith}
 use Rattle.std.specs.Prelude.{Result, Ok, Err, IfErr, IfOk, IsErrAnd, IsTrue, if◌then◌else◌}
 use Rattle.aq_base.specs.declared.ask.Ask.{Ask}
 use Rattle.aq_keeper.specs.Told.{told_through}
 use Rattle.aq_rules.specs.Kept.Rows.{Row, rows_of}
 use Rattle.aq_rules.specs.Office.Office.{Office}
-use Rattle.aq_rules.specs.Shown.Answer.{Answer, OfSheet, OfExport, NoSite, NoLoad, Reply, Windows, Days, Pm25, Pm10, Value, Report, Export, of_site}
+use Rattle.aq_rules.specs.Shown.Answer.{Answer, OfSheet, OfExport, NoSite, NoLoad, Reply, Windows, Days, Pm25, Pm10, Value, Report, Export}
 use Rattle.aq_rules.specs.Shown.Answer as questions
 use Rattle.aq_rules.specs.Shown.Sheet.{Sheet}
-use Rattle.aq_service.specs.Answers as service
-use Rattle.aq_service.specs.declared.answers.Unanswered.{Unanswered}
-use Rattle.aq_service.specs.declared.answers.Unanswered.TheVariants as whys
 use Rattle.aq_words.specs.Words.{is_question}
 use Rattle.aq_desk.proofs.Opening.{over_opened, unopened_gives}
 use Rattle.aq_desk.proofs.Tables.{cut_gives, keeps_opened, printed_gives, stopped_gives}
-use Rattle.aq_desk.specs.Ask.{IsNoSite, IsStopOf, IsUnanswered, MayBe, answered, ask_outcome}
-use Rattle.aq_desk.specs.Command.{Keeps, Outcome, Printout, leaving, printed, unwritten}
+use Rattle.aq_desk.specs.Ask.{HasSite, IsUnanswered, answered, ask_outcome}
+use Rattle.aq_desk.specs.Command.{Keeps, Outcome, Printout, leaving, printed}
 use Rattle.aq_desk.specs.Office.{HasOpened, IsOpened, IsUnopened}
 use Rattle.aq_serve.specs.Outside.{OfTold}
 use Rattle.aq_desk.specs.Stop.{Gives, IsUnprinted, ending_at, status_of}
@@ -35,50 +32,27 @@ sheet-is sheet is = absurd (cc)
 export-is : (text : List ℕ) → OfExport text ≡ NoLoad → ⊥
 export-is text is = absurd (cc)
 
-no-load : (office : Office) (ask : Ask) → IsTrue (is_question ask) → questions.answer office ask ≡ NoLoad → ⊥
+pub no_load : (office : Office) (ask : Ask) → IsTrue (is_question ask) → questions.answer office ask ≡ NoLoad → ⊥
 unfolding questions.answer
-no-load office (Reply number) asked is = absurd (cc)
-no-load office (Windows site day) asked is = absurd (cc)
-no-load office (Days site year) asked is = absurd (cc)
-no-load office (Pm25 site year) asked is = absurd (cc)
-no-load office (Pm10 site year) asked is = absurd (cc)
-no-load office (Value standard site year) asked is = site-no-load _ _ (sheet-is _) is
-no-load office (Report standard year) asked is = absurd (cc)
-no-load office (Export site pollutant year) asked is = site-no-load _ _ (export-is _) is
+no_load office (Reply number) asked is = absurd (cc)
+no_load office (Windows site day) asked is = absurd (cc)
+no_load office (Days site year) asked is = absurd (cc)
+no_load office (Pm25 site year) asked is = absurd (cc)
+no_load office (Pm10 site year) asked is = absurd (cc)
+no_load office (Value standard site year) asked is = site-no-load _ _ (sheet-is _) is
+no_load office (Report standard year) asked is = absurd (cc)
+no_load office (Export site pollutant year) asked is = site-no-load _ _ (export-is _) is
 
-report-answered : (office : Office) (ask : Ask) → IsTrue (is_question ask) → questions.answer office ask ≡ NoSite → MayBe ask whys.NoSite
+pub has_site : (office : Office) (ask : Ask) → IsTrue (is_question ask) → questions.answer office ask ≡ NoSite → HasSite ask
 unfolding questions.answer
-report-answered office (Reply number) asked is = absurd (cc)
-report-answered office (Windows site day) asked is = absurd (cc)
-report-answered office (Days site year) asked is = absurd (cc)
-report-answered office (Pm25 site year) asked is = absurd (cc)
-report-answered office (Pm10 site year) asked is = absurd (cc)
-report-answered office (Value standard site year) asked is = tt
-report-answered office (Report standard year) asked is = absurd (cc)
-report-answered office (Export site pollutant year) asked is = tt
-
-pub may_be : (office : Office) (ask : Ask) (why : Unanswered) → IsTrue (is_question ask) → service.IsUnanswered (questions.answer office ask) why → MayBe ask why
-may_be office ask whys.NoSite asked is = report-answered office ask asked is
-may_be office ask whys.NoLoad asked is = no-load office ask asked is
-may_be office ask whys.Memory asked is = tt
-
-no-site : (ask : Ask) (stop : Stop) (answer : Answer) → answer ≡ NoSite → IsNoSite ask stop → IsUnanswered (answered ask answer) stop
-no-site ask (stops.NoSite site) answer is named = ap (answered ask) is ∙ ap unwritten named
-no-site ask stops.InputFailed answer is named = absurd named
-no-site ask stops.OutputFailed answer is named = absurd named
-no-site ask stops.KeeperFailed answer is named = absurd named
-no-site ask stops.DoorFailed answer is named = absurd named
-no-site ask (stops.Damaged place) answer is named = absurd named
-no-site ask stops.Memory answer is named = absurd named
-no-site ask (stops.Conflict number kept sent) answer is named = absurd named
-no-site ask stops.TooManyBytes answer is named = absurd named
-no-site ask (stops.TooManyLines lines) answer is named = absurd named
-no-site ask stops.LoadsFull answer is named = absurd named
-
-pub stop_is : (ask : Ask) (why : Unanswered) (stop : Stop) (answer : Answer) → service.IsUnanswered answer why → IsStopOf ask why stop → IsUnanswered (answered ask answer) stop
-stop_is ask whys.NoSite stop answer is stops = no-site ask stop answer is stops
-stop_is ask whys.NoLoad stop answer is none = absurd none
-stop_is ask whys.Memory stop answer is same = subst (IsUnanswered (answered ask answer)) (sym same) tt
+has_site office (Reply number) asked is = absurd (cc)
+has_site office (Windows site day) asked is = absurd (cc)
+has_site office (Days site year) asked is = absurd (cc)
+has_site office (Pm25 site year) asked is = absurd (cc)
+has_site office (Pm10 site year) asked is = absurd (cc)
+has_site office (Value standard site year) asked is = tt
+has_site office (Report standard year) asked is = absurd (cc)
+has_site office (Export site pollutant year) asked is = tt
 
 -- ---- and over the tables
 

@@ -11,20 +11,19 @@ use Rattle.aq_rules.specs.Limits.{MOST_BYTES, MOST_LINES}
 use Rattle.aq_rules.specs.Lines.Lines.{line_count}
 use Rattle.aq_rules.specs.Office.Load.{load, reply}
 use Rattle.aq_rules.specs.Office.Office.{Office, nothing}
-use Rattle.aq_rules.specs.Shown.Answer.{Answer, OfSheet, NoSite, Windows, is_registered}
+use Rattle.aq_rules.specs.Shown.Answer.{OfSheet, NoSite, Windows, is_registered}
 use Rattle.aq_rules.specs.Shown.Answer as questions
 use Rattle.aq_rules.specs.Shown.Sheet.{text_of}
 use Rattle.aq_rules.specs.Shown.Sheets.{load_sheet, windows_answer}
 use Rattle.aq_desk.proofs.Fronts.{behind_nothing}
 use Rattle.aq_desk.specs.Body.{excess, is_within}
 use Rattle.aq_desk.specs.Command.{IsWhole, Printout, after_text, printed, unwritten}
-use Rattle.aq_desk.specs.Ending.{Ending, no_site, too_many_bytes, too_many_lines}
+use Rattle.aq_desk.specs.Ending.{Ending, too_many_bytes, too_many_lines}
 use Rattle.aq_desk.specs.Scan.{scan_answer, scan_outcome, sheet_or_no_site}
 use Rattle.aq_desk.specs.Stop.{IsCutShort, Obeys, ending_at, ending_of, status_of}
 use Rattle.aq_desk.specs.Writing.{WritesFront}
 use Rattle.aq_desk.specs.declared.stop.Stop.{Stop}
 use Rattle.aq_desk.specs.declared.stop.Stop.TheVariants.{InputFailed, Memory}
-use Rattle.aq_desk.specs.declared.stop.Stop.TheVariants as stops
 
 -- ---- texts and their fronts
 
@@ -122,10 +121,13 @@ has_windows office site day h = by_site (is_registered office site) h
     by_site true h = cc
     by_site false h = cc
 
-pub unregistered_answer : (site : Site) (given : Answer) (written : Option (List ℕ)) → given ≡ NoSite → Obeys (sheet_or_no_site site given) (Err (stops.NoSite site)) written written
-unregistered_answer site given written is =
-    subst (λ (a : Answer). Obeys (sheet_or_no_site site a) (Err (stops.NoSite site)) written written) (sym is)
-    (writes_nothing (no_site site) (Err (stops.NoSite site)) written refl (λ four. absurd (omega (arith, four))))
+pub no_export : (office : Office) (site : Site) (day : ℕ) (text : List ℕ) → questions.answer office (Windows site day) ≡ questions.OfExport text → ⊥
+unfolding questions.answer
+no_export office site day text h = by_site (is_registered office site) h
+  where
+    by_site : (there : Bool) → (if there then OfSheet (windows_answer office site day) else NoSite) ≡ questions.OfExport text → ⊥
+    by_site true h = cc
+    by_site false h = cc
 
 pub more_bytes : (first second : List ℕ) → 0 < length first → 0 < length (first ++ second)
 more_bytes first second some = omega (arith, some, length-append first second)

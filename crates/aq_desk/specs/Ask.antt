@@ -5,8 +5,6 @@ use Rattle.aq_base.specs.declared.ask.Ask.TheVariants.{Value, Export}
 use Rattle.aq_rules.specs.Kept.Rows.{Row, rows_of}
 use Rattle.aq_rules.specs.Shown.Answer.{Answer, OfSheet, OfExport, NoSite, NoLoad, answer}
 use Rattle.aq_rules.specs.Shown.Sheet.{text_of}
-use Rattle.aq_service.specs.declared.answers.Unanswered.{Unanswered}
-use Rattle.aq_service.specs.declared.answers.Unanswered.TheVariants as whys
 use Rattle.aq_desk.specs.Command.{Outcome, Printout, leaving, printed, unwritten}
 use Rattle.aq_desk.specs.Ending.{Ending, no_command, no_site}
 use Rattle.aq_desk.specs.Office.{over_office}
@@ -34,22 +32,6 @@ abbrev pub HasSite : Ask → Type 0
 HasSite (Value standard site year) = ⊤
 HasSite (Export site pollutant year) = ⊤
 HasSite _ = ⊥
-
--- why a question that words ask may have no answer
-abbrev pub MayBe : Ask → Unanswered → Type 0
-MayBe ask whys.NoSite = HasSite ask
-MayBe ask whys.NoLoad = ⊥
-MayBe ask whys.Memory = ⊤
-
-abbrev pub IsNoSite : Ask → Stop → Type 0
-IsNoSite ask (stops.NoSite site) = without_answer ask ≡ no_site site
-IsNoSite ask _ = ⊥
-
--- what then stops the command
-abbrev pub IsStopOf : Ask → Unanswered → Stop → Type 0
-IsStopOf ask whys.NoSite stop = IsNoSite ask stop
-IsStopOf ask whys.NoLoad stop = ⊥
-IsStopOf ask whys.Memory stop = stop ≡ stops.Memory
 
 -- why an answer is not printed: the site is not registered, or memory ran out
 abbrev pub IsUnanswered : Printout → Stop → Type 0

@@ -1,13 +1,9 @@
 //! The commands that ask: `show`, `report` and `export`.
-ghost use Rattle.std.specs.Prelude.{◌≡◌, ◌≤◌, ◌⊎◌, IfErr, IfOk, IsTrue};
-ghost use Rattle.aq_base.specs.declared.day.TheConstants.{FIRST_YEAR, LAST_YEAR};
+ghost use Rattle.std.specs.Prelude.{◌≡◌, IfErr, IfOk, IsTrue};
 ghost use Rattle.aq_keeper.specs.Told.{told_through};
 ghost use Rattle.aq_rules.specs.Shown.Answer as questions;
-ghost use Rattle.aq_rules.specs.Shown.Answer.{Export};
-ghost use Rattle.aq_service.specs.Answers as service;
-ghost use Rattle.aq_service.specs.Answers.{AsksForSheet};
 ghost use Rattle.aq_words.specs.Words.{is_question};
-ghost use Rattle.aq_desk.specs.Ask.{HasSite, IsStopOf, IsUnanswered, MayBe, answered, ask_outcome, without_answer};
+ghost use Rattle.aq_desk.specs.Ask.{HasSite, IsUnanswered, answered, ask_outcome, without_answer};
 ghost use Rattle.aq_desk.specs.Command.{RisesAt, WritesNothing, printed};
 ghost use Rattle.aq_desk.specs.Ending.{no_site};
 ghost use Rattle.aq_serve.specs.Outside.{OfTold};
@@ -16,12 +12,12 @@ ghost use Rattle.aq_desk.specs.Stop.{Gives, IsUnprinted, Performs, status_of};
 use crate::office::open;
 use crate::stop::Stop;
 use crate::writing::print_text;
-use aq_base::{Ask, Bytes, Pollutant, SiteId};
+use aq_base::{Ask, Bytes, SiteId};
 use aq_book::Book;
 use aq_keeper::Keeper;
 use aq_reports::text_of;
 use aq_serve::Sink;
-use aq_service::{Unanswered, export_of, sheet_of};
+use aq_service::{Answer, answer_to};
 use std::alloc::Global;
 
 /// Prints the answer to a question over the office of the tables.
@@ -60,60 +56,11 @@ fn text_of_answer(alloc: Global, book: &Book, ask: &Ask) -> Result<Bytes, Stop>
     ensures text { IfOk result (λ text. answered ask.now (questions.answer book.now ask.now) ≡ printed text) }
     ensures refused { IfErr result (IsUnanswered (answered ask.now (questions.answer book.now ask.now))) }
 {
-    match text_in(alloc, book, ask) {
-        Ok(text) => Ok(text),
-        Err(why) => Err(stop_of(ask, why)),
-    }
-}
-
-/// The same, if there is an answer.
-fn text_in(alloc: Global, book: &Book, ask: &Ask) -> Result<Bytes, Unanswered>
-    requires { IsTrue (is_question ask.now) }
-    ensures text { IfOk result (λ text. answered ask.now (questions.answer book.now ask.now) ≡ printed text) }
-    ensures refused { IfErr result (service.IsUnanswered (questions.answer book.now ask.now)) }
-{
-    match *ask {
-        Ask::Export(site, pollutant, year) => export_text(alloc, book, site, pollutant, year),
-        _ => sheet_text(alloc, book, ask),
-    }
-}
-
-/// The text of the sheet that answers a question other than an export.
-fn sheet_text(alloc: Global, book: &Book, ask: &Ask) -> Result<Bytes, Unanswered>
-    requires asked { IsTrue (questions.is_asked ask.now) }
-    requires sheet { AsksForSheet ask.now }
-    ensures text { IfOk result (λ text. answered ask.now (questions.answer book.now ask.now) ≡ printed text) }
-    ensures refused { IfErr result (service.IsUnanswered (questions.answer book.now ask.now)) }
-{
-    let sheet = sheet_of(alloc, book, ask)?;
-    Ok(Bytes::from_vec(text_of(alloc, &sheet)?))
-}
-
-/// An export.
-fn export_text(
-    alloc: Global,
-    book: &Book,
-    site: SiteId,
-    pollutant: Pollutant,
-    year: u16,
-) -> Result<Bytes, Unanswered>
-    requires first { FIRST_YEAR ≤ year }
-    requires last { year ≤ LAST_YEAR }
-    ensures text { IfOk result (λ text. answered (Export site pollutant year) (questions.answer book.now (Export site pollutant year)) ≡ printed text) }
-    ensures refused { IfErr result (service.IsUnanswered (questions.answer book.now (Export site pollutant year))) }
-{
-    Ok(Bytes::from_vec(export_of(alloc, book, site, pollutant, year)?))
-}
-
-/// What stops a command whose question has no answer.
-fn stop_of(ask: &Ask, why: Unanswered) -> Stop
-    requires { MayBe ask.now why }
-    ensures { IsStopOf ask.now why result }
-{
-    match why {
-        Unanswered::Memory => Stop::Memory,
-        Unanswered::NoSite => Stop::NoSite(site_asked(ask)),
-        Unanswered::NoLoad => unreachable!(),
+    match answer_to(alloc, book, ask)? {
+        Answer::Sheet(sheet) => Ok(Bytes::from_vec(text_of(alloc, &sheet)?)),
+        Answer::Export(text) => Ok(Bytes::from_vec(text)),
+        Answer::NoSite => Err(Stop::NoSite(site_asked(ask))),
+        Answer::NoLoad => unreachable!(),
     }
 }
 

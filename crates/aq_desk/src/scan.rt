@@ -19,7 +19,7 @@ use aq_base::{Ask, Day, SiteId};
 use aq_book::{Book, Staged};
 use aq_reports::load_sheet;
 use aq_serve::{Sink, Source};
-use aq_service::{Unanswered, sheet_of};
+use aq_service::{Answer, answer_to};
 use std::alloc::Global;
 
 /// Takes the input as a load over an office of which nothing stands, and prints the reply and then the
@@ -119,10 +119,10 @@ fn print_windows<O: Sink>(
     ensures taken { IsTaken (status_of result) }
     ensures output_failed { RisesAt 4 (status_of result) (O.faults output.old) (O.faults output.new) }
 {
-    match sheet_of(alloc, book, &Ask::Windows(site, day)) {
-        Ok(sheet) => print_sheet(alloc, &sheet, output),
-        Err(Unanswered::Memory) => Err(Stop::Memory),
-        Err(Unanswered::NoSite) => Err(Stop::NoSite(site)),
-        Err(Unanswered::NoLoad) => unreachable!(),
+    match answer_to(alloc, book, &Ask::Windows(site, day))? {
+        Answer::Sheet(sheet) => print_sheet(alloc, &sheet, output),
+        Answer::NoSite => Err(Stop::NoSite(site)),
+        Answer::Export(_) => unreachable!(),
+        Answer::NoLoad => unreachable!(),
     }
 }

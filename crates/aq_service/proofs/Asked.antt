@@ -7,44 +7,21 @@ use Rattle.std.proofs.lemmas.List.{length-map}
 use Rattle.std.proofs.lemmas.List.FromFn.{length-range_with_len, map-range_with_len_more}
 use Rattle.aq_base.specs.Calendar.{days_in_year, year_first}
 use Rattle.aq_base.specs.Site.{Site}
-use Rattle.aq_base.specs.declared.monitor.Pollutant.{Pollutant}
 use Rattle.aq_base.specs.declared.reply.LoadReply.{LoadReply}
 use Rattle.aq_base.specs.declared.standard.Standard.{Standard}
 use Rattle.aq_rows.specs.KeptLoads.{reply_in}
-use Rattle.aq_rules.specs.DesignValues.{DesignValue, design_value}
-use Rattle.aq_rules.specs.Kept.Summaries.{PmYear, pm25_summary}
 use Rattle.aq_rules.specs.Office.Approval.{is_approved}
-use Rattle.aq_rules.specs.Office.Office.{Office, StoredLoad, load_at}
+use Rattle.aq_rules.specs.Office.Office.{Office, StoredLoad}
 use Rattle.aq_rules.specs.Office.Season.{season_of}
-use Rattle.aq_rules.specs.Ozone.EightHour.{WindowRow}
-use Rattle.aq_rules.specs.Ozone.OzoneDay.{OzoneDay, windows}
+use Rattle.aq_rules.specs.Ozone.OzoneDay.{OzoneDay}
 use Rattle.aq_rules.specs.Ozone.OzoneYear.{OzoneYear, days_of, ozone_days, ozone_year}
-use Rattle.aq_rules.specs.Particles.Pm10Estimate.{Pm10Quarter, pm10_year}
 use Rattle.aq_rules.specs.Standards.{pollutant_of}
-use Rattle.aq_rules.specs.Shown.Answer.{Answer, OfSheet, OfExport, NoSite, NoLoad, Reply, Windows, Days, Pm25, Pm10, Value, Report, Export, answer, is_registered, of_load, of_site}
-use Rattle.aq_rules.specs.Shown.Export.{Shown, export_answer, export_of, shown_of}
-use Rattle.aq_rules.specs.Shown.OtherSheets.{Judged, judged, report_answer, report_sheet, sites_with, value_answer, value_sheet}
-use Rattle.aq_rules.specs.Shown.ParticleSheets.{pm10_answer, pm10_sheet, pm25_answer, pm25_sheet}
+use Rattle.aq_rules.specs.Shown.Answer.{Answer, OfSheet, NoSite, Days, Report, answer, is_registered, of_site}
+use Rattle.aq_rules.specs.Shown.OtherSheets.{Judged, judged, report_answer, report_sheet, sites_with}
 use Rattle.aq_rules.specs.Shown.Sheet.{Sheet}
-use Rattle.aq_rules.specs.Shown.Sheets.{days_answer, days_sheet, load_sheet, windows_answer, windows_sheet}
+use Rattle.aq_rules.specs.Shown.Sheets.{days_answer, days_sheet, load_sheet}
 
 -- ---- a load
-
-of-kept : (found : Option StoredLoad) (reply : LoadReply) (sheet : Sheet) → Some reply ≡ option_map reply_in found → sheet ≡ load_sheet reply → of_load found ≡ OfSheet sheet
-of-kept None reply sheet e is = absurd (cc)
-of-kept (Some kept) reply sheet e is = let same : reply ≡ kept.reply = cc in ap OfSheet (sym (is ∙ ap load_sheet same))
-
-of-none : (found : Option StoredLoad) → None ≡ option_map reply_in found → of_load found ≡ NoLoad
-of-none None e = cc
-of-none (Some kept) e = absurd (cc)
-
-pub reply_told : (office : Office) (number : ℕ) (reply : LoadReply) (sheet : Sheet) → Some reply ≡ option_map reply_in (load_at office number) → sheet ≡ load_sheet reply → answer office (Reply number) ≡ OfSheet sheet
-unfolding answer
-reply_told office number reply sheet e is = of-kept (load_at office number) reply sheet e is
-
-pub no_load : (office : Office) (number : ℕ) → None ≡ option_map reply_in (load_at office number) → answer office (Reply number) ≡ NoLoad
-unfolding answer
-no_load office number e = of-none (load_at office number) e
 
 -- what holds of the sheet of a kept load
 pub kept_sheet : (P : Sheet → Type 0) (found : Option StoredLoad) (reply : LoadReply) (sheet : Sheet) → ((load : StoredLoad) → found ≡ Some load → P (load_sheet load.reply))
@@ -70,38 +47,6 @@ module _ (office : Office) (site : Site) where
   told : (a b : Sheet) → true ≡ is_registered office site → a ≡ b → of_site office site (OfSheet b) ≡ OfSheet a
   told a b there is = of-registered (OfSheet b) there ∙ ap OfSheet (sym is)
 
-  pub windows_told : (day : ℕ) (rows : List WindowRow) (sheet : Sheet) → true ≡ is_registered office site → rows ≡ windows office site day → sheet ≡ windows_sheet site day rows → answer office (Windows site day) ≡ OfSheet sheet
-  unfolding answer windows_answer
-  windows_told day rows sheet there same is = told _ _ there (is ∙ ap (windows_sheet site day) same)
-
-  pub no_windows : (day : ℕ) → false ≡ is_registered office site → answer office (Windows site day) ≡ NoSite
-  unfolding answer
-  no_windows day there = of-unregistered _ there
-
-  pub pm25_told : (year : ℕ) (parts : PmYear) (sheet : Sheet) → true ≡ is_registered office site → parts ≡ pm25_summary office site year → sheet ≡ pm25_sheet site year parts → answer office (Pm25 site year) ≡ OfSheet sheet
-  unfolding answer pm25_answer
-  pm25_told year parts sheet there same is = told _ _ there (is ∙ ap (pm25_sheet site year) same)
-
-  pub no_pm25 : (year : ℕ) → false ≡ is_registered office site → answer office (Pm25 site year) ≡ NoSite
-  unfolding answer
-  no_pm25 year there = of-unregistered _ there
-
-  pub pm10_told : (year : ℕ) (parts : List Pm10Quarter) (sheet : Sheet) → true ≡ is_registered office site → parts ≡ pm10_year office site year → sheet ≡ pm10_sheet site year parts → answer office (Pm10 site year) ≡ OfSheet sheet
-  unfolding answer pm10_answer
-  pm10_told year parts sheet there same is = told _ _ there (is ∙ ap (pm10_sheet site year) same)
-
-  pub no_pm10 : (year : ℕ) → false ≡ is_registered office site → answer office (Pm10 site year) ≡ NoSite
-  unfolding answer
-  no_pm10 year there = of-unregistered _ there
-
-  pub value_told : (standard : Standard) (year : ℕ) (value : DesignValue) (sheet : Sheet) → true ≡ is_registered office site → value ≡ design_value standard office site year → sheet ≡ value_sheet standard site year value → answer office (Value standard site year) ≡ OfSheet sheet
-  unfolding answer value_answer
-  value_told standard year value sheet there same is = told _ _ there (is ∙ ap (value_sheet standard site year) same)
-
-  pub no_value : (standard : Standard) (year : ℕ) → false ≡ is_registered office site → answer office (Value standard site year) ≡ NoSite
-  unfolding answer
-  no_value standard year there = of-unregistered _ there
-
   pub days_told : (year : ℕ) (season : ℕ × ℕ) (days : List OzoneDay) (approved : List Bool) (totals : OzoneYear) (sheet : Sheet) → true ≡ is_registered office site
       → ◌≡◌ {A = ℕ × ℕ} season ((season_of office.records site year).first, (season_of office.records site year).last)
       → days ≡ ozone_days office site year → approved ≡ map (is_approved office.records site) (days_of year) → totals ≡ ozone_year office site year
@@ -126,14 +71,6 @@ module _ (office : Office) (site : Site) where
   pub each_approval : (year : ℕ) (approved : List Bool) → approved ≡ map (is_approved office.records site) (days_of year) → length approved ≡ days_in_year year
   unfolding days_of
   each_approval year approved same = ap length same ∙ length-map (days_of year) _ ∙ length-range_with_len (year_first year) (days_in_year year)
-
-  pub export_told : (pollutant : Pollutant) (year : ℕ) (rows : List Shown) (text : List ℕ) → true ≡ is_registered office site → rows ≡ shown_of office site pollutant year → text ≡ export_of rows → answer office (Export site pollutant year) ≡ OfExport text
-  unfolding answer export_answer
-  export_told pollutant year rows text there same is = of-registered _ there ∙ ap OfExport (sym (is ∙ ap export_of same))
-
-  pub no_export : (pollutant : Pollutant) (year : ℕ) → false ≡ is_registered office site → answer office (Export site pollutant year) ≡ NoSite
-  unfolding answer
-  no_export pollutant year there = of-unregistered _ there
 
   -- the approvals of so many days from the first on
   abbrev pub first_approvals : ℕ → ℕ → List Bool

@@ -5,6 +5,7 @@ use Rattle.std.proofs.lemmas.Bool.Decides.{nat_tests}
 use Rattle.std.proofs.lemmas.Bool.{and_parts}
 use Rattle.aq_rules.proofs.Loads.{posted-few}
 use Rattle.aq_rules.proofs.Lookups.{found-with, same-itself}
+use Rattle.aq_rules.specs.Kept.Rows.{Row}
 use Rattle.aq_rules.specs.Limits.{LAST_LOAD_NUMBER, MOST_LINES, MOST_LOADS}
 use Rattle.aq_rules.specs.Lines.Lines.{line_count, body_lines}
 use Rattle.aq_rules.specs.Office.Load.{Repeat, Conflict, Full, New, TooManyLines, Repeated, Differing, NoRoom, Taken, after_all, decide, decide_known, load, office_after, post, posted, posted_anew, posted_beside, reply, stored}
@@ -44,6 +45,13 @@ module _ (office : Office) (number : ℕ) (digest sent body : List ℕ) (same : 
 
   pub is_taken : line_count body ≤ MOST_LINES → New ≡ decide office number digest → TakenBy answer (load office number digest body) before after → Is sent
   is_taken h new is = subst Is same (subst (λ p. IsPosted p lines before after answer) (sym (posted-new office number digest body h (sym new))) is)
+
+-- the office before a post, by another name
+pub posted_over : (o p : Office) → o ≡ p → (number : ℕ) (digest body : List ℕ) (lines : ℕ) (tables : Option (List Row)) (faults : ℕ) (after : ServiceView) (answer : Posted)
+    → IsPosted (posted o number digest body) lines (record { office = o; tables = tables; faults = faults }) after answer
+    → IsPosted (posted p number digest body) lines (record { office = p; tables = tables; faults = faults }) after answer
+posted_over o p same number digest body lines tables faults after answer is =
+    subst (λ (o : Office). IsPosted (posted o number digest body) lines (record { office = o; tables = tables; faults = faults }) after answer) same is
 
 -- ---- what stands then
 

@@ -1,16 +1,13 @@
 -- Replies as answers to requests.
-use Rattle.std.proofs.Common.{◌≡◌, ℕ, ◌⊎◌, inl, inr, Bool, true, false, cond, List, Option, Some, None, refl, sym, ap, ◌∙◌, subst}
+use Rattle.std.proofs.Common.{◌≡◌, ℕ, ◌⊎◌, inl, inr, Bool, true, false, List, Option, Some, None, refl, sym, ap, ◌∙◌, subst}
 use Rattle.std.specs.Prelude.{◌==◌, IfSome, IsSome}
 use Rattle.std.specs.Option.{option_map}
-use Rattle.aq_base.specs.Site.{Site}
-use Rattle.aq_base.specs.declared.monitor.Pollutant.{Pollutant}
 use Rattle.aq_base.specs.declared.reply.LoadReply.{LoadReply}
 use Rattle.aq_rules.specs.Kept.Rows.{Row, rows_of}
 use Rattle.aq_rules.specs.Office.Load.{TooManyLines, Repeated, Differing, NoRoom, Taken, load, office_after, post, posted, reply, stored}
 use Rattle.aq_rules.specs.Office.Load as loads
 use Rattle.aq_rules.specs.Office.Office.{Office, StoredLoad, load_at}
-use Rattle.aq_rules.specs.Shown.Answer.{OfExport, NoSite, Export, answer, is_registered}
-use Rattle.aq_rules.specs.Shown.Export.{export_answer}
+use Rattle.aq_rules.specs.Shown.Answer.{answer}
 use Rattle.aq_rules.specs.Shown.OtherSheets.{conflict_sheet}
 use Rattle.aq_rules.specs.Shown.Sheets.{load_sheet}
 use Rattle.aq_http.specs.declared.verb.Verb.{Verb}
@@ -18,7 +15,7 @@ use Rattle.aq_http.specs.Routes.{found}
 use Rattle.aq_keeper.proofs.Telling.{stays_as}
 use Rattle.aq_keeper.specs.Told.{Stays}
 use Rattle.aq_serve.proofs.Tables.{become_same, become_still}
-use Rattle.aq_serve.specs.Answered.{Answered, answered, refused, reply_of, shown, to_found, to_load, to_question}
+use Rattle.aq_serve.specs.Answered.{Answered, answered, reply_of, shown, to_found, to_load}
 use Rattle.aq_serve.specs.Service.{Answers, Become, Counts, Loses, ServiceView}
 use Rattle.aq_service.proofs.PostedLoads.{IsKept, Tells, load_stands, tells}
 use Rattle.aq_service.specs.Posting.{IsPosted, LosesLoad, TakenBy}
@@ -39,15 +36,6 @@ unchanged by close bytes view is office status = record {
 
 pub nothing_lost : (by : Bool → Answered) (view : ServiceView) → LosesBy by view view
 nothing_lost by view = record { cause = inl refl; tables = λ told. inl (become_same view told) }
-
--- no route asks for an export: where it is asked, it is not found
-pub export_answer_is : (office : Office) (site : Site) (pollutant : Pollutant) (year : ℕ) → to_question office (answer office (Export site pollutant year)) ≡ refused 404 office
-unfolding answer
-export_answer_is office site pollutant year = by_site (is_registered office site)
-  where
-    by_site : (b : Bool) → to_question office (cond b (OfExport (export_answer office site pollutant year)) NoSite) ≡ refused 404 office
-    by_site true = refl
-    by_site false = refl
 
 -- ---- loads
 

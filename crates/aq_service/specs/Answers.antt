@@ -1,25 +1,20 @@
 -- What answers questions about an office.
-use Rattle.std.specs.Prelude.{◌≡◌, ℕ, ⊤, Bool, List, [], Contains, Option, Some, None}
+use Rattle.std.specs.Prelude.{◌≡◌, ℕ, Bool, List, [], Contains, Option, Some, None}
 use Rattle.std.specs.Global.{Vec}
 use Rattle.aq_http.specs.declared.verb.Verb.{Verb}
 use Rattle.aq_http.specs.declared.verb.Verb.TheVariants.{Get}
 use Rattle.aq_rules.specs.Office.Office.{Office}
-use Rattle.aq_rules.specs.Shown.Answer.{Answer, Ask, Export}
 use Rattle.aq_rules.specs.Shown.Answer as questions
 use Rattle.aq_serve.specs.Answered.{Answered, answered, refused, reply_of}
-use Rattle.aq_service.specs.declared.answers.Unanswered.{Unanswered}
-use Rattle.aq_service.specs.declared.answers.Unanswered.TheVariants.{NoSite, NoLoad, Memory}
+use Rattle.aq_service.specs.declared.answers.Answer.{Answer}
+use Rattle.aq_service.specs.declared.answers.Answer.TheVariants.{Sheet, Export, NoSite, NoLoad}
 
--- the site is not registered, or no such load stands; want of memory has no cause that is told
-abbrev pub IsUnanswered : Answer → Unanswered → Type 0
-IsUnanswered answer NoSite = answer ≡ questions.NoSite
-IsUnanswered answer NoLoad = answer ≡ questions.NoLoad
-IsUnanswered answer Memory = ⊤
-
--- all but an export are answered by a sheet
-abbrev pub AsksForSheet : Ask → Type 0
-AsksForSheet (Export site pollutant year) = ⊥
-AsksForSheet _ = ⊤
+-- an answer, as the book has it
+abbrev pub seen : Answer → questions.Answer
+seen (Sheet sheet) = questions.OfSheet sheet
+seen (Export text) = questions.OfExport text.items
+seen NoSite = questions.NoSite
+seen NoLoad = questions.NoLoad
 
 -- a text as the whole answer: the office stays as it is
 abbrev pub with_text : List ℕ → Office → Answered

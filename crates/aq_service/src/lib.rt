@@ -8,6 +8,6 @@ mod posting;
 mod replies;
 mod service;
 
-pub use answers::{Unanswered, export_of, sheet_of};
+pub use answers::{Answer, answer_to};
 pub use posting::{Posted, post};
 pub use service::OfficeService;

@@ -8,10 +8,10 @@ ghost use Rattle.aq_rules.specs.Shown.Json as json;
 ghost use Rattle.aq_rules.specs.Shown.Sheets.{load_sheet};
 ghost use Rattle.aq_rules.specs.Shown.WellFormed.{IsWellFormed};
 ghost use Rattle.aq_serve.specs.Answered.{error_body, reply_of, shown, to_question};
-ghost use Rattle.aq_service.specs.Answers.{AsksForSheet, IsTextOf};
+ghost use Rattle.aq_service.specs.Answers.{IsTextOf};
 ghost use Rattle.aq_service.specs.Replies.{IsLoadReply, Stands, methods};
 
-use crate::answers::{Unanswered, sheet_of};
+use crate::answers::{Answer, answer_to};
 use crate::posting::Posted;
 use aq_base::{Ask, Memory};
 use aq_book::Book;
@@ -33,14 +33,10 @@ pub(crate) fn question_text(
     requires asked { IsTrue (is_asked ask.now) }
     ensures { IfOk result (λ text. IsTextOf (to_question book.now (answer book.now ask.now)) book.now text) }
 {
-    if let Ask::Export(_, _, _) = ask {
-        return Ok(None);
-    }
     answers_are_well_formed();
-    match sheet_of(alloc, book, ask) {
-        Ok(sheet) => Ok(Some(json_of(alloc, &sheet)?)),
-        Err(Unanswered::NoSite | Unanswered::NoLoad) => Ok(None),
-        Err(Unanswered::Memory) => Err(Memory),
+    match answer_to(alloc, book, ask)? {
+        Answer::Sheet(sheet) => Ok(Some(json_of(alloc, &sheet)?)),
+        Answer::Export(_) | Answer::NoSite | Answer::NoLoad => Ok(None),
     }
 }
 

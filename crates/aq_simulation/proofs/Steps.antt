@@ -1,5 +1,5 @@
 -- Loads that are taken one after the other.
-use Rattle.std.proofs.Common.{◌≡◌, ℕ, suc, ◌+◌, ◌-◌, ◌*◌, ◌≤◌, ◌<◌, ◌⊎◌, inl, inr, Bool, false, List, ◌++◌, length, flat_map, Vec, Global, Option, Some, None, refl, sym, ap, subst, ◌∙◌, arith}
+use Rattle.std.proofs.Common.{◌≡◌, ℕ, suc, ◌+◌, ◌-◌, ◌*◌, ◌≤◌, ◌<◌, Bool, false, List, ◌++◌, length, flat_map, Vec, Global, Option, Some, None, refl, sym, ap, subst, ◌∙◌, arith}
 use Rattle.std.specs.Prelude.{◌||◌, ◌==◌, nat_lt, if◌then◌else◌, fold, Result, IfOk}
 use Rattle.std.specs.List.{range_with_len}
 use Rattle.std.proofs.lemmas.Bool.Decides.{nat_tests}
@@ -11,10 +11,13 @@ use Rattle.aq_rules.specs.Limits.{MOST_LINES, MOST_GENERATED_SITES, MOST_GENERAT
 use Rattle.aq_rules.specs.Lines.Lines.{line_count}
 use Rattle.aq_rules.specs.Office.Office.{Office, nothing}
 use Rattle.aq_rules.specs.Office.Load.{post}
-use Rattle.aq_rules.specs.Shown.Answer.{Answer, OfSheet, NoSite, NoLoad, Report, answer}
+use Rattle.aq_rules.specs.Shown.Answer.{OfSheet, OfExport, NoSite, NoLoad, Report, answer}
 use Rattle.aq_rules.specs.Shown.Generator.{generate, generated_lines, generated_load, generated_office, load_count, loads_to_take, simulation, FIRST_GENERATED_YEAR}
 use Rattle.aq_rules.specs.Shown.OtherSheets.{report_answer, summary_sheet}
 use Rattle.aq_rules.specs.Shown.Sheet.{Sheet, text_of}
+use Rattle.aq_service.specs.Answers.{seen}
+use Rattle.aq_service.specs.declared.answers.Answer as service
+use Rattle.aq_service.specs.declared.answers.Answer.TheVariants as kinds
 
 -- ---- the load that is taken
 
@@ -48,15 +51,24 @@ report_is office standard year = refl
 same-sheet : (a b : Sheet) → OfSheet a ≡ OfSheet b → a ≡ b
 same-sheet a b is = cc
 
-no-sheet : (sheet : Sheet) (a : Answer) → a ≡ OfSheet sheet → (a ≡ NoSite) ⊎ (a ≡ NoLoad) → ⊥
-no-sheet sheet a is (inl none) = absurd (cc)
-no-sheet sheet a is (inr none) = absurd (cc)
-
 pub report_sheet_is : (office : Office) (standard : Standard) (year : ℕ) (sheet : Sheet) → answer office (Report standard year) ≡ OfSheet sheet → sheet ≡ report_answer standard office year
 report_sheet_is office standard year sheet is = same-sheet sheet (report_answer standard office year) (sym is ∙ report_is office standard year)
 
-pub has_report : (office : Office) (standard : Standard) (year : ℕ) → (answer office (Report standard year) ≡ NoSite) ⊎ (answer office (Report standard year) ≡ NoLoad) → ⊥
-has_report office standard year none = no-sheet (report_answer standard office year) (answer office (Report standard year)) (report_is office standard year) none
+sheet-export : (sheet : Sheet) (text : List ℕ) → OfSheet sheet ≡ OfExport text → ⊥
+sheet-export sheet text is = absurd (cc)
+
+sheet-site : (sheet : Sheet) → OfSheet sheet ≡ NoSite → ⊥
+sheet-site sheet is = absurd (cc)
+
+sheet-load : (sheet : Sheet) → OfSheet sheet ≡ NoLoad → ⊥
+sheet-load sheet is = absurd (cc)
+
+-- and no other answer
+pub no_other : (office : Office) (standard : Standard) (year : ℕ) (found : service.Answer) → answer office (Report standard year) ≡ seen found → ((sheet : Sheet) → found ≡ kinds.Sheet sheet → ⊥) → ⊥
+no_other office standard year (kinds.Sheet sheet) is none = none sheet refl
+no_other office standard year (kinds.Export text) is none = sheet-export _ _ (sym (report_is office standard year) ∙ is)
+no_other office standard year kinds.NoSite is none = sheet-site _ (sym (report_is office standard year) ∙ is)
+no_other office standard year kinds.NoLoad is none = sheet-load _ (sym (report_is office standard year) ∙ is)
 
 -- ---- all of them
 

@@ -9,7 +9,7 @@ use crate::taken::Taken;
 use aq_base::{Ask, Memory, Standard};
 use aq_book::Book;
 use aq_reports::{summary_sheet, text_of};
-use aq_service::{Unanswered, sheet_of};
+use aq_service::{Answer, answer_to};
 use std::alloc::Global;
 
 /// The text of the summary.
@@ -59,10 +59,8 @@ fn report_text(alloc: Global, book: &Book, standard: Standard, year: u16) -> Res
     requires last { year ≤ LAST_YEAR }
     ensures { IfOk result (λ text. text.items ≡ text_of (report_answer standard book.now year)) }
 {
-    match sheet_of(alloc, book, &Ask::Report(standard, year)) {
-        Ok(sheet) => text_of(alloc, &sheet),
-        Err(Unanswered::Memory) => Err(Memory),
-        Err(Unanswered::NoSite) => unreachable!(),
-        Err(Unanswered::NoLoad) => unreachable!(),
-    }
+    let Answer::Sheet(sheet) = answer_to(alloc, book, &Ask::Report(standard, year))? else {
+        unreachable!();
+    };
+    text_of(alloc, &sheet)
 }

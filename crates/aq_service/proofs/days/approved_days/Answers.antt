@@ -1,9 +1,6 @@
 use Rattle.std.proofs.Common.{◌≡◌, ◌+◌, Bool, List, [], ◌∷◌, ◌++◌, ap, ◌∙◌, arith}
-use Rattle.aq_service.proofs.Asked.{approvals-all, approvals-more, no_days}
+use Rattle.aq_service.proofs.Asked.{approvals-all, approvals-more}
 use Rattle.aq_service.proofs.days.approved_days.Goals as goal
-
-pub returns-in_default-clause-refused : goal.returns-in_default-clause-refused
-returns-in_default-clause-refused c = no_days c.args.book.now c.args.site c.args.year c.in_default.ensures.registered
 
 pub loop-i-preserved : goal.loop-i-preserved
 loop-i-preserved c =
@@ -12,8 +9,8 @@ loop-i-preserved c =
     ∙ ap (λ (l : List Bool). l ++ c.in-Ok.counts ∷ []) c.loop-i.invariant
     ∙ approvals-more c.args.book.now c.args.site c.year_span-first.result.0 c.loop-i.i c.new-day.result c.in-Ok.counts at c.in-Ok.ensures.approved
 
-pub returns-clause-approved : goal.returns-clause-approved
-returns-clause-approved c =
+pub returns : goal.returns
+returns c =
     let all : c.loop-i.i ≡ c.year_span-first.result.1 = omega (arith, c.loop-i-test.false, c.loop-i.auto.i-end) in
     c.loop-i.invariant
     ∙ approvals-all c.args.book.now c.args.site c.args.year c.year_span-first.result.0 c.loop-i.i c.year_span-first.ensures.first (all ∙ c.year_span-first.ensures.days)

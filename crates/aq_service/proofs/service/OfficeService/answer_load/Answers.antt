@@ -1,11 +1,10 @@
 use Rattle.std.proofs.Common.{subst, sym, ◌∙◌}
 use Rattle.sha2.specs.Sha256.{sha256}
 use Rattle.aq_rules.specs.Lines.Lines.{line_count}
-use Rattle.aq_rules.specs.Office.Load.{posted}
 use Rattle.aq_rules.specs.Office.Office.{IsOffice, Office}
 use Rattle.aq_serve.specs.Service.{ServiceView}
-use Rattle.aq_service.specs.Posting.{IsPosted, LosesLoad}
-use Rattle.aq_service.proofs.PostedLoads.{is_numbered}
+use Rattle.aq_service.specs.Posting.{LosesLoad}
+use Rattle.aq_service.proofs.PostedLoads.{is_numbered, posted_over}
 use Rattle.aq_service.proofs.Replied.{load_answered, post_lost, reply_lost, stands}
 use Rattle.aq_service.proofs.Taking.{if_ok, on_err}
 use Rattle.aq_service.proofs.service.OfficeService.answer_load.Goals as goal
@@ -26,20 +25,16 @@ returns-in_err-book-clause-lost g c =
 pub load_reply-requires-clause-stands : goal.load_reply-requires-clause-stands
 load_reply-requires-clause-stands g c =
     let after : ServiceView = record { office = c.in_ok-book.book; tables = g.K.Keeper.tables c.post.new.keeper; faults = g.K.Keeper.faults c.post.new.keeper } in
-    let is = subst
-    (λ (o : Office). IsPosted (posted o c.args.number (sha256 c.args.body.now) c.args.body.now) (line_count c.args.body.now)
-    (record { office = o; tables = g.K.Keeper.tables c.args.keeper.now; faults = g.K.Keeper.faults c.args.keeper.now }) after c.in_ok-book.posted)
-    (c.replace-book.ensures.value ∙ c.self.view_is) c.in_ok-book.ensures.posted in
+    let is = posted_over _ _ (c.replace-book.ensures.value ∙ c.self.view_is) c.args.number (sha256 c.args.body.now) c.args.body.now (line_count c.args.body.now)
+    (g.K.Keeper.tables c.args.keeper.now) (g.K.Keeper.faults c.args.keeper.now) after c.in_ok-book.posted c.in_ok-book.ensures.posted in
     stands c.args.number (sha256 c.args.body.now) c.args.body.now (is_numbered c.args.number c.requires.number) (line_count c.args.body.now) c.args.close
     (record { office = c.args.self.now; tables = g.K.Keeper.tables c.args.keeper.now; faults = g.K.Keeper.faults c.args.keeper.now }) after c.in_ok-book.posted is
 
 pub returns-clause-answered : goal.returns-clause-answered
 returns-clause-answered g c =
     let after : ServiceView = record { office = c.in_ok-book.book; tables = g.K.Keeper.tables c.post.new.keeper; faults = g.K.Keeper.faults c.post.new.keeper } in
-    let is = subst
-    (λ (o : Office). IsPosted (posted o c.args.number (sha256 c.args.body.now) c.args.body.now) (line_count c.args.body.now)
-    (record { office = o; tables = g.K.Keeper.tables c.args.keeper.now; faults = g.K.Keeper.faults c.args.keeper.now }) after c.in_ok-book.posted)
-    (c.replace-book.ensures.value ∙ c.self.view_is) c.in_ok-book.ensures.posted in
+    let is = posted_over _ _ (c.replace-book.ensures.value ∙ c.self.view_is) c.args.number (sha256 c.args.body.now) c.args.body.now (line_count c.args.body.now)
+    (g.K.Keeper.tables c.args.keeper.now) (g.K.Keeper.faults c.args.keeper.now) after c.in_ok-book.posted c.in_ok-book.ensures.posted in
     if_ok c.load_reply.result
     (λ bytes reply. load_answered c.args.number (sha256 c.args.body.now) c.args.body.now (is_numbered c.args.number c.requires.number) (line_count c.args.body.now) c.args.close
     (record { office = c.args.self.now; tables = g.K.Keeper.tables c.args.keeper.now; faults = g.K.Keeper.faults c.args.keeper.now }) bytes.items after c.in_ok-book.posted is reply)
@@ -48,10 +43,8 @@ returns-clause-answered g c =
 pub returns-clause-lost : goal.returns-clause-lost
 returns-clause-lost g c =
     let after : ServiceView = record { office = c.in_ok-book.book; tables = g.K.Keeper.tables c.post.new.keeper; faults = g.K.Keeper.faults c.post.new.keeper } in
-    let is = subst
-    (λ (o : Office). IsPosted (posted o c.args.number (sha256 c.args.body.now) c.args.body.now) (line_count c.args.body.now)
-    (record { office = o; tables = g.K.Keeper.tables c.args.keeper.now; faults = g.K.Keeper.faults c.args.keeper.now }) after c.in_ok-book.posted)
-    (c.replace-book.ensures.value ∙ c.self.view_is) c.in_ok-book.ensures.posted in
+    let is = posted_over _ _ (c.replace-book.ensures.value ∙ c.self.view_is) c.args.number (sha256 c.args.body.now) c.args.body.now (line_count c.args.body.now)
+    (g.K.Keeper.tables c.args.keeper.now) (g.K.Keeper.faults c.args.keeper.now) after c.in_ok-book.posted c.in_ok-book.ensures.posted in
     on_err _ c.load_reply.result
     (reply_lost c.args.number (sha256 c.args.body.now) c.args.body.now (is_numbered c.args.number c.requires.number) (line_count c.args.body.now) c.args.close
     (record { office = c.args.self.now; tables = g.K.Keeper.tables c.args.keeper.now; faults = g.K.Keeper.faults c.args.keeper.now }) after c.in_ok-book.posted is)
