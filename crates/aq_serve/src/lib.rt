@@ -26,6 +26,6 @@ pub use memory_door::MemoryDoor;
 pub use memory_sink::MemorySink;
 pub use memory_source::MemorySource;
 pub use outside::{Sink, Source};
-pub use sending::error_body;
+pub use sending::error_reply;
 pub use service::Service;
 pub use serving::serve;

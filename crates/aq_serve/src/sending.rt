@@ -1,5 +1,5 @@
 //! Replies, written until a connection has all of them.
-ghost use Rattle.std.specs.Prelude.{◌≡◌, true, [], IfOk, IsTrue};
+ghost use Rattle.std.specs.Prelude.{◌≡◌, true, IfOk, IsTrue};
 ghost use Rattle.aq_http.specs.Reply.{is_reply_status, reply_text};
 ghost use Rattle.aq_serve.specs.Answered.{error_body, error_name};
 ghost use Rattle.aq_serve.specs.Talking.{Sends};
@@ -40,7 +40,7 @@ fn error_name(status: u16) -> &'static str
 
 /// The body of a reply with such a status, in JSON.
 #[tactic(auto, using(crate::proofs::Errors::error_body_is))]
-pub fn error_body(alloc: Global, status: u16) -> Result<Vec<u8>, Memory>
+fn error_body(alloc: Global, status: u16) -> Result<Vec<u8>, Memory>
     ensures { IfOk result (λ body. body.items ≡ error_body status) }
 {
     let name = error_name(status);
@@ -48,11 +48,11 @@ pub fn error_body(alloc: Global, status: u16) -> Result<Vec<u8>, Memory>
     Ok(body.into_bytes())
 }
 
-/// The reply to a head that is refused with this status. It ends the connection.
-pub(crate) fn refusal(alloc: Global, status: u16) -> Result<Vec<u8>, Memory>
+/// The reply with an error, the methods that a 405 allows, and whether it ends the connection.
+pub fn error_reply(alloc: Global, status: u16, allow: &[u8], close: bool) -> Result<Vec<u8>, Memory>
     requires { IsTrue (is_reply_status status) }
-    ensures { IfOk result (λ bytes. bytes.items ≡ reply_text (record { status = status; allow = []; close = true; body = error_body status })) }
+    ensures { IfOk result (λ bytes. bytes.items ≡ reply_text (record { status = status; allow = allow.now; close = close; body = error_body status })) }
 {
     let body = error_body(alloc, status)?;
-    reply_bytes(alloc, status, b"", true, &body)
+    reply_bytes(alloc, status, allow, close, &body)
 }

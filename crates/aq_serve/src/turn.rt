@@ -10,7 +10,7 @@ use crate::door::Door;
 use crate::ending::End;
 use crate::fetch::{FetchFault, fetch};
 use crate::limits::MOST_REQUESTS;
-use crate::sending::{refusal, write_all};
+use crate::sending::{error_reply, write_all};
 use crate::service::Service;
 use crate::unanswered::Unanswered;
 use aq_base::{Failed, Memory};
@@ -91,7 +91,7 @@ fn refuse<D: Door>(alloc: Global, door: &mut D, status: u16) -> Result<Option<En
     ensures { (served : ℕ) (input now : List ℕ) (service : ServiceView) → ((more : List ℕ) → IsStep (input ++ more) (Refuse status))
         → TakesTurn served (record { door = D.seen door.old; service = service }) (record { door = D.seen door.new; service = service }) input now result }
 {
-    match refusal(alloc, status) {
+    match error_reply(alloc, status, b"", true) {
         Ok(reply) => Ok(send(door, &reply, true)),
         Err(Memory) => Err(Memory),
     }

@@ -7,7 +7,7 @@ ghost use Rattle.aq_rules.specs.Shown.OtherSheets.{conflict_sheet};
 ghost use Rattle.aq_rules.specs.Shown.Json as json;
 ghost use Rattle.aq_rules.specs.Shown.Sheets.{load_sheet};
 ghost use Rattle.aq_rules.specs.Shown.WellFormed.{IsWellFormed};
-ghost use Rattle.aq_serve.specs.Answered.{error_body, reply_of, shown, to_question};
+ghost use Rattle.aq_serve.specs.Answered.{reply_of, shown, to_question};
 ghost use Rattle.aq_service.specs.Answers.{IsTextOf};
 ghost use Rattle.aq_service.specs.Replies.{IsLoadReply, Stands, methods};
 
@@ -19,7 +19,7 @@ use aq_http::reply_bytes;
 use aq_reports::{Sheet, conflict_sheet, json_of, load_sheet};
 use aq_rows::digest_is_32_bytes;
 use aq_rules::shown::well_formed::{answers_are_well_formed, other_sheets_are_well_formed};
-use aq_serve::error_body;
+use aq_serve::error_reply;
 use std::alloc::Global;
 
 /// The JSON that a question is answered with, or None if it is answered with 404: no route asks for an
@@ -115,18 +115,4 @@ pub(crate) fn methods(post: bool) -> &'static [u8]
     ensures { result.now ≡ methods post }
 {
     if post { b"GET, POST" } else { b"GET" }
-}
-
-/// The reply with an error.
-pub(crate) fn error_reply(
-    alloc: Global,
-    status: u16,
-    allow: &[u8],
-    close: bool,
-) -> Result<Vec<u8>, Memory>
-    requires { IsTrue (is_reply_status status) }
-    ensures { IfOk result (λ bytes. bytes.items ≡ reply_text (record { status = status; allow = allow.now; close = close; body = error_body status })) }
-{
-    let body = error_body(alloc, status)?;
-    reply_bytes(alloc, status, allow, close, &body)
 }

@@ -13,13 +13,13 @@ ghost use Rattle.aq_service.specs.Answers.{IsKnownReply};
 ghost use Rattle.aq_service.specs.Replies.{AnswersBy, LosesBy};
 
 use crate::posting::post;
-use crate::replies::{error_reply, load_reply, methods, question_text};
+use crate::replies::{load_reply, methods, question_text};
 use aq_base::{Ask, Memory};
 use aq_book::Book;
 use aq_http::{Found, Routes, Verb, reply_bytes};
 use aq_keeper::Keeper;
 use aq_rules::office::valid_load::an_office_of_nothing_is_valid;
-use aq_serve::Service;
+use aq_serve::{Service, error_reply};
 use lru::LruCache;
 use std::alloc::Global;
 use std::marker::Model;
