@@ -11,8 +11,8 @@ use Rattle.aq_desk.proofs.Tables.{keeps_same, of_any, of_told, with_tables}
 use Rattle.aq_desk.specs.Command.{Follows, IsWhole, Outcome, Printout, RisesAt, Tells, leaving, message_for}
 use Rattle.aq_desk.specs.Ending.{no_command}
 use Rattle.aq_serve.specs.Outside.{IsAll, OfTold}
-use Rattle.aq_desk.specs.Run.{Acts, KeeperRises, Runs, Surroundings, connections_for, connections_in, outcome_of, reads_input}
-use Rattle.aq_desk.specs.Serve.{Around, HasServed, serve_outcome}
+use Rattle.aq_desk.specs.Run.{Acts, KeeperRises, Runs, Surroundings, hosting_for, hosting_in, outcome_of, reads_input}
+use Rattle.aq_desk.specs.Serve.{Around, HasServed, Hosting, serve_outcome}
 use Rattle.aq_desk.specs.Simulate.{simulate_outcome}
 use Rattle.aq_desk.specs.Stop.{EndsAs, IsMeasured, Obeys, Performs, ending_of, status_of}
 use Rattle.aq_words.specs.declared.words.Command.{Command}
@@ -65,7 +65,7 @@ performs_follows outcome answer before after tables_before tables_after performs
 -- ---- what each command does
 
 -- a command that prints
-module _ (command kind : Command) (is : command ≡ kind) (none : connections_in kind ≡ None) (answer : Result Unit Stop) (left written_before written_after : Option (List ℕ)) (before after : Around) where
+module _ (command kind : Command) (is : command ≡ kind) (none : hosting_in kind ≡ None) (answer : Result Unit Stop) (left written_before written_after : Option (List ℕ)) (before after : Around) where
   pub printing : OfTold (told_through before.tables after.tables) (λ rows. OfTold left (λ body. Performs (outcome_of kind rows body) answer written_before written_after before.tables after.tables × IsMeasured (reads_input kind) body (status_of answer)))
       → Acts command answer left written_before written_after before after
   printing over =
@@ -77,14 +77,14 @@ module _ (command kind : Command) (is : command ≡ kind) (none : connections_in
         are_told = over.is_all;
         is_told = over.says.is_all;
         performs = λ _. both.0;
-        serves = subst (λ (n : Option ℕ). IfSome n (λ connections. HasServed connections over.all (status_of answer) before after)) (sym none) tt;
+        serves = subst (λ (n : Option Hosting). IfSome n (λ asked. HasServed asked over.all (status_of answer) before after)) (sym none) tt;
         ends = both.0.obeys.ending;
         measured = both.1;
       })
 
 -- one that serves: it does not read its input
 pub serving : (command : Command) (port connections : ℕ) → command ≡ Serve port connections → (answer : Result Unit Stop) (left written_before written_after : Option (List ℕ)) (before after : Around)
-    → OfTold (told_through before.tables after.tables) (λ rows. HasServed connections rows (status_of answer) before after × EndsAs (serve_outcome rows) answer)
+    → OfTold (told_through before.tables after.tables) (λ rows. HasServed (record { port = port; connections = connections }) rows (status_of answer) before after × EndsAs (serve_outcome rows) answer)
     → Acts command answer left written_before written_after before after
 serving command port connections is answer left written_before written_after before after over =
     let P = λ (c : Command). Acts c answer left written_before written_after before after in
@@ -97,7 +97,7 @@ serving command port connections is answer left written_before written_after bef
       performs = λ none. absurd (false≢true (sym none));
       serves = over.says.0;
       ends = over.says.1;
-      measured = record { too_many = λ ten. absurd (omega (arith, ten, serve_status connections over.all (status_of answer) before after over.says.0)); whole = λ reads _. absurd (false≢true reads) };
+      measured = record { too_many = λ ten. absurd (omega (arith, ten, serve_status (record { port = port; connections = connections }) over.all (status_of answer) before after over.says.0)); whole = λ reads _. absurd (false≢true reads) };
     })
 
 -- a command that reads its input, and one that does not
@@ -127,14 +127,14 @@ without_reading outcome left answer before after tables_before tables_after othe
   says = of_any left (λ body. Performs (outcome over.all) answer before after tables_before tables_after × IsMeasured false body (status_of answer)) (λ body. (over.says, unmeasured body (status_of answer) other));
 }
 
-pub keeper_kind : (command kind : Command) → command ≡ kind → (status m n : ℕ) → KeeperRises (connections_in kind) status m n → KeeperRises (connections_in command) status m n
+pub keeper_kind : (command kind : Command) → command ≡ kind → (status m n : ℕ) → KeeperRises (hosting_in kind) status m n → KeeperRises (hosting_in command) status m n
 keeper_kind command kind is status m n rises =
-    let P = λ (c : Command). KeeperRises (connections_in c) status m n in
+    let P = λ (c : Command). KeeperRises (hosting_in c) status m n in
     subst P (sym is) rises
 
 -- the count of a keeper that serves nobody
-pub keeper_rises : (connections : Option ℕ) (status m n : ℕ) → RisesAt 5 status m n → KeeperRises connections status m n
-keeper_rises connections status m n rises = record { rises = rises.rises; stays = λ _. rises.stays }
+pub keeper_rises : (asked : Option Hosting) (status m n : ℕ) → RisesAt 5 status m n → KeeperRises asked status m n
+keeper_rises asked status m n rises = record { rises = rises.rises; stays = λ _. rises.stays }
 
 -- ---- a run of the command that the words name
 
@@ -156,10 +156,10 @@ module _ (command : Command) (found : Option Command) (answer : Result Unit Stop
         measured = acts.measured;
       }))
 
-  pub run_keeper : (m n : ℕ) → KeeperRises (connections_in command) (status_of answer) m n → KeeperRises (connections_for found) status m n
+  pub run_keeper : (m n : ℕ) → KeeperRises (hosting_in command) (status_of answer) m n → KeeperRises (hosting_for found) status m n
   run_keeper m n rises =
-      let P = λ (c : Option Command). KeeperRises (connections_for c) status m n in
-      let Q = λ (s : ℕ). KeeperRises (connections_in command) s m n in
+      let P = λ (c : Option Command). KeeperRises (hosting_for c) status m n in
+      let Q = λ (s : ℕ). KeeperRises (hosting_in command) s m n in
       subst P same (subst Q (sym is) rises)
 
 -- and of words that name none

@@ -21,7 +21,7 @@ use Rattle.aq_desk.specs.Ending.{damaged, done}
 use Rattle.aq_desk.specs.Office.{HasOpened, IsOpened, IsUnopened}
 use Rattle.aq_serve.specs.Outside.{IsAll, OfTold}
 use Rattle.aq_desk.specs.Run.{KeeperRises}
-use Rattle.aq_desk.specs.Serve.{Around, CannotListen, HasAttended, HasListened, HasServed, IsServed, IsUnserved, holding, serve_outcome, serving, status_served, stop_served}
+use Rattle.aq_desk.specs.Serve.{Around, CannotListen, HasAttended, HasListened, HasServed, IsServed, IsUnserved, Hosting, holding, serve_outcome, serving, status_served, stop_served}
 use Rattle.aq_desk.specs.Stop.{EndsAs, ending_of, status_of}
 use Rattle.aq_desk.specs.declared.stop.Stop.{Stop}
 use Rattle.aq_desk.specs.declared.stop.Stop.TheVariants.{InputFailed, OutputFailed, KeeperFailed, DoorFailed, Damaged, Memory, Conflict, TooManyBytes, TooManyLines, LoadsFull, NoSite}
@@ -57,10 +57,10 @@ module _ (before after : Around) (door : after.door ≡ before.door) where
       unserved rows 7 (inr (inr refl)) (λ six. absurd (omega (arith, six))) (λ either. absurd (omega (arith, either))) tables (stays_at_from 5 7 _ _ (λ five. omega (arith, five)) steady)
 
   -- with the ending of the definition
-  abbrev Ends : ℕ → Result Unit Stop → List Row → Type 0
+  abbrev Ends : Hosting → Result Unit Stop → List Row → Type 0
   Ends n answer rows = HasServed n rows (status_of answer) before after × EndsAs (serve_outcome rows) answer
 
-  unopened-served : (n : ℕ) (stop : Stop) → IsUnopened before.tables after.tables before.faults after.faults stop → OfTold (told_through before.tables after.tables) (Ends n (Err stop))
+  unopened-served : (n : Hosting) (stop : Stop) → IsUnopened before.tables after.tables before.faults after.faults stop → OfTold (told_through before.tables after.tables) (Ends n (Err stop))
   unopened-served n KeeperFailed cause =
       of_any (told_through before.tables after.tables) (Ends n (Err KeeperFailed)) (λ rows. (
         inl (unserved rows 5 (inl refl) (λ six. absurd (omega (arith, six))) (λ _. cause.0) (inl cause.0) (record { rises = λ _. cause.1; stays = λ other. absurd (other refl) })),
@@ -88,13 +88,13 @@ module _ (before after : Around) (door : after.door ≡ before.door) where
   unopened-served n LoadsFull cause = absurd cause
   unopened-served n (NoSite site) cause = absurd cause
 
-  pub unopened_served : (n : ℕ) (stop : Stop) (answer : Result Unit Stop) → IsErrAnd answer (λ why. why ≡ stop) → IsUnopened before.tables after.tables before.faults after.faults stop → OfTold (told_through before.tables after.tables) (Ends n answer)
+  pub unopened_served : (n : Hosting) (stop : Stop) (answer : Result Unit Stop) → IsErrAnd answer (λ why. why ≡ stop) → IsUnopened before.tables after.tables before.faults after.faults stop → OfTold (told_through before.tables after.tables) (Ends n answer)
   unopened_served n stop answer is cause =
       let P = λ (r : Result Unit Stop). OfTold (told_through before.tables after.tables) (Ends n r) in
       subst P (sym (stopped_by answer stop is)) (unopened-served n stop cause)
 
   -- nor was memory for the routes
-  pub unrouted_served : (n : ℕ) (answer : Result Unit Stop) (office : Office) → IsErrAnd answer (λ why. why ≡ Memory) → HasOpened office before.tables after.tables → after.faults ≡ before.faults → OfTold (told_through before.tables after.tables) (Ends n answer)
+  pub unrouted_served : (n : Hosting) (answer : Result Unit Stop) (office : Office) → IsErrAnd answer (λ why. why ≡ Memory) → HasOpened office before.tables after.tables → after.faults ≡ before.faults → OfTold (told_through before.tables after.tables) (Ends n answer)
   unrouted_served n answer office is has steady = unopened_served n Memory answer is (inr has.tables, steady)
 
 -- ---- over an office that is opened
@@ -117,12 +117,12 @@ serves-tells n before after (Err faults.Memory) serves own =
     become-tells before.service after.service (office_behind (office_left before.service.office serves.visits) (lost.visit.turns ++ stands.more)) stands.tables
 
 -- so over a keeper that tells to the end nothing is left open
-pub served_exact : (n : ℕ) (rows : List Row) (status : ℕ) (before after : Around) → IsSome after.tables → (is : IsServed n rows status before after) → is.opened ≡ option_map opened_rows before.tables
+pub served_exact : (n : Hosting) (rows : List Row) (status : ℕ) (before after : Around) → IsSome after.tables → (is : IsServed n rows status before after) → is.opened ≡ option_map opened_rows before.tables
 served_exact n rows status before after tells is =
-    exact (option_map opened_rows before.tables) is.opened (serves-tells n _ _ is.ending is.serves is.of_office tells) is.tables
+    exact (option_map opened_rows before.tables) is.opened (serves-tells n.connections _ _ is.ending is.serves is.of_office tells) is.tables
 
 -- the office was opened before, with these tables
-module _ (n : ℕ) (rows : List Row) (office : Office) (now : Option (List Row)) (before after : Around) (answer : Result Unit Stop) (is : IsOpened rows office) (told : IsAll (told_through before.tables now) rows) (opened : Stays (option_map opened_rows before.tables) now) where
+module _ (n : Hosting) (rows : List Row) (office : Office) (now : Option (List Row)) (before after : Around) (answer : Result Unit Stop) (is : IsOpened rows office) (told : IsAll (told_through before.tables now) rows) (opened : Stays (option_map opened_rows before.tables) now) where
   own : IfSome now (λ told. told ≡ rows_of office)
   own = of_opened before.tables now rows office told is.are_rows opened
 
@@ -146,7 +146,7 @@ module _ (n : ℕ) (rows : List Row) (office : Office) (now : Option (List Row))
 
   has-listened : HasListened n office (holding now before) after answer → HasServed n rows (status_of answer) before after
   has-listened listened =
-      let Q = λ (o : Office). Serves n (record { door = listened.listening; service = serving o (holding now before) }) (record { door = after.door; service = serving listened.left after }) listened.ending in
+      let Q = λ (o : Office). Serves n.connections (record { door = listened.listening; service = serving o (holding now before) }) (record { door = after.door; service = serving listened.left after }) listened.ending in
       let R = λ (o : Office). IfSome now (λ told. told ≡ rows_of o) in
       inr (record {
         undamaged = is.undamaged;
@@ -167,9 +167,9 @@ module _ (n : ℕ) (rows : List Row) (office : Office) (now : Option (List Row))
 
   attended-tells : HasAttended n office (holding now before) after answer → IsSome after.tables → IsSome now
   attended-tells (inl cannot) = subst (λ (t : Option (List Row)). IsSome t → IsSome now) (sym cannot.tables) (λ tells. tells)
-  attended-tells (inr listened) = serves-tells n _ _ listened.ending listened.serves own
+  attended-tells (inr listened) = serves-tells n.connections _ _ listened.ending listened.serves own
 
-attended-done : (n : ℕ) (office : Office) (before after : Around) (answer : Result Unit Stop) → HasAttended n office before after answer → IsWhole (status_of answer) → ending_of answer ≡ done
+attended-done : (n : Hosting) (office : Office) (before after : Around) (answer : Result Unit Stop) → HasAttended n office before after answer → IsWhole (status_of answer) → ending_of answer ≡ done
 attended-done n office before after answer (inl cannot) whole =
     let P = λ (r : Result Unit Stop). IsWhole (status_of r) → ending_of r ≡ done in
     subst P (sym cannot.stopped) (λ same. absurd (omega (arith, same))) whole
@@ -182,12 +182,12 @@ attended-done n office before after answer (inr listened) whole =
     served-done (Err faults.DoorFailed) same = absurd (omega (arith, same))
     served-done (Err faults.Memory) same = absurd (omega (arith, same))
 
-attended-ends : (n : ℕ) (rows : List Row) (office : Office) (before after : Around) (answer : Result Unit Stop) → IsOpened rows office → HasAttended n office before after answer → EndsAs (serve_outcome rows) answer
+attended-ends : (n : Hosting) (rows : List Row) (office : Office) (before after : Around) (answer : Result Unit Stop) → IsOpened rows office → HasAttended n office before after answer → EndsAs (serve_outcome rows) answer
 unfolding serve_outcome
 attended-ends n rows office before after answer opened attended =
     λ whole. attended-done n office before after answer attended whole ∙ ap (λ (o : Outcome). o.ending) (sym (over_opened rows office (λ o. leaving (rows_of o) (unwritten done)) opened))
 
-module _ (n : ℕ) (office service : Office) (is : service ≡ office) (door : DoorView) (tables now : Option (List Row)) (faults later : ℕ) (after : Around) (answer : Result Unit Stop) where
+module _ (n : Hosting) (office service : Office) (is : service ≡ office) (door : DoorView) (tables now : Option (List Row)) (faults later : ℕ) (after : Around) (answer : Result Unit Stop) where
   pub attended_served : HasOpened office tables now → later ≡ faults
       → HasAttended n service (record { door = door; tables = now; faults = later }) after answer
       → OfTold (told_through tables after.tables) (λ rows. HasServed n rows (status_of answer) (record { door = door; tables = tables; faults = faults }) after × EndsAs (serve_outcome rows) answer)
@@ -218,7 +218,7 @@ accepts-rise n before after (Ok nothing) serves = stays_at_from 8 0 _ _ (λ eigh
 accepts-rise n before after (Err faults.DoorFailed) serves = record { rises = λ _. serves.ends.accepts; stays = λ other. absurd (other refl) }
 accepts-rise n before after (Err faults.Memory) serves = stays_at_from 8 7 _ _ (λ eight. omega (arith, eight)) serves.ends.accepts
 
-module _ (n : ℕ) (rows : List Row) (status : ℕ) (before after : Around) where
+module _ (n : Hosting) (rows : List Row) (status : ℕ) (before after : Around) where
   pub serve_status : HasServed n rows status before after → ServeStatus status
   serve_status (inl nobody) = grind (arith, nobody.ended)
   serve_status (inr served) =
@@ -237,4 +237,4 @@ module _ (n : ℕ) (rows : List Row) (status : ℕ) (before after : Around) wher
   serve_door (inr served) =
       let P = λ (s : ℕ). RisesAt 8 s before.door.accepts after.door.accepts in
       let Q = λ (k : ℕ). RisesAt 8 (status_served served.ending) k after.door.accepts in
-      subst P (sym served.ended) (subst Q served.listens.accepts (accepts-rise n _ _ served.ending served.serves))
+      subst P (sym served.ended) (subst Q served.listens.accepts (accepts-rise n.connections _ _ served.ending served.serves))

@@ -12,7 +12,7 @@ use Rattle.aq_desk.specs.Ending.{no_command}
 use Rattle.aq_desk.specs.Load.{load_outcome}
 use Rattle.aq_serve.specs.Outside.{IsAll}
 use Rattle.aq_desk.specs.Scan.{scan_outcome}
-use Rattle.aq_desk.specs.Serve.{Around, HasServed, serve_outcome}
+use Rattle.aq_desk.specs.Serve.{Around, HasServed, Hosting, serve_outcome}
 use Rattle.aq_desk.specs.Simulate.{simulate_outcome}
 use Rattle.aq_desk.specs.Stop.{EndsAs, IsMeasured, Performs, status_of}
 use Rattle.aq_desk.specs.declared.stop.Stop.{Stop}
@@ -58,22 +58,22 @@ abbrev pub uses : (Command → Bool) → Option Command → Bool
 uses test None = false
 uses test (Some command) = test command
 
--- how many connections are to be served, by the one command that serves
-abbrev pub connections_in : Command → Option ℕ
-connections_in (Scan site day) = None
-connections_in (Load number) = None
-connections_in (command.Ask ask) = None
-connections_in (Serve port connections) = Some connections
-connections_in (Simulate start sites years) = None
+-- what the one command that serves asks for
+abbrev pub hosting_in : Command → Option Hosting
+hosting_in (Scan site day) = None
+hosting_in (Load number) = None
+hosting_in (command.Ask ask) = None
+hosting_in (Serve port connections) = Some (record { port = port; connections = connections })
+hosting_in (Simulate start sites years) = None
 
-abbrev pub connections_for : Option Command → Option ℕ
-connections_for None = None
-connections_for (Some command) = connections_in command
+abbrev pub hosting_for : Option Command → Option Hosting
+hosting_for None = None
+hosting_for (Some command) = hosting_in command
 
 -- the keeper's count rose if a run ends with 5; it is as before if one ends otherwise, unless connections were served
-pub record KeeperRises (connections : Option ℕ) (status before after : ℕ) : Type 0 where
+pub record KeeperRises (asked : Option Hosting) (status before after : ℕ) : Type 0 where
   pub rises : status ≡ 5 → HasRisen before after
-  pub stays : IsNone connections → (status ≡ 5 → ⊥) → after ≡ before
+  pub stays : IsNone asked → (status ≡ 5 → ⊥) → after ≡ before
 
 -- ---- what a run does
 
@@ -92,9 +92,9 @@ pub record Runs (command : Option Command) (status : ℕ) (before after : Surrou
   pub are_told : IsAll (told_through before.around.tables after.around.tables) rows
   pub is_told : IsAll before.left body
   -- of a command that prints, what is answered and written, and the tables after it, are what its definition gives
-  pub prints : IsNone (connections_for command) → Follows (outcome_for command rows body) status before.written after.written before.around.tables after.around.tables
+  pub prints : IsNone (hosting_for command) → Follows (outcome_for command rows body) status before.written after.written before.around.tables after.around.tables
   -- of the one that serves, the replies are those of each connection's session, and the tables after it those of the last office
-  pub serves : IfSome (connections_for command) (λ connections. HasServed connections rows status before.around after.around)
+  pub serves : IfSome (hosting_for command) (λ asked. HasServed asked rows status before.around after.around)
   -- the message is that of the status: of a status that the definition gives, the definition's
   pub tells : Tells (message_for (outcome_for command rows body) status) before.unsaid after.unsaid before.said after.said
   -- a body of too many bytes or lines, and no other, ends with 10, unless the input or memory failed first
@@ -106,7 +106,7 @@ pub record Acts (command : Command) (answer : Result Unit Stop) (left written_be
   pub body : List ℕ
   pub are_told : IsAll (told_through before.tables after.tables) rows
   pub is_told : IsAll left body
-  pub performs : IsNone (connections_in command) → Performs (outcome_of command rows body) answer written_before written_after before.tables after.tables
-  pub serves : IfSome (connections_in command) (λ connections. HasServed connections rows (status_of answer) before after)
+  pub performs : IsNone (hosting_in command) → Performs (outcome_of command rows body) answer written_before written_after before.tables after.tables
+  pub serves : IfSome (hosting_in command) (λ asked. HasServed asked rows (status_of answer) before after)
   pub ends : EndsAs (outcome_of command rows body) answer
   pub measured : IsMeasured (reads_input command) body (status_of answer)

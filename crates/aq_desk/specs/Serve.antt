@@ -1,5 +1,5 @@
 -- The command `serve --port P --connections N`: connections are served over the office of the tables (own).
-use Rattle.std.specs.Prelude.{◌≡◌, ℕ, ◌⊎◌, true, List, Option, None, Result, Ok, Err}
+use Rattle.std.specs.Prelude.{◌≡◌, ℕ, ◌⊎◌, List, Option, Some, None, Result, Ok, Err}
 use Rattle.std.specs.Option.{option_map}
 use Rattle.aq_base.specs.Faults.{HasRisen}
 use Rattle.aq_keeper.specs.Told.{Stays}
@@ -35,9 +35,14 @@ holding tables around = record { door = around.door; tables = tables; faults = a
 abbrev pub serving : Office → Around → ServiceView
 serving office around = record { office = office; tables = around.tables; faults = around.faults }
 
--- the door listens, and is otherwise as it was
-pub record IsListening (before after : DoorView) : Type 0 where
-  pub listens : after.listens ≡ true
+-- what is asked for: the port, and how many connections are served at most
+pub record Hosting : Type 0 where
+  pub port : ℕ
+  pub connections : ℕ
+
+-- the door listens on the port, and is otherwise as it was
+pub record IsListening (port : ℕ) (before after : DoorView) : Type 0 where
+  pub listens : after.listens ≡ Some port
   pub wire : after.wire ≡ before.wire
   pub is_open : after.is_open ≡ before.is_open
   pub accepts : after.accepts ≡ before.accepts
@@ -65,20 +70,20 @@ status_served (Err DoorFailed) = 8
 status_served (Err Memory) = 7
 
 -- connections were served over the office of the tables, once it was opened; these then are its own, if they are told still
-pub record IsServed (n : ℕ) (rows : List Row) (status : ℕ) (before after : Around) : Type 0 where
+pub record IsServed (asked : Hosting) (rows : List Row) (status : ℕ) (before after : Around) : Type 0 where
   pub undamaged : opening_damage rows ≡ None
   pub opened : Option (List Row)
   pub tables : Stays (option_map opened_rows before.tables) opened
   pub of_office : AreOfOffice (serving (office_in (opened_rows rows)) (holding opened before))
   pub listening : DoorView
-  pub listens : IsListening before.door listening
+  pub listens : IsListening asked.port before.door listening
   pub office : Office
   pub ending : Result Unit ServeFault
   pub ended : status ≡ status_served ending
-  pub serves : Serves n (record { door = listening; service = serving (office_in (opened_rows rows)) (holding opened before) }) (record { door = after.door; service = serving office after }) ending
+  pub serves : Serves asked.connections (record { door = listening; service = serving (office_in (opened_rows rows)) (holding opened before) }) (record { door = after.door; service = serving office after }) ending
 
-abbrev pub HasServed : ℕ → List Row → ℕ → Around → Around → Type 0
-HasServed n rows status before after = IsUnserved rows status before after ⊎ IsServed n rows status before after
+abbrev pub HasServed : Hosting → List Row → ℕ → Around → Around → Type 0
+HasServed asked rows status before after = IsUnserved rows status before after ⊎ IsServed asked rows status before after
 
 -- ---- over an office that is opened
 
@@ -99,13 +104,13 @@ pub record CannotListen (before after : Around) (answer : Result Unit Stop) : Ty
   pub writes : after.door.writes ≡ before.door.writes
 
 -- it did, and connections were served
-pub record HasListened (n : ℕ) (office : Office) (before after : Around) (answer : Result Unit Stop) : Type 0 where
+pub record HasListened (asked : Hosting) (office : Office) (before after : Around) (answer : Result Unit Stop) : Type 0 where
   pub listening : DoorView
-  pub listens : IsListening before.door listening
+  pub listens : IsListening asked.port before.door listening
   pub left : Office
   pub ending : Result Unit ServeFault
   pub stopped : answer ≡ stop_served ending
-  pub serves : Serves n (record { door = listening; service = serving office before }) (record { door = after.door; service = serving left after }) ending
+  pub serves : Serves asked.connections (record { door = listening; service = serving office before }) (record { door = after.door; service = serving left after }) ending
 
-abbrev pub HasAttended : ℕ → Office → Around → Around → Result Unit Stop → Type 0
-HasAttended n office before after answer = CannotListen before after answer ⊎ HasListened n office before after answer
+abbrev pub HasAttended : Hosting → Office → Around → Around → Result Unit Stop → Type 0
+HasAttended asked office before after answer = CannotListen before after answer ⊎ HasListened asked office before after answer

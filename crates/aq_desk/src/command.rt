@@ -4,8 +4,8 @@ ghost use Rattle.std.specs.Option.{option_map};
 ghost use Rattle.aq_rules.specs.Kept.Rows.{Row};
 ghost use Rattle.aq_desk.specs.Command.{IsKept, IsStatus, Keeps, RisesAt, Tells, WritesNothing, opened_rows};
 ghost use Rattle.aq_desk.specs.Ending.{no_memory};
-ghost use Rattle.aq_desk.specs.Run.{Acts, KeeperRises, Runs, connections_for, connections_in, reads_input, uses, uses_keeper, writes_output};
-ghost use Rattle.aq_desk.specs.Serve.{Around, IsServed};
+ghost use Rattle.aq_desk.specs.Run.{Acts, KeeperRises, Runs, hosting_for, hosting_in, reads_input, uses, uses_keeper, writes_output};
+ghost use Rattle.aq_desk.specs.Serve.{Around, Hosting, IsServed};
 ghost use Rattle.aq_desk.specs.Stop.{ending_at, status_of};
 ghost use Rattle.aq_words.specs.Words.{command_of, is_command};
 
@@ -58,7 +58,7 @@ pub fn run<K: Keeper, D: Door, S: Source, O: Sink, E: Sink>(
     ensures no_command { (result ≡ 2) ↔ IsNone (command_of (map string_bytes words.now)) }
     ensures input_failed { RisesAt 3 result (S.faults input.old) (S.faults input.new) }
     ensures output_failed { RisesAt 4 result (O.faults output.old) (O.faults output.new) }
-    ensures keeper_failed { KeeperRises (connections_for (command_of (map string_bytes words.now))) result (K.faults keeper.old) (K.faults keeper.new) }
+    ensures keeper_failed { KeeperRises (hosting_for (command_of (map string_bytes words.now))) result (K.faults keeper.old) (K.faults keeper.new) }
     ensures door_failed { RisesAt 8 result (D.seen door.old).accepts (D.seen door.new).accepts }
     ensures silent { WritesNothing result → output.new ≡ output.old }
 
@@ -66,8 +66,8 @@ pub fn run<K: Keeper, D: Door, S: Source, O: Sink, E: Sink>(
     ensures unused_input { uses reads_input (command_of (map string_bytes words.now)) ≡ false → input.new ≡ input.old }
     ensures unused_keeper { uses uses_keeper (command_of (map string_bytes words.now)) ≡ false → keeper.new ≡ keeper.old }
     ensures unused_output { uses writes_output (command_of (map string_bytes words.now)) ≡ false → output.new ≡ output.old }
-    ensures unused_door { IsNone (connections_for (command_of (map string_bytes words.now))) → door.new ≡ door.old }
-    ensures only_serve { result ≡ 8 → IsSome (connections_for (command_of (map string_bytes words.now))) }
+    ensures unused_door { IsNone (hosting_for (command_of (map string_bytes words.now))) → door.new ≡ door.old }
+    ensures only_serve { result ≡ 8 → IsSome (hosting_for (command_of (map string_bytes words.now))) }
 {
     let Some(command) = read_words(words) else {
         let _ = write_all(errors, NO_COMMAND);
@@ -85,7 +85,7 @@ pub fn told_runs_are_exact()
     ensures kept { (rows : List Row) (status : ℕ) (before after : Option (List Row)) → IsSome after → Keeps rows status before after → IsKept status → after ≡ option_map (λ _. rows) before }
     ensures failed { (rows : List Row) (status : ℕ) (before after : Option (List Row)) → IsSome after → Keeps rows status before after → status ≡ 5 → (after ≡ before) ⊎ (after ≡ option_map opened_rows before) }
     ensures one { (rows : List Row) (status : ℕ) (before after : Option (List Row)) → IsSome after → Keeps rows status before after → (after ≡ before) ⊎ (after ≡ option_map opened_rows before) ⊎ (after ≡ option_map (λ _. rows) before) }
-    ensures served { (n : ℕ) (rows : List Row) (status : ℕ) (before after : Around) → IsSome after.tables → (is : IsServed n rows status before after) → is.opened ≡ option_map opened_rows before.tables }
+    ensures served { (n : Hosting) (rows : List Row) (status : ℕ) (before after : Around) → IsSome after.tables → (is : IsServed n rows status before after) → is.opened ≡ option_map opened_rows before.tables }
 {}
 
 /// Does a command.
@@ -102,14 +102,14 @@ fn perform<K: Keeper, D: Door, S: Source, O: Sink>(
     ensures acts { Acts command.now result (S.left input.old) (O.written output.old) (O.written output.new) (record { door = D.seen door.old; tables = K.tables keeper.old; faults = K.faults keeper.old }) (record { door = D.seen door.new; tables = K.tables keeper.new; faults = K.faults keeper.new }) }
     ensures input_failed { RisesAt 3 (status_of result) (S.faults input.old) (S.faults input.new) }
     ensures output_failed { RisesAt 4 (status_of result) (O.faults output.old) (O.faults output.new) }
-    ensures keeper_failed { KeeperRises (connections_in command.now) (status_of result) (K.faults keeper.old) (K.faults keeper.new) }
+    ensures keeper_failed { KeeperRises (hosting_in command.now) (status_of result) (K.faults keeper.old) (K.faults keeper.new) }
     ensures door_failed { RisesAt 8 (status_of result) (D.seen door.old).accepts (D.seen door.new).accepts }
     ensures silent { WritesNothing (status_of result) → output.new ≡ output.old }
     ensures unused_input { reads_input command.now ≡ false → input.new ≡ input.old }
     ensures unused_keeper { uses_keeper command.now ≡ false → keeper.new ≡ keeper.old }
     ensures unused_output { writes_output command.now ≡ false → output.new ≡ output.old }
-    ensures unused_door { IsNone (connections_in command.now) → door.new ≡ door.old }
-    ensures only_serve { status_of result ≡ 8 → IsSome (connections_in command.now) }
+    ensures unused_door { IsNone (hosting_in command.now) → door.new ≡ door.old }
+    ensures only_serve { status_of result ≡ 8 → IsSome (hosting_in command.now) }
 {
     match command {
         Command::Scan { site, day } => scan(alloc, *site, *day, input, output),

@@ -23,7 +23,7 @@ pub(crate) fn serve<K: Keeper, D: Door>(
     door: &mut D,
 ) -> Result<(), Stop>
     requires none_open { (D.seen door.old).is_open ≡ false }
-    ensures served { OfTold (told_through (K.tables keeper.old) (K.tables keeper.new)) (λ rows. HasServed connections rows (status_of result) (record { door = D.seen door.old; tables = K.tables keeper.old; faults = K.faults keeper.old }) (record { door = D.seen door.new; tables = K.tables keeper.new; faults = K.faults keeper.new }) × EndsAs (serve_outcome rows) result) }
+    ensures served { OfTold (told_through (K.tables keeper.old) (K.tables keeper.new)) (λ rows. HasServed (record { port = port; connections = connections }) rows (status_of result) (record { door = D.seen door.old; tables = K.tables keeper.old; faults = K.faults keeper.old }) (record { door = D.seen door.new; tables = K.tables keeper.new; faults = K.faults keeper.new }) × EndsAs (serve_outcome rows) result) }
 {
     let book = open(alloc, keeper)?;
     let mut service = OfficeService::new(alloc, book)?;
@@ -40,7 +40,7 @@ fn attend<K: Keeper, D: Door>(
     door: &mut D,
 ) -> Result<(), Stop>
     requires none_open { (D.seen door.old).is_open ≡ false }
-    ensures { HasAttended connections service.old (record { door = D.seen door.old; tables = K.tables keeper.old; faults = K.faults keeper.old }) (record { door = D.seen door.new; tables = K.tables keeper.new; faults = K.faults keeper.new }) result }
+    ensures { HasAttended (record { port = port; connections = connections }) service.old (record { door = D.seen door.old; tables = K.tables keeper.old; faults = K.faults keeper.old }) (record { door = D.seen door.new; tables = K.tables keeper.new; faults = K.faults keeper.new }) result }
 {
     if door.listen(port).is_err() {
         return Err(Stop::DoorFailed);

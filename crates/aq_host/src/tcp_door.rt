@@ -1,47 +1,75 @@
 //! The door of the network: connections over TCP, from this machine alone. It tells none of their
 //! bytes. What a connection gives is passed on as it is, and what is given reaches it.
+ghost use Rattle.std.specs.Prelude.{◌≤◌, length, IfOk};
+ghost use Rattle.std.specs.Io.KnownBytes.{ReadConsumes, WriteAppends};
+
 use crate::streams::{read_from, write_to};
 use aq_base::Failed;
 use aq_serve::Door;
 use std::io;
-use std::io::{ErrorKind, Read};
+use std::io::{ErrorKind, Read, Write};
 use std::net::{Ipv4Addr, Net, OpenListener, OpenStream, Shutdown, SocketAddr};
-use std::time::Duration;
+use std::time::{Clock, Duration};
 
-/// A read or a write that waits for its peer so many seconds is a fault.
+/// A connection may lie idle so many seconds before a request.
+const IDLE: u64 = 5;
+
+/// From its first byte to its last a request has so many seconds to come, and a reply to be taken.
 const PATIENCE: u64 = 30;
 
 /// A peer that sends nothing for so many milliseconds after the last reply has nothing more to send.
 const SILENCE: u64 = 250;
+
+/// What a peer still sends after the last reply is read for so many milliseconds at most.
+const PARTING: u64 = 2_000;
 
 /// So many pieces are read after the last reply, at most, and so long is each.
 const MOST_PIECES: u32 = 1_024;
 
 const PIECE: usize = 16_384;
 
-/// A door on 127.0.0.1. A peer that sends or takes nothing for thirty seconds has its connection ended,
-/// by a fault of that read or write.
+/// A door on 127.0.0.1. A connection that lies idle for five seconds before a request is ended, and so is
+/// one whose request has not come whole, or whose reply has not been taken whole, thirty seconds after
+/// its first byte, however often a byte moves: each by a fault of that read or write. So no peer keeps
+/// the others waiting for long.
 #[derive(Drop)]
-pub struct TcpDoor<N: Net + Drop> {
+pub struct TcpDoor<N: Net + Clock + Drop> {
     net: N,
-    listener: Option<N::Listener>,
+    /// The port on which it listens, with what listens there.
+    listener: Option<(u16, N::Listener)>,
     stream: Option<N::Stream>,
+    deadlines: Deadlines,
     accepts: u64,
     reads: u64,
     writes: u64,
 }
 
-impl<N: Net + Drop> TcpDoor<N> {
+/// Until when the request that has begun is to have come whole, and the reply to have been taken whole, by
+/// the clock.
+#[derive(Clone, Copy)]
+struct Deadlines {
+    request: Option<Duration>,
+    reply: Option<Duration>,
+}
+
+/// No request has begun, and no reply.
+const NONE_BEGUN: Deadlines = Deadlines {
+    request: None,
+    reply: None,
+};
+
+impl<N: Net + Clock + Drop> TcpDoor<N> {
     ghost use Rattle.std.specs.Prelude.{◌≡◌, None};
 
     /// A door that does not listen yet.
     pub fn new(net: N) -> TcpDoor<N>
-        ensures { result ≡ record { net = net; listener = None; stream = None; accepts = 0; reads = 0; writes = 0 } }
+        ensures { result ≡ record { net = net; listener = None; stream = None; deadlines = record { request = None; reply = None }; accepts = 0; reads = 0; writes = 0 } }
     {
         TcpDoor {
             net,
             listener: None,
             stream: None,
+            deadlines: NONE_BEGUN,
             accepts: 0,
             reads: 0,
             writes: 0,
@@ -49,15 +77,15 @@ impl<N: Net + Drop> TcpDoor<N> {
     }
 }
 
-impl<N: Net + Drop> Door for TcpDoor<N> {
-    ghost use Rattle.std.specs.Prelude.{◌≡◌, true, None, IfOk};
-    ghost use Rattle.std.specs.Option.{is_some, option_and_then};
+impl<N: Net + Clock + Drop> Door for TcpDoor<N> {
+    ghost use Rattle.std.specs.Prelude.{◌≡◌, true, false, None, IfOk, OnErr};
+    ghost use Rattle.std.specs.Option.{is_some, option_and_then, option_map};
     ghost use Rattle.std.specs.Io.KnownBytes.{ReadConsumes, WriteAppends};
-    ghost use Rattle.aq_serve.specs.Door.{HasCause, IsSameDoor, Reads, Writes, faults_after};
+    ghost use Rattle.aq_serve.specs.Door.{HasCause, HasSameTransfers, IsAccepted, IsSameDoor, Reads, Writes, faults_after};
 
     ghost seen = { λ door. record {
       wire = None;
-      listens = is_some door.listener;
+      listens = option_map (λ listening. listening.0) door.listener;
       is_open = is_some door.stream;
       accepts = door.accepts;
       reads = door.reads;
@@ -67,7 +95,7 @@ impl<N: Net + Drop> Door for TcpDoor<N> {
     fn listen(&mut self, port: u16) -> Result<(), Failed> {
         match self.net.bind(SocketAddr::from((Ipv4Addr::LOCALHOST, port))) {
             Ok(listener) => {
-                self.listener = Some(listener);
+                self.listener = Some((port, listener));
                 Ok(())
             }
             Err(_) => {
@@ -77,14 +105,27 @@ impl<N: Net + Drop> Door for TcpDoor<N> {
         }
     }
 
-    fn accept(&mut self) -> Result<bool, Failed> {
+    fn accept(&mut self) -> Result<bool, Failed>
+        requires listens { is_some (option_map (λ listening. listening.0) self.old.listener) ≡ true }
+        requires none_open { is_some self.old.stream ≡ false }
+        ensures accepted { IfOk result (λ is_there. IsAccepted is_there (⟦<TcpDoor<N> as Door>⟧.seen self.old) (⟦<TcpDoor<N> as Door>⟧.seen self.new)) }
+        ensures none { OnErr result (is_some self.new.stream ≡ false) }
+        ensures listens { option_map (λ listening. listening.0) self.new.listener ≡ option_map (λ listening. listening.0) self.old.listener }
+        ensures cause { HasCause self.old.accepts self.new.accepts result }
+        ensures transfers { HasSameTransfers (⟦<TcpDoor<N> as Door>⟧.seen self.old) (⟦<TcpDoor<N> as Door>⟧.seen self.new) }
+
+        // Connections come as long as the port is listened on: a failure is never told as their end.
+        ensures more { IfOk result (λ is_there. is_there ≡ true) }
+        ensures faults { self.new.accepts ≡ faults_after self.old.accepts result }
+    {
         let accepted = match &self.listener {
-            Some(listener) => accept_from(listener),
+            Some((_, listener)) => accept_from(listener),
             None => unreachable!(),
         };
         match accepted {
             Ok(stream) => {
                 self.stream = Some(stream);
+                self.deadlines = NONE_BEGUN;
                 Ok(true)
             }
             Err(failed) => {
@@ -106,7 +147,7 @@ impl<N: Net + Drop> Door for TcpDoor<N> {
         ensures faults { self.new.reads ≡ faults_after self.old.reads result }
     {
         let got = match &mut self.stream {
-            Some(stream) => read_from(stream, buffer),
+            Some(stream) => read_in_time(&self.net, stream, &mut self.deadlines, buffer),
             None => unreachable!(),
         };
         if got.is_err() {
@@ -127,7 +168,7 @@ impl<N: Net + Drop> Door for TcpDoor<N> {
         ensures faults { self.new.writes ≡ faults_after self.old.writes result }
     {
         let taken = match &mut self.stream {
-            Some(stream) => write_to(stream, piece),
+            Some(stream) => write_in_time(&self.net, stream, &mut self.deadlines, piece),
             None => unreachable!(),
         };
         match taken {
@@ -141,7 +182,7 @@ impl<N: Net + Drop> Door for TcpDoor<N> {
 
     fn finish(&mut self) {
         if let Some(mut stream) = self.stream.take() {
-            part(&mut stream);
+            part(&self.net, &mut stream);
         }
     }
 }
@@ -175,18 +216,82 @@ fn is_of_one_peer(kind: ErrorKind) -> bool {
     )
 }
 
-/// A reply leaves at once, and no read or write waits for ever.
+/// A reply leaves at once. How long a read or a write may wait is set at each.
 fn prepare<S: OpenStream>(stream: &S) -> io::Result<()> {
-    let patience = Some(Duration::from_secs(PATIENCE));
-    stream.set_nodelay(true)?;
-    stream.set_read_timeout(patience)?;
-    stream.set_write_timeout(patience)
+    stream.set_nodelay(true)
+}
+
+/// One read, in the time that the request that has begun has left, or that a connection may lie idle.
+fn read_in_time<C: Clock, S: Read + OpenStream>(
+    clock: &C,
+    stream: &mut S,
+    deadlines: &mut Deadlines,
+    buffer: &mut [u8],
+) -> Result<usize, Failed>
+    ensures within { IfOk result (λ n. n ≤ length buffer.new) }
+    ensures passed { ReadConsumes (S.remaining stream.old) (S.remaining stream.new) result buffer.new }
+{
+    let now = clock.monotonic().map_err(|_| Failed)?;
+    let begins = Duration::from_secs(IDLE);
+    let patience = match deadlines.request {
+        Some(until) => left_until(until, now)?,
+        None => begins,
+    };
+    stream.set_read_timeout(Some(patience)).map_err(|_| Failed)?;
+    let got = read_from(stream, buffer)?;
+    if deadlines.request.is_none() {
+        // It began within the time that the connection may lie idle.
+        let begun = now.saturating_add(begins);
+        deadlines.request = Some(begun.saturating_add(Duration::from_secs(PATIENCE)));
+    }
+    Ok(got)
+}
+
+/// One write, in the time that the reply has left. A reply is given whole, or what is left of it.
+fn write_in_time<C: Clock, S: Write + OpenStream>(
+    clock: &C,
+    stream: &mut S,
+    deadlines: &mut Deadlines,
+    piece: &[u8],
+) -> Result<usize, Failed>
+    ensures within { IfOk result (λ n. n ≤ length piece.now) }
+    ensures passed { WriteAppends (S.contents stream.old) (S.contents stream.new) result piece.now }
+{
+    let now = clock.monotonic().map_err(|_| Failed)?;
+    let until = match deadlines.reply {
+        Some(until) => until,
+        None => now.saturating_add(Duration::from_secs(PATIENCE)),
+    };
+    let patience = left_until(until, now)?;
+    stream
+        .set_write_timeout(Some(patience))
+        .map_err(|_| Failed)?;
+    let taken = write_to(stream, piece)?;
+    deadlines.request = None;
+    deadlines.reply = if taken < piece.len() {
+        Some(until)
+    } else {
+        None
+    };
+    Ok(taken)
+}
+
+/// How long it is until then, if that is not past.
+fn left_until(until: Duration, now: Duration) -> Result<Duration, Failed> {
+    match until.checked_sub(now) {
+        Some(left) if !left.is_zero() => Ok(left),
+        _ => Err(Failed),
+    }
 }
 
 /// Says that no further reply comes, and takes what the peer still sends: if that is left unread, the
 /// system breaks the connection off, and the last reply can be lost on its way.
-fn part<S: Read + OpenStream>(stream: &mut S) {
+fn part<C: Clock, S: Read + OpenStream>(clock: &C, stream: &mut S) {
     let silence = Some(Duration::from_millis(SILENCE));
+    let Ok(start) = clock.monotonic() else {
+        return;
+    };
+    let until = start.saturating_add(Duration::from_millis(PARTING));
     if stream.shutdown(Shutdown::Write).is_err() || stream.set_read_timeout(silence).is_err() {
         return;
     }
@@ -195,6 +300,10 @@ fn part<S: Read + OpenStream>(stream: &mut S) {
         match read_from(stream, &mut piece) {
             Ok(0) | Err(Failed) => return,
             Ok(_) => {}
+        }
+        match clock.monotonic() {
+            Ok(now) if now < until => {}
+            _ => return,
         }
     }
 }

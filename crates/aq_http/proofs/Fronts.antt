@@ -6,12 +6,12 @@ use Rattle.std.proofs.lemmas.Bool.{false≢true, cases_lt, leb-true, leb-false, 
 use Rattle.std.proofs.lemmas.List.{length-append, length-take, take-append-le, take-append-drop, take-take, take_all}
 use Rattle.httparse.specs.Grammar.{RequestHead, print_request, ReadsRequest}
 use Rattle.httparse.proofs.GrammarLemmas.{ReadsRequest-append, request_unique}
-use Rattle.http1.specs.Fields.{values_named}
+use Rattle.http1.specs.Fields.{Header, values_named}
 use Rattle.aq_rules.specs.Limits.{MOST_BYTES}
 use Rattle.aq_http.specs.declared.limits.TheConstants.{MOST_HEAD}
 use Rattle.aq_http.specs.declared.verb.Verb.{Verb}
 use Rattle.aq_http.specs.declared.verb.Verb.TheVariants.{Get, Post, Other}
-use Rattle.aq_http.specs.Head.{Front, WholeHead, NoHead, OpenHead, IsFront, Head, HeadStep, More, Refuse, Whole, IsHeadStep, has_transfer_encoding, head_step, headers_of, verb_of, whole_step, window, with_length}
+use Rattle.aq_http.specs.Head.{Front, WholeHead, NoHead, OpenHead, IsFront, Head, HeadStep, More, Refuse, Whole, IsHeadStep, body_or_refusal, has_transfer_encoding, head_step, headers_of, is_of_page, verb_of, whole_step, window, with_length}
 use Rattle.aq_http.specs.Length.{body_length}
 use Rattle.aq_http.specs.Reply.{is_reply_status}
 
@@ -119,6 +119,16 @@ length_is_short verb (value ∷ values) = by_tests _ (leb n MOST_BYTES) refl
     by_tests true false e = tt
     by_tests false t e = tt
 
+body_is_short : (verb : Verb) (headers : List Header) → OnLength (body_or_refusal verb headers)
+body_is_short verb headers = by_page (is_of_page verb headers) (body_length verb values) (length_is_short verb values)
+  where
+    values : List (List ℕ)
+    values = values_named (codes "content-length") headers
+
+    by_page : (t : Bool) (r : Result ℕ ℕ) → OnLength r → OnLength (cond t (Err 403) r)
+    by_page true r short = tt
+    by_page false r short = short
+
 abbrev pub OnWhole : (Head → Type 0) → HeadStep → Type 0
 OnWhole P More = ⊤
 OnWhole P (Refuse status) = ⊤
@@ -130,13 +140,10 @@ pub record IsBounded (size : ℕ) (head : Head) : Type 0 where
 
 whole_is_bounded : (h : RequestHead) → OnWhole (IsBounded (length (print_request h))) (whole_step h)
 whole_is_bounded h =
-    by_coding (has_transfer_encoding (headers_of h)) (body_length verb values) (length_is_short verb values)
+    by_coding (has_transfer_encoding (headers_of h)) (body_or_refusal verb (headers_of h)) (body_is_short verb (headers_of h))
   where
     verb : Verb
     verb = verb_of h.method
-
-    values : List (List ℕ)
-    values = values_named (codes "content-length") (headers_of h)
 
     by_coding : (t : Bool) (r : Result ℕ ℕ) → OnLength r
         → OnWhole (IsBounded (length (print_request h)))
@@ -174,13 +181,21 @@ refused_length verb (value ∷ values) = by_tests _ _
     by_tests true false = refl
     by_tests false t = refl
 
-whole_is_due : (h : RequestHead) → NotMore (whole_step h) × IsRefusal (whole_step h)
-whole_is_due h =
-    by_coding (has_transfer_encoding (headers_of h)) (body_length (verb_of h.method) values) (refused_length (verb_of h.method) values)
+refused_body : (verb : Verb) (headers : List Header) → IfErr (body_or_refusal verb headers) (λ status. is_reply_status status ≡ true)
+refused_body verb headers = by_page (is_of_page verb headers) (body_length verb values) (refused_length verb values)
   where
     values : List (List ℕ)
-    values = values_named (codes "content-length") (headers_of h)
+    values = values_named (codes "content-length") headers
 
+    by_page : (t : Bool) (r : Result ℕ ℕ) → IfErr r (λ status. is_reply_status status ≡ true)
+        → IfErr (cond t (Err 403) r) (λ status. is_reply_status status ≡ true)
+    by_page true r status = refl
+    by_page false r status = status
+
+whole_is_due : (h : RequestHead) → NotMore (whole_step h) × IsRefusal (whole_step h)
+whole_is_due h =
+    by_coding (has_transfer_encoding (headers_of h)) (body_or_refusal (verb_of h.method) (headers_of h)) (refused_body (verb_of h.method) (headers_of h))
+  where
     step : Result ℕ ℕ → HeadStep
     step r = with_length (length (print_request h)) h.method h.target h.minor (headers_of h) r
 

@@ -1,11 +1,13 @@
 -- What the Content-Length headers come to is the length by the rule.
-use Rattle.std.proofs.Common.{◌≡◌, ◌≢◌, ℕ, ◌^◌, ◌<◌, ◌≤◌, ◌&&◌, Bool, true, false, cond, eqb, leb, List, [], ◌∷◌, ◌++◌, length, append_assoc, refl, sym, ap, ◌∙◌, arith, Some, None, Result, Ok, Err}
+use Rattle.std.proofs.Common.{◌≡◌, ◌≢◌, ℕ, ◌^◌, ◌<◌, ◌≤◌, ◌&&◌, ◌||◌, get_or, map, zero, suc, Bool, true, false, cond, eqb, leb, List, [], ◌∷◌, ◌++◌, length, append_assoc, refl, sym, ap, ◌∙◌, arith, Some, None, Result, Ok, Err}
 use Rattle.std.specs.Prelude.{bytes_eq}
 use Rattle.std.specs.Cmp.Lexicographic.{bytes_decides}
-use Rattle.std.specs.List.{list_all}
+use Rattle.std.specs.List.{list_all, list_any}
 use Rattle.std.proofs.lemmas.Bool.{and_parts, and_from, and_right, eq-eqb, ne_eqb, lt-leb, false≢true}
 use Rattle.std.proofs.Math.Nat.{pow-le-pow_right}
 use Rattle.std.specs.Str.Parse.{digits_value}
+use Rattle.httparse.specs.declared.spans.HeaderSpan.{HeaderSpan}
+use Rattle.httparse.specs.Spans.{header_bytes}
 use Rattle.http1.specs.Fields.{Header, is_named, values_named}
 use Rattle.http1.specs.Text.{eq_ignore_case}
 use Rattle.aq_rules.specs.Limits.{MOST_BYTES}
@@ -106,3 +108,16 @@ named_more key [] name value is = ap (λ t. cond t (value ∷ []) [] ++ []) is
 named_more key (h ∷ hs) name value is =
     ap (λ t. cond (is_named key h) (h.1 ∷ []) [] ++ t) (named_more key hs name value is)
     ∙ sym (append_assoc (cond (is_named key h) (h.1 ∷ []) []) (values_named key hs) (value ∷ []))
+
+-- a header that has the name is among those that do
+pub named_at : (key input : List ℕ) (headers : List HeaderSpan) (i : ℕ) (d : HeaderSpan) → i < length headers
+    → is_named key (header_bytes input (get_or headers i d)) ≡ true → list_any (is_named key) (map (header_bytes input) headers) ≡ true
+named_at key input [] i d within is = absurd (omega arith)
+named_at key input (h ∷ hs) zero d within is = ap (λ t. t || list_any (is_named key) (map (header_bytes input) hs)) is
+named_at key input (h ∷ hs) (suc i) d within is =
+    ap (λ t. is_named key (header_bytes input h) || t) (named_at key input hs i d (omega (arith, within)) is)
+    ∙ either_way (is_named key (header_bytes input h))
+  where
+    either_way : (t : Bool) → (t || true) ≡ true
+    either_way true = refl
+    either_way false = refl

@@ -1,6 +1,5 @@
 -- A head that the parser answers, as a step.
 use Rattle.std.proofs.Common.{◌≡◌, ℕ, ◌<◌, ◌≤◌, ◌⊎◌, inl, inr, min, Bool, true, false, cond, List, length, map, take, drop, refl, sym, ap, ◌∙◌, arith, Result}
-use Rattle.std.specs.Prelude.{codes}
 use Rattle.std.proofs.lemmas.Bool.{cases_lt, le-leb, lt-leb}
 use Rattle.std.proofs.lemmas.List.{length-map, length-take, take-append-drop, take_all}
 use Rattle.httparse.specs.declared.spans.HeaderSpan.{HeaderSpan}
@@ -8,13 +7,12 @@ use Rattle.httparse.specs.declared.spans.RequestSpans.{RequestSpans}
 use Rattle.httparse.specs.Grammar.{RequestHead, HasNoRequest, MayBecomeRequest}
 use Rattle.httparse.specs.Spans.{IsRequestAt, IsRequestOf, RequestOverflows, header_bytes, name_and_value, span_bytes}
 use Rattle.http1.specs.declared.fields.KnownFields.{KnownFields}
-use Rattle.http1.specs.Fields.{Header, known_fields, values_named}
-use Rattle.aq_http.specs.Length.{body_length}
+use Rattle.http1.specs.Fields.{Header, known_fields}
 use Rattle.aq_http.specs.declared.limits.TheConstants.{MOST_HEAD, MOST_HEADERS}
 use Rattle.aq_http.specs.declared.head.HeadStep.{HeadStep as Read}
 use Rattle.aq_http.specs.declared.head.HeadStep.TheVariants as read
 use Rattle.aq_http.specs.declared.verb.Verb.{Verb}
-use Rattle.aq_http.specs.Head.{More, Refuse, Whole, WholeHead, NoHead, OpenHead, IfWhole, IsHeadStep, head_in, has_transfer_encoding, is_encoded, head_step_in, step_at, step_by, verb_of, whole_step, window, with_length}
+use Rattle.aq_http.specs.Head.{More, Refuse, Whole, WholeHead, NoHead, OpenHead, IfWhole, IsHeadStep, body_or_refusal, head_in, has_transfer_encoding, is_encoded, head_step_in, step_at, step_by, verb_of, whole_step, window, with_length}
 use Rattle.aq_http.specs.Places.{IsHeadPlaces}
 use Rattle.aq_http.proofs.Encodings.{known_encoded}
 use Rattle.aq_http.proofs.Steps.{head_in_more}
@@ -83,15 +81,15 @@ pub coded_is_refused : (size : ℕ) (method target : List ℕ) (minor : ℕ) (he
     → has_transfer_encoding headers ≡ true → Refuse 501 ≡ step_by size method target minor headers
 coded_is_refused size method target minor headers coded =
     ap (λ t. cond t (Refuse 501) (with_length size method target minor headers
-    (body_length (verb_of method) (values_named (codes "content-length") headers)))) (sym coded)
+    (body_or_refusal (verb_of method) headers))) (sym coded)
 
 length_decides : (size : ℕ) (method target : List ℕ) (minor : ℕ) (headers : List Header) (r : Result ℕ ℕ)
-    → has_transfer_encoding headers ≡ false → body_length (verb_of method) (values_named (codes "content-length") headers) ≡ r
+    → has_transfer_encoding headers ≡ false → body_or_refusal (verb_of method) headers ≡ r
     → with_length size method target minor headers r ≡ step_by size method target minor headers
 length_decides size method target minor headers r plain e =
     ap (λ l. with_length size method target minor headers l) (sym e)
     ∙ ap (λ t. cond t (Refuse 501) (with_length size method target minor headers
-    (body_length (verb_of method) (values_named (codes "content-length") headers)))) (sym plain)
+    (body_or_refusal (verb_of method) headers))) (sym plain)
 
 -- the headers that spans cover
 abbrev pub headers_at : List ℕ → List HeaderSpan → RequestSpans → List Header
@@ -101,13 +99,13 @@ headers_at bytes headers spans = map (header_bytes bytes) (take spans.headers he
 pub length_found : (bytes method : List ℕ) (headers : List HeaderSpan) (spans : RequestSpans) (known : KnownFields) (coded : Bool) (verb : Verb) (length this : Result ℕ ℕ)
     → known ≡ known_fields (headers_at bytes headers spans) → coded ≡ is_encoded known.transfer_encoding → coded ≡ false
     → verb ≡ verb_of method → method ≡ span_bytes bytes spans.method
-    → length ≡ body_length verb (values_named (codes "content-length") (headers_at bytes headers spans)) → length ≡ this
+    → length ≡ body_or_refusal verb (headers_at bytes headers spans) → length ≡ this
     → with_length spans.len (span_bytes bytes spans.method) (span_bytes bytes spans.path) spans.version (headers_at bytes headers spans) this ≡ step_at bytes headers spans
 length_found bytes method headers spans known coded verb length this summary tests plain of_method is found these =
     let said = headers_at bytes headers spans in
     length_decides spans.len (span_bytes bytes spans.method) (span_bytes bytes spans.path) spans.version said this
     (sym (known_encoded known said summary) ∙ sym tests ∙ plain)
-    (ap (λ v. body_length v (values_named (codes "content-length") said)) (sym (of_method ∙ ap verb_of is)) ∙ sym found ∙ these)
+    (ap (λ v. body_or_refusal v said) (sym (of_method ∙ ap verb_of is)) ∙ sym found ∙ these)
 
 pub none_is_refused : (input : List ℕ) → RequestOverflows MOST_HEADERS (window input) → IsHeadStep input (Refuse 400)
 none_is_refused input over = record { front = NoHead; stands = over; is = refl }

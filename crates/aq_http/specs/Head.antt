@@ -51,6 +51,20 @@ is_last minor headers = (minor == 0) || has_option (codes "close") (elements_nam
 abbrev pub has_transfer_encoding : List Header → Bool
 has_transfer_encoding headers = list_any (is_named (codes "transfer-encoding")) headers
 
+-- a page in a browser sends this header with each POST, and other clients do not (RFC 6454, section 7; the use of it is (own))
+abbrev pub has_origin : List Header → Bool
+has_origin headers = list_any (is_named (codes "origin")) headers
+
+abbrev pub is_of_page : Verb → List Header → Bool
+is_of_page Post headers = has_origin headers
+is_of_page Get headers = false
+is_of_page Other headers = false
+
+-- the length of the body, or the status that refuses the request: a page in a browser may not write
+abbrev pub body_or_refusal : Verb → List Header → Result ℕ ℕ
+body_or_refusal verb headers =
+    if is_of_page verb headers then Err 403 else body_length verb (values_named (codes "content-length") headers)
+
 -- a head that is not refused: how many bytes it has, and its body
 pub record Head : Type 0 where
   pub head_bytes : ℕ
@@ -75,11 +89,11 @@ with_length size method target minor headers (Ok count) = Whole (record {
   close = is_last minor headers;
 })
 
--- a body in another form than its bytes is not taken (RFC 9112, section 6.1), and else its length decides
+-- a body in another form than its bytes is not taken (RFC 9112, section 6.1); a page may not write; and else its length decides
 abbrev pub step_by : ℕ → List ℕ → List ℕ → ℕ → List Header → HeadStep
 step_by size method target minor headers =
     if has_transfer_encoding headers then Refuse 501
-    else with_length size method target minor headers (body_length (verb_of method) (values_named (codes "content-length") headers))
+    else with_length size method target minor headers (body_or_refusal (verb_of method) headers)
 
 abbrev pub whole_step : RequestHead → HeadStep
 whole_step h = step_by (length (print_request h)) h.method h.target h.minor (headers_of h)

@@ -6,7 +6,7 @@ use Rattle.http.specs.StatusCode.{status_text}
 -- the statuses of replies
 abbrev pub is_reply_status : ℕ → Bool
 is_reply_status status =
-    list_any (λ s. s == status) (200 ∷ 400 ∷ 404 ∷ 405 ∷ 409 ∷ 411 ∷ 413 ∷ 431 ∷ 501 ∷ 503 ∷ 507 ∷ [])
+    list_any (λ s. s == status) (200 ∷ 400 ∷ 403 ∷ 404 ∷ 405 ∷ 409 ∷ 411 ∷ 413 ∷ 431 ∷ 501 ∷ 503 ∷ 507 ∷ [])
 
 -- a reply: the methods that a 405 allows, whether the connection ends after it, and its body, in JSON
 pub record Reply : Type 0 where

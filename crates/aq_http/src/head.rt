@@ -5,7 +5,7 @@ ghost use Rattle.aq_http.specs.Head.{head_in, head_step_in, is_encoded, step_at,
 ghost use Rattle.aq_http.specs.Places.{IsHeadPlaces};
 ghost use Rattle.aq_http.specs.Step.{IsStep, step_of, with_body};
 
-use crate::length::body_length;
+use crate::length::body_or_refusal;
 use crate::limits::{MOST_HEAD, MOST_HEADERS};
 use crate::step::Step;
 use crate::verb::Verb;
@@ -91,7 +91,7 @@ fn whole_head(window: &[u8], headers: &[HeaderSpan; MOST_HEADERS], spans: Reques
         return HeadStep::Refuse(501);
     }
     let verb = Verb::of(spans.method.of(window));
-    match body_length(verb, window, headers) {
+    match body_or_refusal(verb, window, headers) {
         Ok(body) => HeadStep::Whole(Head {
             len: spans.len,
             body,

@@ -5,6 +5,7 @@ ghost use Rattle.httparse.specs.Spans.{IsHeaderWithin, header_bytes};
 ghost use Rattle.http1.specs.Fields.{Header, values_named};
 ghost use Rattle.aq_base.specs.Decimal.{are_digits};
 ghost use Rattle.aq_rules.specs.Limits.{MOST_BYTES};
+ghost use Rattle.aq_http.specs.Head.{body_or_refusal, has_origin, is_of_page};
 ghost use Rattle.aq_http.specs.Length.{body_length, digits_of, is_number, length_in, no_length, number_in, stated_of, stated_onto, stated_with, without_zeros, Absent, IsStated, OnDigits};
 
 use crate::verb::Verb;
@@ -26,8 +27,48 @@ pub(crate) enum Stated<'a> {
     Digits(&'a [u8]),
 }
 
+/// How many bytes a request's body has, or the status that refuses the request: 403 for a load that a page
+/// in a browser sends, which may not write.
+pub(crate) fn body_or_refusal(
+    verb: Verb,
+    input: &[u8],
+    headers: &[HeaderSpan],
+) -> Result<usize, u16>
+    requires { All (IsHeaderWithin (length input.now)) headers.now }
+    ensures value { result ≡ body_or_refusal verb (map (header_bytes input.now) headers.now) }
+    ensures most { IfOk result (λ count. count ≤ MOST_BYTES) }
+{
+    if is_of_page(verb, input, headers) {
+        return Err(403);
+    }
+    body_length(verb, input, headers)
+}
+
+/// Whether a page in a browser sends this request: it adds an Origin header to each POST.
+fn is_of_page(verb: Verb, input: &[u8], headers: &[HeaderSpan]) -> bool
+    requires { All (IsHeaderWithin (length input.now)) headers.now }
+    ensures { result ≡ is_of_page verb (map (header_bytes input.now) headers.now) }
+{
+    match verb {
+        Verb::Post => has_origin(input, headers),
+        Verb::Get | Verb::Other => false,
+    }
+}
+
+fn has_origin(input: &[u8], headers: &[HeaderSpan]) -> bool
+    requires { All (IsHeaderWithin (length input.now)) headers.now }
+    ensures { result ≡ has_origin (map (header_bytes input.now) headers.now) }
+{
+    for header in headers {
+        if eq_ignore_case(header.name.of(input), b"origin") {
+            return true;
+        }
+    }
+    false
+}
+
 /// How many bytes a request's body has, or the status that refuses the request.
-pub(crate) fn body_length(verb: Verb, input: &[u8], headers: &[HeaderSpan]) -> Result<usize, u16>
+fn body_length(verb: Verb, input: &[u8], headers: &[HeaderSpan]) -> Result<usize, u16>
     requires { All (IsHeaderWithin (length input.now)) headers.now }
     ensures value { result ≡ body_length verb (values_named (codes "content-length") (map (header_bytes input.now) headers.now)) }
     ensures most { IfOk result (λ count. count ≤ MOST_BYTES) }

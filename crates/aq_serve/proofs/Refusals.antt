@@ -3,11 +3,11 @@ use Rattle.std.proofs.Common.{◌≡◌, ℕ, ◌+◌, Bool, true, false, cond, 
 use Rattle.std.specs.Prelude.{⊤, ◌==◌, IfErr, codes}
 use Rattle.std.specs.Str.Parse.{digits_value}
 use Rattle.httparse.specs.Grammar.{RequestHead, print_request}
-use Rattle.http1.specs.Fields.{values_named}
+use Rattle.http1.specs.Fields.{Header, values_named}
 use Rattle.aq_http.specs.declared.limits.TheConstants.{MOST_HEAD}
 use Rattle.aq_http.specs.declared.verb.Verb.{Verb}
 use Rattle.aq_http.specs.declared.verb.Verb.TheVariants.{Get, Post, Other}
-use Rattle.aq_http.specs.Head.{Front, WholeHead, NoHead, OpenHead, HeadStep, IsHeadStep, has_transfer_encoding, head_step, headers_of, verb_of, whole_step, with_length}
+use Rattle.aq_http.specs.Head.{Front, WholeHead, NoHead, OpenHead, HeadStep, IsHeadStep, body_or_refusal, has_transfer_encoding, head_step, headers_of, is_of_page, verb_of, whole_step, with_length}
 use Rattle.aq_http.specs.Head as head
 use Rattle.aq_http.specs.Length.{body_length}
 use Rattle.aq_http.specs.Step.{IsStep, Step, More, Refuse, Whole, step_behind, request_in}
@@ -26,17 +26,24 @@ refused_length verb (value ∷ values) = by_tests _ _
     by_tests true false = refl
     by_tests false t = refl
 
+refused_body : (verb : Verb) (headers : List Header) → IfErr (body_or_refusal verb headers) Other503
+refused_body verb headers = by_page (is_of_page verb headers) (body_length verb values) (refused_length verb values)
+  where
+    values : List (List ℕ)
+    values = values_named (codes "content-length") headers
+
+    by_page : (t : Bool) (r : Result ℕ ℕ) → IfErr r Other503 → IfErr (cond t (Err 403) r) Other503
+    by_page true r status = refl
+    by_page false r status = status
+
 abbrev OnRefusedHead : HeadStep → Type 0
 OnRefusedHead head.More = ⊤
 OnRefusedHead (head.Refuse status) = Other503 status
 OnRefusedHead (head.Whole h) = ⊤
 
 refused_whole : (h : RequestHead) → OnRefusedHead (whole_step h)
-refused_whole h = by_coding (has_transfer_encoding (headers_of h)) (body_length (verb_of h.method) values) (refused_length (verb_of h.method) values)
+refused_whole h = by_coding (has_transfer_encoding (headers_of h)) (body_or_refusal (verb_of h.method) (headers_of h)) (refused_body (verb_of h.method) (headers_of h))
   where
-    values : List (List ℕ)
-    values = values_named (codes "content-length") (headers_of h)
-
     by_coding : (t : Bool) (r : Result ℕ ℕ) → IfErr r Other503
         → OnRefusedHead (cond t (head.Refuse 501) (with_length (length (print_request h)) h.method h.target h.minor (headers_of h) r))
     by_coding true r status = refl

@@ -1,5 +1,5 @@
 -- One connection after the other.
-use Rattle.std.proofs.Common.{◌≡◌, ℕ, ◌+◌, ◌⊎◌, inl, inr, Bool, true, false, List, [], ◌∷◌, ◌++◌, length, map, refl, sym, ap, ◌∙◌, subst, arith, append_assoc, Result, Ok, Err, Option, Some, None}
+use Rattle.std.proofs.Common.{◌≡◌, ℕ, ◌+◌, ◌<◌, ◌⊎◌, inl, inr, Bool, true, false, List, [], ◌∷◌, ◌++◌, length, map, refl, sym, ap, ◌∙◌, subst, arith, append_assoc, Result, Ok, Err, Option, Some, None}
 use Rattle.std.specs.Prelude.{◌==◌}
 use Rattle.std.proofs.lemmas.List.{append-nil}
 use Rattle.aq_base.specs.Faults.{HasRisen}
@@ -83,15 +83,15 @@ pub record IsRound (a b c d : DoorView) : Type 0 where
   pub taken : HasSameTransfers a b
   pub ended : HasSameTransfers c d
 
-pub round_of : (a b c d : DoorView) (is_there : Bool) → is_there ≡ true → IsAccepted is_there a b → b.listens ≡ true → b.accepts ≡ a.accepts → HasSameTransfers a b
+pub round_of : (a b c d : DoorView) (is_there : Bool) → is_there ≡ true → IsAccepted is_there a b → b.listens ≡ a.listens → b.accepts ≡ a.accepts → HasSameTransfers a b
     → IsSameDoor b c → Both Ends c.wire d.wire → d.is_open ≡ false → d.listens ≡ c.listens → d.accepts ≡ c.accepts → HasSameTransfers c d
-    → a.listens ≡ true → a.is_open ≡ false → IsRound a b c d
-round_of a b c d is_there there accepted listens accepts taken same ends shut listens_still accepts_still ended listened was_shut =
+    → a.is_open ≡ false → IsRound a b c d
+round_of a b c d is_there there accepted listens accepts taken same ends shut listens_still accepts_still ended was_shut =
     let now : IsAcceptedNow a b = subst (λ t. IsAccepted t a b) there accepted in
     record {
       takes = now.wire;
       ends = ends;
-      listens = listens_still ∙ same.listens ∙ listens ∙ sym listened;
+      listens = listens_still ∙ same.listens ∙ listens;
       is_open = shut ∙ sym was_shut;
       accepts = accepts_still ∙ same.accepts ∙ accepts;
       taken = taken;
@@ -171,11 +171,11 @@ visited a b c d s t end round talk = record {
 -- memory was not to be had in it
 pub visit_lost : (a b c d : DoorView) (s t : ServiceView) (memory : Memory)
     → IsRound a b c d → Talks 0 (record { door = b; service = s }) (record { door = c; service = t }) [] (Err memory)
-    → (n : ℕ) → Serves n (record { door = a; service = s }) (record { door = d; service = t }) (Err fault.Memory)
-visit_lost a b c d s t memory round talk n = record {
+    → (n : ℕ) → 0 < n → Serves n (record { door = a; service = s }) (record { door = d; service = t }) (Err fault.Memory)
+visit_lost a b c d s t memory round talk n some = record {
   visits = [];
   lost = visit ∷ [];
-  few = omega arith;
+  few = omega (arith, some);
   are = tt;
   wire = passed a.wire b.wire c.wire d.wire visit round.takes talk.wire round.ends refl;
   listens = round.listens;
@@ -233,10 +233,10 @@ nobody_served a b s idle listens shut accepts transfers n =
     (record { all = none_lost s; accepts = accepts; last = inr (nobody_comes a.wire b.wire idle.wire) })
 
 pub door_failed : (a b : DoorView) (s : ServiceView) → b.wire ≡ a.wire → b.listens ≡ a.listens → b.is_open ≡ a.is_open → HasRisen a.accepts b.accepts → HasSameTransfers a b
-    → (n : ℕ) → Serves n (record { door = a; service = s }) (record { door = b; service = s }) (Err fault.DoorFailed)
-door_failed a b s wire listens open_too risen transfers n =
+    → (n : ℕ) → 0 < n → Serves n (record { door = a; service = s }) (record { door = b; service = s }) (Err fault.DoorFailed)
+door_failed a b s wire listens open_too risen transfers n some =
     unvisited n a b s (Err fault.DoorFailed) (subst (λ w. Both (HavePassed []) a.wire w) (sym wire) (none_passed a.wire)) listens open_too transfers
-    (record { all = none_lost s; accepts = risen })
+    (record { all = none_lost s; more = some; accepts = risen })
 
 all_more : (b m a : World) (v : Visited b m) (visits lost : List Visit) → AreAll visits lost m.service a.service → AreAll (v.visit ∷ visits) lost b.service a.service
 all_more b m a v visits lost all = record {
@@ -258,6 +258,7 @@ ends_more (Ok nothing) n k b m a v visits lost one e = record {
     by_last (inr nobody) = inr nobody
 ends_more (Err fault.DoorFailed) n k b m a v visits lost one e = record {
   all = all_more b m a v visits lost e.all;
+  more = omega (arith, one, e.more);
   accepts = subst (λ c. HasRisen c a.door.accepts) v.door.accepts e.accepts;
 }
 ends_more (Err fault.Memory) n k b m a v visits lost one e = record {

@@ -26,6 +26,7 @@ pub record Answered : Type 0 where
 abbrev pub error_name : ℕ → List ℕ
 error_name status =
     if status == 400 then codes "BadRequest"
+    else (if status == 403 then codes "Forbidden"
     else (if status == 404 then codes "NotFound"
     else (if status == 405 then codes "MethodNotAllowed"
     else (if status == 411 then codes "LengthRequired"
@@ -33,7 +34,7 @@ error_name status =
     else (if status == 431 then codes "HeadTooLarge"
     else (if status == 501 then codes "NotImplemented"
     else (if status == 503 then codes "KeeperFailed"
-    else codes "LoadsFull")))))))
+    else codes "LoadsFull"))))))))
 
 unfoldable pub error_body : ℕ → List ℕ
 error_body status = json_of (error_sheet (error_name status))

@@ -13,10 +13,10 @@ pub record Wire : Type 0 where
   pub line : Line
   pub past : List Line
 
--- a door: it listens, or does not yet; a connection is accepted and not finished, or none is; a count for `listen` and `accept`, one for `read`, and one for `write`
+-- a door: the port on which it listens, or none yet; a connection is accepted and not finished, or none is; a count for `listen` and `accept`, one for `read`, and one for `write`
 pub record DoorView : Type 0 where
   pub wire : Option Wire
-  pub listens : Bool
+  pub listens : Option ℕ
   pub is_open : Bool
   pub accepts : ℕ
   pub reads : ℕ

@@ -1,5 +1,5 @@
 -- What contracts see of the door in memory, which fails at the calls that it is told to.
-use Rattle.std.specs.Prelude.{ℕ, ◌-◌, Bool, false, cond, nat_le, List, [], ◌∷◌, length, map, take, drop, get_or, Some}
+use Rattle.std.specs.Prelude.{◌≡◌, ℕ, ◌-◌, Bool, false, cond, nat_le, List, [], ◌∷◌, length, map, take, drop, get_or, Option, Some}
 use Rattle.aq_base.specs.Faults.{is_listed, next}
 use Rattle.aq_serve.specs.Door.{DoorView, Line, Wire}
 
@@ -13,7 +13,7 @@ pub record LineState : Type 0 where
 pub record DoorState : Type 0 where
   pub lines : List LineState
   pub accepted : ℕ
-  pub listens : Bool
+  pub listens : Option ℕ
   pub is_open : Bool
   pub failing_accepts : List ℕ
   pub failing_transfers : List ℕ
@@ -60,6 +60,26 @@ fails_to_accept door = is_listed door.failing_accepts (next door.accept_calls)
 
 abbrev pub fails_to_transfer : DoorState → Bool
 fails_to_transfer door = is_listed door.failing_transfers (next door.transfer_calls)
+
+-- From call to call: a call is counted once, and the calls that fail stay listed. The other counts and lists stay as they are.
+pub record KeepsLists (before after : DoorState) : Type 0 where
+  pub failing_accepts : after.failing_accepts ≡ before.failing_accepts
+  pub failing_transfers : after.failing_transfers ≡ before.failing_transfers
+
+pub record CountsAccept (before after : DoorState) : Type 0 where
+  pub lists : KeepsLists before after
+  pub accept_calls : after.accept_calls ≡ next before.accept_calls
+  pub transfer_calls : after.transfer_calls ≡ before.transfer_calls
+
+pub record CountsTransfer (before after : DoorState) : Type 0 where
+  pub lists : KeepsLists before after
+  pub accept_calls : after.accept_calls ≡ before.accept_calls
+  pub transfer_calls : after.transfer_calls ≡ next before.transfer_calls
+
+pub record CountsNothing (before after : DoorState) : Type 0 where
+  pub lists : KeepsLists before after
+  pub accept_calls : after.accept_calls ≡ before.accept_calls
+  pub transfer_calls : after.transfer_calls ≡ before.transfer_calls
 
 -- whether a piece with bytes finds all room taken
 abbrev pub finds_no_room : LineState → List ℕ → Bool

@@ -125,8 +125,10 @@ pub record IsDone (n : ℕ) (visits lost : List Visit) (before after : World) : 
   pub accepts : after.door.accepts ≡ before.door.accepts
   pub last : (length visits ≡ n) ⊎ NobodyComes after.door.wire
 
-pub record HasDoorFailed (visits lost : List Visit) (before after : World) : Type 0 where
+-- a connection was to be accepted, and the door failed
+pub record HasDoorFailed (n : ℕ) (visits lost : List Visit) (before after : World) : Type 0 where
   pub all : AreAll visits lost before.service after.service
+  pub more : length visits < n
   pub accepts : HasRisen before.door.accepts after.door.accepts
 
 pub record LacksMemory (visits lost : List Visit) (before after : World) : Type 0 where
@@ -137,14 +139,14 @@ pub record LacksMemory (visits lost : List Visit) (before after : World) : Type 
 
 abbrev pub EndsBy : Result Unit ServeFault → ℕ → List Visit → List Visit → World → World → Type 0
 EndsBy (Ok nothing) n visits lost before after = IsDone n visits lost before after
-EndsBy (Err DoorFailed) n visits lost before after = HasDoorFailed visits lost before after
+EndsBy (Err DoorFailed) n visits lost before after = HasDoorFailed n visits lost before after
 EndsBy (Err Memory) n visits lost before after = LacksMemory visits lost before after
 
--- Connections were served, n at most. The tables are those of the office throughout, if they are told as such before. Want of memory ends the serving, so that it takes one connection at most.
+-- Connections were served, n at most, whatever ended it. The tables are those of the office throughout, if they are told as such before. Want of memory ends the serving, so that it takes one connection at most.
 pub record Serves (n : ℕ) (before after : World) (ending : Result Unit ServeFault) : Type 0 where
   pub visits : List Visit
   pub lost : List Visit
-  pub few : length visits ≤ n
+  pub few : length (visits ++ lost) ≤ n
   pub are : AreVisits before.service.office visits
   pub wire : Both (HavePassed (visits ++ lost)) before.door.wire after.door.wire
   pub listens : after.door.listens ≡ before.door.listens

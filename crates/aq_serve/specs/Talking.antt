@@ -250,4 +250,4 @@ pub record Visited (before after : World) : Type 0 where
 abbrev pub ServesNext : World → World → Result Bool ServeFault → Type 0
 ServesNext before after (Ok true) = Visited before after
 ServesNext before after (Ok false) = (n : ℕ) → Serves n before after (Ok tt)
-ServesNext before after (Err fault) = (n : ℕ) → Serves n before after (Err fault)
+ServesNext before after (Err fault) = (n : ℕ) → 0 < n → Serves n before after (Err fault)

@@ -1,6 +1,7 @@
 //! The door: where connections come from. It tells their bytes or does not, and counts its faults. A
 //! count rises at a call that fails, and at no other; one at its greatest value counts as risen.
-ghost use Rattle.std.specs.Prelude.{◌≡◌, true, false, IfOk, OnOk, OnErr};
+ghost use Rattle.std.specs.Prelude.{◌≡◌, true, false, Some, IfOk, OnOk, OnErr};
+ghost use Rattle.std.specs.Option.{is_some};
 ghost use Rattle.aq_serve.specs.Door.{Both, DoorView, Ends, HasCause, HasSameTransfers, IsAccepted, IsSameDoor, Reads, Writes};
 
 use aq_base::Failed;
@@ -12,7 +13,7 @@ pub trait Door {
 
     /// Listens on a port of this machine.
     fn listen(&mut self, port: u16) -> Result<(), Failed>
-        ensures listens { OnOk result ((seen self.new).listens ≡ true) }
+        ensures listens { OnOk result ((seen self.new).listens ≡ Some port) }
         ensures failed { OnErr result ((seen self.new).listens ≡ (seen self.old).listens) }
         ensures wire { (seen self.new).wire ≡ (seen self.old).wire }
         ensures open { (seen self.new).is_open ≡ (seen self.old).is_open }
@@ -22,12 +23,12 @@ pub trait Door {
     /// Takes the next connection, and answers false exactly if there is none. After `Failed` none is
     /// taken.
     fn accept(&mut self) -> Result<bool, Failed>
-        requires listens { (seen self.old).listens ≡ true }
+        requires listens { is_some (seen self.old).listens ≡ true }
         requires none_open { (seen self.old).is_open ≡ false }
         ensures accepted { IfOk result (λ is_there. IsAccepted is_there (seen self.old) (seen self.new)) }
         ensures failed { OnErr result ((seen self.new).wire ≡ (seen self.old).wire) }
         ensures none { OnErr result ((seen self.new).is_open ≡ false) }
-        ensures listens { (seen self.new).listens ≡ true }
+        ensures listens { (seen self.new).listens ≡ (seen self.old).listens }
         ensures cause { HasCause (seen self.old).accepts (seen self.new).accepts result }
         ensures transfers { HasSameTransfers (seen self.old) (seen self.new) };
 

@@ -12,7 +12,7 @@ use std::marker::Model;
 pub struct MemoryDoor {
     lines: Vec<MemoryLine>,
     accepted: usize,
-    listens: bool,
+    listens: Option<u16>,
     is_open: bool,
     failing_accepts: Vec<u64>,
     failing_transfers: Vec<u64>,
@@ -47,7 +47,7 @@ impl Model for MemoryDoor {
 }
 
 impl MemoryDoor {
-    ghost use Rattle.std.specs.Prelude.{◌≡◌, [], true, false, map, IfOk, if◌then◌else◌};
+    ghost use Rattle.std.specs.Prelude.{◌≡◌, [], true, false, map, None, IfOk, if◌then◌else◌};
     ghost use Rattle.std.specs.Option.{option_map};
     ghost use Rattle.std.specs.List.{slice_get};
     ghost use Rattle.aq_base.specs.Faults.{HasRisen, next};
@@ -66,7 +66,7 @@ impl MemoryDoor {
         ensures { IfOk result (λ door. door ≡ record {
           lines = map (λ bytes. record { left = bytes.items; written = []; room = room }) connections.items;
           accepted = 0;
-          listens = false;
+          listens = None;
           is_open = false;
           failing_accepts = failing_accepts.items;
           failing_transfers = failing_transfers.items;
@@ -80,7 +80,7 @@ impl MemoryDoor {
         Ok(MemoryDoor {
             lines: lines_of(alloc, connections, room as usize)?,
             accepted: 0,
-            listens: false,
+            listens: None,
             is_open: false,
             failing_accepts,
             failing_transfers,
@@ -141,14 +141,15 @@ fn lines_of(
 }
 
 impl Door for MemoryDoor {
-    ghost use Rattle.std.specs.Prelude.{◌≡◌, ◌↔◌, ◌||◌, true, false, IsTrue, IsErr, IfOk, OnOk, OnErr};
+    ghost use Rattle.std.specs.Prelude.{◌≡◌, ◌↔◌, ◌||◌, true, false, Some, IsTrue, IsErr, IfOk, OnOk, OnErr};
+    ghost use Rattle.std.specs.Option.{is_some};
     ghost use Rattle.aq_serve.specs.Door.{Both, Ends, HasCause, HasSameTransfers, IsAccepted, IsSameDoor, Reads, Writes};
-    ghost use Rattle.aq_serve.specs.Memories.{current, fails_to_accept, fails_to_transfer, finds_no_room, view_of};
+    ghost use Rattle.aq_serve.specs.Memories.{CountsAccept, CountsNothing, CountsTransfer, current, fails_to_accept, fails_to_transfer, finds_no_room, view_of};
 
     ghost seen = { view_of };
 
     fn listen(&mut self, port: u16) -> Result<(), Failed>
-        ensures listens { OnOk result (self.new.listens ≡ true) }
+        ensures listens { OnOk result (self.new.listens ≡ Some port) }
         ensures failed { OnErr result (self.new.listens ≡ self.old.listens) }
         ensures wire { (view_of self.new).wire ≡ (view_of self.old).wire }
         ensures open { self.new.is_open ≡ self.old.is_open }
@@ -157,27 +158,28 @@ impl Door for MemoryDoor {
 
         // It fails exactly at the listed calls.
         ensures listed { IsErr result ↔ IsTrue (fails_to_accept self.old) }
+        ensures calls { CountsAccept self.old self.new }
     {
-        let _ = port;
         if self.fails_to_accept() {
             return Err(Failed);
         }
-        self.listens = true;
+        self.listens = Some(port);
         Ok(())
     }
 
     fn accept(&mut self) -> Result<bool, Failed>
-        requires listens { self.old.listens ≡ true }
+        requires listens { is_some self.old.listens ≡ true }
         requires none_open { self.old.is_open ≡ false }
         ensures accepted { IfOk result (λ is_there. IsAccepted is_there (view_of self.old) (view_of self.new)) }
         ensures failed { OnErr result ((view_of self.new).wire ≡ (view_of self.old).wire) }
         ensures none { OnErr result (self.new.is_open ≡ false) }
-        ensures listens { self.new.listens ≡ true }
+        ensures listens { self.new.listens ≡ self.old.listens }
         ensures cause { HasCause self.old.accepts self.new.accepts result }
         ensures transfers { HasSameTransfers (view_of self.old) (view_of self.new) }
 
         // It fails exactly at the listed calls.
         ensures listed { IsErr result ↔ IsTrue (fails_to_accept self.old) }
+        ensures calls { CountsAccept self.old self.new }
     {
         if self.fails_to_accept() {
             return Err(Failed);
@@ -201,6 +203,7 @@ impl Door for MemoryDoor {
 
         // It fails exactly at the listed calls.
         ensures listed { IsErr result ↔ IsTrue (fails_to_transfer self.old) }
+        ensures calls { CountsTransfer self.old self.new }
     {
         if self.fails_to_transfer() {
             self.reads = self.reads.saturating_add(1);
@@ -219,6 +222,7 @@ impl Door for MemoryDoor {
 
         // It fails exactly at the listed calls, and if a piece with bytes finds no room.
         ensures listed { IsErr result ↔ IsTrue (fails_to_transfer self.old || finds_no_room (current self.old) piece.now) }
+        ensures calls { CountsTransfer self.old self.new }
     {
         let fails = self.fails_to_transfer();
         let n = self.lines[self.accepted - 1].room_for(piece);
@@ -237,6 +241,7 @@ impl Door for MemoryDoor {
         ensures listens { self.new.listens ≡ self.old.listens }
         ensures accepts { self.new.accepts ≡ self.old.accepts }
         ensures transfers { HasSameTransfers (view_of self.old) (view_of self.new) }
+        ensures calls { CountsNothing self.old self.new }
     {
         let _ = self.accepted;
         self.is_open = false;

@@ -27,6 +27,7 @@ fn error_name(status: u16) -> &'static str
 {
     match status {
         400 => "BadRequest",
+        403 => "Forbidden",
         404 => "NotFound",
         405 => "MethodNotAllowed",
         411 => "LengthRequired",

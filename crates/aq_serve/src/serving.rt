@@ -1,5 +1,6 @@
 //! Connections, one after the other.
 ghost use Rattle.std.specs.Prelude.{◌≡◌, true, false};
+ghost use Rattle.std.specs.Option.{is_some};
 ghost use Rattle.aq_serve.specs.Serving.{Serves};
 ghost use Rattle.aq_serve.specs.Talking.{ServesNext};
 
@@ -17,7 +18,7 @@ fn serve_next<K, V: Service<K>, D: Door>(
     keeper: &mut K,
     door: &mut D,
 ) -> Result<bool, ServeFault>
-    requires listens { (D.seen door.old).listens ≡ true }
+    requires listens { is_some (D.seen door.old).listens ≡ true }
     requires none_open { (D.seen door.old).is_open ≡ false }
     ensures { ServesNext (record { door = D.seen door.old; service = V.seen service.old keeper.old }) (record { door = D.seen door.new; service = V.seen service.new keeper.new }) result }
 {
@@ -45,7 +46,7 @@ pub fn serve<K, V: Service<K>, D: Door>(
     door: &mut D,
     connections: u32,
 ) -> Result<(), ServeFault>
-    requires listens { (D.seen door.old).listens ≡ true }
+    requires listens { is_some (D.seen door.old).listens ≡ true }
     requires none_open { (D.seen door.old).is_open ≡ false }
     ensures { Serves connections (record { door = D.seen door.old; service = V.seen service.old keeper.old }) (record { door = D.seen door.new; service = V.seen service.new keeper.new }) result }
 {

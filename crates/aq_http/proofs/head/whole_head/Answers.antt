@@ -27,9 +27,9 @@ returns-in-Ok-clause-value c =
       target = span_bytes c.args.window.now c.args.spans.path;
       close = close i;
     })) ∙ length_found c.args.window.now _ c.args.headers.now c.args.spans _ _ _ _ (Ok c.in-Ok.body)
-    c.from_spans-known.ensures c.is_encoded.ensures c.if-is_encoded.false c.of-verb.ensures c.of.ensures c.body_length.ensures.value c.in-Ok.is
+    c.from_spans-known.ensures c.is_encoded.ensures c.if-is_encoded.false c.of-verb.ensures c.of.ensures c.body_or_refusal.ensures.value c.in-Ok.is
 
 pub returns-in-Err-clause-value : goal.returns-in-Err-clause-value
 returns-in-Err-clause-value c =
     length_found c.args.window.now _ c.args.headers.now c.args.spans _ _ _ _ (Err c.in-Err.status)
-    c.from_spans-known.ensures c.is_encoded.ensures c.if-is_encoded.false c.of-verb.ensures c.of.ensures c.body_length.ensures.value c.in-Err.is
+    c.from_spans-known.ensures c.is_encoded.ensures c.if-is_encoded.false c.of-verb.ensures c.of.ensures c.body_or_refusal.ensures.value c.in-Err.is

@@ -9,12 +9,12 @@ returns-in-Ok-false g c =
     let b = g.D.Door.seen c.accept.new.self in
     nobody_served a b (g.V.Service.seen c.args.service.now c.args.keeper.now)
     (subst (λ t. IsAccepted t a b) c.in-Ok-false.field-0-test c.in-Ok-false.ensures.accepted)
-    (c.accept.ensures.listens ∙ sym c.requires.listens) c.requires.none_open c.in-Ok-false.ensures.cause c.accept.ensures.transfers
+    c.accept.ensures.listens c.requires.none_open c.in-Ok-false.ensures.cause c.accept.ensures.transfers
 
 pub returns-in-Err : goal.returns-in-Err
 returns-in-Err g c =
     door_failed (g.D.Door.seen c.args.door.now) (g.D.Door.seen c.accept.new.self) (g.V.Service.seen c.args.service.now c.args.keeper.now)
-    c.in-Err.ensures.failed (c.accept.ensures.listens ∙ sym c.requires.listens) (c.in-Err.ensures.none ∙ sym c.requires.none_open)
+    c.in-Err.ensures.failed c.accept.ensures.listens (c.in-Err.ensures.none ∙ sym c.requires.none_open)
     c.in-Err.ensures.cause c.accept.ensures.transfers
 
 pub returns-in-Ok : goal.returns-in-Ok
@@ -22,7 +22,7 @@ returns-in-Ok g c =
     visited _ _ _ _ _ _ c.in-Ok.field-0
     (round_of _ _ _ _ _ c.in-Ok-true.field-0-test c.in-Ok-true.ensures.accepted c.accept.ensures.listens c.in-Ok-true.ensures.cause c.accept.ensures.transfers
     c.converse-talked.ensures.door c.finish.ensures.ended c.finish.ensures.open c.finish.ensures.listens c.finish.ensures.accepts c.finish.ensures.transfers
-    c.requires.listens c.requires.none_open)
+    c.requires.none_open)
     (talked_so _ _ _ _ c.in-Ok.is c.converse-talked.ensures)
 
 pub returns-in-Err-talked : goal.returns-in-Err-talked
@@ -30,5 +30,5 @@ returns-in-Err-talked g c =
     visit_lost _ _ _ _ _ _ _
     (round_of _ _ _ _ _ c.in-Ok-true.field-0-test c.in-Ok-true.ensures.accepted c.accept.ensures.listens c.in-Ok-true.ensures.cause c.accept.ensures.transfers
     c.converse-talked.ensures.door c.finish.ensures.ended c.finish.ensures.open c.finish.ensures.listens c.finish.ensures.accepts c.finish.ensures.transfers
-    c.requires.listens c.requires.none_open)
+    c.requires.none_open)
     (talked_so _ _ _ _ c.in-Err-talked.is c.converse-talked.ensures)
