@@ -85,7 +85,7 @@ conflict_sheet number kept sent = record {
 -- what a reply that is not 200 or 409 names
 abbrev pub error_names : List (List ℕ)
 error_names =
-    codes "BadRequest" ∷ codes "NotFound" ∷ codes "MethodNotAllowed" ∷ codes "LengthRequired" ∷ codes "TooLarge"
+    codes "BadRequest" ∷ codes "Forbidden" ∷ codes "NotFound" ∷ codes "MethodNotAllowed" ∷ codes "LengthRequired" ∷ codes "TooLarge"
     ∷ codes "HeadTooLarge" ∷ codes "NotImplemented" ∷ codes "KeeperFailed" ∷ codes "LoadsFull" ∷ []
 
 unfoldable pub error_sheet : List ℕ → Sheet
