@@ -5,8 +5,10 @@ use Rattle.aq_base.specs.declared.ask.Shown.{Shown}
 use Rattle.aq_base.specs.declared.monitor.MonitorId.{MonitorId}
 use Rattle.aq_base.specs.declared.observation.Observation.{Observation}
 use Rattle.aq_base.specs.declared.office.OfficeRecord.{OfficeRecord}
+use Rattle.aq_base.specs.declared.standard.Standard.{Standard}
+use Rattle.aq_rules.specs.DesignValues.{DesignValue as Design, design_value}
 use Rattle.aq_rules.specs.Office.Exclusion.{excluded}
-use Rattle.aq_rules.specs.Shown.OtherSheets.{Judged, judged_by}
+use Rattle.aq_rules.specs.Office.Office.{Office}
 use Rattle.aq_series.specs.DayCells.{key_at}
 use Rattle.aq_verdict.specs.Designs.{design_of}
 use Rattle.aq_verdict.specs.declared.design_value.DesignValue.{DesignValue}
@@ -33,6 +35,9 @@ shown_at records monitor item = record {
   excluded = excluded records (key_at monitor item.0) item.1.quals;
 }
 
--- a site and its design value, as a report judges it
-abbrev pub judged_in : Site × DesignValue → Judged
-judged_in row = judged_by row.0 (design_of row.1)
+-- a site and its design value, as the program has them and as the office gives them
+abbrev pub valued_in : Site × DesignValue → Site × Design
+valued_in row = (row.0, design_of row.1)
+
+abbrev pub valued : Standard → Office → ℕ → Site → Site × Design
+valued standard office year site = (site, design_value standard office site year)

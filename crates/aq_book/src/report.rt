@@ -2,9 +2,9 @@
 ghost use Rattle.std.specs.Prelude.{◌≡◌, ◌+◌, ◌*◌, ◌≤◌, ◌++◌, [], ◌∷◌, IfOk, OnOk, filter, length, map};
 ghost use Rattle.aq_base.specs.declared.day.TheConstants.{FIRST_YEAR, LAST_YEAR};
 ghost use Rattle.aq_base.specs.declared.standard.Standard.TheVariants.{Ozone2015};
-ghost use Rattle.aq_book.specs.Questions.{judged_in};
+ghost use Rattle.aq_book.specs.Questions.{valued, valued_in};
 ghost use Rattle.aq_rules.specs.Office.Office as offices;
-ghost use Rattle.aq_rules.specs.Shown.OtherSheets.{judged, sites_with};
+ghost use Rattle.aq_rules.specs.Shown.OtherSheets.{sites_with};
 ghost use Rattle.aq_rules.specs.Standards as standards;
 
 use crate::book::Book;
@@ -29,7 +29,7 @@ impl Book {
     ) -> Result<SiteValues, Memory>
         requires first { FIRST_YEAR + 2 ≤ year }
         requires last { year ≤ LAST_YEAR }
-        ensures values { IfOk result (λ values. map judged_in values ≡ map (judged standard self.now year) (sites_with self.now (standards.pollutant_of standard))) }
+        ensures values { IfOk result (λ values. map valued_in values ≡ map (valued standard self.now year) (sites_with self.now (standards.pollutant_of standard))) }
         ensures steps { standard ≡ Ozone2015 → steps.new ≤ steps.old + 3 * (200 * 367) * length (sites_with self.now (standards.pollutant_of standard)) }
     {
         let mut values = SiteValues::new(alloc);

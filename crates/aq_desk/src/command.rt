@@ -88,8 +88,8 @@ pub fn told_runs_are_exact()
     ensures served { (n : Hosting) (rows : List Row) (status : ℕ) (before after : Around) → IsSome after.tables → (is : IsServed n rows status before after) → is.opened ≡ option_map opened_rows before.tables }
 {}
 
-/// Does a command.
-fn perform<K: Keeper, D: Door, S: Source, O: Sink>(
+/// Does a command. Nothing that it does, and no status, depends on the errors stream.
+pub fn perform<K: Keeper, D: Door, S: Source, O: Sink>(
     alloc: Global,
     command: &Command,
     keeper: &mut K,

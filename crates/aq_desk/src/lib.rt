@@ -15,4 +15,5 @@ mod writing;
 
 pub use aq_service::{Posted, post};
 pub use aq_words::{Command, read_words};
-pub use command::{end_without_memory, run, told_runs_are_exact};
+pub use command::{end_without_memory, perform, run, told_runs_are_exact};
+pub use stop::Stop;

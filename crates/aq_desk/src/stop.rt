@@ -13,7 +13,7 @@ use aq_serve::Sink;
 
 /// What stops a command before it has done all.
 #[derive(Clone, Copy, Debug, PartialEq, Eq)]
-pub(crate) enum Stop {
+pub enum Stop {
     InputFailed,
     OutputFailed,
     KeeperFailed,
@@ -37,7 +37,7 @@ pub(crate) enum Stop {
 
 impl Stop {
     /// The exit status.
-    pub(crate) fn status(&self) -> u8
+    pub fn status(&self) -> u8
         ensures { let ending = ending_at self.now in result ≡ ending.status }
     {
         match self {

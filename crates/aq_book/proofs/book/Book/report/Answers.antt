@@ -3,11 +3,10 @@ use Rattle.std.proofs.lemmas.List.{append-nil}
 use Rattle.aq_base.specs.Site.{Site}
 use Rattle.aq_rules.specs.Office.Office.{IsOffice, Office, has_monitor}
 use Rattle.aq_rules.specs.Office.Questions.{next_site}
-use Rattle.aq_rules.specs.Shown.OtherSheets.{judged}
 use Rattle.aq_rules.specs.Standards.{pollutant_of}
 use Rattle.aq_verdict.specs.declared.design_value.DesignValue.{DesignValue}
-use Rattle.aq_book.specs.Questions.{judged_in}
-use Rattle.aq_book.proofs.ReportLemmas.{judged-more}
+use Rattle.aq_book.specs.Questions.{valued, valued_in}
+use Rattle.aq_book.proofs.ReportLemmas.{valued-more}
 use Rattle.aq_book.proofs.RisingSites.{sites-next, sites_above, with_all, with_monitor, with_next, with_none}
 use Rattle.aq_book.proofs.book.Book.report.Goals as goal
 use Rattle.aq_book.proofs.book.Book.report.Goals.{then-measures+in_ok-push, else-measures}
@@ -18,8 +17,8 @@ loop-site-init g c =
     let pollutant = pollutant_of c.args.standard in
     record {
       values =
-          ap (λ (l : List (Site × DesignValue)). map judged_in l ++ map (judged c.args.standard office c.args.year) (with_monitor office pollutant (sites_above office.records None))) c.new-values.ensures
-          ∙ ap (map (judged c.args.standard office c.args.year)) (with_all office pollutant);
+          ap (λ (l : List (Site × DesignValue)). map valued_in l ++ map (valued c.args.standard office c.args.year) (with_monitor office pollutant (sites_above office.records None))) c.new-values.ensures
+          ∙ ap (map (valued c.args.standard office c.args.year)) (with_all office pollutant);
       steps = λ ozone. let many = ap length (with_all office pollutant) in omega (arith, many);
     }
 
@@ -50,7 +49,7 @@ loop-site-preserved g c =
     let office = c.args.self.now in
     let pollutant = pollutant_of c.args.standard in
     let site = c.in-Some.site in
-    let judge = judged c.args.standard office c.args.year in
+    let value_of = valued c.args.standard office c.args.year in
     let behind = with_monitor office pollutant (sites_above office.records (Some site)) in
     let next = ap (λ (o : Office). next_site o.records c.loop-site.after) (sym c.self.view_is) ∙ sym c.next_site.ensures ∙ c.in-Some.is in
     let there = c.measures.ensures ∙ ap (has_monitor office site) c.pollutant.ensures in
@@ -62,9 +61,9 @@ loop-site-preserved g c =
           let steps : c.if-measures.steps ≡ w.value_of-value.new.steps = w.steps-is in
           record {
             values =
-                ap (λ (l : List (Site × DesignValue)). map judged_in l ++ map judge behind) values
-                ∙ judged-more c.args.standard office c.args.year c.loop-site.values site w.value_of-value.result behind w.value_of-value.ensures.value
-                ∙ ap (λ (l : List Site). map judged_in c.loop-site.values ++ map judge l) (sym here)
+                ap (λ (l : List (Site × DesignValue)). map valued_in l ++ map value_of behind) values
+                ∙ valued-more c.args.standard office c.args.year c.loop-site.values site w.value_of-value.result behind w.value_of-value.ensures.value
+                ∙ ap (λ (l : List Site). map valued_in c.loop-site.values ++ map value_of l) (sym here)
                 ∙ c.loop-site.invariant.values;
             steps = λ ozone. let many = ap length here in omega (arith, many, steps, w.value_of-value.ensures.steps ozone, c.loop-site.invariant.steps ozone);
           }
@@ -74,8 +73,8 @@ loop-site-preserved g c =
           let steps : c.if-measures.steps ≡ c.loop-site.steps = w.steps-is in
           record {
             values =
-                ap (λ (l : List (Site × DesignValue)). map judged_in l ++ map judge behind) values
-                ∙ ap (λ (l : List Site). map judged_in c.loop-site.values ++ map judge l) (sym here)
+                ap (λ (l : List (Site × DesignValue)). map valued_in l ++ map value_of behind) values
+                ∙ ap (λ (l : List Site). map valued_in c.loop-site.values ++ map value_of l) (sym here)
                 ∙ c.loop-site.invariant.values;
             steps = λ ozone. let many = ap length here in omega (arith, many, steps, c.loop-site.invariant.steps ozone);
           }
@@ -86,6 +85,6 @@ returns-clause-values g c =
     let office = c.args.self.now in
     let pollutant = pollutant_of c.args.standard in
     let last = ap (λ (o : Office). next_site o.records c.loop-site.after) (sym c.self.view_is) ∙ sym c.next_site.ensures ∙ c.in_default.is in
-    sym (append-nil (map judged_in c.loop-site.values))
-    ∙ ap (λ (l : List Site). map judged_in c.loop-site.values ++ map (judged c.args.standard office c.args.year) l) (sym (with_none office pollutant c.loop-site.after (subst IsOffice c.self.view_is c.self.invariant) last))
+    sym (append-nil (map valued_in c.loop-site.values))
+    ∙ ap (λ (l : List Site). map valued_in c.loop-site.values ++ map (valued c.args.standard office c.args.year) l) (sym (with_none office pollutant c.loop-site.after (subst IsOffice c.self.view_is c.self.invariant) last))
     ∙ c.loop-site.invariant.values

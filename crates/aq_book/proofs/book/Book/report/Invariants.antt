@@ -1,16 +1,16 @@
 use Rattle.std.proofs.Common.{◌≡◌, ◌+◌, ◌*◌, ◌≤◌, ◌++◌, length, map}
 use Rattle.aq_base.specs.declared.standard.Standard.TheVariants.{Ozone2015}
-use Rattle.aq_rules.specs.Shown.OtherSheets.{judged, sites_with}
+use Rattle.aq_rules.specs.Shown.OtherSheets.{sites_with}
 use Rattle.aq_rules.specs.Standards.{pollutant_of}
-use Rattle.aq_book.specs.Questions.{judged_in}
+use Rattle.aq_book.specs.Questions.{valued, valued_in}
 use Rattle.aq_book.proofs.RisingSites.{sites_above, with_monitor}
 use Rattle.aq_book.proofs.book.Book.report.Given as goal
 
 abbrev pub invariant-loop-site : goal.invariant-loop-site
 invariant-loop-site g l = record {
   values :
-      map judged_in l.values ++ map (judged l.standard l.self l.year) (with_monitor l.self (pollutant_of l.standard) (sites_above l.self.records l.after))
-      ≡ map (judged l.standard l.self l.year) (sites_with l.self (pollutant_of l.standard));
+      map valued_in l.values ++ map (valued l.standard l.self l.year) (with_monitor l.self (pollutant_of l.standard) (sites_above l.self.records l.after))
+      ≡ map (valued l.standard l.self l.year) (sites_with l.self (pollutant_of l.standard));
   steps : l.standard ≡ Ozone2015
       → l.steps + 3 * (200 * 367) * length (with_monitor l.self (pollutant_of l.standard) (sites_above l.self.records l.after))
       ≤ l.fn.steps + 3 * (200 * 367) * length (sites_with l.self (pollutant_of l.standard));
