@@ -10,6 +10,9 @@ use Rattle.aq_base.specs.Site.{Site}
 use Rattle.aq_base.specs.declared.reply.LoadReply.{LoadReply}
 use Rattle.aq_base.specs.declared.standard.Standard.{Standard}
 use Rattle.aq_rows.specs.KeptLoads.{reply_in}
+use Rattle.aq_book.specs.Questions.{valued, valued_in}
+use Rattle.aq_reports.specs.Rows.{judged_in}
+use Rattle.aq_rules.specs.DesignValues.{DesignValue as Design}
 use Rattle.aq_rules.specs.Office.Approval.{is_approved}
 use Rattle.aq_rules.specs.Office.Office.{Office, StoredLoad}
 use Rattle.aq_rules.specs.Office.Season.{season_of}
@@ -17,9 +20,10 @@ use Rattle.aq_rules.specs.Ozone.OzoneDay.{OzoneDay}
 use Rattle.aq_rules.specs.Ozone.OzoneYear.{OzoneYear, days_of, ozone_days, ozone_year}
 use Rattle.aq_rules.specs.Standards.{pollutant_of}
 use Rattle.aq_rules.specs.Shown.Answer.{Answer, OfSheet, NoSite, Days, Report, answer, is_registered, of_site}
-use Rattle.aq_rules.specs.Shown.OtherSheets.{Judged, judged, report_answer, report_sheet, sites_with}
+use Rattle.aq_rules.specs.Shown.OtherSheets.{Judged, judged, judged_by, report_answer, report_sheet, sites_with}
 use Rattle.aq_rules.specs.Shown.Sheet.{Sheet}
 use Rattle.aq_rules.specs.Shown.Sheets.{days_answer, days_sheet, load_sheet}
+use Rattle.aq_verdict.specs.declared.design_value.DesignValue.{DesignValue}
 
 -- ---- a load
 
@@ -30,6 +34,23 @@ kept_sheet P None reply sheet law e is = absurd (cc)
 kept_sheet P (Some load) reply sheet law e is = let same : reply ≡ load.reply = cc in subst P (sym (is ∙ ap load_sheet same)) (law load refl)
 
 -- ---- a report
+
+-- the rows of a report are judged by the office's design values
+pub judged_values : (office : Office) (standard : Standard) (year : ℕ) (values : List (Site × DesignValue)) (sites : List Site)
+    → map valued_in values ≡ map (valued standard office year) sites → map judged_in values ≡ map (judged standard office year) sites
+unfolding judged
+judged_values office standard year values sites is = of_values values ∙ ap (map judge) is ∙ of_sites sites
+  where
+    judge : Site × Design → Judged
+    judge row = judged_by row.0 row.1
+
+    of_values : (vs : List (Site × DesignValue)) → map judged_in vs ≡ map judge (map valued_in vs)
+    of_values [] = refl
+    of_values (v ∷ vs) = ap (λ l. judged_in v ∷ l) (of_values vs)
+
+    of_sites : (ss : List Site) → map judge (map (valued standard office year) ss) ≡ map (judged standard office year) ss
+    of_sites [] = refl
+    of_sites (s ∷ ss) = ap (λ l. judged standard office year s ∷ l) (of_sites ss)
 
 pub report_told : (office : Office) (standard : Standard) (year : ℕ) (rows : List Judged) (sheet : Sheet) → rows ≡ map (judged standard office year) (sites_with office (pollutant_of standard)) → sheet ≡ report_sheet standard year rows → answer office (Report standard year) ≡ OfSheet sheet
 unfolding answer report_answer
