@@ -4,8 +4,8 @@ use crate::step::take_steps;
 use crate::stops::are_done_or_not;
 use aq_keeper::KeeperFault;
 use aq_sqlite::SqliteKeeper;
-use sqlite::{Connection, FileStore, Files, Options};
-use sqlite_disk::{Fuse, Memory};
+use sqlite::{Alter, Connection, FileStore, Files, Options};
+use sqlite_disk::{Disk, Fuse, Memory};
 use std::alloc::Global;
 use std::io;
 
@@ -17,8 +17,10 @@ pub type Store = FileStore<Stoppable>;
 /// Whether a database in which these statements were run takes these steps; what they leave of a batch is
 /// done or not wherever it is stopped.
 pub fn keeps(alloc: Global, sql: &str, steps: &str) -> io::Result<bool> {
-    let mut keeper = prepared(made(alloc, sql)?).ok_or_else(wrong)?;
-    if keeper.prepare().is_err() {
+    let Some(mut keeper) = prepared(made(alloc, sql)?) else {
+        return Ok(false);
+    };
+    if !prepare(&mut keeper) {
         return Ok(false);
     }
     let Some(step) = take_steps(alloc, &mut keeper, steps)? else {
@@ -32,12 +34,16 @@ pub fn keeps(alloc: Global, sql: &str, steps: &str) -> io::Result<bool> {
 
 /// Whether a database in which these statements were run is refused, twice, so that nothing was made.
 pub fn is_refused(alloc: Global, sql: &str) -> io::Result<bool> {
-    let Some(mut keeper) = adopted(made(alloc, sql)?) else {
-        return Ok(false);
+    Ok(is_of_others(made(alloc, sql)?))
+}
+
+fn is_of_others<S: Alter + Drop>(connection: Connection<S>) -> bool {
+    let Some(mut keeper) = adopted(connection) else {
+        return false;
     };
     let first = keeper.prepare() == Err(KeeperFault::Failed);
     let again = keeper.prepare() == Err(KeeperFault::Failed);
-    Ok(first && again)
+    first && again
 }
 
 /// A database in which these statements were run.
@@ -49,13 +55,18 @@ pub fn made(alloc: Global, sql: &str) -> io::Result<Connection<Store>> {
     let Some(mut connection) = opened(alloc, files) else {
         return Err(wrong());
     };
+    run(&mut connection, sql)?;
+    Ok(connection)
+}
+
+fn run<S: Alter>(connection: &mut Connection<S>, sql: &str) -> io::Result<()> {
     match connection.execute_batch(sql) {
-        Ok(()) => Ok(connection),
+        Ok(()) => Ok(()),
         Err(_) => Err(wrong()),
     }
 }
 
-fn opened(alloc: Global, files: Files<Stoppable>) -> Option<Connection<Store>> {
+fn opened<D: Disk + Drop>(alloc: Global, files: Files<D>) -> Option<Connection<FileStore<D>>> {
     if !files.may_be_used() {
         return None;
     }
@@ -63,7 +74,7 @@ fn opened(alloc: Global, files: Files<Stoppable>) -> Option<Connection<Store>> {
 }
 
 /// The keeper of a connection without an open transaction.
-fn adopted(connection: Connection<Store>) -> Option<SqliteKeeper<Store>> {
+fn adopted<S: Alter + Drop>(connection: Connection<S>) -> Option<SqliteKeeper<S>> {
     if !connection.is_autocommit() {
         return None;
     }
@@ -71,15 +82,19 @@ fn adopted(connection: Connection<Store>) -> Option<SqliteKeeper<Store>> {
 }
 
 /// A keeper whose tables are prepared, if that is not refused.
-fn prepared(connection: Connection<Store>) -> Option<SqliteKeeper<Store>> {
+fn prepared<S: Alter + Drop>(connection: Connection<S>) -> Option<SqliteKeeper<S>> {
     let mut keeper = adopted(connection)?;
-    if keeper.prepare().is_err() {
+    if !prepare(&mut keeper) {
         return None;
     }
     Some(keeper)
 }
 
+fn prepare<S: Alter + Drop>(keeper: &mut SqliteKeeper<S>) -> bool {
+    keeper.prepare().is_ok()
+}
+
 /// A keeper of these files whose tables are prepared, if that is not refused or stopped.
-pub fn open(alloc: Global, files: Files<Stoppable>) -> Option<SqliteKeeper<Store>> {
+pub fn open<D: Disk + Drop>(alloc: Global, files: Files<D>) -> Option<SqliteKeeper<FileStore<D>>> {
     prepared(opened(alloc, files)?)
 }

@@ -4,7 +4,7 @@ use crate::rows::wrong;
 use crate::step::{Step, commit, text_of, text_read};
 use aq_keeper::RowChange;
 use aq_sqlite::SqliteKeeper;
-use sqlite::{Connection, Files};
+use sqlite::{Alter, Connection, FileStore, Files};
 use sqlite_disk::{Crash, Disk, Fuse, Memory};
 use std::alloc::Global;
 use std::io;
@@ -88,23 +88,37 @@ fn disk(alloc: Global, bytes: &[u8], calls: u64) -> io::Result<Stoppable> {
 
 /// Whether a commit over the files was done, and the rows that are found after a stop; nothing if the calls
 /// do not suffice to prepare the tables.
-fn stop(
+fn stop<D: Crash + Drop>(
     alloc: Global,
-    files: Files<Stoppable>,
+    files: Files<D>,
     batch: &[RowChange],
 ) -> io::Result<Option<(bool, String)>> {
-    let Some(mut keeper) = open(alloc, files) else {
+    let Some(keeper) = open(alloc, files) else {
         return Ok(None);
     };
-    let is_done = commit(alloc, &mut keeper, batch)?.is_ok();
-    let Some(mut keeper) = open(alloc, left(keeper.into_connection())) else {
+    let (is_done, connection) = taken(alloc, keeper, batch)?;
+    let Some(keeper) = open(alloc, left(connection)) else {
         return Err(wrong());
     };
-    Ok(Some((is_done, text_read(alloc, &mut keeper)?)))
+    Ok(Some((is_done, text_found(alloc, keeper)?)))
+}
+
+/// The connection of a keeper, once it took a batch, and whether that was done.
+fn taken<S: Alter + Drop>(
+    alloc: Global,
+    mut keeper: SqliteKeeper<S>,
+    batch: &[RowChange],
+) -> io::Result<(bool, Connection<S>)> {
+    let is_done = commit(alloc, &mut keeper, batch)?.is_ok();
+    Ok((is_done, keeper.into_connection()))
+}
+
+fn text_found<S: Alter + Drop>(alloc: Global, mut keeper: SqliteKeeper<S>) -> io::Result<String> {
+    text_read(alloc, &mut keeper)
 }
 
 /// What a stop leaves of the files.
-fn left(connection: Connection<Store>) -> Files<Stoppable> {
+fn left<D: Crash + Drop>(connection: Connection<FileStore<D>>) -> Files<D> {
     let mut files = connection.into_store().close();
     files.log.crash();
     files.db.crash();
