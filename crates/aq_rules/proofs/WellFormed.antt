@@ -37,7 +37,7 @@ error name word = record { heads = word; names_differ = refl; columns = refl; ro
 pub errors-well_formed : All (λ name. IsWellFormed (error_sheet name)) error_names
 errors-well_formed =
     All-from_recursion (λ name. IsWellFormed (error_sheet name)) error_names
-    (error _ refl, (error _ refl, (error _ refl, (error _ refl, (error _ refl, (error _ refl, (error _ refl, (error _ refl, (error _ refl, tt)))))))))
+    (error _ refl, (error _ refl, (error _ refl, (error _ refl, (error _ refl, (error _ refl, (error _ refl, (error _ refl, (error _ refl, (error _ refl, tt))))))))))
 
 pub summary-well_formed : (loads lines observations : ℕ) → loads < 2 ^ 63 → lines < 2 ^ 63 → observations < 2 ^ 63 → IsWellFormed (summary_sheet loads lines observations)
 unfolding summary_sheet
