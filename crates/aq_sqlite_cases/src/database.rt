@@ -73,6 +73,11 @@ fn opened<D: Disk + Drop>(alloc: Global, files: Files<D>) -> Option<Connection<F
     Connection::open_files(alloc, files, Options::new(1)).ok()
 }
 
+/// The files of a database that is closed, if that is not refused.
+pub fn closed<D: Disk + Drop>(connection: Connection<FileStore<D>>) -> Option<Files<D>> {
+    connection.close_files().ok()
+}
+
 /// The keeper of a connection without an open transaction.
 fn adopted<S: Alter + Drop>(connection: Connection<S>) -> Option<SqliteKeeper<S>> {
     if !connection.is_autocommit() {

@@ -1,5 +1,5 @@
 //! The keeper of a real file, which stands in the folder that the program runs in.
-use crate::database::made;
+use crate::database::{closed, made};
 use crate::rows::wrong;
 use crate::step::{fails, reads, take_steps, text_read};
 use aq_sqlite::FileKeeper;
@@ -15,7 +15,7 @@ fn keeper(rt: &HostRuntime) -> io::Result<FileKeeper<'_>> {
 
 /// Makes a file in which these statements were run.
 fn make(rt: &HostRuntime, sql: &str) -> io::Result<()> {
-    let Ok(files) = made(rt.alloc(), sql)?.close_files() else {
+    let Some(files) = closed(made(rt.alloc(), sql)?) else {
         return Err(wrong());
     };
     fs::write(rt, PATH, files.db.inner().bytes())

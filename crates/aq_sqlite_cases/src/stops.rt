@@ -1,5 +1,5 @@
 //! A commit that a stop of the machine cuts short.
-use crate::database::{Stoppable, Store, open};
+use crate::database::{Stoppable, Store, closed, open};
 use crate::rows::wrong;
 use crate::step::{Step, commit, text_of, text_read};
 use aq_keeper::RowChange;
@@ -29,7 +29,7 @@ pub fn are_done_or_not(
         before: text_read(alloc, &mut keeper)?,
         after: text_of(alloc, &step.rows)?,
     };
-    let Ok(files) = keeper.into_connection().close_files() else {
+    let Some(files) = closed(keeper.into_connection()) else {
         return Err(wrong());
     };
     Ok(stop_each(alloc, &files, true, &batch)? && stop_each(alloc, &files, false, &batch)?)
