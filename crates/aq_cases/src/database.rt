@@ -1,7 +1,7 @@
 //! The keeper of a case whose tables stand in a database, on a disk in memory.
 use aq_sqlite::SqliteKeeper;
-use sqlite::{Connection, FileStore, Files, Options};
-use sqlite_disk::Memory;
+use sqlite::{Alter, Connection, FileStore, Files, Options};
+use sqlite_disk::{Disk, Memory};
 use std::alloc::Global;
 
 /// A keeper over a disk on which nothing stands.
@@ -10,7 +10,18 @@ pub fn new_keeper(alloc: Global) -> Option<SqliteKeeper<FileStore<Memory>>> {
         log: Memory::new(alloc),
         db: Memory::new(alloc),
     };
-    let connection = Connection::open_files(alloc, files, Options::new(1)).ok()?;
+    prepared(opened(alloc, files)?)
+}
+
+fn opened<D: Disk + Drop>(alloc: Global, files: Files<D>) -> Option<Connection<FileStore<D>>> {
+    if !files.may_be_used() {
+        return None;
+    }
+    Connection::open_files(alloc, files, Options::new(1)).ok()
+}
+
+/// The keeper of a connection without an open transaction, whose tables are prepared.
+fn prepared<S: Alter + Drop>(connection: Connection<S>) -> Option<SqliteKeeper<S>> {
     if !connection.is_autocommit() {
         return None;
     }
