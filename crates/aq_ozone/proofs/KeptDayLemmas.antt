@@ -1,6 +1,6 @@
 -- A day of a site that is given another content, among the days that are kept.
-use Rattle.std.proofs.Common.{◌≡◌, ℕ, ◌/◌, ◌%◌, Bool, true, false, cond, ◌&&◌, List, refl, sym, ap, ◌∙◌, subst, arith}
-use Rattle.std.specs.Prelude.{Option, Some, None, ◌==◌, unwrap_or}
+use Rattle.std.proofs.Common.{◌≡◌, ℕ, ◌/◌, ◌%◌, Bool, true, false, cond, ◌&&◌, List, refl, sym, ap, ◌∙◌, arith}
+use Rattle.std.specs.Prelude.{Option, Some, ◌==◌, unwrap_or}
 use Rattle.std.specs.BTreeMap.{is_at}
 use Rattle.std.specs.Map.{lookup}
 use Rattle.std.specs.Ordering.{nat_cmp, ordering_then, is_eq}
@@ -9,12 +9,11 @@ use Rattle.std.specs.declared.cmp.Ordering.TheVariants.{Less, Equal, Greater}
 use Rattle.std.proofs.lemmas.Bool.Decides.{nat_tests}
 use Rattle.std.proofs.lemmas.Bool.{false≢true}
 use Rattle.aq_base.specs.Site.{Site}
-use Rattle.aq_rules.specs.Ozone.SiteHour.{Cell}
 use Rattle.aq_rules.specs.Office.Monitors.{is_same_site}
 use Rattle.aq_rules.specs.Office.Sameness.{same_site}
 use Rattle.aq_ozone.specs.declared.kept_days.SiteDay.{SiteDay}
 use Rattle.aq_ozone.specs.declared.kept_days.DayCells.{DayCells}
-use Rattle.aq_ozone.specs.KeptDays.{site_day, day_cmp, day_at, empty_day, hour_at, hour_in}
+use Rattle.aq_ozone.specs.KeptDays.{site_day, day_cmp, day_at, empty_day}
 
 -- ---- the keys
 

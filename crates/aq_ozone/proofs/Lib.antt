@@ -1,6 +1,9 @@
+pub mod CellFacts
 pub mod DayExchange
 pub mod DayLemmas
+pub mod HeldYear
 pub mod KeptDayLemmas
+pub mod LevelLemmas
 pub mod RangeLemmas
 pub mod SettleLemmas
 pub mod TallyLemmas

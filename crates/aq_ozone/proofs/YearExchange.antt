@@ -1,6 +1,6 @@
 -- The tallies of the years are those of the days that are held, once one day is held otherwise.
 use Rattle.std.proofs.Common.{◌≡◌, ◌≢◌, ℕ, ◌+◌, ◌%◌, ◌<◌, ◌≤◌, Bool, true, false, cond, ◌&&◌, List, refl, ap, sym, subst, ◌∙◌, arith}
-use Rattle.std.specs.Prelude.{Option, ◌==◌, ℤ, filter_map}
+use Rattle.std.specs.Prelude.{Option, ◌==◌, ℤ}
 use Rattle.std.specs.BTreeMap.{is_at}
 use Rattle.std.specs.Map.{lookup}
 use Rattle.std.specs.List.Sorted.{IsPermutation}
@@ -9,13 +9,13 @@ use Rattle.std.proofs.lemmas.Bool.Decides.{nat_tests}
 use Rattle.std.proofs.lemmas.Bool.{false≢true}
 use Rattle.aq_base.specs.Calendar.{days_in_year, year_first, year_of}
 use Rattle.aq_base.specs.Site.{Site}
-use Rattle.aq_base.specs.declared.day.TheConstants.{FIRST_YEAR, LAST_DAY, LAST_YEAR}
+use Rattle.aq_base.specs.declared.day.TheConstants.{FIRST_YEAR, LAST_DAY}
 use Rattle.aq_agg.proofs.Exchanged.{any_order_at}
 use Rattle.aq_agg.specs.AnyOrder.{sums-any_order}
 use Rattle.aq_agg.specs.Bags.{with_item}
 use Rattle.aq_cal.proofs.Within.{year_holds}
 use Rattle.aq_rules.specs.Office.Monitors.{is_same_site}
-use Rattle.aq_rules.specs.Office.Sameness.{same_site}
+use Rattle.aq_rules.specs.Office.Sameness.{same_site, site_itself}
 use Rattle.aq_rules.specs.Ozone.OzoneYear.{days_of}
 use Rattle.aq_ozone.specs.KeptDays.{held_at}
 use Rattle.aq_ozone.specs.OzoneCells.{counted_held, maxima_held, AreYears, Cells}
@@ -61,11 +61,6 @@ module _ (cells after : Cells) (tallies later : YearTallies) (site : Site) (year
     (low : FIRST_YEAR ≤ year) (in_profile : day ≤ LAST_DAY) (is_year : year_of day ≡ year)
     (held : (other : Site) (number : ℕ) → held_at after other number ≡ cond (is_same_site site other && (day == number)) new (held_at cells other number))
     (exchanged : Exchanges site year (held_at cells site day) new tallies later) (others : OthersStay site year tallies later) where
-  same_itself : (s : Site) → is_same_site s s ≡ true
-  same_itself s = let a : (s.state == s.state) ≡ true = grind (arith, nat_tests) in
-      let b : (s.county == s.county) ≡ true = grind (arith, nat_tests) in
-      let c : (s.number == s.number) ≡ true = grind (arith, nat_tests) in λ i. a i && b i && c i
-
   -- a day other than this one is held as before
   elsewhere : (number : ℕ) → number ≢ day → held_at cells site number ≡ held_at after site number
   elsewhere number apart =
@@ -79,7 +74,7 @@ module _ (cells after : Cells) (tallies later : YearTallies) (site : Site) (year
   here : held_at after site day ≡ new
   here =
       let on : (day == day) ≡ true = grind (arith, nat_tests) in
-      held site day ∙ (λ i. cond (same_itself site i && on i) new (held_at cells site day))
+      held site day ∙ (λ i. cond (site_itself site i && on i) new (held_at cells site day))
 
   this_year : AreBags site year (maxima_held cells site year) (counted_held cells site year) tallies
       → AreBags site year (maxima_held after site year) (counted_held after site year) later

@@ -3,11 +3,10 @@ use Rattle.std.specs.BTreeMap.{is_at}
 use Rattle.std.specs.Map.{lookup}
 use Rattle.std.specs.Ordering.{nat_cmp, ordering_then}
 use Rattle.std.specs.declared.cmp.Ordering.{Ordering}
-use Rattle.std.specs.Prelude.{ℕ, ◌/◌, ◌%◌, ◌-◌, Bool, false, ◌==◌, nat_le, if◌then◌else◌, List, replicate, get_or, Option, Some, None, option_map, unwrap_or, IfSome}
+use Rattle.std.specs.Prelude.{ℕ, ◌/◌, ◌%◌, ◌-◌, Bool, false, nat_le, if◌then◌else◌, List, replicate, get_or, Option, None, option_map, unwrap_or}
 use Rattle.aq_base.specs.Site.{Site}
 use Rattle.aq_rules.specs.Ozone.EightHour.{WindowRow}
 use Rattle.aq_rules.specs.Ozone.SiteHour.{Cell}
-use Rattle.aq_series.specs.Samples.{IsOzone}
 use Rattle.aq_ozone.specs.declared.kept_days.DayCells.{DayCells}
 use Rattle.aq_ozone.specs.declared.kept_days.HeldDay.{HeldDay}
 use Rattle.aq_ozone.specs.declared.kept_days.KeptAverage.{KeptAverage}

@@ -5,9 +5,10 @@ use Rattle.aq_base.specs.Site.{Site}
 use Rattle.aq_base.specs.declared.day.TheConstants.{FIRST_YEAR, LAST_HOUR, LAST_YEAR}
 use Rattle.aq_base.specs.declared.office.OfficeRecord.{OfficeRecord}
 use Rattle.aq_rules.specs.Office.Approval.{is_approved}
+use Rattle.aq_rules.specs.Office.Office.{Office}
 use Rattle.aq_rules.specs.Office.Season.{is_in_season, season_of}
 use Rattle.aq_rules.specs.Ozone.EightHour.{WindowRow, window_by}
-use Rattle.aq_rules.specs.Ozone.OzoneDay.{OzoneDay, day_of_windows, starts_of}
+use Rattle.aq_rules.specs.Ozone.OzoneDay.{OzoneDay, day_of_windows, ozone_day, starts_of}
 use Rattle.aq_rules.specs.Ozone.OzoneYear.{OzoneYear, days_of, year_by}
 use Rattle.aq_rules.specs.Ozone.SiteHour.{Cell}
 use Rattle.aq_series.specs.Samples.{IsOzone}
@@ -49,6 +50,14 @@ day_from records cells site day = record {
   valid = (day_of_averages cells site day).valid;
   counted = counts records site day (day_of_averages cells site day).valid;
   maximum = (day_of_averages cells site day).maximum;
+}
+
+-- what a day of an office gives its year
+unfoldable pub held_day : Office → Site → ℕ → HeldDay
+held_day office site day = record {
+  valid = (ozone_day office site day).valid;
+  counted = counts office.records site day (ozone_day office site day).valid;
+  maximum = (ozone_day office site day).maximum;
 }
 
 -- the day that a year holds, as a day of the book of rules, without the number of its averages

@@ -1,5 +1,5 @@
 -- What the days of the years of sites give them: the maxima that are ranked, and the days that count as valid.
-use Rattle.std.specs.Prelude.{◌≡◌, ◌<◌, ℕ, ◌&&◌, ◌==◌, Bool, true, false, if◌then◌else◌, List, length, Option, Some, None, ℤ, pos}
+use Rattle.std.specs.Prelude.{◌≡◌, ◌<◌, ℕ, ◌&&◌, ◌==◌, false, if◌then◌else◌, List, length, Option, Some, None, ℤ, pos}
 use Rattle.std.specs.Ordering.{nat_cmp, ordering_then}
 use Rattle.std.specs.declared.cmp.Ordering.{Ordering}
 use Rattle.aq_base.specs.Site.{Site}
@@ -10,7 +10,6 @@ use Rattle.aq_agg.specs.declared.sum_count.SumCount.{SumCount}
 use Rattle.aq_rules.specs.Office.Monitors.{is_same_site}
 use Rattle.aq_ozone.specs.RankedMaxima.{AreRanksOf}
 use Rattle.aq_ozone.specs.declared.kept_days.HeldDay.{HeldDay}
-use Rattle.aq_ozone.specs.declared.ranked_maxima.RankedMaxima.{RankedMaxima}
 use Rattle.aq_ozone.specs.declared.year_tallies.SiteYear.{SiteYear}
 use Rattle.aq_ozone.specs.declared.year_tallies.YearTallies.{YearTallies}
 

@@ -1,4 +1,4 @@
-use Rattle.std.proofs.Common.{◌≡◌, ◌∙◌, ◌+◌, ◌*◌, ℕ, List, None, map, ap, sym, subst, arith}
+use Rattle.std.proofs.Common.{◌≡◌, ◌∙◌, ◌+◌, ◌*◌, ℕ, None, map, ap, sym, subst, arith}
 use Rattle.std.specs.List.{range_with_len}
 use Rattle.aq_rules.specs.Ozone.EightHour.{WindowRow}
 use Rattle.aq_rules.specs.Ozone.OzoneDay.{starts_of}

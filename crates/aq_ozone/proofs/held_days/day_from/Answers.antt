@@ -1,4 +1,4 @@
-use Rattle.std.proofs.Common.{◌≡◌, ◌∙◌, ap, sym, subst}
+use Rattle.std.proofs.Common.{◌∙◌, ap, sym, subst}
 use Rattle.std.specs.Prelude.{ℤ, Option, IfSome}
 use Rattle.aq_rules.specs.Ozone.OzoneDay.{OzoneDay, day_of_windows}
 use Rattle.aq_series.specs.Samples.{IsOzone}

@@ -1,7 +1,7 @@
-use Rattle.std.proofs.Common.{◌≡◌, ℕ, ◌≤◌}
+use Rattle.std.proofs.Common.{◌≡◌, ◌≤◌}
 use Rattle.std.specs.Prelude.{count_by}
 use Rattle.std.specs.List.{range_with_len}
-use Rattle.aq_rules.specs.Office.Season.{Season, is_in_season}
+use Rattle.aq_rules.specs.Office.Season.{is_in_season}
 use Rattle.aq_ozone.proofs.held_days.season_days.Given as goal
 
 abbrev pub invariant-loop-i : goal.invariant-loop-i

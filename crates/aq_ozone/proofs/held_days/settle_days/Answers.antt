@@ -1,11 +1,9 @@
-use Rattle.std.proofs.Common.{◌≡◌, ◌∙◌, ◌&&◌, ◌+◌, ℕ, ap, sym, subst, cond, arith}
+use Rattle.std.proofs.Common.{◌≡◌, ◌∙◌, ◌&&◌, ◌+◌, sym, subst, cond, arith}
 use Rattle.std.specs.Prelude.{◌==◌, IfSome}
-use Rattle.aq_base.specs.Site.{Site}
 use Rattle.aq_rules.specs.Office.Monitors.{is_same_site}
 use Rattle.aq_series.specs.Samples.{IsOzone}
 use Rattle.aq_ozone.specs.KeptDays.{held_at}
 use Rattle.aq_ozone.specs.OzoneCells.{day_from}
-use Rattle.aq_ozone.specs.declared.kept_days.HeldDay.{HeldDay}
 use Rattle.aq_ozone.specs.declared.kept_days.KeptAverage.{KeptAverage}
 use Rattle.aq_ozone.proofs.SettleLemmas.{day-same, one-more}
 use Rattle.aq_ozone.proofs.held_days.settle_days.Goals as goal

@@ -1,8 +1,7 @@
-use Rattle.std.proofs.Common.{◌≡◌, ◌∙◌, ap, sym, subst}
+use Rattle.std.proofs.Common.{◌∙◌, ap, sym, subst}
 use Rattle.std.specs.Prelude.{ℤ, Option, IfSome}
 use Rattle.std.specs.List.{range_with_len}
 use Rattle.aq_rules.specs.Ozone.EightHour.{WindowRow, eight_hours, row_of, window_by}
-use Rattle.aq_rules.specs.Ozone.SiteHour.{Cell}
 use Rattle.aq_series.specs.Samples.{IsOzone}
 use Rattle.aq_ozone.specs.DayHours.{cells_in}
 use Rattle.aq_ozone.specs.KeptDays.{hour_at}

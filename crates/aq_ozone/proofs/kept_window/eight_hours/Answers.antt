@@ -1,5 +1,4 @@
-use Rattle.std.proofs.Common.{◌≡◌, ◌∙◌, None, map, arith}
-use Rattle.std.specs.List.{range_with_len}
+use Rattle.std.proofs.Common.{◌≡◌, None, arith}
 use Rattle.aq_ozone.specs.OzoneCells.{hour_in_profile}
 use Rattle.aq_ozone.proofs.DayLemmas.{list_by, ozone_by}
 use Rattle.aq_ozone.proofs.kept_window.eight_hours.Goals as goal

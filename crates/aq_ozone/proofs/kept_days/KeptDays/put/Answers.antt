@@ -1,6 +1,5 @@
-use Rattle.std.proofs.Common.{List, subst, ap, BTreeMap}
+use Rattle.std.proofs.Common.{subst}
 use Rattle.aq_ozone.specs.declared.kept_days.SiteDay.{SiteDay}
-use Rattle.aq_ozone.specs.declared.kept_days.DayCells.{DayCells}
 use Rattle.aq_ozone.proofs.KeptDayLemmas.{day-put, Changes}
 use Rattle.aq_ozone.proofs.kept_days.KeptDays.put.Goals as goal
 

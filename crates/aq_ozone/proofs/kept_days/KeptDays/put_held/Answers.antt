@@ -1,12 +1,9 @@
-use Rattle.std.proofs.Common.{◌≡◌, ◌&&◌, ℕ, ◌/◌, ◌%◌, ◌-◌, Bool, true, false, ap, cond, subst, refl, List}
-use Rattle.std.specs.Prelude.{◌==◌, get_or, option_map, None, Option}
+use Rattle.std.proofs.Common.{◌≡◌, ◌&&◌, ◌/◌, Bool, true, false, ap, cond, subst, refl}
+use Rattle.std.specs.Prelude.{◌==◌}
 use Rattle.aq_rules.specs.Office.Monitors.{is_same_site}
 use Rattle.aq_ozone.specs.declared.kept_days.DayCells.{DayCells}
-use Rattle.aq_ozone.specs.declared.kept_days.HeldDay.{HeldDay}
-use Rattle.aq_ozone.specs.declared.kept_days.KeptAverage.{KeptAverage}
-use Rattle.aq_ozone.specs.declared.kept_days.KeptHour.{KeptHour}
-use Rattle.aq_ozone.specs.KeptDays.{average_at, average_in, cell_of, day_at, held_at, hour_at, hour_in, is_kept_start, no_average}
-use Rattle.aq_ozone.proofs.KeptDayLemmas.{part-stays, place-put}
+use Rattle.aq_ozone.specs.KeptDays.{average_at, average_in, day_at, held_at, hour_at, hour_in}
+use Rattle.aq_ozone.proofs.KeptDayLemmas.{part-stays}
 use Rattle.std.proofs.Common.{◌∙◌}
 use Rattle.aq_ozone.proofs.kept_days.KeptDays.put_held.Goals as goal
 

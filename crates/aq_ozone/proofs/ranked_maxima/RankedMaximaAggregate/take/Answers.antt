@@ -1,4 +1,4 @@
-use Rattle.std.proofs.Common.{◌∷◌, sym, w32, arith}
+use Rattle.std.proofs.Common.{w32, arith}
 use Rattle.std.proofs.lemmas.Int.{to_z-of_z}
 use Rattle.std.proofs.lemmas.List.Elements.{All-tail}
 use Rattle.aq_series.specs.Samples.{IsOzone}
