@@ -1,13 +1,42 @@
-//! The types of the field: sites, monitors, days and hours, observations, office records, rules and
-//! replies, and the limits of what is taken and kept.
+//! The types of the field with their ranges, and the limits of what is taken and kept. Every room speaks
+//! in these types and stands on this one; its `specs/` has the definitions that all share.
 //!
-//! A `SiteId`, `Day`, `Hour`, `Quarter`, `Quals`, `SiteList` or `AssumedList` is in its range, always. The
-//! open types (`MonitorId`, `Observation`, the office records, keys and lines, `Ask`, `Area`, `Assumed`,
-//! `DecisiveEvent`) keep the ranges of their parts alone. They do not keep that a POC is 1 to 99 (0 in a
-//! designation of no monitor), an interval 1, 2, 3 or 6, a year one of the profile, an event's number 1
-//! to 999,999, a season in its year, an area's state and county of two and three digits, a method 0 to 999,
-//! or that an observation has exactly one of a value and a null code: readers of lines, rows and words
-//! give such values alone, and calls that need it say so.
+//! # What it has
+//!
+//! - `SiteId`, `Day`, `Hour`, `Quarter`: a site; a day, hour and quarter, numbered from 1990 on.
+//! - `Pollutant`, `Duration`, `MonitorId`: what is measured, how long a sample lasts, and where.
+//! - `ObsKey`, `Observation`, `Code`, `Quals`: where a sample stands, what was reported, and its codes.
+//! - `OfficeRecord`, `OfficeKey`, `OfficeLine`: a record of the agency, its key, and a line for it.
+//! - `Rule`, `LoadReply`, `Listed`, `Rest`: the rules of lines, and what became of the lines of a load.
+//! - `Standard`, `Verdict`; `Ask`, `Shown`: the six standards; a question, and an observation of an
+//!   export.
+//! - `Area`, `SiteList`; `Assumed`, `AssumedList`, `DecisiveEvent`: areas; assumed concurrences.
+//! - `Items`, `Bytes`, `Steps`: lists that grow, and a count of look-ups that exists for clauses alone.
+//! - `Memory`, `Failed`: want of memory, and an object of the outside that failed.
+//!
+//! # What it promises
+//!
+//! - A `SiteId`, `Day`, `Hour`, `Quarter`, `Quals`, `SiteList` or `AssumedList` is in its range, always.
+//! - The open types (`MonitorId`, `Observation`, the office records, keys and lines, `Ask`, `Area`,
+//!   `Assumed`, `DecisiveEvent`) keep the ranges of their parts alone. They do not keep that a POC is 1
+//!   to 99 (0 in a designation of no monitor), an interval 1, 2, 3 or 6, a year one of the profile, an
+//!   event's number 1 to 999,999, a season in its year, an area's state and county of two and three
+//!   digits, a method 0 to 999, or that an observation has exactly one of a value and a null code:
+//!   readers of lines, rows and words give such values alone, and calls that need it say so.
+//! - A rule has its number and name, a standard its name, pollutant and level; `Rule::all` and
+//!   `Standard::all` are the whole lists, in their order.
+//! - A new qualifier is put last, and one that is there is not put twice (`Quals::add`); after want of
+//!   memory a list is as before (`Items::push`). The last day, hour and quarter are those of the
+//!   profile's years.
+//!
+//! # An example
+//!
+//! ```rust
+//! let site = SiteId::new(6, 37, 1103)?;
+//! assert!(rt; SiteId::new(6, 1000, 1103).is_none());
+//! assert_eq!(rt; Day::new(12_600).number(), 12_600); // 1 July 2024
+//! assert_eq!(rt; Standard::Ozone2015.level(), 70);   // thousandths of a ppm
+//! ```
 #![tactic(auto)]
 
 mod area;

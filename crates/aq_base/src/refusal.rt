@@ -1,4 +1,7 @@
 //! Refusals that carry nothing.
+ghost use Rattle.std.specs.Prelude.{Some};
+ghost use Rattle.aq_base.specs.Faults.{memory_text, failed_text};
+
 use std::alloc::{AllocError, AllocFailed};
 use std::error::Error;
 use std::fmt;
@@ -20,6 +23,8 @@ impl<T: Drop> From<AllocFailed<T>> for Memory {
 }
 
 impl fmt::Display for Memory {
+    ghost output = { λ _. Some memory_text };
+
     fn fmt<W: fmt::Write>(&self, f: &mut fmt::Formatter<W>) -> fmt::Result {
         f.write_str("memory")
     }
@@ -33,6 +38,8 @@ impl Error for Memory {}
 pub struct Failed;
 
 impl fmt::Display for Failed {
+    ghost output = { λ _. Some failed_text };
+
     fn fmt<W: fmt::Write>(&self, f: &mut fmt::Formatter<W>) -> fmt::Result {
         f.write_str("failed")
     }

@@ -1,5 +1,38 @@
 //! The dirty set: the cells that a change of an office's rows reaches, held until each is brought up to
-//! date.
+//! date. A cell is a number that is kept of an office beside its rows: an hour, an average, a day or a
+//! year of a site. The set holds those of ozone, as spans of hours, days and years. Of the rooms above
+//! only aq_ozone_cells calls it.
+//!
+//! # What it has
+//!
+//! - `CellName`: a cell, by what it is of.
+//! - `OfficeChange`: what became of one observation or record.
+//! - `Dirty::new`, `mark`: an empty set; the cells that a change reaches are added.
+//! - `Dirty::holds`, `is_of_season`: whether a cell is held, and whether a season or an approval of a
+//!   year was marked.
+//! - `Dirty::next`, `settle`: the next cell, of the lowest level; it is dropped once it is up to date.
+//! - `Dirty::first_hours`, `settle_hours`: the same for the first hours, as an `HourSpan`.
+//!
+//! # What it promises
+//!
+//! - After a change is marked, the ozone cells that are held are those that were held and those that the
+//!   book's table names for the changed row, and no others; after want of memory they are those of
+//!   before.
+//! - The next cell is of the lowest level: hours come before averages, these before days, and these
+//!   before years. There is none exactly if no cell is held.
+//! - Settling the next cell, or the first hours, drops those cells alone, and takes no memory.
+//! - The cells that are held are those of a list (`the_cells_held_are_a_list`).
+//!
+//! # An example
+//!
+//! ```rust
+//! let mut dirty = Dirty::new(alloc);
+//! dirty.mark(&registry, &OfficeChange::Observation { key, old: None, new: Some(content) })?;
+//! while let Some(cell) = dirty.next() {
+//!     bring_up_to_date(&cell);
+//!     dirty.settle(cell);
+//! }
+//! ```
 #![tactic(auto)]
 
 mod cell_name;

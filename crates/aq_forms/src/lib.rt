@@ -1,4 +1,39 @@
-//! The lines of a load's body, and the lines of the agency's own forms (own), both ways.
+//! The lines of a load's body, and the lines of the agency's own forms (own), both ways: monitors,
+//! designations, schedules, seasons, make-ups, events, concurrences, approved days and combined sites.
+//!
+//! # What it has
+//!
+//! - `lines_of(body)`: the `Lines` of a body that are not skipped, each a `BodyLine` with its number
+//!   from 1. Blank lines and comments are counted and left out, and so are a byte order mark and a CR at
+//!   a line's end.
+//! - `count_lines(body)`: how many lines a body has, skipped ones among them.
+//! - `read_office(line)`: a line of the office, as an `OfficeLine` of aq_base, or the first rule that it
+//!   breaks.
+//! - `print_office(alloc, line)`: the one line by which it is written.
+//! - `print_key(alloc, key)`: the key under which a record stands in its kind's rows.
+//!
+//! # What it promises
+//!
+//! - The numbered lines of a body, and how many there are, are the definition's (`lines_of`,
+//!   `count_lines`).
+//! - The agency's own lines of all nine forms are read exactly if they break no reading rule, as the one
+//!   value that they spell, and are else refused under the first rule that they break; reading takes no
+//!   memory (`read_office`).
+//! - Printed lines are the canonical ones, and what a line can spell is read back (`print_office`); keys
+//!   print as defined (`print_key`).
+//!
+//! # An example
+//!
+//! ```rust
+//! for line in lines_of(body) {
+//!     if has_office_tag(line.text) {
+//!         match read_office(line.text) {
+//!             Ok(office_line) => apply(office_line),
+//!             Err(rule) => refuse(line.number, rule),
+//!         }
+//!     }
+//! }
+//! ```
 #![tactic(auto)]
 
 mod forms;

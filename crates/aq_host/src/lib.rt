@@ -1,8 +1,32 @@
-//! The host's streams and network: [`Reading`] and [`Writing`] make a source and a sink of any reader and
-//! writer, and [`TcpDoor`] is a door of TCP connections from this machine alone.
+//! The host's streams and network, as the outside of aq_serve. They tell none of their bytes: what a
+//! stream beneath gives is passed on as it is, and what is given reaches it, as far as the stream's own
+//! clauses go.
 //!
-//! They tell none of their bytes. What a stream beneath gives is passed on as it is, and what is given
-//! reaches it, as far as the stream's own clauses go.
+//! # What it has
+//!
+//! - [`Reading`]: a source of any reader; [`Writing`]: a sink of any writer.
+//! - [`TcpDoor`]: a door of TCP connections from this machine alone (127.0.0.1). A connection that lies
+//!   idle for five seconds is ended, and so is one whose request has not come, or whose reply has not
+//!   been taken, within thirty seconds.
+//!
+//! # What it promises
+//!
+//! - What a reader gives is what is read, and what is written reaches the writer beneath, as far as the
+//!   stream's own clauses go (`Reading::read`, `Writing::write`, clause `passed`).
+//! - The door over TCP is a door: its counts rise at the calls that fail and at no other, what a
+//!   connection gives is what is read, and what is written reaches it, as far as the stream's own
+//!   clauses go; it tells no bytes, and it tells the port that it was given (`TcpDoor`).
+//! - A failure is never told as the end of connections (`accept`, clause `more`).
+//! - Of time nothing is proved: the deadlines are tried by tests in code and by `bin/tries-serve`.
+//!
+//! # An example
+//!
+//! ```rust
+//! let mut input = Reading::new(rt.reader());
+//! let mut output = Writing::new(io::writer(&rt));
+//! let mut door = TcpDoor::new(rt);
+//! door.listen(8080)?;
+//! ```
 #![tactic(auto)]
 
 mod streams;

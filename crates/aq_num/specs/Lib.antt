@@ -2,3 +2,4 @@
 pub mod DecimalIn
 pub mod Magnitude
 pub mod Fractions
+pub mod Faults

@@ -1,8 +1,9 @@
 //! Reading a decimal text.
-ghost use Rattle.std.specs.Prelude.{◌≡◌, ℕ, ◌≤◌, ◌<◌, ◌+◌, ◌-◌, ◌*◌, ◌↔◌, min, Bool, false, IsTrue, IfOk, OnOk, unsigned_abs, Err};
+ghost use Rattle.std.specs.Prelude.{◌≡◌, ℕ, ◌≤◌, ◌<◌, ◌+◌, ◌-◌, ◌*◌, ◌↔◌, min, Bool, false, IsTrue, IfOk, OnOk, unsigned_abs, Err, Some};
 ghost use Rattle.aq_base.specs.Decimal.{is_decimal, cut_magnitude, cut, is_minus, unsigned_part};
 ghost use Rattle.aq_num.specs.DecimalIn.{decimal_in};
 ghost use Rattle.aq_num.specs.Magnitude.{magnitude_in};
+ghost use Rattle.aq_num.specs.Faults.{fault_text};
 
 use std::error::Error;
 use std::fmt;
@@ -22,6 +23,8 @@ pub enum NumberFault {
 }
 
 impl fmt::Display for NumberFault {
+    ghost output = { λ fault. Some (fault_text fault) };
+
     fn fmt<W: fmt::Write>(&self, f: &mut fmt::Formatter<W>) -> fmt::Result {
         f.write_str(match self {
             NumberFault::Spelling => "not a decimal number",

@@ -1,5 +1,46 @@
-//! The book of rules: the definitions in `specs/` say what the program must compute and keep. The
-//! functions here are laws, which show that a definition means what a reader expects.
+//! The book of rules: the definitions in `specs/` say what the program must compute and keep, and all
+//! other rooms are held against them. This is what a reviewer reads and believes; `docs/RULES.md` has
+//! each rule in plain words, with its place in the standard. The functions in `src/` are laws: they do
+//! nothing when they run, and show that a definition means what a reader expects.
+//!
+//! # What it has
+//!
+//! - `Lines`, `Office`: the forms of lines and the rules of reading; what stands, what is asked of it,
+//!   loads.
+//! - `Ozone`, `Particles`: values, averages, days, quarters and years, percentiles, estimates, verdicts.
+//! - `Kept`: summaries of quarters and years, rows and their changes, migration, and what reads what.
+//! - `WhatIf`, `Combined`, `Areas`: assumed concurrences, combined sites, areas and their history.
+//! - `Shown`: sheets with their text and JSON, exports, answers, the generated loads.
+//!
+//! # What it promises
+//!
+//! - A load leaves a valid office valid: each line, all lines of a body, and the load's own row
+//!   (`lines_leave_the_office_valid`, `loads_leave_the_office_valid`).
+//! - A line has a value exactly if it breaks no reading rule; its rule is the first that it breaks; a
+//!   canonical line is read as the value that it prints.
+//! - A refused line, and a load that is not taken, change nothing.
+//! - The batch of a load, done to the rows of the office before, gives the rows of the office after,
+//!   with the load's own row last (`batch_gives_the_rows_after`).
+//! - The rows of an office give it back; a list of rows is an office's exactly if no row is damaged; the
+//!   batch of a migration, done to rows of version 1, gives the migrated rows, which are an office's.
+//! - A site's value for an hour, its value for a day and its export are the same without the methods of
+//!   the observations. An ozone hour that no changed row reaches is as before
+//!   (`hours_out_of_reach_are_as_before`).
+//! - The PM2.5 verdicts on lists of values are those on the sums, counts and eight greatest that are
+//!   kept.
+//! - Every sheet that answers a question is well formed, a report's row says what the value sheet of its
+//!   site says, and the fields of an export of a valid office need no quotes.
+//! - A standard is met only by a design value at or below its level, and that of ozone or PM2.5 is not
+//!   met only by one above it.
+//!
+//! # An example
+//!
+//! A contract of a room names a definition of the book, here `rank_of` in `Particles/Percentile`:
+//!
+//! ```rust
+//! pub fn rank_of(counted: u16) -> u8
+//!     ensures rank { result ≡ rank_of counted }
+//! ```
 #![tactic(auto)]
 
 pub mod areas;

@@ -1,10 +1,26 @@
-//! A program for the gate alone: it tries the keepers of `aq_sqlite`, over a database on a disk in memory
+//! A program for the gate alone: it tries the keepers of aq_sqlite, over a database on a disk in memory
 //! and over a real file, and prints a line for each case.
 //!
-//! `kept.txt` has cases with a blank line between them: a name, the statements of what stands before
-//! (`sql`), and steps as `step` describes them. Each is tried over both keepers. What is left of a batch at
-//! the end is stopped at each call of the disk in memory. `others.txt` has a name and statements in each
-//! line, of databases that are refused.
+//! # What it has
+//!
+//! - `data/kept.txt`: cases with a blank line between them: a name, the statements of what stands before
+//!   (`sql`), and steps as `step` describes them. Each is tried over both keepers. What is left of a
+//!   batch at the end is stopped at each call of the disk in memory.
+//! - `data/others.txt`: a name and statements in each line, of databases that are refused.
+//! - `stdout`: what has to come out; the gate compares it, as two compilers build the program.
+//!
+//! # What it promises
+//!
+//! - Nothing: it has no contracts. A line `ok NAME` says that a case came out as it has to,
+//!   `DIFFERS NAME` that it did not.
+//!
+//! # An example
+//!
+//! In its folder, unproved; a case that differs is named:
+//!
+//! ```sh
+//! rt try | grep DIFFERS
+//! ```
 #![tactic(auto)]
 
 mod database;
