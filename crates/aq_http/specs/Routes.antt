@@ -5,7 +5,7 @@ use Rattle.std.specs.Option.{ok_or}
 use Rattle.std.specs.Str.{is_utf8}
 use Rattle.matchit.specs.Order.{placed}
 use Rattle.matchit.specs.Route.{Scan, parse_route}
-use Rattle.matchit.specs.Router.{RouteOf, route_from}
+use Rattle.matchit.specs.Router.{RouteOf, nearest, route_from}
 use Rattle.matchit.specs.Rows.{RowsOf}
 use Rattle.matchit.specs.Seek.{first, slash}
 use Rattle.aq_base.specs.Site.{Site}
@@ -44,6 +44,15 @@ with_read (Ok scan) route rows = placed (scan.pattern, route_from scan route) ro
 unfoldable pub with_routes : RowsOf (RouteOf Route) → List (List ℕ × Route) → RowsOf (RouteOf Route)
 with_routes rows [] = rows
 with_routes rows (entry ∷ entries) = with_routes (with_read (parse_route entry.0) entry.1 rows) entries
+
+-- routes that read, and of which none conflicts with one that stands before it
+abbrev pub IsApart : {E : Type 0} → Result Scan E → RowsOf (RouteOf Route) → Type 0
+IsApart (Err e) rows = ⊥
+IsApart (Ok scan) rows = nearest scan.pattern rows ≡ None
+
+unfoldable pub AreApart : RowsOf (RouteOf Route) → List (List ℕ × Route) → Type 0
+AreApart rows [] = Unit {0}
+AreApart rows (entry ∷ entries) = IsApart (parse_route entry.0) rows × AreApart (with_read (parse_route entry.0) entry.1 rows) entries
 
 abbrev pub all_routes : RowsOf (RouteOf Route)
 all_routes = with_routes [] routes

@@ -1,9 +1,39 @@
 //! HTTP/1.1 over bytes: the request that a connection's bytes begin with, what its target asks, and the
-//! bytes of a reply. Nothing here reads or writes a connection.
+//! bytes of a reply. Nothing here reads or writes a connection. Heads are read by `httparse` and
+//! `http1`, targets found by `matchit`, and statuses are those of `http`.
 //!
-//! `next_request` gives the next step from all bytes that stand unanswered. A caller whose bytes come in
-//! pieces asks `read_head` until the head is whole, then waits for `Head::whole` bytes, and takes the
-//! request by `Head::request`: so the head is not read again for each piece of the body.
+//! # What it has
+//!
+//! - `next_request(input)`: the [`Step`] that is due from all bytes that stand unanswered: more are
+//!   wanted, they are refused with a status, or a whole request stands.
+//! - `read_head(input)`, `Head`: the same in pieces. A caller asks `read_head` until the head is whole,
+//!   then waits for `Head::whole` bytes, and takes the request by `Head::request`: so the head is not
+//!   read again for each piece of the body.
+//! - `Verb`: GET, POST, or another.
+//! - `Routes::find(verb, target)`: what is asked, as a `Found`.
+//! - `reply_bytes`: the bytes of a reply.
+//! - `MOST_HEAD`, `MOST_HEADERS`: how much a head may have.
+//!
+//! # What it promises
+//!
+//! - The first request of a connection's bytes, or that more are wanted, or the status with which they
+//!   are refused, is a step of the definition, which has two open points where `httparse` has them
+//!   (`next_request`, `read_head`, `Head`). A `POST` with an Origin header, which a page in a browser
+//!   sends, is refused with 403.
+//! - A refusal and a whole request stay, whatever bytes come after (`steps_stay`); more are wanted only
+//!   of fewer than a head and a body may have together (`steps_are_bounded`).
+//! - What a target asks is the definition's (`Routes::find`), with worked targets (`targets_of_loads`).
+//! - The bytes of a reply are the definition's (`reply_bytes`).
+//!
+//! # An example
+//!
+//! ```rust
+//! let routes = Routes::new(alloc)?;
+//! match next_request(b"GET /loads/5 HTTP/1.1\r\nHost: localhost\r\n\r\n") {
+//!     Step::Whole { verb, target, .. } => assert!(rt; routes.find(verb, target) == Found::Ask(Ask::Reply(5))),
+//!     Step::More | Step::Refuse(_) => {}
+//! }
+//! ```
 #![tactic(auto)]
 
 mod head;

@@ -4,13 +4,13 @@ ghost use Rattle.std.specs.List.{before_first, after_first};
 ghost use Rattle.matchit.specs.Seek.{first};
 ghost use Rattle.aq_base.specs.Calendar.{is_year};
 ghost use Rattle.aq_rules.specs.Shown.Answer.{is_asked, is_design_year, is_load_number};
-ghost use Rattle.aq_http.specs.Routes.{IsFound, IsFoundStatus, all_routes, asked, design_year, found, found_at, load_number, part, report_asked, route_of, site_and_year, site_asked, value_asked, windows_asked, with_routes, year_asked};
+ghost use Rattle.aq_http.specs.Routes.{AreApart, IsFound, IsFoundStatus, all_routes, asked, design_year, found, found_at, load_number, part, report_asked, route_of, site_and_year, site_asked, value_asked, windows_asked, with_routes, year_asked};
 
 use crate::route::Route;
 use crate::verb::Verb;
 use aq_base::{Ask, FIRST_YEAR, LAST_LOAD_NUMBER, Memory, SiteId};
 use aq_rd::{day_word, number_to, site_word, standard_word, year_in};
-use matchit::Router;
+use matchit::{InsertError, Router};
 use std::alloc::Global;
 use std::marker::Model;
 use std::str::from_utf8;
@@ -102,15 +102,18 @@ impl Routes {
     }
 }
 
-#[tactic(auto, unfolding(crate::specs::Routes::with_routes))]
+/// Adds routes of which none conflicts with another: memory alone may be wanting.
+#[tactic(auto, unfolding(crate::specs::Routes::with_routes, crate::specs::Routes::AreApart))]
 fn add_all(router: &mut Router<Route>, routes: &[(&str, Route)]) -> Result<(), Memory>
+    requires { AreApart router.old (map (λ entry. (entry.0.now, entry.1)) routes.now) }
     ensures { OnOk result (router.new ≡ with_routes router.old (map (λ entry. (entry.0.now, entry.1)) routes.now)) }
 {
     for entry in routes {
         let (text, route) = *entry;
         match router.insert(text, route) {
             Ok(()) => {}
-            Err(_) => return Err(Memory),
+            Err(InsertError::OutOfMemory) => return Err(Memory),
+            Err(_) => unreachable!(),
         }
     }
     Ok(())

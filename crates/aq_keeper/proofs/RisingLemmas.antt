@@ -1,10 +1,10 @@
 -- Rows that rise: cut at a key, and with a change made at the cut.
-use Rattle.std.proofs.Common.{◌≡◌, ℕ, zero, suc, ◌+◌, Bool, true, false, not, cond, ◌&&◌, List, [], ◌∷◌, ◌++◌, length, refl, ap, sym, ◌∙◌, subst, arith}
+use Rattle.std.proofs.Common.{◌≡◌, ℕ, zero, suc, ◌+◌, Bool, true, false, not, cond, ◌&&◌, List, [], ◌∷◌, ◌++◌, length, drop, refl, ap, sym, ◌∙◌, subst, arith}
 use Rattle.std.specs.Prelude.{◌-◌, reverse, get_or, slice_get, option_to_list, Option, Some, None, IfSome}
 use Rattle.std.proofs.lemmas.Bool.{false≢true}
 use Rattle.std.proofs.lemmas.List.{append_assoc, append-nil, reverse-append, length-append}
 use Rattle.std.proofs.lemmas.Option.{get_or_from_slice_get}
-use Rattle.std.proofs.Math.Seq.{get_or-append_seam}
+use Rattle.std.proofs.Math.Seq.{get_or-append_seam, drop-append_seam}
 use Rattle.aq_rules.specs.Kept.Rows.{Row}
 use Rattle.aq_rules.specs.Kept.RowChanges.{RowKey, RowChange, PutRow, DropRow, row_key, changed_key, key_before, is_same_row_key, keys_rise, keys_rise_from, put_row, drop_row, with_row_change}
 use Rattle.aq_keeper.specs.Rising.{AreBefore, AreBehind, StartsFrom, Rise, keys_of_rows, without_first, put_rows}
@@ -63,6 +63,15 @@ before-last key [] last is rise before = tt
 before-last key (row ∷ rows) last is rise before =
     let place : length (row ∷ rows) - 1 ≡ length rows = omega arith in
     before-place key (row ∷ rows) (length rows) last (omega arith) (ap (slice_get (row ∷ rows)) (sym place) ∙ is) rise before
+
+-- the last of the rows that are left is moved to the front of those that were
+pub one-more-moved : (key : RowKey) (all rows front : List Row) (row : Row) → all ≡ rows ++ drop (length rows) all → rows ≡ front ++ row ∷ [] → key_before (row_key row) key ≡ false
+    → (all ≡ front ++ drop (length front) all) × StartsFrom key (drop (length front) all)
+one-more-moved key all rows front row parts last starts =
+    let moved = drop (length rows) all in
+    let whole : all ≡ front ++ row ∷ moved = parts ∙ ap (λ (l : List Row). l ++ moved) last ∙ append_assoc front (row ∷ []) moved in
+    let rest : drop (length front) all ≡ row ∷ moved = ap (drop (length front)) whole ∙ drop-append_seam front (row ∷ moved) in
+    (whole ∙ ap (λ (l : List Row). front ++ l) (sym rest), subst (StartsFrom key) (sym rest) starts)
 
 -- ---- a row that is put
 

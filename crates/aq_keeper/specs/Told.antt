@@ -1,6 +1,6 @@
 -- What contracts see of a keeper: tables that it tells or does not tell, and its count of faults (own).
-use Rattle.std.specs.Prelude.{◌≡◌, ℕ, Option, Some, None, IfSome, Result, Ok, Err}
-use Rattle.aq_base.specs.Faults.{HasRisen, next}
+use Rattle.std.specs.Prelude.{◌≡◌, ℕ, Option, Some, None, IfSome, Result, Ok, Err, List}
+use Rattle.aq_base.specs.Faults.{HasRisen, next, memory_text, failed_text}
 use Rattle.aq_keeper.specs.declared.keeper.KeeperFault.{KeeperFault}
 use Rattle.aq_keeper.specs.declared.keeper.KeeperFault.TheVariants.{Failed, Memory}
 
@@ -13,6 +13,11 @@ Stays expected after = IfSome after (λ told. expected ≡ Some told)
 abbrev pub told_through : {A : Type 0} → Option A → Option A → Option A
 told_through before (Some told) = before
 told_through before None = None
+
+-- what the refusals of a keeper are called
+abbrev pub fault_text : KeeperFault → List ℕ
+fault_text Failed = failed_text
+fault_text Memory = memory_text
 
 -- a count rises at a call that fails, and at no other: want of memory is no fault
 abbrev pub HasCause : {A : Type 0} → ℕ → ℕ → Result A KeeperFault → Type 0

@@ -2,26 +2,25 @@
 //! counts its faults. It may stop telling within any call, and never begins to: so each call speaks of what
 //! is told as it ends. A count rises at a call that fails, and at no other; one at its greatest value counts
 //! as risen. Want of memory is no fault, and may come at any call.
-ghost use Rattle.std.specs.Prelude.{◌≡◌, ℕ, List, true, map, Option, IfSome, IfOk, OnOk, OnErr};
+ghost use Rattle.std.specs.Prelude.{◌≡◌, ℕ, List, true, map, Option, Some, IfSome, IfOk, OnOk, OnErr};
 ghost use Rattle.std.specs.Option.{option_map};
 ghost use Rattle.aq_rules.specs.Kept.Rows as the_rows;
 ghost use Rattle.aq_rules.specs.Kept.RowChanges.{batch_rises, changed_key, with_row_changes};
-ghost use Rattle.aq_keeper.specs.Told.{HasCause, Stays};
+ghost use Rattle.aq_keeper.specs.Told.{HasCause, Stays, fault_text};
 
 use crate::change::RowChange;
 use crate::row::Rows;
 use aq_base::Memory;
 use std::alloc::Global;
-use thiserror::Error;
+use std::error::Error;
+use std::fmt;
 
 /// Why a keeper refused a call.
-#[derive(Clone, Copy, Debug, PartialEq, Eq, Error)]
+#[derive(Clone, Copy, Debug, PartialEq, Eq)]
 pub enum KeeperFault {
     /// The keeper failed, and its count of faults rose.
-    #[error("failed")]
     Failed,
     /// Memory could not be had.
-    #[error("memory")]
     Memory,
 }
 
@@ -35,6 +34,19 @@ impl From<Memory> for KeeperFault {
         KeeperFault::Memory
     }
 }
+
+impl fmt::Display for KeeperFault {
+    ghost output = { λ fault. Some (fault_text fault) };
+
+    fn fmt<W: fmt::Write>(&self, f: &mut fmt::Formatter<W>) -> fmt::Result {
+        f.write_str(match self {
+            KeeperFault::Failed => "failed",
+            KeeperFault::Memory => "memory",
+        })
+    }
+}
+
+impl Error for KeeperFault {}
 
 /// Keeps the rows of the four tables.
 pub trait Keeper {

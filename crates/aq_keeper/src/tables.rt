@@ -1,5 +1,5 @@
 //! The rows of the tables in memory.
-ghost use Rattle.std.specs.Prelude.{◌≡◌, ◌+◌, ◌≤◌, true, [], ◌∷◌, ◌++◌, reverse, vec_len, vec_capacity, IfSome, IfNone, MatchOption, IfOk, OnOk, OnErr};
+ghost use Rattle.std.specs.Prelude.{◌≡◌, ◌+◌, ◌≤◌, true, false, [], ◌∷◌, ◌++◌, length, drop, reverse, vec_len, vec_capacity, IfSome, IfNone, MatchOption, IfOk, OnOk, OnErr};
 ghost use Rattle.aq_rules.specs.Kept.RowChanges.{row_key, changed_key, key_before, with_row_change, with_row_changes};
 ghost use Rattle.aq_keeper.specs.KeyView.{key_seen};
 ghost use Rattle.aq_keeper.specs.Rising.{AreBefore, StartsFrom, without_first, put_rows, Rise, keys_of_rows, changes_in};
@@ -163,12 +163,14 @@ fn cut_at(rows: &mut Vec<Row>, later: &mut Vec<Row>, key: KeyView<'_>)
     move_earlier(rows, later, key);
 }
 
-/// Moves the rows that do not come before a key to the later ones, which stand last first.
+/// Moves the rows that do not come before a key to the later ones, which stand last first. No other row
+/// is touched.
 fn move_later(rows: &mut Vec<Row>, later: &mut Vec<Row>, key: KeyView<'_>)
     requires room { vec_len rows.old + vec_len later.old ≤ vec_capacity later.old }
     requires rise { Rise (keys_of_rows rows.old.items) }
     ensures whole { rows.new.items ++ reverse later.new.items ≡ rows.old.items ++ reverse later.old.items }
     ensures before { AreBefore (key_seen key.entry) rows.new.items }
+    ensures moved { StartsFrom (key_seen key.entry) (drop (length rows.new.items) rows.old.items) }
     ensures count { vec_len rows.new + vec_len later.new ≡ vec_len rows.old + vec_len later.old }
     ensures capacity { vec_capacity rows.new ≡ vec_capacity rows.old }
     ensures later_capacity { vec_capacity later.old ≤ vec_capacity later.new }
@@ -184,17 +186,13 @@ fn move_later(rows: &mut Vec<Row>, later: &mut Vec<Row>, key: KeyView<'_>)
 /// Takes the last row if it does not come before a key.
 fn next_later(rows: &mut Vec<Row>, key: KeyView<'_>) -> Option<Row>
     requires { Rise (keys_of_rows rows.old.items) }
-    ensures some { IfSome result (λ row. rows.old.items ≡ rows.new.items ++ row ∷ []) }
+    ensures some { IfSome result (λ row. (rows.old.items ≡ rows.new.items ++ row ∷ []) × (key_before (row_key row) (key_seen key.entry) ≡ false)) }
     ensures none { IfNone result ((rows.new.items ≡ rows.old.items) × AreBefore (key_seen key.entry) rows.old.items) }
     ensures count { MatchOption result (vec_len rows.new ≡ vec_len rows.old) (λ _. vec_len rows.new + 1 ≡ vec_len rows.old) }
     ensures capacity { vec_capacity rows.new ≡ vec_capacity rows.old }
 {
-    let row = rows.last()?;
-    if comes_before(row.key(), key) {
-        None
-    } else {
-        rows.pop()
-    }
+    let is_earlier = comes_before(rows.last()?.key(), key);
+    if is_earlier { None } else { rows.pop() }
 }
 
 /// Moves the rows that come before a key to those that do. The later ones stand last first.

@@ -1,5 +1,5 @@
-//! Writing the fields that RD lines and office lines share.
-ghost use Rattle.std.specs.Prelude.{◌≡◌, ◌++◌, ◌∷◌, OnOk};
+//! Writing the fields that RD lines and office lines share. After want of memory a text is as before.
+ghost use Rattle.std.specs.Prelude.{◌≡◌, ◌++◌, ◌∷◌, OnOk, OnErr};
 ghost use Rattle.aq_rules.specs.Lines.Canonical.{start_texts, date_text, code_text, parameter_text, duration_text};
 ghost use Rattle.aq_rd.specs.Printing.{behind_bars};
 
@@ -8,8 +8,10 @@ use aq_cal::{civil_of, last_digits};
 
 /// Appends a field after a bar.
 pub fn write_field(out: &mut Vec<u8>, text: &[u8]) -> Result<(), Memory>
-    ensures { OnOk result (out.new.items ≡ out.old.items ++ 124 ∷ text.now) }
+    ensures written { OnOk result (out.new.items ≡ out.old.items ++ 124 ∷ text.now) }
+    ensures unchanged { OnErr result (out.new.items ≡ out.old.items) }
 {
+    out.reserve(text.len() + 1)?;
     out.push(b'|')?;
     out.extend_from_slice(text)?;
     Ok(())
@@ -17,35 +19,68 @@ pub fn write_field(out: &mut Vec<u8>, text: &[u8]) -> Result<(), Memory>
 
 /// Appends the date and the time of an hour, each after a bar.
 pub fn write_start(out: &mut Vec<u8>, hour: Hour) -> Result<(), Memory>
-    ensures { OnOk result (out.new.items ≡ out.old.items ++ behind_bars (start_texts hour)) }
+    ensures written { OnOk result (out.new.items ≡ out.old.items ++ behind_bars (start_texts hour)) }
+    ensures unchanged { OnErr result (out.new.items ≡ out.old.items) }
 {
-    let number = hour.number();
-    write_date(out, Day::new((number / 24) as u16))?;
-    write_field(out, &last_digits::<2>((number % 24) as u16))?;
-    out.extend_from_slice(b":00")?;
-    Ok(())
+    write_field(out, &start_digits(hour))
 }
 
 /// Appends a date as `YYYYMMDD`, after a bar.
 pub fn write_date(out: &mut Vec<u8>, day: Day) -> Result<(), Memory>
-    ensures { OnOk result (out.new.items ≡ out.old.items ++ 124 ∷ date_text day) }
+    ensures written { OnOk result (out.new.items ≡ out.old.items ++ 124 ∷ date_text day) }
+    ensures unchanged { OnErr result (out.new.items ≡ out.old.items) }
 {
-    let date = civil_of(day);
-    write_field(out, &last_digits::<4>(date.year))?;
-    out.extend_from_slice(&last_digits::<2>(u16::from(date.month)))?;
-    out.extend_from_slice(&last_digits::<2>(u16::from(date.day)))?;
-    Ok(())
+    write_field(out, &date_digits(day))
 }
 
 /// Appends a null or qualifier code.
 pub fn write_code(out: &mut Vec<u8>, code: &Code) -> Result<(), Memory>
-    ensures { OnOk result (out.new.items ≡ out.old.items ++ code_text code.now) }
+    ensures written { OnOk result (out.new.items ≡ out.old.items ++ code_text code.now) }
+    ensures unchanged { OnErr result (out.new.items ≡ out.old.items) }
 {
-    out.push(code.first)?;
-    if code.second != 0 {
-        out.push(code.second)?;
+    if code.second == 0 {
+        out.push(code.first)?;
+    } else {
+        out.extend_from_slice(&[code.first, code.second])?;
     }
     Ok(())
+}
+
+// A date as `YYYYMMDD`.
+fn date_digits(day: Day) -> [u8; 8]
+    ensures { result ≡ date_text day }
+{
+    let date = civil_of(day);
+    let [thousands, hundreds, tens, ones] = last_digits::<4>(date.year);
+    let [month_tens, month_ones] = last_digits::<2>(u16::from(date.month));
+    let [day_tens, day_ones] = last_digits::<2>(u16::from(date.day));
+    [
+        thousands, hundreds, tens, ones, month_tens, month_ones, day_tens, day_ones,
+    ]
+}
+
+// The date and the time of an hour, with a bar between them.
+#[tactic(auto, unfolding(aq_base::specs::Decimal::last_digits))]
+fn start_digits(hour: Hour) -> [u8; 14]
+    ensures { 124 ∷ result ≡ behind_bars (start_texts hour) }
+{
+    let number = hour.number();
+    let date = date_digits(Day::new((number / 24) as u16));
+    let [
+        thousands,
+        hundreds,
+        tens,
+        ones,
+        month_tens,
+        month_ones,
+        day_tens,
+        day_ones,
+    ] = date;
+    let [hour_tens, hour_ones] = last_digits::<2>((number % 24) as u16);
+    [
+        thousands, hundreds, tens, ones, month_tens, month_ones, day_tens, day_ones, b'|',
+        hour_tens, hour_ones, b':', b'0', b'0',
+    ]
 }
 
 /// The parameter of a pollutant.

@@ -1,6 +1,40 @@
-//! Lines of the AQS raw data transaction format (RD): their tags and fields, the spellings of sites,
-//! dates and numbers, which office lines and words share, and the samples that RD lines insert,
-//! update and delete, both ways.
+//! Lines of the AQS raw data transaction format (RD), both ways: their tags and fields, and the samples
+//! that they insert, update and delete. The spellings of sites, dates, codes and numbers, which the
+//! office's lines and the words of a command share, are read and written here too.
+//!
+//! # What it has
+//!
+//! - `RdLine`: what an RD line asks for, a sample to put or to delete.
+//! - `read_rd`, `print_rd`: a line read, which takes no memory, and printed.
+//! - `Tag`, `tag_of`, `tag_in`, `has_office_tag`: the form of a line, by its first field.
+//! - `Fields`: the fields of a line, without the spaces round each; `MOST_FIELDS` of them have numbers.
+//! - `site_in`, `parameter_in`, `poc_in`, `duration_in`, `date_in`, `year_in`, `time_in`, `truth_in`,
+//!   `null_in`, `qualifier_in`, `is_code_byte`: the readers of a field.
+//! - `digits_in`, `number_to`, `any_number`: numbers of a width, up to a last one, and of any length.
+//! - `write_field`, `write_code`, `write_date`, `write_start`, `parameter_name`, `duration_name`: the
+//!   writers.
+//! - `site_word`, `day_word`, `standard_word`: the words of a command.
+//!
+//! # What it promises
+//!
+//! - An RD line is read exactly if it breaks no reading rule, as the one value that it spells, and is
+//!   else refused under the first rule that it breaks (`read_rd`).
+//! - The printed line is the canonical one, and if a line can spell the value, it is read back as that
+//!   value (`print_rd`).
+//! - Fields are read as the book's `Lines/Spellings` define and written as its `Lines/Canonical` does;
+//!   words of a command are read as `specs/Words.antt` defines.
+//!
+//! # An example
+//!
+//! ```rust
+//! let line = b"RD|I|06|037|1103|44201|1|1|007|087|20240701|12:00|0.067";
+//! match read_rd(line)? {
+//!     RdLine::Put { hour, content, .. } => assert_eq!(rt; content.value, Some(67)),
+//!     RdLine::Delete { .. } => {}
+//! }
+//! assert!(rt; read_rd(b"RD|I|06") == Err(Rule::FieldCount));
+//! assert_eq!(rt; site_word(b"06-037-1103"), SiteId::new(6, 37, 1103));
+//! ```
 #![tactic(auto)]
 
 mod bytes;

@@ -1,7 +1,7 @@
 //! An office opened from its rows.
 ghost use Rattle.std.specs.Prelude.{◌≡◌, Some, IfErr, IfOk};
 ghost use Rattle.aq_rules.specs.Kept.Rows as the_rows;
-ghost use Rattle.aq_rows.specs.Opening.{IsOpenFault};
+ghost use Rattle.aq_rows.specs.Opening.{IsOpenFault, fault_text};
 
 use crate::kept_loads::Loads;
 use crate::walk::{RowFault, Walk};
@@ -10,8 +10,9 @@ use aq_keeper::{Row, RowContent};
 use aq_registry::Registry;
 use aq_shelf::Shelf;
 use std::alloc::Global;
+use std::error::Error;
+use std::fmt;
 use std::marker::Model;
-use thiserror::Error;
 
 /// The parts of an office that was opened. Contracts see the valid office of the book of rules.
 #[derive(Drop)]
@@ -51,13 +52,11 @@ impl Model for Place {
 }
 
 /// Why an office was not opened.
-#[derive(Clone, Copy, Debug, PartialEq, Eq, Error)]
+#[derive(Clone, Copy, Debug, PartialEq, Eq)]
 pub enum OpenFault {
     /// The first damaged row: the rows before it are an office's, and those up to it are no office's.
-    #[error("a row is damaged")]
     Damaged(Place),
     /// Memory could not be had.
-    #[error("memory")]
     Memory,
 }
 
@@ -71,6 +70,19 @@ impl From<Memory> for OpenFault {
         OpenFault::Memory
     }
 }
+
+impl fmt::Display for OpenFault {
+    ghost output = { λ fault. Some (fault_text fault) };
+
+    fn fmt<W: fmt::Write>(&self, f: &mut fmt::Formatter<W>) -> fmt::Result {
+        f.write_str(match self {
+            OpenFault::Damaged(_) => "a row is damaged",
+            OpenFault::Memory => "memory",
+        })
+    }
+}
+
+impl Error for OpenFault {}
 
 /// Opens the office whose rows these are, or names the first damaged row. It reads the rows once, in
 /// order, and keeps what each one says: for each record it searches the records a few times, and for each

@@ -1,4 +1,5 @@
 pub mod Door
+pub mod Endings
 pub mod Memories
 pub mod Outside
 pub mod MemoryStreams

@@ -1,6 +1,10 @@
 //! How a connection ends, and how serving ends.
+ghost use Rattle.std.specs.Prelude.{Some};
+ghost use Rattle.aq_serve.specs.Endings.{fault_text};
+
 use aq_base::Memory;
-use thiserror::Error;
+use std::error::Error;
+use std::fmt;
 
 /// How a connection ended.
 #[derive(Clone, Copy, Debug, PartialEq, Eq)]
@@ -14,13 +18,11 @@ pub enum End {
 }
 
 /// Why serving ended before as many connections as were to be served.
-#[derive(Clone, Copy, Debug, PartialEq, Eq, Error)]
+#[derive(Clone, Copy, Debug, PartialEq, Eq)]
 pub enum ServeFault {
     /// The door failed to accept, and its count of faults rose.
-    #[error("door failed")]
     DoorFailed,
     /// Memory could not be had.
-    #[error("memory")]
     Memory,
 }
 
@@ -34,3 +36,16 @@ impl From<Memory> for ServeFault {
         ServeFault::Memory
     }
 }
+
+impl fmt::Display for ServeFault {
+    ghost output = { λ fault. Some (fault_text fault) };
+
+    fn fmt<W: fmt::Write>(&self, f: &mut fmt::Formatter<W>) -> fmt::Result {
+        f.write_str(match self {
+            ServeFault::DoorFailed => "door failed",
+            ServeFault::Memory => "memory",
+        })
+    }
+}
+
+impl Error for ServeFault {}

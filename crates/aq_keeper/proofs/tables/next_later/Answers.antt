@@ -6,11 +6,11 @@ use Rattle.aq_keeper.specs.KeyView.{key_seen}
 use Rattle.aq_keeper.proofs.RisingLemmas.{before-last}
 use Rattle.aq_keeper.proofs.tables.next_later.Goals as goal
 
-pub returns-then-comes_before-clause-none : goal.returns-then-comes_before-clause-none
-returns-then-comes_before-clause-none c =
+pub returns-then-is_earlier-clause-none : goal.returns-then-is_earlier-clause-none
+returns-then-is_earlier-clause-none c =
     let key = key_seen c.args.key in
     let rows = c.args.rows.now.items in
-    let row = c.in_ok-row.row.now in
-    let before : key_before (row_key row) key ≡ true = ap (λ k. key_before k key) (sym c.key.ensures) ∙ sym c.comes_before.ensures ∙ c.if-comes_before.true in
-    let found : slice_get rows (length rows - 1) ≡ Some row = ap (λ (l : List Row). slice_get l (length l - 1)) (sym c.deref.ensures.value) ∙ sym c.in_ok-row.ensures.value in
+    let row = c.in_ok-last.field-0.now in
+    let before : key_before (row_key row) key ≡ true = ap (λ k. key_before k key) (sym c.key.ensures) ∙ sym c.comes_before-is_earlier.ensures ∙ c.if-is_earlier.true in
+    let found : slice_get rows (length rows - 1) ≡ Some row = ap (λ (l : List Row). slice_get l (length l - 1)) (sym c.deref.ensures.value) ∙ sym c.in_ok-last.ensures.value in
     (refl, before-last key rows row found c.requires before)
