@@ -33,7 +33,7 @@ taken f a zero m le = refl
 taken f a (suc n) zero le = absurd (omega (arith, le))
 taken {Y} f a (suc n) (suc m) le = ap (λ (l : List Y). f a ∷ l) (taken f (a + 1) n m (omega (arith, le)))
 
-part_of : {Y : Type 0} (f : ℕ → Y) (a k n m : ℕ) → k + n ≤ m → take n (drop k (map f (range_with_len a m))) ≡ map f (range_with_len (a + k) n)
+pub part_of : {Y : Type 0} (f : ℕ → Y) (a k n m : ℕ) → k + n ≤ m → take n (drop k (map f (range_with_len a m))) ≡ map f (range_with_len (a + k) n)
 part_of f a zero n m le = let e : a ≡ a + 0 = omega arith in taken f a n m (omega (arith, le)) ∙ ap (λ (b : ℕ). map f (range_with_len b n)) e
 part_of f a (suc k) n zero le = absurd (omega (arith, le))
 part_of f a (suc k) n (suc m) le =
@@ -53,7 +53,7 @@ pub ozone_by : (hours : List (Option Cell)) → ((k : ℕ) → IfSome (get_or ho
 ozone_by [] each = tt
 ozone_by (hour ∷ hours) each = (each 0, ozone_by hours (λ k. each (suc k)))
 
-ozone_at : (hours : List (Option Cell)) (k : ℕ) → AreOzone hours → IfSome (get_or hours k None) (λ (cell : Cell). IsOzone cell.value)
+pub ozone_at : (hours : List (Option Cell)) (k : ℕ) → AreOzone hours → IfSome (get_or hours k None) (λ (cell : Cell). IsOzone cell.value)
 ozone_at [] k all = tt
 ozone_at (hour ∷ hours) zero all = all.0
 ozone_at (hour ∷ hours) (suc k) all = ozone_at hours k all.1
@@ -93,7 +93,7 @@ past office site day behind =
     ∙ same_in_range nothing (hour_at office site) (24 * day) 192
     (λ k low high. let most : nat_le k LAST_HOUR ≡ false = grind (arith, nat_tests) in sym (ap (λ b. cond b (site_hour office site k) None) most))
 
-at_range : {Y : Type 0} (f : ℕ → Y) (a n k : ℕ) (d : Y) → k < n → get_or (map f (range_with_len a n)) k d ≡ f (a + k)
+pub at_range : {Y : Type 0} (f : ℕ → Y) (a n k : ℕ) (d : Y) → k < n → get_or (map f (range_with_len a n)) k d ≡ f (a + k)
 at_range f a zero k d within = absurd (omega (arith, within))
 at_range f a (suc n) zero d within = let e : a ≡ a + 0 = omega arith in ap f e
 at_range f a (suc n) (suc k) d within = let e : a + 1 + k ≡ a + suc k = omega arith in at_range f (a + 1) n k d (omega (arith, within)) ∙ ap f e
@@ -154,7 +154,7 @@ module _ (today tomorrow hours : List (Option Cell)) (many : length hours ≡ 24
 
 -- ---- averages
 
-window_is : (office : Office) (site : Site) (start : ℕ) → row_of (cells_in (map (hour_at office site) (range_with_len start 8))) ≡ window office site start
+pub window_is : (office : Office) (site : Site) (start : ℕ) → row_of (cells_in (map (hour_at office site) (range_with_len start 8))) ≡ window office site start
 unfolding window eight_hours
 window_is office site start = ap row_of (cells_are (site_hour office site) (range_with_len start 8))
 

@@ -1,12 +1,4 @@
-pub mod CellFacts
-pub mod DayExchange
 pub mod DayLemmas
-pub mod HeldYear
-pub mod KeptDayLemmas
-pub mod LevelLemmas
 pub mod RangeLemmas
-pub mod SettleLemmas
-pub mod TallyLemmas
 pub mod TopLemmas
-pub mod YearExchange
 pub mod YearLemmas

@@ -88,12 +88,12 @@ full_range hours all =
 
 -- ---- the averages of a day
 
-taken : (n : ℕ) (hours : List (Option Cell)) → AreOzone hours → AreOzone (take n hours)
+pub taken : (n : ℕ) (hours : List (Option Cell)) → AreOzone hours → AreOzone (take n hours)
 taken zero hours all = tt
 taken (suc n) [] all = tt
 taken (suc n) (hour ∷ hours) all = (all.0, taken n hours all.1)
 
-dropped : (n : ℕ) (hours : List (Option Cell)) → AreOzone hours → AreOzone (drop n hours)
+pub dropped : (n : ℕ) (hours : List (Option Cell)) → AreOzone hours → AreOzone (drop n hours)
 dropped zero hours all = all
 dropped (suc n) [] all = tt
 dropped (suc n) (hour ∷ hours) all = dropped n hours all.1

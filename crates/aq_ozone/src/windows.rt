@@ -18,13 +18,13 @@ use aq_shelf::Shelf;
 use std::sync::ledger::Ledger;
 
 /// The first average of a day starts at 07:00.
-pub(crate) const FIRST_START: u32 = 7;
+pub const FIRST_START: u32 = 7;
 
 /// The averages of a day read so many hours.
 pub(crate) const DAY_HOURS: usize = 24;
 
 /// Each average is of so many.
-pub(crate) const WINDOW_HOURS: usize = 8;
+pub const WINDOW_HOURS: usize = 8;
 
 /// The seventeen 8-hour averages of a day of a site, from that of 07:00 on, each net of the excluded
 /// hours, and full. The call reads each of the day's 24 hours (07:00 to 06:00 of the next day) once: at
@@ -151,8 +151,8 @@ impl Tally {
     }
 }
 
-/// The averages of at most eight hours.
-pub(crate) fn window(hours: &[Option<Cell>]) -> WindowRow
+/// The averages of at most eight hours, whose values are ozone's.
+pub fn window(hours: &[Option<Cell>]) -> WindowRow
     requires few { length hours.now ≤ 8 }
     requires ozone { AreOzone hours.now }
     ensures { result ≡ row_of (cells_in hours.now) }

@@ -1,0 +1,14 @@
+pub mod CellFacts
+pub mod DayExchange
+pub mod FilledLemmas
+pub mod FillLemmas
+pub mod Unobserved
+pub mod UnreachedCells
+pub mod HeldYear
+pub mod KeptDayLemmas
+pub mod LevelLemmas
+pub mod NextCells
+pub mod SettledCells
+pub mod SettleLemmas
+pub mod TallyLemmas
+pub mod YearExchange

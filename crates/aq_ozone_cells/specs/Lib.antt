@@ -1,0 +1,8 @@
+-- What is kept of the days and years of sites.
+pub mod FilledDays
+pub mod Filling
+pub mod KeptDays
+pub mod OzoneCells
+pub mod RankedMaxima
+pub mod Settling
+pub mod YearTallies
