@@ -34,21 +34,9 @@ module _ (records : List OfficeRecord) (rows : List (ObsKey × Observation)) (lo
   unfolding ozone_year ozone_days ozone_day windows window site_hour
   ozone_year_is year = refl
 
-  pub three_years_are : (year : ℕ) → three_years (office_of records rows) site year ≡ three_years (standing records rows loads) site year
-  unfolding three_years ozone_year ozone_days ozone_day windows window site_hour
-  three_years_are year = refl
-
   pub pm25_summary_is : (year : ℕ) → pm25_summary (office_of records rows) site year ≡ pm25_summary (standing records rows loads) site year
   unfolding pm25_summary pm25_year quarter_counts quarter_values credits site_day monitor_day
   pm25_summary_is year = refl
-
-  pub pm25_years_are : (year : ℕ) → pm25_years (office_of records rows) site year ≡ pm25_years (standing records rows loads) site year
-  unfolding pm25_summary pm25_year quarter_counts quarter_values credits site_day monitor_day
-  pm25_years_are year = refl
-
-  pub pm10_years_are : (year : ℕ) → pm10_years (office_of records rows) site year ≡ pm10_years (standing records rows loads) site year
-  unfolding pm10_year pm10_quarter strata_of first_days site_day monitor_day
-  pm10_years_are year = refl
 
   pub pm10_year_is : (year : ℕ) → pm10_year (office_of records rows) site year ≡ pm10_year (standing records rows loads) site year
   unfolding pm10_year pm10_quarter strata_of first_days site_day monitor_day

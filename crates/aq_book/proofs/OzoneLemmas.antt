@@ -1,4 +1,4 @@
--- The ozone days of a year one by one, and three years.
+-- The ozone days of a year one by one.
 use Rattle.std.proofs.Common.{◌≡◌, ℕ, ◌+◌, ◌-◌, List, [], ◌∷◌, ◌++◌, map, sym, ap, ◌∙◌}
 use Rattle.std.specs.List.{range_with_len}
 use Rattle.std.proofs.lemmas.List.FromFn.{map-range_with_len_more}
@@ -26,7 +26,3 @@ module _ (office : Office) (site : Site) where
   unfolding ozone_days days_of
   days-all year first count from many =
       ap (λ (n : ℕ). first_days n count) from ∙ ap (first_days (year_first year)) many
-
-  pub years-are : (last : ℕ) (first second third : OzoneYear) → first ≡ ozone_year office site (last - 2) → second ≡ ozone_year office site (last - 1) → third ≡ ozone_year office site last → first ∷ second ∷ third ∷ [] ≡ three_years office site last
-  unfolding three_years
-  years-are last first second third is_first is_second is_third = λ i. is_first i ∷ is_second i ∷ is_third i ∷ []

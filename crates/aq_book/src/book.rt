@@ -54,6 +54,20 @@ impl Book {
         }
     }
 
+    /// The standing observations, lent. It takes no memory.
+    pub fn shelf(&self) -> &Shelf
+        ensures { result.now ≡ self.now.observations }
+    {
+        &self.shelf
+    }
+
+    /// The agency's records, lent. It takes no memory.
+    pub fn registry(&self) -> &Registry
+        ensures { result.now ≡ self.now.records }
+    {
+        &self.registry
+    }
+
     /// What becomes of a load with a number from 1 on: a known number with the same digest is a repeat, and
     /// with another a conflict; for a new one there is no room if `MOST_LOADS` stand. It takes no memory.
     pub fn check(&self, number: u32, digest: &[u8; 32]) -> LoadCheck

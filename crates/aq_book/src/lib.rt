@@ -1,5 +1,46 @@
-//! The book: an office with its observations and records. It answers questions of a site, stages a load
-//! beside what stands, and takes it. Contracts see the office of the book of rules.
+//! The book: an office with its records, observations and loads. It is read from rows and gives them
+//! back, stages a load beside what stands, names its batch, takes it, and answers questions of a site.
+//! Contracts see the valid office of the book of rules, and nothing else of it.
+//!
+//! # What it has
+//!
+//! - `Book::new`, `book_of`, `rows_of`: an empty book, one of an office's rows, and the rows of one.
+//! - `migrate`, `Migration`: the batch that brings rows of version 1 up to date, and the rows after it.
+//! - `Book::check`, `reply_of`, `digest_of`: what becomes of a load's number (`LoadCheck`), and what is
+//!   kept of a load.
+//! - `Book::stage`, `batch`, `take`: a load beside the book (`Staged`), its changes of rows, the book
+//!   after it.
+//! - `Book::windows`, `season`, `is_approved`, `ozone_days`, `ozone_year`, `pm25_year`, `pm10_year`,
+//!   `design_value`, `observations`, `observation_count`: questions; `UnknownSite` and `AskFault` say
+//!   why one has no answer.
+//! - `Book::report`: the design values of all sites, as `SiteValues`. A book is a source of `Years` for
+//!   aq_design.
+//! - `Book::shelf`, `registry`: its observations and records, lent to rooms that ask them themselves.
+//!
+//! # What it promises
+//!
+//! - It is read from rows and gives them back as aq_rows says (`book_of`, `rows_of`). Rows of version 1
+//!   have a migration, with the book of rules' batch and migrated rows; an office's rows have none; of
+//!   other rows the first is named that cannot be opened with those before it (`migrate`, `Migration`).
+//! - A number is a repeat, a conflict, without room or new as the book of rules decides (`check`), and
+//!   what is kept of a load is found (`reply_of`, `digest_of`).
+//! - A load is staged beside the book and changes nothing: its reply is the book of rules' reply, the
+//!   office with what is staged is the one after the load, and its batch is the book's (`stage`,
+//!   `batch`). Taken, it gives the book of that office (`take`).
+//! - A question of a site is answered as the book of rules answers it, and refused exactly if no monitor
+//!   of the site is registered, or for want of memory where its answer takes some.
+//! - The report of a standard has the sites with a monitor of its pollutant, in rising order, each with
+//!   its whole design value (`report`).
+//!
+//! # An example
+//!
+//! ```rust
+//! let book = Book::new(alloc);
+//! let staged = book.stage(alloc, 1, digest, body)?;
+//! let batch = book.batch(alloc, &staged)?; // a keeper commits it, and then
+//! let book = book.take(staged)?;
+//! let value = book.design_value(Standard::Ozone2015, site, 2024, &mut steps)?;
+//! ```
 #![tactic(auto)]
 
 mod batch;
@@ -11,7 +52,6 @@ mod fault;
 mod migration;
 mod opening;
 mod ozone;
-mod particles;
 mod question;
 mod report;
 mod version_1;

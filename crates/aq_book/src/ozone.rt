@@ -1,16 +1,14 @@
-//! The ozone days and years of a site, over a shelf and a registry.
+//! The ozone days of a site, over a shelf and a registry.
 ghost use Rattle.std.specs.Prelude.{◌≡◌, ◌+◌, ◌*◌, ◌≤◌, IfOk};
 ghost use Rattle.aq_base.specs.declared.day.TheConstants.{FIRST_YEAR, LAST_YEAR};
-ghost use Rattle.aq_rules.specs.Ozone.OzoneVerdict as verdicts;
 ghost use Rattle.aq_rules.specs.Ozone.OzoneYear as years;
 ghost use Rattle.aq_series.specs.OfficeView.{office_of};
 
 use aq_base::{Items, Memory, SiteId, Steps};
 use aq_cal::year_span;
-use aq_ozone::{Days, OzoneDay, day_of_windows, year};
+use aq_ozone::{Days, OzoneDay, day_of_windows};
 use aq_registry::Registry;
 use aq_shelf::Shelf;
-use aq_verdict::OzoneYear;
 use std::alloc::Global;
 use std::sync::ledger::Ledger;
 
@@ -38,23 +36,4 @@ pub(crate) fn days_of_year<L: Ledger>(
         days.push(day_of_windows(&walk.next(shelf, registry, site, steps)))?;
     }
     Ok(days)
-}
-
-/// The three years that end with a year, the oldest first.
-pub(crate) fn three_years<L: Ledger>(
-    shelf: &Shelf,
-    registry: &Registry,
-    site: SiteId,
-    last: u16,
-    steps: &mut Steps<L>,
-) -> [OzoneYear; 3]
-    requires first { FIRST_YEAR + 2 ≤ last }
-    requires last { last ≤ LAST_YEAR }
-    ensures years { result ≡ verdicts.three_years (office_of registry.now shelf.now) site last }
-    ensures steps { steps.new ≤ steps.old + 3 * (200 * 367) }
-{
-    let first = year(shelf, registry, site, last - 2, steps);
-    let second = year(shelf, registry, site, last - 1, steps);
-    let third = year(shelf, registry, site, last, steps);
-    [first, second, third]
 }

@@ -17,6 +17,7 @@ use crate::export::{ShownRows, shown_of};
 use crate::fault::{AskFault, UnknownSite};
 use crate::ozone::{OzoneDays, days_of_year};
 use aq_base::{Day, Pollutant, SiteId, Steps};
+use aq_design::Years;
 use aq_ozone::{DayWindows, day_windows};
 use aq_verdict::{OzoneYear, Pm10Year, PmYear};
 use std::alloc::Global;
@@ -106,8 +107,7 @@ impl Book {
         ensures steps { steps.new ≤ steps.old + 200 * 367 }
     {
         self.find(site)?;
-        let summary = aq_ozone::year(&self.shelf, &self.registry, site, year, steps);
-        Ok(summary)
+        Ok(self.ozone(site, year, steps))
     }
 
     /// The PM2.5 year of a site: what is kept of its four quarters, and its eight greatest values (40 CFR
@@ -124,8 +124,7 @@ impl Book {
         ensures registered { is_ok result ≡ is_registered self.now site }
     {
         self.find(site)?;
-        let summary = aq_pm25::year(&self.shelf, &self.registry, site, year, steps);
-        Ok(summary)
+        Ok(self.pm25(site, year, steps))
     }
 
     /// The PM10 year of a site: its four quarters (40 CFR Part 50, Appendix K, 2.3 and 3). It takes no
@@ -142,8 +141,7 @@ impl Book {
         ensures registered { is_ok result ≡ is_registered self.now site }
     {
         self.find(site)?;
-        let summary = aq_pm10::year(&self.shelf, &self.registry, site, year, steps);
-        Ok(summary)
+        Ok(self.pm10(site, year, steps))
     }
 
     /// The observations of a site and pollutant in a year, each with whether it is excluded (40 CFR

@@ -9,6 +9,7 @@ ghost use Rattle.aq_rules.specs.Standards as standards;
 
 use crate::book::Book;
 use aq_base::{Items, Memory, Pollutant, SiteId, Standard, Steps};
+use aq_design::design_value;
 use aq_verdict::DesignValue;
 use std::alloc::Global;
 use std::sync::ledger::Ledger;
@@ -36,7 +37,7 @@ impl Book {
         let mut after = None;
         while let Some(site) = self.registry.next_site(after) {
             if self.measures(site, standard.pollutant()) {
-                let value = self.value_of(standard, site, year, steps);
+                let value = design_value(self, standard, site, year, steps);
                 values.push((site, value))?;
             }
             after = Some(site);

@@ -10,3 +10,4 @@ pub mod Schedules
 pub mod PmQuarters
 pub mod PmYears
 pub mod StrataReached
+pub mod OutsideEvents

@@ -180,33 +180,33 @@ module _ (a b : Office) (site : Site) (quarter : ℕ) (inside : is_year (quarter
         λ i. schedule m.missed missed i && not (is_some (days m.missed missed i)) && not (schedule m.makeup makeup i) && is_some (days m.makeup makeup i)
         && (not (between i) || (m.makeup == m.missed + 7))
 
-    made-in : (office : Office) → IsOffice office → Every (MadeIn quarter) (filter_map (makeup_by site quarter) office.records)
-    made-in office is = makeups-in_quarter site quarter office office.records is.records_fit
+    made-in : (office : Office) → list_all (fits_records office) office.records ≡ true → Every (MadeIn quarter) (filter_map (makeup_by site quarter) office.records)
+    made-in office fit = makeups-in_quarter site quarter office office.records fit
 
-    pub credits-same : IsOffice a → filter_map (makeup_by site quarter) a.records ≡ filter_map (makeup_by site quarter) b.records → credits a site quarter ≡ credits b site quarter
+    pub credits-same : list_all (fits_records a) a.records ≡ true → filter_map (makeup_by site quarter) a.records ≡ filter_map (makeup_by site quarter) b.records → credits a site quarter ≡ credits b site quarter
     unfolding credits
-    credits-same valid made =
+    credits-same fit made =
         filter-agree (gives_credit a site) (gives_credit b site) (filter_map (makeup_by site quarter) a.records)
-        (every-to (MadeIn quarter) (λ m. gives_credit a site m ≡ gives_credit b site m) credit-same (filter_map (makeup_by site quarter) a.records) (made-in a valid))
+        (every-to (MadeIn quarter) (λ m. gives_credit a site m ≡ gives_credit b site m) credit-same (filter_map (makeup_by site quarter) a.records) (made-in a fit))
         ∙ ap (filter (gives_credit b site)) made
 
-    credits-kept : IsOffice a → count_by (λ (m : Makeup). is_kept a site Pm25 m.makeup) (credits a site quarter) ≡ count_by (λ (m : Makeup). is_kept b site Pm25 m.makeup) (credits a site quarter)
+    credits-kept : list_all (fits_records a) a.records ≡ true → count_by (λ (m : Makeup). is_kept a site Pm25 m.makeup) (credits a site quarter) ≡ count_by (λ (m : Makeup). is_kept b site Pm25 m.makeup) (credits a site quarter)
     unfolding credits
-    credits-kept valid =
+    credits-kept fit =
         count-agree (λ (m : Makeup). is_kept a site Pm25 m.makeup) (λ (m : Makeup). is_kept b site Pm25 m.makeup) (filter (gives_credit a site) (filter_map (makeup_by site quarter) a.records))
         (every-kept _ (gives_credit a site) (filter_map (makeup_by site quarter) a.records)
         (every-to (MadeIn quarter) (λ m. is_kept a site Pm25 m.makeup ≡ is_kept b site Pm25 m.makeup)
         (λ m is. ap (λ o. is_some (option_and_then unless_excluded o)) (days m.makeup (record { is_of = is.3; in_profile = is.2 })))
-        (filter_map (makeup_by site quarter) a.records) (made-in a valid)))
+        (filter_map (makeup_by site quarter) a.records) (made-in a fit)))
 
-    pub counts-same : IsOffice a → filter_map (makeup_by site quarter) a.records ≡ filter_map (makeup_by site quarter) b.records → quarter_counts a site quarter ≡ quarter_counts b site quarter
+    pub counts-same : list_all (fits_records a) a.records ≡ true → filter_map (makeup_by site quarter) a.records ≡ filter_map (makeup_by site quarter) b.records → quarter_counts a site quarter ≡ quarter_counts b site quarter
     unfolding quarter_counts
-    counts-same valid made =
+    counts-same fit made =
         let scheduled = scheduled_days-same a b site Pm25 quarter inside schedule in
         let sampled = counted-same a b site Pm25 quarter inside is_some days schedule in
         let kept = counted-same a b site Pm25 quarter inside (λ o. is_some (option_and_then unless_excluded o)) days schedule in
-        let made_up = credits-same valid made in
-        let made_kept = credits-kept valid ∙ ap (count_by (λ (m : Makeup). is_kept b site Pm25 m.makeup)) made_up in
+        let made_up = credits-same fit made in
+        let made_kept = credits-kept fit ∙ ap (count_by (λ (m : Makeup). is_kept b site Pm25 m.makeup)) made_up in
         λ i. record {
           scheduled = length (scheduled i);
           creditable = sampled i + length (made_up i);
@@ -309,11 +309,11 @@ module _ (a b : Office) (site : Site) (quarter : ℕ) (valid : IsOffice a) (afte
     values-out_of_reach pollutant out = values-same a b site pollutant quarter inside (days-same pollutant out)
 
     pub credits-out_of_reach : IsOut Pm25 → credits a site quarter ≡ credits b site quarter
-    credits-out_of_reach out = credits-same a b site quarter inside (days-same Pm25 out) (schedule-same Pm25 out) valid (makeups-same out)
+    credits-out_of_reach out = credits-same a b site quarter inside (days-same Pm25 out) (schedule-same Pm25 out) valid.records_fit (makeups-same out)
 
     pub pm25_quarter-out_of_reach : IsOut Pm25 → pm25_quarter a site quarter ≡ pm25_quarter b site quarter
     pm25_quarter-out_of_reach out =
-        let counts = counts-same a b site quarter inside (days-same Pm25 out) (schedule-same Pm25 out) valid (makeups-same out) in
+        let counts = counts-same a b site quarter inside (days-same Pm25 out) (schedule-same Pm25 out) valid.records_fit (makeups-same out) in
         let values = values-same a b site Pm25 quarter inside (days-same Pm25 out) in
         λ i. record { counts = counts i; values = values i }
 

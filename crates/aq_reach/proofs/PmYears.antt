@@ -25,7 +25,7 @@ use Rattle.aq_reach.proofs.PmQuarters.{values-same, pm25_quarter-out_of_reach, p
 year-reads : (records : List OfficeRecord) (site : Site) (year day hour : ℕ) → year_of day ≡ year → day_of_hour hour ≡ day → ReadsAt (PmYearCell site year) records site Pm25 hour
 year-reads records site year day hour is on = rw (on, is, cell-itself (PmYearCell site year)) refl
 
-in-year : (year part : ℕ) → part < 4 → is_year year ≡ true → is_year (quarter_year (quarter_number year part)) ≡ true
+pub in-year : (year part : ℕ) → part < 4 → is_year year ≡ true → is_year (quarter_year (quarter_number year part)) ≡ true
 in-year year part few inside = subst (λ y. is_year y ≡ true) (sym (quarter-in_year year part few inside)) inside
 
 module _ (a b : Office) (site : Site) (year : ℕ) (valid : IsOffice a) (after : IsOffice b) (inside : is_year year ≡ true) where

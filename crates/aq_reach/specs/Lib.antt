@@ -1,2 +1,3 @@
 -- Examples for the laws.
 pub mod Examples
+pub mod Outside

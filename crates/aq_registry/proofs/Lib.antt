@@ -10,6 +10,7 @@ pub mod ExclusionLemmas
 pub mod AgreedLemmas
 pub mod ReachLemmas
 pub mod RuleLemmas
+pub mod EventLemmas
 pub mod RowCounts
 pub mod HeldLemmas
 pub mod LeftOutLemmas

@@ -3,6 +3,7 @@ pub mod Agreed
 pub mod Places
 pub mod Records
 pub mod Registry
+pub mod Events
 pub mod Rules
 pub mod Changes
 pub mod LineLaws

@@ -4,6 +4,7 @@ ghost use Rattle.std.specs.Option.{option_and_then, option_map_or};
 ghost use Rattle.aq_rules.specs.Office.Designation.{designated_poc};
 ghost use Rattle.aq_rules.specs.Office.Office.{combines, combines_either, is_record, is_same, series_numbers};
 ghost use Rattle.aq_rules.specs.Office.Schedule.{asks_for, distance};
+ghost use Rattle.aq_registry.specs.Events.{event_above};
 ghost use Rattle.aq_registry.specs.Rules.{duration_in};
 ghost use Rattle.aq_registry.specs.Registry.{agreement_in, coverage_in, days_of, designation_in, joined_from, joined_in, schedule_in, missed_by, makeup_in, pair_of, poc_in, registration_in, season_in, site_in};
 
@@ -135,6 +136,27 @@ pub(crate) fn coverage(of: &Option<OfficeRecord>, hour: Hour) -> Option<bool>
             let hour = hour.number();
             Some(first.number() <= hour && hour <= last.number())
         }
+        _ => None,
+    }
+}
+
+/// The number of an event of a site and pollutant, if it is above the given one.
+#[tactic(auto, using(crate::proofs::EventLemmas::event_series))]
+pub(crate) fn event_above(
+    of: &OfficeRecord,
+    site: &SiteId,
+    pollutant: Pollutant,
+    after: u32,
+) -> Option<u32>
+    ensures { result ≡ event_above site.now pollutant after of.now }
+{
+    match of {
+        OfficeRecord::Event {
+            number,
+            site: other,
+            pollutant: measured,
+            ..
+        } if is_same_series(other, *measured, site, pollutant) && after < *number => Some(*number),
         _ => None,
     }
 }

@@ -15,6 +15,7 @@ ghost use Rattle.aq_registry.specs.Registry.{days_of, joined_from, missed_by, of
 ghost use Rattle.aq_base.specs.declared.day.TheConstants.{FIRST_YEAR, LAST_YEAR};
 
 mod apply;
+mod events;
 mod rules;
 
 use crate::agreed::Agreed;

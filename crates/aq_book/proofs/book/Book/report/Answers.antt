@@ -35,7 +35,7 @@ returns-in_err-push-clause-steps g c ozone =
     (with_next office pollutant c.loop-site.after site (subst IsOffice c.self.view_is c.self.invariant) next c.measures.result there
     ∙ ap (λ b. cond b (site ∷ behind) behind) c.if-measures.true)
     in
-    omega (arith, here, c.value_of-value.ensures.steps ozone, c.loop-site.invariant.steps ozone)
+    omega (arith, here, c.design_value-value.ensures.steps ozone, c.loop-site.invariant.steps ozone)
 
 pub loop-site-smaller : goal.loop-site-smaller
 loop-site-smaller g c =
@@ -57,15 +57,15 @@ loop-site-preserved g c =
     elim c.if-measures.branch [
       | then-measures+in_ok-push w ↦
           let here : with_monitor office pollutant (sites_above office.records c.loop-site.after) ≡ site ∷ behind = walk ∙ ap (λ b. cond b (site ∷ behind) behind) w.if-measures.true in
-          let values : c.if-measures.values ≡ c.loop-site.values ++ (site, w.value_of-value.result) ∷ [] = w.values-is ∙ w.in_ok-push.ensures.ok in
-          let steps : c.if-measures.steps ≡ w.value_of-value.new.steps = w.steps-is in
+          let values : c.if-measures.values ≡ c.loop-site.values ++ (site, w.design_value-value.result) ∷ [] = w.values-is ∙ w.in_ok-push.ensures.ok in
+          let steps : c.if-measures.steps ≡ w.design_value-value.new.steps = w.steps-is in
           record {
             values =
                 ap (λ (l : List (Site × DesignValue)). map valued_in l ++ map value_of behind) values
-                ∙ valued-more c.args.standard office c.args.year c.loop-site.values site w.value_of-value.result behind w.value_of-value.ensures.value
+                ∙ valued-more c.args.standard office c.args.year c.loop-site.values site w.design_value-value.result behind w.design_value-value.ensures.value
                 ∙ ap (λ (l : List Site). map valued_in c.loop-site.values ++ map value_of l) (sym here)
                 ∙ c.loop-site.invariant.values;
-            steps = λ ozone. let many = ap length here in omega (arith, many, steps, w.value_of-value.ensures.steps ozone, c.loop-site.invariant.steps ozone);
+            steps = λ ozone. let many = ap length here in omega (arith, many, steps, w.design_value-value.ensures.steps ozone, c.loop-site.invariant.steps ozone);
           }
       | else-measures w ↦
           let here : with_monitor office pollutant (sites_above office.records c.loop-site.after) ≡ behind = walk ∙ ap (λ b. cond b (site ∷ behind) behind) w.if-measures.false in

@@ -1,0 +1,2 @@
+-- Lemmas on design values.
+pub mod DesignLemmas

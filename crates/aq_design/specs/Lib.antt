@@ -1,0 +1,1 @@
+-- Nothing of its own: the contracts speak the words of the book of rules.

@@ -1,0 +1,36 @@
+//! Design values of a site (40 CFR Part 50, Appendices U, N and K), over any source of what is kept of
+//! its years: a shelf and a registry, or whatever else knows the years of an office. It takes no memory.
+//!
+//! # What it has
+//!
+//! - [`Years`]: gives the ozone, PM2.5 and PM10 years of an office's sites, which contracts name
+//!   (`office`).
+//! - [`FromShelf`]: a shelf and a registry as such a source; each year is computed at the call.
+//! - [`design_value`]: the design value of a standard for a site and the three years that end with a
+//!   year, as a `DesignValue` of aq_verdict. The year is 1992 to 2059.
+//!
+//! # What it promises
+//!
+//! - The design value of each of the six standards is the book's over the source's office, with what is
+//!   kept of its three years and the verdict (`design_value`, clause `value`).
+//! - For ozone it makes at most 200 steps for each day of a year and for the one after it (clause
+//!   `steps`).
+//! - What a source gives is the book's year of the site in its office (the trait `Years`), and so is
+//!   what is computed from a shelf and a registry (`FromShelf`).
+//!
+//! # An example
+//!
+//! ```rust
+//! let source = FromShelf { shelf: &shelf, registry: &registry };
+//! let value = design_value(&source, Standard::Ozone2015, site, 2024, &mut steps);
+//! assert!(rt; value.verdict() == Verdict::Met);
+//! ```
+#![tactic(auto)]
+
+mod from_shelf;
+mod value;
+mod years;
+
+pub use from_shelf::FromShelf;
+pub use value::design_value;
+pub use years::Years;

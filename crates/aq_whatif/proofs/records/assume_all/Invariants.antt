@@ -1,0 +1,9 @@
+use Rattle.std.proofs.Common.{◌≡◌, true, drop}
+use Rattle.aq_whatif.specs.Records.{are_event_numbers, records_as_if}
+use Rattle.aq_whatif.proofs.records.assume_all.Given as goal
+
+abbrev pub invariant-loop-entry : goal.invariant-loop-entry
+invariant-loop-entry l = record {
+  records : records_as_if l.records (drop l.entry-index l.assumed) ≡ records_as_if l.fn.records l.assumed;
+  numbers : are_event_numbers (drop l.entry-index l.assumed) ≡ true;
+}
