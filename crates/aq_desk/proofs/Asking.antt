@@ -11,8 +11,8 @@ use Rattle.aq_rules.specs.Shown.Sheet.{Sheet}
 use Rattle.aq_words.specs.Words.{is_question}
 use Rattle.aq_desk.proofs.Opening.{over_opened, unopened_gives}
 use Rattle.aq_desk.proofs.Tables.{cut_gives, keeps_opened, printed_gives, stopped_gives}
-use Rattle.aq_desk.specs.Ask.{HasSite, IsUnanswered, answered, ask_outcome}
-use Rattle.aq_desk.specs.Command.{Keeps, Outcome, Printout, leaving, printed}
+use Rattle.aq_desk.specs.Ask.{HasSite, IsUnanswered, ask_outcome}
+use Rattle.aq_desk.specs.Command.{Keeps, Outcome, Printout, leaving, printed, unwritten}
 use Rattle.aq_desk.specs.Office.{HasOpened, IsOpened, IsUnopened}
 use Rattle.aq_serve.specs.Outside.{OfTold}
 use Rattle.aq_desk.specs.Stop.{Gives, IsUnprinted, ending_at, status_of}
@@ -56,21 +56,25 @@ has_site office (Export site pollutant year) asked is = tt
 
 -- ---- and over the tables
 
-ask_opened : (ask : Ask) (rows : List Row) (office : Office) → IsOpened rows office → ask_outcome ask rows ≡ leaving (rows_of office) (answered ask (questions.answer office ask))
+ask_opened : (printout : Office → Printout) (rows : List Row) (office : Office) → IsOpened rows office → ask_outcome printout rows ≡ leaving (rows_of office) (printout office)
 unfolding ask_outcome
-ask_opened ask rows office opened = over_opened rows office (λ o. leaving (rows_of o) (answered ask (questions.answer o ask))) opened
+ask_opened printout rows office opened = over_opened rows office (λ o. leaving (rows_of o) (printout o)) opened
 
-pub unopened_ask : (ask : Ask) (before after : Option (List Row)) (m n : ℕ) (stop : Stop) (answer : Result (List ℕ) Stop) → IsErrAnd answer (λ why. why ≡ stop) → IsUnopened before after m n stop → OfTold (told_through before after) (λ rows. Gives (ask_outcome ask rows) answer before after)
-unfolding ask_outcome
-unopened_ask ask before after m n stop answer is cause =
-    unopened_gives before after m n stop (λ office. leaving (rows_of office) (answered ask (questions.answer office ask))) answer is cause
+module _ (printout : Office → Printout) (answer : Result (List ℕ) Stop) (before after : Option (List Row)) where
+  pub unopened_ask : (m n : ℕ) (stop : Stop) → IsErrAnd answer (λ why. why ≡ stop) → IsUnopened before after m n stop → OfTold (told_through before after) (λ rows. Gives (ask_outcome printout rows) answer before after)
+  unfolding ask_outcome
+  unopened_ask m n stop is cause = unopened_gives before after m n stop (λ office. leaving (rows_of office) (printout office)) answer is cause
 
 module _ (rows : List Row) (before after : Option (List Row)) (keeps : (status : ℕ) → (status ≡ 3 → ⊥) → Keeps rows status before after) where
+  unwritten-gives : (printout : Printout) (stop : Stop) → printout ≡ unwritten (ending_at stop) → ((ending_at stop).status ≡ 3 → ⊥) → Gives (leaving rows printout) (Err stop) before after
+  unwritten-gives printout stop is three =
+      let P = λ (p : Printout). Gives (leaving rows p) (Err stop) before after in
+      subst P (sym is) (stopped_gives rows before after stop (keeps (ending_at stop).status three))
+
   unanswered-gives : (printout : Printout) (stop : Stop) → IsUnanswered printout stop → Gives (leaving rows printout) (Err stop) before after
   unanswered-gives printout stops.Memory cause = cut_gives (leaving rows printout) stops.Memory before after (λ kept. omega (arith, kept)) (keeps 7 (λ three. omega (arith, three)))
-  unanswered-gives printout (stops.NoSite site) cause =
-      let P = λ (p : Printout). Gives (leaving rows p) (Err (stops.NoSite site)) before after in
-      subst P (sym cause) (stopped_gives rows before after (stops.NoSite site) (keeps 12 (λ three. omega (arith, three))))
+  unanswered-gives printout (stops.NoSite site) cause = unwritten-gives printout (stops.NoSite site) cause (λ three. omega (arith, three))
+  unanswered-gives printout (stops.NoEvent number) cause = unwritten-gives printout (stops.NoEvent number) cause (λ three. omega (arith, three))
   unanswered-gives printout stops.InputFailed cause = absurd cause
   unanswered-gives printout stops.OutputFailed cause = absurd cause
   unanswered-gives printout stops.KeeperFailed cause = absurd cause
@@ -87,22 +91,23 @@ module _ (rows : List Row) (before after : Option (List Row)) (keeps : (status :
       subst P (sym is) (printed_gives rows before after text (keeps 0 (λ three. omega (arith, three))))
   answered-gives printout (Err stop) is refused = unanswered-gives printout stop refused
 
-pub answered_over : (ask : Ask) (office : Office) (answer : Result (List ℕ) Stop) (before after : Option (List Row)) → HasOpened office before after
-    → IfOk answer (λ text. answered ask (questions.answer office ask) ≡ printed text) → IfErr answer (IsUnanswered (answered ask (questions.answer office ask)))
-    → OfTold (told_through before after) (λ rows. Gives (ask_outcome ask rows) answer before after)
-answered_over ask office answer before after has text refused =
-    let over = has.opened in
-    let P = λ (o : Outcome). Gives o answer before after in
-    record {
-      all = over.all;
-      is_all = over.is_all;
-      says = subst P (sym (ask_opened ask over.all office over.says))
-          (answered-gives (rows_of office) before after (λ status three. keeps_opened over.all office status before after three over.is_all over.says.are_rows has.tables) (answered ask (questions.answer office ask)) answer text refused);
-    }
+module _ (printout : Office → Printout) (office : Office) (answer : Result (List ℕ) Stop) (before after : Option (List Row)) where
+  pub answered_over : HasOpened office before after → IfOk answer (λ text. printout office ≡ printed text) → IfErr answer (IsUnanswered (printout office))
+      → OfTold (told_through before after) (λ rows. Gives (ask_outcome printout rows) answer before after)
+  answered_over has text refused =
+      let over = has.opened in
+      let P = λ (o : Outcome). Gives o answer before after in
+      record {
+        all = over.all;
+        is_all = over.is_all;
+        says = subst P (sym (ask_opened printout over.all office over.says))
+            (answered-gives (rows_of office) before after (λ status three. keeps_opened over.all office status before after three over.is_all over.says.are_rows has.tables) (printout office) answer text refused);
+      }
 
 unanswered-unprinted : (printout : Printout) (stop : Stop) → IsUnanswered printout stop → IsUnprinted stop × ((ending_at stop).status ≡ 5 → ⊥)
 unanswered-unprinted printout stops.Memory cause = (grind arith, (λ five. omega (arith, five)))
 unanswered-unprinted printout (stops.NoSite site) cause = (grind arith, (λ five. omega (arith, five)))
+unanswered-unprinted printout (stops.NoEvent number) cause = (grind arith, (λ five. omega (arith, five)))
 unanswered-unprinted printout stops.InputFailed cause = absurd cause
 unanswered-unprinted printout stops.OutputFailed cause = absurd cause
 unanswered-unprinted printout stops.KeeperFailed cause = absurd cause

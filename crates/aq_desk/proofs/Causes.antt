@@ -18,7 +18,7 @@ use Rattle.aq_desk.specs.Stop.{EndsAs, IsMeasured, Obeys, Performs, ending_of, s
 use Rattle.aq_words.specs.declared.words.Command.{Command}
 use Rattle.aq_words.specs.declared.words.Command.TheVariants.{Serve}
 use Rattle.aq_desk.specs.declared.stop.Stop.{Stop}
-use Rattle.aq_desk.specs.declared.stop.Stop.TheVariants.{InputFailed, OutputFailed, KeeperFailed, DoorFailed, Damaged, Memory, Conflict, TooManyBytes, TooManyLines, LoadsFull, NoSite}
+use Rattle.aq_desk.specs.declared.stop.Stop.TheVariants.{InputFailed, OutputFailed, KeeperFailed, DoorFailed, Damaged, Memory, Conflict, TooManyBytes, TooManyLines, LoadsFull, NoSite, NoEvent}
 
 whole-0 : IsWhole 0
 whole-0 = grind arith
@@ -38,6 +38,9 @@ whole-11 = grind arith
 whole-12 : IsWhole 12
 whole-12 = grind arith
 
+whole-13 : IsWhole 13
+whole-13 = grind arith
+
 -- the message that was told is that of the status
 message-is : (outcome : Outcome) (answer : Result Unit Stop) → EndsAs outcome answer → (ending_of answer).message ≡ message_for outcome (status_of answer)
 message-is outcome (Ok nothing) ends = ap (λ ending. ending.message) (ends whole-0)
@@ -52,6 +55,7 @@ message-is outcome (Err TooManyBytes) ends = ap (λ ending. ending.message) (end
 message-is outcome (Err (TooManyLines lines)) ends = ap (λ ending. ending.message) (ends whole-10)
 message-is outcome (Err LoadsFull) ends = ap (λ ending. ending.message) (ends whole-11)
 message-is outcome (Err (NoSite site)) ends = ap (λ ending. ending.message) (ends whole-12)
+message-is outcome (Err (NoEvent number)) ends = ap (λ ending. ending.message) (ends whole-13)
 
 performs_follows : (outcome : Outcome) (answer : Result Unit Stop) (before after : Option (List ℕ)) (tables_before tables_after : Option (List Row)) → Performs outcome answer before after tables_before tables_after → Follows outcome (status_of answer) before after tables_before tables_after
 performs_follows outcome answer before after tables_before tables_after performs = record {

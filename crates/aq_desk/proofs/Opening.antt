@@ -23,7 +23,7 @@ use Rattle.aq_desk.specs.Office.{HasOpened, IsOpened, IsUnopened, over_damage, o
 use Rattle.aq_serve.specs.Outside.{IsAll, OfTold}
 use Rattle.aq_desk.specs.Stop.{Gives, IsUnprinted, ending_at, status_of, stop_of_book}
 use Rattle.aq_desk.specs.declared.stop.Stop.{Stop}
-use Rattle.aq_desk.specs.declared.stop.Stop.TheVariants.{InputFailed, OutputFailed, KeeperFailed, DoorFailed, Damaged, Memory, Conflict, TooManyBytes, TooManyLines, LoadsFull, NoSite}
+use Rattle.aq_desk.specs.declared.stop.Stop.TheVariants.{InputFailed, OutputFailed, KeeperFailed, DoorFailed, Damaged, Memory, Conflict, TooManyBytes, TooManyLines, LoadsFull, NoSite, NoEvent}
 
 -- ---- rows that are opened
 
@@ -155,6 +155,7 @@ read_unopened before read after m k n TooManyBytes stays steady cause = absurd c
 read_unopened before read after m k n (TooManyLines lines) stays steady cause = absurd cause
 read_unopened before read after m k n LoadsFull stays steady cause = absurd cause
 read_unopened before read after m k n (NoSite site) stays steady cause = absurd cause
+read_unopened before read after m k n (NoEvent number) stays steady cause = absurd cause
 
 -- migrated rows are an office's, so none is damaged
 pub undamaged_old : (rows standing : List Row) (place : Place) → ((rs : List Row) → (damage rs ≡ None) ↔ IsTrue (are_office_rows rs)) → ((rs : List Row) → IsTrue (are_version_1 rs) → IsTrue (are_office_rows (migrated rs)))
@@ -222,6 +223,7 @@ unopened-gives before after m n TooManyBytes next cause = absurd cause
 unopened-gives before after m n (TooManyLines lines) next cause = absurd cause
 unopened-gives before after m n LoadsFull next cause = absurd cause
 unopened-gives before after m n (NoSite site) next cause = absurd cause
+unopened-gives before after m n (NoEvent number) next cause = absurd cause
 
 pub unopened_gives : (before after : Option (List Row)) (m n : ℕ) (stop : Stop) (next : Office → Outcome) (answer : Result (List ℕ) Stop) → IsErrAnd answer (λ why. why ≡ stop) → IsUnopened before after m n stop → OfTold (told_through before after) (λ rows. Gives (over_office rows next) answer before after)
 unopened_gives before after m n stop next answer is cause =
@@ -244,6 +246,7 @@ unopened-fault before after m n TooManyBytes cause = absurd cause
 unopened-fault before after m n (TooManyLines lines) cause = absurd cause
 unopened-fault before after m n LoadsFull cause = absurd cause
 unopened-fault before after m n (NoSite site) cause = absurd cause
+unopened-fault before after m n (NoEvent number) cause = absurd cause
 
 pub fault-unprinted : (m n : ℕ) (stop : Stop) → IsFault m n (ending_at stop).status → IsUnprinted stop
 fault-unprinted m n stop (inl five) = inl five.0

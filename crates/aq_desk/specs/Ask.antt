@@ -1,15 +1,20 @@
--- The commands that ask, `show STANDARD SITE YEAR`, `report STANDARD YEAR` and `export SITE PARAMETER YEAR`: the answer over the office of the tables is printed (own).
+-- The commands that ask: the answer to a question is printed over the office of the tables. Those of `show STANDARD SITE YEAR`, `report STANDARD YEAR` and `export SITE PARAMETER YEAR` are the book's questions (own).
 use Rattle.std.specs.Prelude.{◌≡◌, ⊤, List}
 use Rattle.aq_base.specs.declared.ask.Ask.{Ask}
 use Rattle.aq_base.specs.declared.ask.Ask.TheVariants.{Value, Export}
 use Rattle.aq_rules.specs.Kept.Rows.{Row, rows_of}
+use Rattle.aq_rules.specs.Office.Office.{Office}
 use Rattle.aq_rules.specs.Shown.Answer.{Answer, OfSheet, OfExport, NoSite, NoLoad, answer}
 use Rattle.aq_rules.specs.Shown.Sheet.{text_of}
 use Rattle.aq_desk.specs.Command.{Outcome, Printout, leaving, printed, unwritten}
-use Rattle.aq_desk.specs.Ending.{Ending, no_command, no_site}
+use Rattle.aq_desk.specs.Ending.{Ending, no_command, no_event, no_site}
 use Rattle.aq_desk.specs.Office.{over_office}
 use Rattle.aq_desk.specs.declared.stop.Stop.{Stop}
 use Rattle.aq_desk.specs.declared.stop.Stop.TheVariants as stops
+
+-- what is printed over the office of the tables, which are then its own
+unfoldable pub ask_outcome : (Office → Printout) → List Row → Outcome
+ask_outcome printout rows = over_office rows (λ office. leaving (rows_of office) (printout office))
 
 -- a question without an answer: its site is not registered. A report has always one, and words ask for no other.
 abbrev pub without_answer : Ask → Ending
@@ -24,8 +29,8 @@ answered ask (OfExport text) = printed text
 answered ask NoSite = unwritten (without_answer ask)
 answered ask NoLoad = unwritten no_command
 
-unfoldable pub ask_outcome : Ask → List Row → Outcome
-ask_outcome ask rows = over_office rows (λ office. leaving (rows_of office) (answered ask (answer office ask)))
+abbrev pub ask_printout : Ask → Office → Printout
+ask_printout ask office = answered ask (answer office ask)
 
 -- the questions of a site
 abbrev pub HasSite : Ask → Type 0
@@ -33,8 +38,9 @@ HasSite (Value standard site year) = ⊤
 HasSite (Export site pollutant year) = ⊤
 HasSite _ = ⊥
 
--- why an answer is not printed: the site is not registered, or memory ran out
+-- why an answer is not printed: the site is not registered, no event has a number, or memory ran out
 abbrev pub IsUnanswered : Printout → Stop → Type 0
 IsUnanswered printout stops.Memory = ⊤
 IsUnanswered printout (stops.NoSite site) = printout ≡ unwritten (no_site site)
+IsUnanswered printout (stops.NoEvent number) = printout ≡ unwritten (no_event number)
 IsUnanswered printout _ = ⊥

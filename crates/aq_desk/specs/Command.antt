@@ -42,7 +42,7 @@ leaving rows printout = record { ending = printout.ending; output = printout.out
 
 -- the statuses of a run that did all of its command; the others are those of one that was cut short
 abbrev pub IsWhole : ℕ → Type 0
-IsWhole status = (status ≡ 0) ⊎ (status ≡ 2) ⊎ (status ≡ 6) ⊎ (status ≡ 9) ⊎ (status ≡ 10) ⊎ (status ≡ 11) ⊎ (status ≡ 12)
+IsWhole status = (status ≡ 0) ⊎ (status ≡ 2) ⊎ (status ≡ 6) ⊎ (status ≡ 9) ⊎ (status ≡ 10) ⊎ (status ≡ 11) ⊎ (status ≡ 12) ⊎ (status ≡ 13)
 
 -- the statuses with which the tables are those of the command: it did all, or only its output failed
 abbrev pub IsKept : ℕ → Type 0
@@ -104,4 +104,4 @@ ReadsWhole status = (status ≡ 0) ⊎ (status ≡ 4) ⊎ (status ≡ 5) ⊎ (st
 
 -- the statuses of one that wrote nothing on the output
 abbrev pub WritesNothing : ℕ → Type 0
-WritesNothing status = (status ≡ 2) ⊎ (status ≡ 3) ⊎ (status ≡ 5) ⊎ (status ≡ 6) ⊎ (status ≡ 8) ⊎ (status ≡ 9) ⊎ (status ≡ 10) ⊎ (status ≡ 11)
+WritesNothing status = (status ≡ 2) ⊎ (status ≡ 3) ⊎ (status ≡ 5) ⊎ (status ≡ 6) ⊎ (status ≡ 8) ⊎ (status ≡ 9) ⊎ (status ≡ 10) ⊎ (status ≡ 11) ⊎ (status ≡ 13)

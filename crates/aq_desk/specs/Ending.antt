@@ -23,7 +23,8 @@ ends status cause = record { status = status; message = codes "airdv: " ++ decim
 abbrev pub commands : List (List ℕ)
 commands =
     codes "scan SITE DAY" ∷ codes "load NUMBER" ∷ codes "show STANDARD SITE YEAR" ∷ codes "report STANDARD YEAR"
-    ∷ codes "export SITE PARAMETER YEAR" ∷ codes "serve --port P --connections N" ∷ codes "simulate START SITES YEARS" ∷ []
+    ∷ codes "export SITE PARAMETER YEAR" ∷ codes "whatif STANDARD SITE YEAR LIST" ∷ codes "decisive STANDARD SITE YEAR"
+    ∷ codes "serve --port P --connections N" ∷ codes "simulate START SITES YEARS" ∷ []
 
 -- a line for each command
 abbrev pub usage : List ℕ
@@ -71,11 +72,11 @@ loads_full = ends 11 (codes "loads full")
 abbrev pub no_site : Site → Ending
 no_site site = ends 12 (codes "no site " ++ site_text site)
 
--- ---- of the commands to come: what-if, combined sites and areas
-
--- with the first event number of the list that no event has
+-- with the first number of the list that no event has
 abbrev pub no_event : ℕ → Ending
 no_event number = ends 13 (codes "no event " ++ decimal number)
+
+-- ---- of the commands to come: combined sites and areas
 
 -- with the site of which no combination stands
 abbrev pub no_combination : Site → Ending

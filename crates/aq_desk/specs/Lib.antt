@@ -7,6 +7,7 @@ pub mod Office
 pub mod Scan
 pub mod Load
 pub mod Ask
+pub mod WhatIf
 pub mod Serve
 pub mod Simulate
 pub mod Run

@@ -4,7 +4,7 @@ use Rattle.std.specs.Option.{option_map}
 use Rattle.aq_rules.specs.Kept.Rows.{Row}
 use Rattle.aq_desk.specs.Body.{is_within}
 use Rattle.aq_desk.specs.Command.{IsWhole, Keeps, Outcome, Printout, ReadsWhole, RisesAt, printout_of}
-use Rattle.aq_desk.specs.Ending.{Ending, done, input_failed, output_failed, keeper_failed, damaged, no_memory, door_failed, conflict, too_many_bytes, too_many_lines, loads_full, no_site}
+use Rattle.aq_desk.specs.Ending.{Ending, done, input_failed, output_failed, keeper_failed, damaged, no_memory, door_failed, conflict, too_many_bytes, too_many_lines, loads_full, no_site, no_event}
 use Rattle.aq_desk.specs.Writing.{WritesFront}
 use Rattle.aq_rows.specs.declared.opening.OpenFault.{OpenFault}
 use Rattle.aq_rows.specs.declared.opening.OpenFault.TheVariants as opening
@@ -13,7 +13,7 @@ use Rattle.aq_keeper.specs.declared.keeper.KeeperFault.TheVariants as keeper
 use Rattle.aq_desk.specs.declared.body.BodyFault.{BodyFault}
 use Rattle.aq_desk.specs.declared.body.BodyFault.TheVariants as fault
 use Rattle.aq_desk.specs.declared.stop.Stop.{Stop}
-use Rattle.aq_desk.specs.declared.stop.Stop.TheVariants.{InputFailed, OutputFailed, KeeperFailed, DoorFailed, Damaged, Memory, Conflict, TooManyBytes, TooManyLines, LoadsFull, NoSite}
+use Rattle.aq_desk.specs.declared.stop.Stop.TheVariants.{InputFailed, OutputFailed, KeeperFailed, DoorFailed, Damaged, Memory, Conflict, TooManyBytes, TooManyLines, LoadsFull, NoSite, NoEvent}
 
 abbrev pub ending_at : Stop → Ending
 ending_at InputFailed = input_failed
@@ -27,6 +27,7 @@ ending_at TooManyBytes = too_many_bytes
 ending_at (TooManyLines lines) = too_many_lines lines
 ending_at LoadsFull = loads_full
 ending_at (NoSite site) = no_site site
+ending_at (NoEvent number) = no_event number
 
 -- a command that was done, or stopped
 abbrev pub ending_of : {A : Type 0} → Result A Stop → Ending
@@ -81,11 +82,11 @@ IsTaken status = (status ≡ 0) ⊎ (status ≡ 4) ⊎ (status ≡ 7) ⊎ (statu
 abbrev pub IsCutShort : Stop → Type 0
 IsCutShort stop = ((ending_at stop).status ≡ 4) ⊎ ((ending_at stop).status ≡ 7)
 
--- stopped before it printed: the office was not opened, the load not taken, or the site is not registered
+-- stopped before it printed: the office was not opened, the load not taken, the site is not registered, or an event does not stand
 abbrev pub IsUnprinted : Stop → Type 0
 IsUnprinted stop =
     let status = (ending_at stop).status in
-    (status ≡ 5) ⊎ (status ≡ 6) ⊎ (status ≡ 7) ⊎ (status ≡ 9) ⊎ (status ≡ 11) ⊎ (status ≡ 12)
+    (status ≡ 5) ⊎ (status ≡ 6) ⊎ (status ≡ 7) ⊎ (status ≡ 9) ⊎ (status ≡ 11) ⊎ (status ≡ 12) ⊎ (status ≡ 13)
 
 -- why it ended so: a count of faults rose
 pub record HasCauses (status input_before input_after output_before output_after : ℕ) : Type 0 where

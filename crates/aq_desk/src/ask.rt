@@ -1,10 +1,8 @@
-//! The commands that ask: `show`, `report` and `export`.
+//! The commands that ask, and of these `show`, `report` and `export`.
 ghost use Rattle.std.specs.Prelude.{◌≡◌, IfErr, IfOk, IsTrue};
 ghost use Rattle.aq_keeper.specs.Told.{told_through};
-ghost use Rattle.aq_rules.specs.Shown.Answer as questions;
-ghost use Rattle.aq_words.specs.Words.{is_question};
-ghost use Rattle.aq_desk.specs.Ask.{HasSite, IsUnanswered, answered, ask_outcome, without_answer};
-ghost use Rattle.aq_desk.specs.Command.{RisesAt, WritesNothing, printed};
+ghost use Rattle.aq_desk.specs.Ask.{HasSite, ask_outcome, without_answer};
+ghost use Rattle.aq_desk.specs.Command.{RisesAt, WritesNothing};
 ghost use Rattle.aq_desk.specs.Ending.{no_site};
 ghost use Rattle.aq_serve.specs.Outside.{OfTold};
 ghost use Rattle.aq_desk.specs.Stop.{Gives, IsUnprinted, Performs, status_of};
@@ -20,47 +18,71 @@ use aq_serve::Sink;
 use aq_service::{Answer, answer_to};
 use std::alloc::Global;
 
+/// A question about an office, whose answer is a text.
+pub(crate) trait Question {
+    ghost use Rattle.std.specs.Prelude.{◌≡◌, Bool, IfErr, IfOk, IsTrue};
+    ghost use Rattle.aq_rules.specs.Office.Office.{Office};
+    ghost use Rattle.aq_desk.specs.Ask.{IsUnanswered};
+    ghost use Rattle.aq_desk.specs.Command.{Printout, printed};
+
+    /// What is printed of it, over an office.
+    ghost printout: { Self → Office → Printout };
+
+    /// Whether words may ask it.
+    ghost is_asked: { Self → Bool };
+
+    /// The text of its answer over an office.
+    fn text(&self, alloc: Global, book: &Book) -> Result<Bytes, Stop>
+        requires { IsTrue (is_asked self.now) }
+        ensures text { IfOk result (λ text. printout self.now book.now ≡ printed text) }
+        ensures refused { IfErr result (IsUnanswered (printout self.now book.now)) };
+}
+
 /// Prints the answer to a question over the office of the tables.
-pub(crate) fn ask<K: Keeper, O: Sink>(
+pub(crate) fn ask<Q: Question, K: Keeper, O: Sink>(
     alloc: Global,
-    ask: &Ask,
+    question: &Q,
     keeper: &mut K,
     output: &mut O,
 ) -> Result<(), Stop>
-    requires { IsTrue (is_question ask.now) }
-    ensures told { OfTold (told_through (K.tables keeper.old) (K.tables keeper.new)) (λ rows. Performs (ask_outcome ask.now rows) result (O.written output.old) (O.written output.new) (K.tables keeper.old) (K.tables keeper.new)) }
+    requires { IsTrue (Q.is_asked question.now) }
+    ensures told { OfTold (told_through (K.tables keeper.old) (K.tables keeper.new)) (λ rows. Performs (ask_outcome (Q.printout question.now) rows) result (O.written output.old) (O.written output.new) (K.tables keeper.old) (K.tables keeper.new)) }
     ensures no_input { (status_of result ≡ 3 → ⊥) × (status_of result ≡ 10 → ⊥) }
     ensures no_door { status_of result ≡ 8 → ⊥ }
     ensures output_failed { RisesAt 4 (status_of result) (O.faults output.old) (O.faults output.new) }
     ensures keeper_failed { RisesAt 5 (status_of result) (K.faults keeper.old) (K.faults keeper.new) }
     ensures silent { WritesNothing (status_of result) → output.new ≡ output.old }
 {
-    let text = asked(alloc, ask, keeper)?;
+    let text = asked(alloc, question, keeper)?;
     print_text(text.as_slice(), output)
 }
 
 /// The text of the answer over the office of the tables.
-fn asked<K: Keeper>(alloc: Global, ask: &Ask, keeper: &mut K) -> Result<Bytes, Stop>
-    requires { IsTrue (is_question ask.now) }
-    ensures told { OfTold (told_through (K.tables keeper.old) (K.tables keeper.new)) (λ rows. Gives (ask_outcome ask.now rows) result (K.tables keeper.old) (K.tables keeper.new)) }
+fn asked<Q: Question, K: Keeper>(alloc: Global, question: &Q, keeper: &mut K) -> Result<Bytes, Stop>
+    requires { IsTrue (Q.is_asked question.now) }
+    ensures told { OfTold (told_through (K.tables keeper.old) (K.tables keeper.new)) (λ rows. Gives (ask_outcome (Q.printout question.now) rows) result (K.tables keeper.old) (K.tables keeper.new)) }
     ensures unprinted { IfErr result IsUnprinted }
     ensures keeper_failed { RisesAt 5 (status_of result) (K.faults keeper.old) (K.faults keeper.new) }
 {
     let book = open(alloc, keeper)?;
-    text_of_answer(alloc, &book, ask)
+    question.text(alloc, &book)
 }
 
-/// The text of the answer over an office.
-fn text_of_answer(alloc: Global, book: &Book, ask: &Ask) -> Result<Bytes, Stop>
-    requires { IsTrue (is_question ask.now) }
-    ensures text { IfOk result (λ text. answered ask.now (questions.answer book.now ask.now) ≡ printed text) }
-    ensures refused { IfErr result (IsUnanswered (answered ask.now (questions.answer book.now ask.now))) }
-{
-    match answer_to(alloc, book, ask)? {
-        Answer::Sheet(sheet) => Ok(Bytes::from_vec(text_of(alloc, &sheet)?)),
-        Answer::Export(text) => Ok(Bytes::from_vec(text)),
-        Answer::NoSite => Err(Stop::NoSite(site_asked(ask))),
-        Answer::NoLoad => unreachable!(),
+impl Question for Ask {
+    ghost use Rattle.aq_desk.specs.Ask.{ask_printout};
+    ghost use Rattle.aq_words.specs.Words.{is_question};
+
+    ghost printout = { ask_printout };
+
+    ghost is_asked = { is_question };
+
+    fn text(&self, alloc: Global, book: &Book) -> Result<Bytes, Stop> {
+        match answer_to(alloc, book, self)? {
+            Answer::Sheet(sheet) => Ok(Bytes::from_vec(text_of(alloc, &sheet)?)),
+            Answer::Export(text) => Ok(Bytes::from_vec(text)),
+            Answer::NoSite => Err(Stop::NoSite(site_asked(self))),
+            Answer::NoLoad => unreachable!(),
+        }
     }
 }
 

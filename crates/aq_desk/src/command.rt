@@ -28,6 +28,8 @@ usage: airdv load NUMBER\n\
 usage: airdv show STANDARD SITE YEAR\n\
 usage: airdv report STANDARD YEAR\n\
 usage: airdv export SITE PARAMETER YEAR\n\
+usage: airdv whatif STANDARD SITE YEAR LIST\n\
+usage: airdv decisive STANDARD SITE YEAR\n\
 usage: airdv serve --port P --connections N\n\
 usage: airdv simulate START SITES YEARS\n";
 
@@ -115,6 +117,8 @@ pub fn perform<K: Keeper, D: Door, S: Source, O: Sink>(
         Command::Scan { site, day } => scan(alloc, *site, *day, input, output),
         Command::Load(number) => load(alloc, *number, keeper, input, output),
         Command::Ask(question) => ask(alloc, question, keeper, output),
+        Command::WhatIf(question) => ask(alloc, question, keeper, output),
+        Command::Decisive(question) => ask(alloc, question, keeper, output),
         Command::Serve { port, connections } => serve(alloc, *port, *connections, keeper, door),
         Command::Simulate {
             start,

@@ -1,4 +1,42 @@
-//! The desk: the top call `run`, and the outside as it sees it.
+//! The desk: the top call `run`, which obeys the words of a command over a keeper, a door and three
+//! streams, and whose clause `headline` is the program's promise. `docs/PROVED.md` tells it in words;
+//! `specs/Run.antt` has it.
+//!
+//! # What it has
+//!
+//! - `run(alloc, words, keeper, door, input, output, errors)`: does what the words ask for, and answers
+//!   the exit status.
+//! - `perform`: does a command without the errors stream; `Stop`: what stops one, with its status.
+//! - `Command`, `read_words`, `post`, `Posted`: handed on from aq_words and aq_service.
+//! - `end_without_memory`: ends a program that had no memory for its words.
+//! - In `specs/`, what each command is: `Run`, and a module for each.
+//!
+//! # What it promises
+//!
+//! - The headline: for each command and each status, what is written, what the tables are after it, and
+//!   over what rows and bytes that is said (`headline`, by `Runs` in `specs/Run.antt`). Of `serve` it
+//!   says what each connection was answered.
+//! - The causes: 2 comes exactly if the words are no command; 3, 4, 5 and 8 come only if a count of
+//!   faults rose, which else stays, but for the keeper's while `serve` answers 503; with 2, 3, 5, 6, 8,
+//!   9, 10 and 11 nothing is written on the output (`no_command`, `input_failed`, `output_failed`,
+//!   `keeper_failed`, `door_failed`, `only_serve`, `silent`). 10 and the statuses after the input was
+//!   read are tied to its size in the headline (`measured`).
+//! - The message on the errors stream is that of the status (`tells`); without memory for the words it
+//!   is that of 7 (`end_without_memory`). No status and no output depends on that stream.
+//! - A command leaves as it was what it does not use (`unused_input`, `unused_keeper`, `unused_output`,
+//!   `unused_door`).
+//! - Over a keeper that tells its tables to the end, what is said of them is exact
+//!   (`told_runs_are_exact`).
+//!
+//! `docs/PROVED.md` has each of these in full.
+//!
+//! # An example
+//!
+//! ```rust
+//! let mut keeper = SteadyKeeper::new(alloc);
+//! let status = run(alloc, &words, &mut keeper, &mut door, &mut input, &mut output, &mut errors);
+//! assert_eq!(rt; status, 0);
+//! ```
 #![tactic(auto)]
 
 mod ask;
@@ -11,9 +49,10 @@ mod scan;
 mod serve;
 mod simulate;
 mod stop;
+mod what_if;
 mod writing;
 
 pub use aq_service::{Posted, post};
-pub use aq_words::{Command, read_words};
+pub use aq_words::{Command, Decisive, WhatIf, read_words};
 pub use command::{end_without_memory, perform, run, told_runs_are_exact};
 pub use stop::Stop;

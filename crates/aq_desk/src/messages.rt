@@ -2,7 +2,7 @@
 ghost use Rattle.std.specs.Prelude.{◌≡◌, ◌<◌, ◌++◌, codes, decimal};
 ghost use Rattle.aq_rules.specs.Kept.RowChanges.{table_name};
 ghost use Rattle.aq_rules.specs.Shown.OtherSheets.{digest_text};
-ghost use Rattle.aq_desk.specs.Ending.{conflict, damaged, no_site, too_many_lines};
+ghost use Rattle.aq_desk.specs.Ending.{conflict, damaged, no_event, no_site, too_many_lines};
 ghost use Rattle.aq_desk.specs.Writing.{Writes};
 
 use crate::writing::write_all;
@@ -76,6 +76,13 @@ pub(crate) fn write_no_site<E: Sink>(site: SiteId, errors: &mut E) -> Result<(),
     write_all(errors, b"airdv: 12 no site ")?;
     write_all(errors, &site_text(site))?;
     write_all(errors, b"\n")
+}
+
+/// Writes the number that no event has.
+pub(crate) fn write_no_event<E: Sink>(number: u32, errors: &mut E) -> Result<(), Failed>
+    ensures { let ending = no_event number in Writes ending.message (E.written errors.old) (E.written errors.new) (E.faults errors.old) (E.faults errors.new) result }
+{
+    write_counted(b"airdv: 13 no event ", number as u64, b"\n", errors)
 }
 
 /// Writes a number between two texts.

@@ -4,7 +4,7 @@ ghost use Rattle.aq_desk.specs.Stop.{ending_at};
 ghost use Rattle.aq_desk.specs.Writing.{Writes};
 
 use crate::body::BodyFault;
-use crate::messages::{write_conflict, write_damaged, write_lines, write_no_site};
+use crate::messages::{write_conflict, write_damaged, write_lines, write_no_event, write_no_site};
 use crate::writing::write_all;
 use aq_base::{Failed, SiteId};
 use aq_book::{OpenFault, Place};
@@ -33,6 +33,8 @@ pub enum Stop {
     TooManyLines(u32),
     LoadsFull,
     NoSite(SiteId),
+    /// With the first number of a list that no event has.
+    NoEvent(u32),
 }
 
 impl Stop {
@@ -51,6 +53,7 @@ impl Stop {
             Stop::TooManyBytes | Stop::TooManyLines(_) => 10,
             Stop::LoadsFull => 11,
             Stop::NoSite(_) => 12,
+            Stop::NoEvent(_) => 13,
         }
     }
 
@@ -70,6 +73,7 @@ impl Stop {
             Stop::TooManyLines(lines) => write_lines(*lines, errors),
             Stop::LoadsFull => write_all(errors, b"airdv: 11 loads full\n"),
             Stop::NoSite(site) => write_no_site(*site, errors),
+            Stop::NoEvent(number) => write_no_event(*number, errors),
         }
     }
 }

@@ -1,9 +1,39 @@
-//! Sheets: the answers of the program as values, and as text. A sheet has heads, and a table of rows
-//! below its column names.
+//! Sheets: the answers of the program as values, as text and as JSON, and observations as CSV. A sheet
+//! has heads, and a table of rows below its column names.
+//!
+//! # What it has
+//!
+//! - `Sheet`, `Head`, `SheetCell` with the lists `Heads`, `Names`, `Cells`, `Rows`: a sheet and its
+//!   parts.
+//! - `load_sheet`, `conflict_sheet`, `error_sheet`, `summary_sheet`: of a reply, a conflict, an error, a
+//!   simulation.
+//! - `windows_sheet`, `days_sheet`: of an ozone day's averages, and of the days of a year.
+//! - `pm25_sheet`, `pm10_sheet`: of a year's quarters.
+//! - `value_sheet`, `report_sheet`: of a design value, and of the design values of sites.
+//! - `text_of`, `json_of`: a sheet as text, and a well-formed one as JSON.
+//! - `export_of`: observations as CSV, each with whether it is excluded.
+//! - `site_text`, `hex_digits`: a site as `SS-CCC-NNNN`, and a byte as two digits.
+//!
+//! # What it promises
+//!
+//! - Sheets are values, seen as the book's, and each of the ten is the book's sheet of what it is made
+//!   of.
+//! - The text of a sheet, a well-formed sheet as JSON, and observations as CSV are the book's texts.
+//! - The only refusal is want of memory.
+//!
+//! # An example
+//!
+//! ```rust
+//! let sheet = windows_sheet(alloc, site, day, &windows)?;
+//! let text = text_of(alloc, &sheet)?;  // lines, as `scan` prints them
+//! let json = json_of(alloc, &sheet)?;  // as `serve` sends them
+//! assert_eq!(rt; site_text(site), *b"06-037-1103");
+//! ```
 #![tactic(auto)]
 
 mod cell;
 mod days;
+mod decisive;
 mod export;
 mod json_text;
 mod list;
@@ -21,6 +51,7 @@ mod windows;
 
 pub use cell::SheetCell;
 pub use days::days_sheet;
+pub use decisive::decisive_sheet;
 pub use export::export_of;
 pub use json_text::json_of;
 pub use load::load_sheet;

@@ -1,14 +1,17 @@
 -- The words of the command line, and the command that they name (own).
-use Rattle.std.specs.Prelude.{ℕ, ◌==◌, Bool, true, false, ◌&&◌, nat_le, List, [], ◌∷◌, length, take, drop, Option, Some, None, if◌then◌else◌, codes, bytes_eq}
+use Rattle.std.specs.Prelude.{ℕ, ◌-◌, ◌==◌, Bool, true, false, ◌&&◌, nat_le, List, [], ◌∷◌, length, take, drop, Option, Some, None, if◌then◌else◌, codes, bytes_eq}
+use Rattle.std.specs.List.{slice_split}
 use Rattle.aq_base.specs.Calendar.{is_year}
 use Rattle.aq_base.specs.declared.ask.Ask.{Ask}
 use Rattle.aq_base.specs.declared.ask.Ask.TheVariants.{Value, Report, Export}
-use Rattle.aq_rules.specs.Limits.{LAST_LOAD_NUMBER, MOST_GENERATED_SITES, FEWEST_GENERATED_YEARS, MOST_GENERATED_YEARS}
-use Rattle.aq_rules.specs.Lines.Spellings.{◌>>=◌, parameter_in, year_in}
+use Rattle.aq_base.specs.declared.assumed.Assumed.{Assumed}
+use Rattle.aq_base.specs.declared.assumed.TheConstants.{MOST_ASSUMED}
+use Rattle.aq_rules.specs.Limits.{LAST_EVENT_NUMBER, LAST_LOAD_NUMBER, MOST_GENERATED_SITES, FEWEST_GENERATED_YEARS, MOST_GENERATED_YEARS}
+use Rattle.aq_rules.specs.Lines.Spellings.{◌>>=◌, parameter_in, truth_in, year_in}
 use Rattle.aq_rules.specs.Shown.Answer.{is_design_year, is_load_number}
 use Rattle.aq_rd.specs.Words.{site_word, day_word, number_to, standard_word}
 use Rattle.aq_words.specs.declared.words.Command.{Command}
-use Rattle.aq_words.specs.declared.words.Command.TheVariants.{Scan, Load, Serve, Simulate}
+use Rattle.aq_words.specs.declared.words.Command.TheVariants.{Scan, Load, WhatIf, Decisive, Serve, Simulate}
 use Rattle.aq_words.specs.declared.words.Command.TheVariants as command
 
 abbrev pub LAST_PORT : ℕ
@@ -66,6 +69,50 @@ export_of (site ∷ parameter ∷ year ∷ []) = do
   of ← year_in year
   Some (command.Ask (Export at pollutant of))
 export_of _ = None
+
+-- ---- `whatif STANDARD SITE YEAR LIST` and `decisive STANDARD SITE YEAR`
+
+-- an event's number without a leading zero, and then `Y` or `N`
+unfoldable pub assumed_in : List ℕ → Option Assumed
+assumed_in text = do
+  number ← number_to LAST_EVENT_NUMBER (take (length text - 1) text)
+  agreed ← truth_in (drop (length text - 1) text)
+  Some (record { number = number; agreed = agreed })
+
+-- the entries of all texts
+abbrev pub all_assumed : List (List ℕ) → Option (List Assumed)
+all_assumed [] = Some []
+all_assumed (text ∷ texts) = do
+  first ← assumed_in text
+  others ← all_assumed texts
+  Some (first ∷ others)
+
+-- what stands between the commas of a text
+abbrev pub between_commas : List ℕ → List (List ℕ)
+between_commas text = slice_split (λ byte. byte == 44) text
+
+-- 1 to 64 entries, joined by commas
+unfoldable pub assumed_list : List ℕ → Option (List Assumed)
+assumed_list text = do
+  entries ← all_assumed (between_commas text)
+  if nat_le (length entries) MOST_ASSUMED then Some entries else None
+
+unfoldable pub what_if_of : List (List ℕ) → Option Command
+what_if_of (standard ∷ site ∷ year ∷ list ∷ []) = do
+  named ← standard_word standard
+  at ← site_word site
+  last ← design_year year
+  assumed ← assumed_list list
+  Some (WhatIf (record { standard = named; site = at; year = last; assumed = assumed }))
+what_if_of _ = None
+
+unfoldable pub decisive_of : List (List ℕ) → Option Command
+decisive_of (standard ∷ site ∷ year ∷ []) = do
+  named ← standard_word standard
+  at ← site_word site
+  last ← design_year year
+  Some (Decisive (record { standard = named; site = at; year = last }))
+decisive_of _ = None
 
 -- ---- `serve --port P --connections N`
 
@@ -154,9 +201,11 @@ command_in name words =
     else (if bytes_eq name (codes "show") then show_of words
     else (if bytes_eq name (codes "report") then report_of words
     else (if bytes_eq name (codes "export") then export_of words
+    else (if bytes_eq name (codes "whatif") then what_if_of words
+    else (if bytes_eq name (codes "decisive") then decisive_of words
     else (if bytes_eq name (codes "serve") then serve_of words
     else (if bytes_eq name (codes "simulate") then simulate_of words
-    else None))))))
+    else None))))))))
 
 -- the command of the words, which are all required, and none more
 abbrev pub command_of : List (List ℕ) → Option Command
@@ -175,5 +224,7 @@ abbrev pub is_command : Command → Bool
 is_command (Scan site day) = true
 is_command (Load number) = is_load_number number
 is_command (command.Ask ask) = is_question ask
+is_command (WhatIf question) = is_design_year question.year
+is_command (Decisive question) = is_design_year question.year
 is_command (Serve port connections) = true
 is_command (Simulate start sites years) = nat_le 1 sites && nat_le sites MOST_GENERATED_SITES && nat_le FEWEST_GENERATED_YEARS years && nat_le years MOST_GENERATED_YEARS

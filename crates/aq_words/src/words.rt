@@ -1,15 +1,16 @@
 //! The words of the command line.
-ghost use Rattle.std.specs.Prelude.{◌≡◌, ◌≤◌, map, string_bytes, IfSome, IsTrue};
+ghost use Rattle.std.specs.Prelude.{◌≡◌, ◌≤◌, ◌∷◌, map, string_bytes, IfSome, IsTrue};
 ghost use Rattle.std.specs.Option.{option_map};
 ghost use Rattle.aq_rules.specs.Limits.{FEWEST_GENERATED_YEARS, MOST_GENERATED_YEARS};
 ghost use Rattle.aq_rules.specs.Shown.Answer.{is_design_year};
-ghost use Rattle.aq_words.specs.Words.{command_of, is_command, design_year, load_of, option_of, pair_of, scan_of, serve_of, served_by, show_of, simulate_of, start_in, report_of, export_of, years_in};
+ghost use Rattle.aq_words.specs.Words.{assumed_in, assumed_list, between_commas, command_of, decisive_of, is_command, design_year, load_of, option_of, pair_of, scan_of, serve_of, served_by, show_of, simulate_of, start_in, report_of, export_of, what_if_of, years_in};
+ghost use Rattle.aq_words.specs.Commas.{behind_comma};
 
 use aq_base::{
-    Ask, Day, FEWEST_GENERATED_YEARS, FIRST_YEAR, LAST_LOAD_NUMBER, MOST_GENERATED_SITES,
-    MOST_GENERATED_YEARS, SiteId,
+    Ask, Assumed, AssumedList, Day, FEWEST_GENERATED_YEARS, FIRST_YEAR, LAST_EVENT_NUMBER,
+    LAST_LOAD_NUMBER, MOST_GENERATED_SITES, MOST_GENERATED_YEARS, SiteId, Standard,
 };
-use aq_rd::{day_word, number_to, parameter_in, site_word, standard_word, year_in};
+use aq_rd::{day_word, number_to, parameter_in, site_word, standard_word, truth_in, year_in};
 
 /// The most connections that `serve` takes.
 const MOST_CONNECTIONS: u64 = 1_000_000;
@@ -23,10 +24,33 @@ pub enum Command {
     Load(u32),
     /// Answers a question about the office of the tables: for a design value, a report or an export.
     Ask(Ask),
+    /// Answers for the office of the tables as if events were concurred in or not.
+    WhatIf(WhatIf),
+    /// Answers for the office of the tables which events decide a verdict.
+    Decisive(Decisive),
     /// Listens on this port of the machine, and serves so many connections at most.
     Serve { port: u16, connections: u32 },
     /// Takes generated loads of so many sites and years over an empty office, and prints a summary.
     Simulate { start: u64, sites: u8, years: u8 },
+}
+
+/// A question for the design value of a standard for a site and the three years that end with the year,
+/// under assumed concurrences.
+#[derive(Clone, Copy, Debug, PartialEq, Eq)]
+pub struct WhatIf {
+    pub standard: Standard,
+    pub site: SiteId,
+    pub year: u16,
+    pub assumed: AssumedList,
+}
+
+/// A question for the events of which each alone decides the verdict of a standard for a site and the
+/// three years that end with the year.
+#[derive(Clone, Copy, Debug, PartialEq, Eq)]
+pub struct Decisive {
+    pub standard: Standard,
+    pub site: SiteId,
+    pub year: u16,
 }
 
 #[tactic(auto, unfolding(crate::specs::Words::scan_of))]
@@ -93,6 +117,84 @@ fn export(words: &[String]) -> Option<Command>
     let pollutant = parameter_in(parameter.as_bytes())?;
     let year = year_in(year.as_bytes())?;
     Some(Command::Ask(Ask::Export(site, pollutant, year)))
+}
+
+#[tactic(auto, unfolding(crate::specs::Words::what_if_of))]
+fn what_if(words: &[String]) -> Option<Command>
+    ensures command { result ≡ what_if_of (map string_bytes words.now) }
+    ensures range { IfSome result (λ command. IsTrue (is_command command)) }
+{
+    let [standard, site, year, list] = words else {
+        return None;
+    };
+    let standard = standard_word(standard.as_bytes())?;
+    let site = site_word(site.as_bytes())?;
+    let year = design_year(year.as_bytes())?;
+    let assumed = assumed_list(list.as_str())?;
+    Some(Command::WhatIf(WhatIf {
+        standard,
+        site,
+        year,
+        assumed,
+    }))
+}
+
+/// The entries of a list, unless there are more than 64.
+fn assumed_list(text: &str) -> Option<AssumedList>
+    ensures { result ≡ assumed_list text.now }
+{
+    let mut list = AssumedList::new();
+    let mut left = Some(text);
+    while let Some(rest) = left {
+        let (entry, behind) = cut_at_comma(rest);
+        if !list.add(assumed_in(entry.as_bytes())?) {
+            return None;
+        }
+        left = behind;
+    }
+    Some(list)
+}
+
+/// What stands before the first comma, and what stands behind it if there is one.
+fn cut_at_comma(text: &str) -> (&str, Option<&str>)
+    ensures { between_commas text.now ≡ result.0.now ∷ behind_comma result.1 }
+{
+    match text.split_once(',') {
+        Some((entry, behind)) => (entry, Some(behind)),
+        None => (text, None),
+    }
+}
+
+/// An event's number without a leading zero, and then `Y` or `N`.
+#[tactic(auto, unfolding(crate::specs::Words::assumed_in))]
+fn assumed_in(text: &[u8]) -> Option<Assumed>
+    ensures { result ≡ assumed_in text.now }
+{
+    let (number, agreed) = text.split_at(text.len().saturating_sub(1));
+    let number = number_to(u64::from(LAST_EVENT_NUMBER), number)?;
+    let agreed = truth_in(agreed)?;
+    Some(Assumed {
+        number: number as u32,
+        agreed,
+    })
+}
+
+#[tactic(auto, unfolding(crate::specs::Words::decisive_of))]
+fn decisive_events(words: &[String]) -> Option<Command>
+    ensures command { result ≡ decisive_of (map string_bytes words.now) }
+    ensures range { IfSome result (λ command. IsTrue (is_command command)) }
+{
+    let [standard, site, year] = words else {
+        return None;
+    };
+    let standard = standard_word(standard.as_bytes())?;
+    let site = site_word(site.as_bytes())?;
+    let year = design_year(year.as_bytes())?;
+    Some(Command::Decisive(Decisive {
+        standard,
+        site,
+        year,
+    }))
 }
 
 #[tactic(auto, unfolding(crate::specs::Words::serve_of))]
@@ -227,6 +329,8 @@ pub fn read_words(words: &[String]) -> Option<Command>
         "show" => show(words),
         "report" => report(words),
         "export" => export(words),
+        "whatif" => what_if(words),
+        "decisive" => decisive_events(words),
         "serve" => serve(words),
         "simulate" => simulate(words),
         _ => None,
