@@ -1,0 +1,8 @@
+use Rattle.std.proofs.Common.{List, Option}
+use Rattle.aq_rules.specs.Kept.Rows.{Row}
+use Rattle.aq_journal.proofs.Enduring.{endures_next}
+use Rattle.aq_journal.proofs.journal.read_all.Goals as goal
+
+pub returns-clause-crash : goal.returns-clause-crash
+returns-clause-crash g c =
+    endures_next g.D.Disk g.met.D.Disk.reads_image g.met.D.Disk.only_now c.args.disk.now c.settle.new.disk c.read_journal.new.disk c.args.gate.now c.settle.new.gate c.read_journal.new.gate (λ (rows : Option (List Row)). rows) c.settle.ensures.told c.settle.ensures.crash c.read_journal.ensures.crash

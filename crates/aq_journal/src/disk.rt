@@ -1,0 +1,72 @@
+//! A disk as the journal sees it: one file of bytes. It tells its bytes or does not, always, and counts its
+//! faults: the count rises at a call that fails, and at no other. It says what a crash may leave, at this
+//! moment and at each since a given one.
+ghost use Rattle.std.specs.Prelude.{◌≡◌, ◌+◌, ◌<◌, ◌≤◌, ◌^◌, ℕ, List, length, Option, IfSome, IfOk, OnOk, OnErr};
+ghost use Rattle.std.specs.Option.{option_map};
+ghost use Rattle.aq_journal.specs.Disks.{HasCause, Gives, written, Torn, TornIfTold, Only, NothingNew, Follows, Elapses};
+
+use aq_base::Failed;
+
+/// A file of bytes that can be synced.
+pub trait Disk {
+    /// The bytes that a read gives, if the disk tells them.
+    ghost seen: { Self → Option (List ℕ) };
+
+    /// What a crash at this moment may leave.
+    ghost may_leave: { Self → List ℕ → Type 0 };
+
+    /// The moment, as a number that does not fall.
+    ghost moment: { Self → ℕ };
+
+    /// What a crash at some moment from that one on might have left, during a call or between two.
+    ghost left_since: { Self → ℕ → List ℕ → Type 0 };
+
+    /// How often it has failed.
+    ghost faults: { Self → ℕ };
+
+    /// How many bytes there are.
+    fn length(&mut self) -> Result<u64, Failed>
+        ensures length { IfOk result (λ n. IfSome (seen self.old) (λ bytes. n ≡ length bytes)) }
+        ensures bound { IfOk result (λ n. n < 2 ^ 63) }
+        ensures same { seen self.new ≡ seen self.old }
+        ensures crash { NothingNew (may_leave self.old) (may_leave self.new) }
+        ensures time { Elapses (moment self.old) (moment self.new) (left_since self.old) (left_since self.new) (may_leave self.new) }
+        ensures cause { HasCause (faults self.old) (faults self.new) result };
+
+    /// Reads bytes from a place on into the front of the buffer, and answers how many: at least one, if one
+    /// is there and the buffer has room.
+    fn read(&mut self, at: u64, buffer: &mut [u8]) -> Result<usize, Failed>
+        ensures within { IfOk result (λ n. n ≤ length buffer.new) }
+        ensures gives { IfOk result (λ n. IfSome (seen self.old) (λ bytes. Gives bytes at buffer.new n)) }
+        ensures same { seen self.new ≡ seen self.old }
+        ensures crash { NothingNew (may_leave self.old) (may_leave self.new) }
+        ensures time { Elapses (moment self.old) (moment self.new) (left_since self.old) (left_since self.new) (may_leave self.new) }
+        ensures cause { HasCause (faults self.old) (faults self.new) result };
+
+    /// Writes over what is there, and past the end. Until a sync a crash may leave any bytes in the range, and
+    /// past the old end; so may a write that fails.
+    fn write_at(&mut self, at: u64, bytes: &[u8]) -> Result<(), Failed>
+        requires { at + length bytes.now < 2 ^ 63 }
+        ensures written { OnOk result (seen self.new ≡ option_map (written at bytes.now) (seen self.old)) }
+        ensures failed { OnErr result (TornIfTold at (length bytes.now) (seen self.old) (seen self.new)) }
+        ensures crash { Follows (Torn at (length bytes.now)) (may_leave self.old) (may_leave self.new) }
+        ensures time { Elapses (moment self.old) (moment self.new) (left_since self.old) (left_since self.new) (may_leave self.new) }
+        ensures cause { HasCause (faults self.old) (faults self.new) result };
+
+    /// After it a crash leaves what a read gives.
+    fn sync(&mut self) -> Result<(), Failed>
+        ensures synced { OnOk result (IfSome (seen self.old) (λ bytes. Only bytes (may_leave self.new))) }
+        ensures same { seen self.new ≡ seen self.old }
+        ensures crash { NothingNew (may_leave self.old) (may_leave self.new) }
+        ensures time { Elapses (moment self.old) (moment self.new) (left_since self.old) (left_since self.new) (may_leave self.new) }
+        ensures cause { HasCause (faults self.old) (faults self.new) result };
+
+    /// This moment is one of those since an earlier one.
+    ghost counts_now: { (disk : Self) (t : ℕ) (image : List ℕ) → t ≤ moment disk → may_leave disk image → left_since disk t image };
+
+    /// Since this moment there is no other.
+    ghost only_now: { (disk : Self) (image : List ℕ) → left_since disk (moment disk) image → may_leave disk image };
+
+    /// The bytes as they read are one of the images.
+    ghost reads_image: { (disk : Self) → IfSome (seen disk) (may_leave disk) };
+}
