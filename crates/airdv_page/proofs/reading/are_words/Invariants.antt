@@ -1,0 +1,7 @@
+use Rattle.std.proofs.Common.{◌≡◌, drop}
+use Rattle.std.specs.List.{list_all}
+use Rattle.airdv_page.specs.Reading.{is_word}
+use Rattle.airdv_page.proofs.reading.are_words.Given as goal
+
+abbrev pub invariant-loop-word : goal.invariant-loop-word
+invariant-loop-word l = list_all is_word (drop l.word-index l.words) ≡ list_all is_word l.words

@@ -1,0 +1,7 @@
+pub mod Kinds
+pub mod Reading
+pub mod Html
+pub mod Numbers
+pub mod Levels
+pub mod Pictures
+pub mod Page

@@ -1,0 +1,107 @@
+-- The page: a section for each sheet of a text, with its words, its heads and its rows as tables, and its picture (own).
+use Rattle.std.specs.Prelude.{ℕ, Bool, true, false, List, [], ◌∷◌, ◌++◌, codes, flat_map, Option, Some, None, option_map, IsSomeAnd}
+use Rattle.std.specs.Io.KnownBytes.{Appends}
+use Rattle.aq_base.specs.declared.standard.Standard.{Standard}
+use Rattle.aq_base.specs.declared.standard.Standard.TheVariants.{Ozone2015}
+use Rattle.aq_rd.specs.Words.{standard_word}
+use Rattle.airdv_page.specs.declared.kind.Picture.{Picture}
+use Rattle.airdv_page.specs.declared.kind.Picture.TheVariants.{Counts, Bars, Squares, Lines, Nothing}
+use Rattle.airdv_page.specs.Reading.{Line, SheetText, sheets_of}
+use Rattle.airdv_page.specs.Html.{row}
+use Rattle.airdv_page.specs.Numbers.{word_at}
+use Rattle.airdv_page.specs.Levels.{form_of, level_text}
+use Rattle.airdv_page.specs.Pictures.{bars, day}
+
+-- ---- the tables: each line of the sheet is a row, each word of it a cell, and there is nothing else
+
+abbrev pub cells : Line → List ℕ
+cells line = row (codes "<td>") (codes "</td>") line
+
+unfoldable pub heads_table : List Line → List ℕ
+heads_table heads = codes "<table>\n" ++ (flat_map cells heads ++ codes "</table>\n")
+
+unfoldable pub column_names : Line → List ℕ
+column_names columns = row (codes "<th scope=\"col\">") (codes "</th>") columns
+
+-- the names of the columns stand above the rows
+unfoldable pub columns_and_rows : Line → List Line → List ℕ
+columns_and_rows columns rows = codes "<table>\n" ++ (column_names columns ++ (flat_map cells rows ++ codes "</table>\n"))
+
+-- a sheet without columns has no rows
+unfoldable pub rows_table : Line → List Line → List ℕ
+rows_table [] rows = []
+rows_table (column ∷ columns) rows = columns_and_rows (column ∷ columns) rows
+
+-- ---- the rest of a section
+
+-- the value of the first head
+abbrev pub first_value : List Line → List ℕ
+first_value [] = []
+first_value (line ∷ lines) = word_at 1 line
+
+abbrev pub behind_first : List Line → List Line
+behind_first [] = []
+behind_first (line ∷ lines) = lines
+
+-- the standard whose level is drawn: of a day that of ozone, else the one that the first head names
+abbrev pub standard_for : Picture → List Line → Option Standard
+standard_for Counts heads = None
+standard_for (Bars value verdict) heads = standard_word (first_value heads)
+standard_for (Squares verdict) heads = standard_word (first_value heads)
+standard_for Lines heads = Some Ozone2015
+standard_for Nothing heads = standard_word (first_value heads)
+
+unfoldable pub standard_line : Option Standard → List ℕ
+standard_line None = []
+standard_line (Some standard) = codes "<p>" ++ ((form_of standard).words ++ (codes ". " ++ (level_text standard ++ codes ".</p>\n")))
+
+abbrev pub level_words : Picture → List Line → List ℕ
+level_words picture heads = standard_line (standard_for picture heads)
+
+unfoldable pub drawn_as : Picture → List Line → List Line → List ℕ
+drawn_as Counts heads rows = bars (Some 1) None None (behind_first heads)
+drawn_as (Bars value verdict) heads rows = bars (Some value) verdict (standard_word (first_value heads)) rows
+drawn_as (Squares verdict) heads rows = bars None (Some verdict) None rows
+drawn_as Lines heads rows = day Ozone2015 rows
+drawn_as Nothing heads rows = []
+
+unfoldable pub heading : List ℕ → List ℕ
+heading title = codes "<section>\n<h1>" ++ (title ++ codes "</h1>\n")
+
+-- the heads, and the standard and its level in words above them
+unfoldable pub opening : Picture → List Line → List ℕ
+opening picture heads = level_words picture heads ++ heads_table heads
+
+unfoldable pub section_of : List ℕ → Picture → List Line → Line → List Line → List ℕ
+section_of title picture heads columns rows =
+    heading title
+    ++ (opening picture heads ++ (drawn_as picture heads rows ++ (rows_table columns rows ++ codes "</section>\n")))
+
+unfoldable pub section : SheetText → List ℕ
+section sheet = section_of sheet.title sheet.picture sheet.heads sheet.columns sheet.rows
+
+-- what is written of a sheet, if there is one
+abbrev pub written : Option SheetText → List ℕ
+written None = []
+written (Some sheet) = section sheet
+
+-- a text, if so
+abbrev pub if_true : Bool → List ℕ → Option (List ℕ)
+if_true true text = Some text
+if_true false text = None
+
+-- what stands before the sections and behind them
+pub record Frame : Type 0 where
+  pub head : List ℕ
+  pub foot : List ℕ
+
+unfoldable pub page : Frame → List SheetText → List ℕ
+page frame sheets = frame.head ++ (flat_map section sheets ++ frame.foot)
+
+-- the page of a text of sheets; none of another text
+unfoldable pub page_of : Frame → List ℕ → Option (List ℕ)
+page_of frame text = option_map (page frame) (sheets_of text)
+
+-- the page of a text went after what was written, if that is known
+abbrev pub Prints : Frame → List ℕ → Option (List ℕ) → Option (List ℕ) → Type 0
+Prints frame text before after = IsSomeAnd (page_of frame text) (Appends before after)

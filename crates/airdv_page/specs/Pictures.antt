@@ -1,0 +1,149 @@
+-- The pictures of sheets in SVG. Every coordinate that stands for a number is its place by the one scale (own).
+use Rattle.std.specs.Prelude.{ℕ, ◌+◌, ◌-◌, ◌*◌, max, Bool, false, if◌then◌else◌, List, [], ◌∷◌, ◌++◌, length, take, codes, bytes_eq, Option, Some, None, is_some, pos}
+use Rattle.aq_base.specs.Decimal.{fixed}
+use Rattle.aq_base.specs.declared.standard.Standard.{Standard}
+use Rattle.airdv_page.specs.Reading.{Line}
+use Rattle.airdv_page.specs.Html.{escaped, number, rect, svg_start, text_start}
+use Rattle.airdv_page.specs.Numbers.{word_at, number_at, greatest, scaled}
+use Rattle.airdv_page.specs.Levels.{level_at, level_or_zero, level_mark}
+use Rattle.airdv_page.specs.declared.bars.TheConstants.{LONGEST}
+use Rattle.airdv_page.specs.declared.day.TheConstants.{HIGHEST}
+
+-- ---- bars
+
+-- the class of a verdict, which has its own colour and hatching
+unfoldable pub look_of : List ℕ → List ℕ
+look_of word =
+    if bytes_eq word (codes "Met") then codes "met"
+    else if bytes_eq word (codes "NotMet") then codes "notmet"
+    else if bytes_eq word (codes "Incomplete") then codes "incomplete"
+    else codes "plain"
+
+-- the word at a place of a line, if there is one
+abbrev pub word_if : Option ℕ → Line → List ℕ
+word_if None line = []
+word_if (Some place) line = word_at place line
+
+-- the first word of a line, its value and its verdict
+unfoldable pub label : Option ℕ → Option ℕ → Line → List ℕ
+label value verdict line =
+    escaped (word_at 0 line) ++ (codes ": " ++ (escaped (word_if value line) ++ (codes " " ++ escaped (word_if verdict line))))
+
+abbrev pub look : Option ℕ → Line → List ℕ
+look verdict line = look_of (word_if verdict line)
+
+-- the label of a bar, this far from the top
+unfoldable pub caption : Option ℕ → Option ℕ → ℕ → Line → List ℕ
+caption value verdict y line =
+    codes "<g class=\""
+    ++ (look verdict line
+    ++ (codes "\">" ++ (text_start (codes "label") 20 y ++ (label value verdict line ++ codes "</text>"))))
+
+-- a bar as long as its number by the scale, on which the greatest has `LONGEST`; none where there is no number
+unfoldable pub bar : ℕ → ℕ → Option ℕ → List ℕ
+bar top y None = []
+bar top y (Some n) = rect y (scaled top LONGEST n)
+
+-- the bar of a line; a square if it is by its verdict alone
+unfoldable pub bar_at : ℕ → ℕ → Option ℕ → Line → List ℕ
+bar_at top y None line = rect y 24
+bar_at top y (Some place) line = bar top y (number_at place line)
+
+-- a label and its bar
+unfoldable pub labelled : Option ℕ → Option ℕ → ℕ → ℕ → Line → List ℕ
+labelled value verdict top index line =
+    caption value verdict (76 + 64 * index) line ++ (bar_at top (84 + 64 * index) value line ++ codes "</g>\n")
+
+abbrev pub bars_from : Option ℕ → Option ℕ → ℕ → ℕ → List Line → List ℕ
+bars_from value verdict top index [] = []
+bars_from value verdict top index (line ∷ lines) =
+    labelled value verdict top index line ++ bars_from value verdict top (index + 1) lines
+
+-- a line across so many bars, where the level stands by the same scale
+unfoldable pub level_across : ℕ → ℕ → Option Standard → List ℕ
+level_across top count None = []
+level_across top count (Some standard) =
+    let x : ℕ = 20 + scaled top LONGEST (level_at standard) in level_mark standard (x, 48) (x, 52 + 64 * count)
+
+-- the number at which the scale ends: the greatest of the values and the level
+abbrev pub end_of : Option ℕ → Option Standard → List Line → ℕ
+end_of None standard lines = max 1 (level_or_zero standard)
+end_of (Some place) standard lines = greatest place (max 1 (level_or_zero standard)) lines
+
+unfoldable pub bars_at : ℕ → ℕ → Option ℕ → Option ℕ → Option Standard → List Line → List ℕ
+bars_at top count value verdict standard lines =
+    svg_start 720 (64 + 64 * count)
+    ++ (bars_from value verdict top 0 lines ++ (level_across top count standard ++ codes "</svg>\n"))
+
+-- a bar for each line, beside the level
+unfoldable pub bars : Option ℕ → Option ℕ → Option Standard → List Line → List ℕ
+bars value verdict standard lines = bars_at (end_of value standard lines) (length lines) value verdict standard lines
+
+-- ---- the two lines of a day
+
+-- how far from the left the hour of a row stands
+abbrev pub across : ℕ → ℕ
+across index = 80 + 40 * index
+
+-- how far from the top a number stands, by the scale from the foot up
+abbrev pub down : ℕ → ℕ → ℕ
+down top n = 340 - scaled top HIGHEST n
+
+-- a point; after a gap a line begins anew with a dot
+unfoldable pub point : ℕ → Bool → ℕ → Option ℕ → List ℕ
+point top joined index None = []
+point top joined index (Some n) =
+    (if joined then codes " L" else codes " M")
+    ++ (number (across index) ++ (codes " " ++ (number (down top n) ++ (if joined then [] else codes "h0"))))
+
+abbrev pub points_from : ℕ → ℕ → Bool → ℕ → List Line → List ℕ
+points_from place top joined index [] = []
+points_from place top joined index (line ∷ lines) =
+    point top joined index (number_at place line) ++ points_from place top (is_some (number_at place line)) (index + 1) lines
+
+-- the line of one column
+unfoldable pub curve : List ℕ → ℕ → ℕ → List Line → List ℕ
+curve name place top lines =
+    codes "<path class=\"" ++ (name ++ (codes "\" d=\"" ++ (points_from place top false 0 lines ++ codes "\"/>\n")))
+
+-- the hour of a row
+abbrev pub hour_word : Line → List ℕ
+hour_word line = escaped (take 2 (word_at 0 line))
+
+-- it stands below its points
+unfoldable pub hour : ℕ → Line → List ℕ
+hour x line = text_start (codes "hour") x 372 ++ (hour_word line ++ codes "</text>\n")
+
+abbrev pub hours_from : ℕ → List Line → List ℕ
+hours_from index [] = []
+hours_from index (line ∷ lines) = hour (across index) line ++ hours_from (index + 1) lines
+
+abbrev pub in_thousandths : ℕ → List ℕ
+in_thousandths n = fixed (pos n) 3
+
+-- the number at which the scale ends
+unfoldable pub end_mark : ℕ → List ℕ
+end_mark top = text_start (codes "end") 4 66 ++ (in_thousandths top ++ codes "</text>\n")
+
+-- where the scale begins, and which line is which
+unfoldable pub legend : List ℕ
+legend =
+    codes "<text class=\"end\" x=\"44\" y=\"346\">0</text>\n<path class=\"full\" d=\"M80 412h60\"/><text x=\"152\" y=\"420\">full: all hours</text>\n<path class=\"net\" d=\"M80 448h60\"/><text x=\"152\" y=\"456\">average: without agreed events</text>\n</svg>\n"
+
+-- a line along so many hours, where the level stands by the same scale
+unfoldable pub level_along : ℕ → ℕ → Standard → List ℕ
+level_along top count standard =
+    let y : ℕ = down top (level_at standard) in level_mark standard (64, y) (60 + 40 * count, y)
+
+-- the full averages and the net ones, and which is which
+unfoldable pub curves : ℕ → List Line → List ℕ
+curves top lines = curve (codes "full") 3 top lines ++ (curve (codes "net") 1 top lines ++ legend)
+
+unfoldable pub day_at : ℕ → ℕ → Standard → List Line → List ℕ
+day_at top count standard lines =
+    svg_start (max 720 (80 + 40 * count)) 470
+    ++ (level_along top count standard ++ (end_mark top ++ (hours_from 0 lines ++ curves top lines)))
+
+-- the level, the full averages and the net ones, hour by hour
+unfoldable pub day : Standard → List Line → List ℕ
+day standard lines = day_at (greatest 3 (greatest 1 (max 1 (level_at standard)) lines) lines) (length lines) standard lines

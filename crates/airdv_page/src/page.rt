@@ -1,0 +1,266 @@
+//! The page of a text.
+ghost use Rattle.std.specs.Prelude.{◌≡◌, ◌≤◌, ◌++◌, length, flat_map, IfOk, IfSome, OnOk, option_map};
+ghost use Rattle.airdv_page.specs.Page as pages;
+ghost use Rattle.airdv_page.specs.Page.{behind_first, cells, column_names, columns_and_rows, drawn_as, first_value, heading, heads_table, level_words, if_true, opening, rows_table, section, section_of, standard_for, standard_line, written};
+ghost use Rattle.airdv_page.specs.Reading.{lines_in, sheet_at, sheets_in};
+
+use crate::bars;
+use crate::day::write_day;
+use crate::html::write_row;
+use crate::kind::Picture;
+use crate::level::{words_of, write_level};
+use crate::numbers::word_at;
+use crate::reading::{Line, MOST_LINES, MOST_SHEETS, SheetText, is_end, lines_of, sheet_at};
+use aq_base::{Bytes, Memory, Standard};
+use aq_rd::standard_word;
+use std::alloc::Global;
+
+/// Appends a row for each line, with a cell for each word.
+fn write_lines(out: &mut Vec<u8>, lines: &[Line]) -> Result<(), Memory>
+    ensures { OnOk result (out.new.items ≡ out.old.items ++ flat_map cells lines.now) }
+{
+    for line in lines {
+        write_row(out, b"<td>", b"</td>", line.as_slice())?;
+    }
+    Ok(())
+}
+
+#[tactic(auto, unfolding(crate::specs::Page::heads_table))]
+fn write_heads(out: &mut Vec<u8>, heads: &[Line]) -> Result<(), Memory>
+    ensures { OnOk result (out.new.items ≡ out.old.items ++ heads_table heads.now) }
+{
+    out.extend_from_slice(b"<table>\n")?;
+    write_lines(out, heads)?;
+    out.extend_from_slice(b"</table>\n")?;
+    Ok(())
+}
+
+/// Appends the table of the rows, if there are columns.
+#[tactic(auto, unfolding(crate::specs::Page::rows_table))]
+fn write_rows(out: &mut Vec<u8>, columns: &[Bytes], rows: &[Line]) -> Result<(), Memory>
+    ensures { OnOk result (out.new.items ≡ out.old.items ++ rows_table columns.now rows.now) }
+{
+    match columns {
+        [] => Ok(()),
+        _ => write_columns_and_rows(out, columns, rows),
+    }
+}
+
+#[tactic(auto, unfolding(crate::specs::Page::column_names))]
+fn write_column_names(out: &mut Vec<u8>, columns: &[Bytes]) -> Result<(), Memory>
+    ensures { OnOk result (out.new.items ≡ out.old.items ++ column_names columns.now) }
+{
+    write_row(out, b"<th scope=\"col\">", b"</th>", columns)
+}
+
+#[tactic(auto, unfolding(crate::specs::Page::columns_and_rows))]
+fn write_columns_and_rows(out: &mut Vec<u8>, columns: &[Bytes], rows: &[Line]) -> Result<(), Memory>
+    ensures { OnOk result (out.new.items ≡ out.old.items ++ columns_and_rows columns.now rows.now) }
+{
+    out.extend_from_slice(b"<table>\n")?;
+    write_column_names(out, columns)?;
+    write_lines(out, rows)?;
+    out.extend_from_slice(b"</table>\n")?;
+    Ok(())
+}
+
+/// The value of the first head.
+fn first_value(heads: &[Line]) -> &[u8]
+    ensures { result.now ≡ first_value heads.now }
+{
+    match heads {
+        [line, ..] => word_at(1, line.as_slice()),
+        [] => b"",
+    }
+}
+
+fn behind_first(heads: &[Line]) -> &[Line]
+    ensures rest { result.now ≡ behind_first heads.now }
+    ensures few { length result.now ≤ length heads.now }
+{
+    match heads {
+        [_, rest @ ..] => rest,
+        [] => &[],
+    }
+}
+
+/// The standard whose level is drawn, if there is one.
+fn standard_for(picture: Picture, heads: &[Line]) -> Option<Standard>
+    ensures { result ≡ standard_for picture heads.now }
+{
+    match picture {
+        Picture::Counts => None,
+        Picture::Bars { .. } | Picture::Squares(_) | Picture::Nothing => standard_word(first_value(
+            heads,
+        )),
+        Picture::Lines => Some(Standard::Ozone2015),
+    }
+}
+
+/// Appends the standard and its level in words.
+#[tactic(auto, unfolding(crate::specs::Page::standard_line))]
+fn write_standard(out: &mut Vec<u8>, standard: Option<Standard>) -> Result<(), Memory>
+    ensures { OnOk result (out.new.items ≡ out.old.items ++ standard_line standard) }
+{
+    if let Some(standard) = standard {
+        out.extend_from_slice(b"<p>")?;
+        out.extend_from_slice(words_of(standard).as_bytes())?;
+        out.extend_from_slice(b". ")?;
+        write_level(out, standard)?;
+        out.extend_from_slice(b".</p>\n")?;
+    }
+    Ok(())
+}
+
+fn write_level_words(out: &mut Vec<u8>, picture: Picture, heads: &[Line]) -> Result<(), Memory>
+    ensures { OnOk result (out.new.items ≡ out.old.items ++ level_words picture heads.now) }
+{
+    write_standard(out, standard_for(picture, heads))
+}
+
+#[tactic(auto, unfolding(crate::specs::Page::drawn_as))]
+fn write_picture(
+    out: &mut Vec<u8>,
+    picture: Picture,
+    heads: &[Line],
+    rows: &[Line],
+) -> Result<(), Memory>
+    requires heads { length heads.now ≤ 100000 }
+    requires rows { length rows.now ≤ 100000 }
+    ensures { OnOk result (out.new.items ≡ out.old.items ++ drawn_as picture heads.now rows.now) }
+{
+    match picture {
+        Picture::Counts => bars::write_picture(out, Some(1), None, None, behind_first(heads)),
+        Picture::Bars { value, verdict } => {
+            let standard = standard_word(first_value(heads));
+            bars::write_picture(out, Some(value), verdict, standard, rows)
+        }
+        Picture::Squares(verdict) => bars::write_picture(out, None, Some(verdict), None, rows),
+        Picture::Lines => write_day(out, Standard::Ozone2015, rows),
+        Picture::Nothing => Ok(()),
+    }
+}
+
+#[tactic(auto, unfolding(crate::specs::Page::heading))]
+fn write_heading(out: &mut Vec<u8>, title: &str) -> Result<(), Memory>
+    ensures { OnOk result (out.new.items ≡ out.old.items ++ heading title.now) }
+{
+    out.extend_from_slice(b"<section>\n<h1>")?;
+    out.extend_from_slice(title.as_bytes())?;
+    out.extend_from_slice(b"</h1>\n")?;
+    Ok(())
+}
+
+/// Appends the heads, and the standard and its level in words above them.
+#[tactic(auto, unfolding(crate::specs::Page::opening))]
+fn write_opening(out: &mut Vec<u8>, picture: Picture, heads: &[Line]) -> Result<(), Memory>
+    ensures { OnOk result (out.new.items ≡ out.old.items ++ opening picture heads.now) }
+{
+    write_level_words(out, picture, heads)?;
+    write_heads(out, heads)
+}
+
+/// Appends a section with this title, picture, heads, columns and rows.
+#[tactic(auto, unfolding(crate::specs::Page::section_of))]
+fn write_section_of(
+    out: &mut Vec<u8>,
+    title: &str,
+    picture: Picture,
+    heads: &[Line],
+    columns: &[Bytes],
+    rows: &[Line],
+) -> Result<(), Memory>
+    requires heads { length heads.now ≤ 100000 }
+    requires rows { length rows.now ≤ 100000 }
+    ensures { OnOk result (out.new.items ≡ out.old.items ++ section_of title.now picture heads.now columns.now rows.now) }
+{
+    write_heading(out, title)?;
+    write_opening(out, picture, heads)?;
+    write_picture(out, picture, heads, rows)?;
+    write_rows(out, columns, rows)?;
+    out.extend_from_slice(b"</section>\n")?;
+    Ok(())
+}
+
+/// Appends the section of a sheet.
+#[tactic(auto, unfolding(crate::specs::Page::section))]
+fn write_section(out: &mut Vec<u8>, sheet: &SheetText<'_>) -> Result<(), Memory>
+    requires heads { length sheet.now.heads ≤ 100000 }
+    requires rows { length sheet.now.rows ≤ 100000 }
+    ensures { OnOk result (out.new.items ≡ out.old.items ++ section sheet.now) }
+{
+    write_section_of(
+        out,
+        sheet.title,
+        sheet.picture,
+        sheet.heads,
+        sheet.columns,
+        sheet.rows,
+    )
+}
+
+/// Appends the section of the sheet at the front of some lines, and answers how many of them it has.
+fn write_next(alloc: Global, lines: &[Line], out: &mut Vec<u8>) -> Result<Option<usize>, Memory>
+    requires { length lines.now ≤ 100000 }
+    ensures count { IfOk result (λ count. count ≡ option_map lines_in (sheet_at lines.now)) }
+    ensures within { IfOk result (λ count. IfSome count (λ n. n ≤ length lines.now)) }
+    ensures written { OnOk result (out.new.items ≡ out.old.items ++ written (sheet_at lines.now)) }
+{
+    match sheet_at(alloc, lines)? {
+        Some(sheet) => {
+            write_section(out, &sheet)?;
+            Ok(Some(sheet.line_count()))
+        }
+        None => Ok(None),
+    }
+}
+
+/// Appends a section for each sheet of the lines. Answers whether the lines are sheets, so many at most.
+fn write_sections(
+    alloc: Global,
+    most: usize,
+    lines: &[Line],
+    out: &mut Vec<u8>,
+) -> Result<bool, Memory>
+    requires { length lines.now ≤ 100000 }
+    ensures { IfOk result (λ whole. if_true whole out.new.items ≡ option_map (λ sheets. out.old.items ++ flat_map section sheets) (sheets_in most lines.now)) }
+{
+    let mut left = most;
+    let mut rest = lines;
+    while left > 0 {
+        if is_end(rest) {
+            return Ok(true);
+        }
+        let Some(count) = write_next(alloc, rest, out)? else {
+            return Ok(false);
+        };
+        rest = &rest[count..];
+        left -= 1;
+    }
+    Ok(false)
+}
+
+/// The page of a text, between these two texts; `None` if the text is none of sheets.
+#[tactic(auto, unfolding(crate::specs::Page::page_of, crate::specs::Page::page, crate::specs::Reading::sheets_of))]
+pub fn page_of(
+    alloc: Global,
+    text: &[u8],
+    head: &[u8],
+    foot: &[u8],
+) -> Result<Option<Bytes>, Memory>
+    ensures { IfOk result (λ page. page ≡ pages.page_of (record { head = head.now; foot = foot.now }) text.now) }
+{
+    if text.is_empty() {
+        return Ok(None);
+    }
+    let lines = lines_of(alloc, text)?;
+    if lines.as_slice().len() > MOST_LINES {
+        return Ok(None);
+    }
+    let mut out = head.to_vec(alloc)?;
+    if !write_sections(alloc, MOST_SHEETS, lines.as_slice(), &mut out)? {
+        return Ok(None);
+    }
+    out.extend_from_slice(foot)?;
+    Ok(Some(Bytes::from_vec(out)))
+}
