@@ -9,11 +9,21 @@ pub struct Case {
     /// The rows that the keeper has before the first run.
     pub rows: Vec<u8>,
     pub failing_keeper: Vec<u64>,
-    /// The keeper is that of a new database, which has no rows and never fails.
-    pub is_in_database: bool,
+    pub place: Place,
     /// Calls of single functions, each with its answer, a line for each.
     pub calls: String,
     pub runs: Vec<Run>,
+}
+
+/// Where the tables of a case stand.
+#[derive(Clone, Copy)]
+pub enum Place {
+    /// In memory. The keeper fails at the calls that it is told to.
+    Memory,
+    /// In a new database, which has no rows and never fails.
+    Database,
+    /// In a new journal. Its disk fails at the calls that the keeper is told to.
+    Journal,
 }
 
 /// One run of the program's words.

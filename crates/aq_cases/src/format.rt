@@ -20,6 +20,8 @@
 //!   run is a call too.
 //! - `keeper in a database`: it is that of `aq_sqlite`, over a new database on a disk in memory. Such a case
 //!   has no `rows`.
+//! - `keeper in a journal`: it is that of `aq_journal`, over a new disk in memory. Such a case has no `rows`, and
+//!   what `keeper fails at` counts are the calls of that disk.
 //! - `calls`, a block: calls of single functions, `NAME ARGUMENTS => ANSWER`, by the names of `answers`. Its
 //!   lines stand for themselves alone.
 //! - `run WORDS`: the program's words, with one space between them.
@@ -43,7 +45,7 @@
 //!   where `{date}` is `YYYYMMDD`, `{day}` is `YYYY-MM-DD`, and `{n}` counts from 0.
 //! - `@hours DAY TIME COUNT LINE`, for so many hours from `HH:00` of a day on, where `{time}` is `HH:00`.
 use crate::blocks::write_block_line;
-use crate::case::{Case, Extent, Failing, Given, Room, Run, Subject, Wanted};
+use crate::case::{Case, Extent, Failing, Given, Place, Room, Run, Subject, Wanted};
 use crate::trouble::Trouble;
 use aq_base::Memory;
 use std::alloc::Global;
@@ -176,7 +178,7 @@ fn new_case(alloc: Global, name: &str) -> Result<Case, Memory> {
         wrong: None,
         rows: Vec::new(alloc),
         failing_keeper: Vec::new(alloc),
-        is_in_database: false,
+        place: Place::Memory,
         calls: String::new(alloc),
         runs: Vec::new(alloc),
     })
@@ -193,7 +195,11 @@ fn open_in_case(alloc: Global, case: &mut Case, word: &str, rest: &str) -> Resul
         "rows" if rest.is_empty() => Ok(Block::Rows),
         "calls" if rest.is_empty() => Ok(Block::Calls),
         "keeper" if rest == "in a database" => {
-            case.is_in_database = true;
+            case.place = Place::Database;
+            Ok(Block::None)
+        }
+        "keeper" if rest == "in a journal" => {
+            case.place = Place::Journal;
             Ok(Block::None)
         }
         "keeper" => {

@@ -1,9 +1,25 @@
 //! A program for the gate alone: it runs the cases that stand in files of `data/` over sources, sinks,
 //! doors and keepers in memory, and prints a line for each. A case says which words and lines go in, and
-//! what has to come out. `format` says how a case is written.
+//! what has to come out.
 //!
-//! The files are those that its words name, or else those that `index.txt` lists. `rt try -- data/scan.txt`
-//! runs the cases of one, and proves nothing. It ends with 1 if a case differs.
+//! # What it has
+//!
+//! - `data/*.txt`: the cases, plain text that a reviewer can read. `format` says how one is written.
+//! - `data/index.txt`: the files that are run if the words name none.
+//! - `stdout`: a line for each case; the gate compares it, as two compilers build the program.
+//!
+//! # What it promises
+//!
+//! - Nothing: it has no contracts. It ends with 1 if a case differs. Expected values come from the
+//!   standard by hand, never from the program.
+//!
+//! # An example
+//!
+//! `rt try` proves nothing, and runs the cases of one file in its folder by
+//!
+//! ```sh
+//! rt try -- data/scan.txt
+//! ```
 #![tactic(auto)]
 
 mod answers;

@@ -1,11 +1,12 @@
 //! A case that is tried.
 use crate::calls::try_calls;
-use crate::case::{Case, Extent, Failing, Given, Run, Subject, Wanted};
+use crate::case::{Case, Extent, Failing, Given, Place, Run, Subject, Wanted};
 use crate::compare::difference;
 use crate::database::new_keeper;
 use crate::rows::{read_rows, rows_text};
 use crate::trouble::Trouble;
 use aq_base::Memory;
+use aq_journal::{JournalKeeper, MemoryDisk};
 use aq_keeper::{Keeper, MemoryKeeper, are_in_order};
 use aq_serve::{MemoryDoor, MemorySink, MemorySource};
 use std::alloc::Global;
@@ -26,7 +27,7 @@ pub fn try_case(alloc: Global, case: Case) -> Result<Option<String>, Memory> {
         wrong,
         rows,
         failing_keeper,
-        is_in_database,
+        place,
         calls,
         runs,
     } = case;
@@ -39,13 +40,28 @@ pub fn try_case(alloc: Global, case: Case) -> Result<Option<String>, Memory> {
     if let Some(found) = try_calls(alloc, calls.as_str())? {
         return Ok(Some(found));
     }
-    if is_in_database {
-        return match new_keeper(alloc) {
+    match place {
+        Place::Memory => try_in_memory(alloc, &rows, failing_keeper, runs),
+        Place::Database => match new_keeper(alloc) {
             Some(mut keeper) => try_runs(alloc, runs, &mut keeper),
             None => said(alloc, "the database cannot be opened"),
-        };
+        },
+        Place::Journal => {
+            let disk = MemoryDisk::new(Vec::new(alloc), failing_keeper);
+            let mut keeper = JournalKeeper::new(disk);
+            try_runs(alloc, runs, &mut keeper)
+        }
     }
-    let rows = match read_rows(alloc, &rows) {
+}
+
+/// The first difference of runs over a keeper in memory, which has these rows before.
+fn try_in_memory(
+    alloc: Global,
+    rows: &[u8],
+    failing: Vec<u64>,
+    runs: Vec<Run>,
+) -> Result<Option<String>, Memory> {
+    let rows = match read_rows(alloc, rows) {
         Ok(rows) => rows,
         Err(Trouble::Memory) => return Err(Memory),
         Err(Trouble::Wrong(why)) => return said(alloc, why),
@@ -53,7 +69,7 @@ pub fn try_case(alloc: Global, case: Case) -> Result<Option<String>, Memory> {
     if !are_in_order(&rows) {
         return said(alloc, "the rows are not in order");
     }
-    let mut keeper = MemoryKeeper::new(rows, failing_keeper);
+    let mut keeper = MemoryKeeper::new(rows, failing);
     try_runs(alloc, runs, &mut keeper)
 }
 
@@ -123,10 +139,10 @@ fn perform<K: Keeper>(
         transfers,
     } = failing;
     let count = connections.len();
+    let mut door = MemoryDoor::new(alloc, connections, room.connection, accepts, transfers)?;
     let mut input = MemorySource::new(input, failing_reads);
     let mut output = MemorySink::new(alloc, room.output, failing_writes)?;
     let mut errors = MemorySink::new(alloc, room.errors, failing_errors)?;
-    let mut door = MemoryDoor::new(alloc, connections, room.connection, accepts, transfers)?;
     let status = aq_desk::run(
         alloc,
         words,

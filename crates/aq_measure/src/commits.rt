@@ -1,5 +1,7 @@
-//! The commit of a year of hours to a file.
+//! The commit of a year of hours to a file, by either keeper.
 use aq_base::{Bytes, Memory};
+use aq_file::FileDisk;
+use aq_journal::JournalKeeper;
 use aq_keeper::{Keeper, KeeperFault, LoadRow, ObsRow2, OfficeRow, Row, RowChange, do_keys_rise};
 use aq_sqlite::FileKeeper;
 use std::alloc::Global;
@@ -24,18 +26,29 @@ pub struct CommitTimes {
     pub commit: Duration,
 }
 
-/// Opens a file and reads all its rows, and then commits a year of hours to it: each by the clock.
-pub fn commit_times(rt: &HostRuntime, path: &str) -> io::Result<CommitTimes> {
+/// What the keeper of a file of tables takes.
+pub fn table_times(rt: &HostRuntime, path: &str) -> io::Result<CommitTimes> {
+    let mut keeper = FileKeeper::at_path(rt, String::from_str(rt.alloc(), path)?);
+    commit_times(rt, &mut keeper)
+}
+
+/// What the keeper of a journal takes, which is a file of the working folder.
+pub fn journal_times(rt: &HostRuntime, name: &str) -> io::Result<CommitTimes> {
+    let mut keeper = JournalKeeper::new(FileDisk::new(rt, name));
+    commit_times(rt, &mut keeper)
+}
+
+/// Reads all rows, which opens the file, and then commits a year of hours: each by the clock.
+fn commit_times<K: Keeper>(rt: &HostRuntime, keeper: &mut K) -> io::Result<CommitTimes> {
     let alloc = rt.alloc();
     let Ok(batch) = year_of_hours(alloc) else {
         return Err(io::Error::from(ErrorKind::OutOfMemory));
     };
-    let mut keeper = FileKeeper::at_path(rt, String::from_str(alloc, path)?);
     let start = Instant::now(rt)?;
-    let rows = row_count(alloc, &mut keeper)?;
+    let rows = row_count(alloc, keeper)?;
     let reading = start.elapsed(rt)?;
     let start = Instant::now(rt)?;
-    commit(alloc, &mut keeper, &batch)?;
+    commit(alloc, keeper, &batch)?;
     let commit = start.elapsed(rt)?;
     Ok(CommitTimes {
         rows,

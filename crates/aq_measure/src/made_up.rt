@@ -6,7 +6,7 @@ ghost use Rattle.aq_rules.specs.Lines.Canonical.{is_office_line};
 ghost use Rattle.aq_rules.specs.Office.Office.{is_site};
 
 use aq_base::{
-    Day, Duration, Hour, LAST_HOUR, Memory, MonitorId, ObsKey, Observation, OfficeLine,
+    Code, Day, Duration, Hour, LAST_HOUR, Memory, MonitorId, ObsKey, Observation, OfficeLine,
     OfficeRecord, Pollutant, Quals, SiteId,
 };
 use aq_cal::year_span;
@@ -47,7 +47,7 @@ pub fn schedule(registry: &mut Registry, site: SiteId) -> Result<(), Memory>
 }
 
 /// Puts an office record.
-fn put(registry: &mut Registry, line: OfficeLine) -> Result<(), Memory>
+pub fn put(registry: &mut Registry, line: OfficeLine) -> Result<(), Memory>
     requires { IsTrue (is_office_line line) }
 {
     match registry.apply(line) {
@@ -57,7 +57,7 @@ fn put(registry: &mut Registry, line: OfficeLine) -> Result<(), Memory>
 }
 
 /// The line of a monitor of hours whose values count.
-fn registered(site: SiteId, pollutant: Pollutant, poc: u8) -> OfficeLine
+pub fn registered(site: SiteId, pollutant: Pollutant, poc: u8) -> OfficeLine
     requires site { IsTrue (is_site site) }
     requires least { 0 < poc }
     requires most { poc ≤ MOST_MONITORS }
@@ -110,22 +110,27 @@ fn fill_hours(
             },
             hour: Hour::new(number),
         };
-        let content = content_at(pollutant, poc, number);
+        let content = content_at(pollutant, poc, number, None);
         shelf.insert(key, content).map_err(|_| Memory)?;
     }
     Ok(())
 }
 
-/// A monitor's observation for an hour: 20 to 79, in the unit of its pollutant.
-fn content_at(pollutant: Pollutant, poc: u8, hour: u32) -> Observation
+/// A monitor's observation for an hour: 20 to 79, in the unit of its pollutant; if it has a code, 10 more.
+pub fn content_at(pollutant: Pollutant, poc: u8, hour: u32, code: Option<Code>) -> Observation
     requires { hour ≤ LAST_HOUR }
     ensures { HasValueInRange pollutant result }
 {
-    let value = 20 + hour / 24 * 7 % 30 + (hour * 37 + u32::from(poc) * 11) % 31;
+    let mut value = 20 + hour / 24 * 7 % 30 + (hour * 37 + u32::from(poc) * 11) % 31;
+    let mut quals = Quals::new();
+    if let Some(code) = code {
+        value += 10;
+        quals.add(code);
+    }
     Observation {
         value: Some(value as i32),
         null: None,
-        quals: Quals::new(),
+        quals,
         method: None,
     }
 }

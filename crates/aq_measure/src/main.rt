@@ -1,10 +1,34 @@
-//! A program for measures alone. `cut` and `bytes` count the lines and fields of a body on standard input,
-//! and `bench/scan` holds a scan beside them: `cut` cuts the body as a scan does, and does nothing else with
-//! it, and `bytes` looks at each byte once in a plain loop. `ozone MONITORS RUNS` and `pm25 MONITORS RUNS`
-//! compute the design values of a site whose hours are made up, for `bench/ozone` and `bench/pm25`.
-//! `commit FILE` reads all rows of a file of the tables and commits a year of hours to it, for `bench/load`.
-//! `fixed PORT CONNECTIONS` answers each HTTP request of so many connections with the bytes that stand on
-//! standard input, for `bench/serve`.
+//! A program for measures alone, run by the scripts of `bench/`.
+//!
+//! # What it has
+//!
+//! - `cut` and `bytes` count the lines and fields of a body on standard input, for `bench/scan`: `cut`
+//!   cuts the body as a scan does, and does nothing else with it; `bytes` looks at each byte once in a
+//!   plain loop.
+//! - `ozone MONITORS RUNS` and `pm25 MONITORS RUNS` compute the design values of a site whose hours are
+//!   made up, for `bench/ozone` and `bench/pm25`.
+//! - `whatif QUESTION RUNS` asks a question about such a site with a hundred events, for `bench/whatif`:
+//!   `value`, its design value; `list`, that with the first 64 events concurred in; `one`, that with event
+//!   94 concurred in; `decisive`, the events that decide; `elsewhere`, these with a hundred further events
+//!   elsewhere.
+//! - `commit FILE` reads all rows of a file of the tables and commits a year of hours to it, for
+//!   `bench/load`; `journal FILE` does so with a journal in the working folder, for `bench/journal`.
+//! - `fixed PORT CONNECTIONS` answers each HTTP request of so many connections with the bytes that stand
+//!   on standard input, for `bench/serve`.
+//!
+//! # What it promises
+//!
+//! - How many lines and fields a body has, and how many line ends and bars, are the definition's
+//!   (`fields_in`, `bars_in`). That it prints them is only tried, by `bench/scan`.
+//! - The other modes have no clauses: design values and questions of made-up hours, a commit by a clock and a server
+//!   of one fixed reply are only tried, by the scripts that run them.
+//!
+//! # An example
+//!
+//! ```sh
+//! bin/build measure
+//! crates/aq_measure/out/aq_measure cut < samples/two-sites.txt
+//! ```
 #![tactic(auto)]
 
 ghost use Rattle.std.specs.Prelude.{◌≤◌};
@@ -15,13 +39,16 @@ mod designs;
 mod fixed;
 mod made_up;
 mod particles;
+mod questions;
+mod smoke;
 
 use aq_base::MOST_BYTES;
-use commits::commit_times;
+use commits::{CommitTimes, journal_times, table_times};
 use counts::{bars_in, fields_in};
 use designs::ozone_designs;
 use made_up::MOST_MONITORS;
 use particles::pm25_designs;
+use questions::{Question, ask};
 use std::io::{ErrorKind, Read};
 use std::{env, io};
 
@@ -29,7 +56,8 @@ fn main(rt: HostRuntime) -> io::Result<()> {
     let words: Vec<String> = env::args(&rt)?.skip(1).collect(rt.alloc())?;
     if let [word, path] = words.as_slice() {
         return match word.as_str() {
-            "commit" => print_commit(&rt, path.as_str()),
+            "commit" => print_times(&rt, table_times(&rt, path.as_str())?),
+            "journal" => print_times(&rt, journal_times(&rt, path.as_str())?),
             _ => Err(io::Error::from(ErrorKind::InvalidInput)),
         };
     }
@@ -37,6 +65,9 @@ fn main(rt: HostRuntime) -> io::Result<()> {
         let refused = io::Error::from(ErrorKind::InvalidInput);
         if word.as_str() == "fixed" {
             return serve_fixed(&rt, monitors, runs);
+        }
+        if word.as_str() == "whatif" {
+            return print_answers(&rt, monitors, runs);
         }
         let (Ok(monitors), Ok(runs)) = (monitors.parse::<u8>(), runs.parse::<u32>()) else {
             return Err(refused);
@@ -107,10 +138,31 @@ fn print_pm25(rt: &HostRuntime, monitors: u8, runs: u32) -> io::Result<()>
     )
 }
 
-/// Commits a year of hours to a file, and prints how many rows stood in it, and the microseconds that the
-/// reading and the commit took.
-fn print_commit(rt: &HostRuntime, path: &str) -> io::Result<()> {
-    let times = commit_times(rt, path)?;
+/// Asks the question so many times and prints the sums of the answers.
+fn print_answers(rt: &HostRuntime, question: &str, runs: &str) -> io::Result<()> {
+    let refused = io::Error::from(ErrorKind::InvalidInput);
+    let Ok(runs) = runs.parse::<u32>() else {
+        return Err(refused);
+    };
+    let question = match question {
+        "value" => Question::Value,
+        "list" => Question::Assumed(1, 64),
+        "one" => Question::Assumed(94, 94),
+        "decisive" => Question::Decisive,
+        "elsewhere" => Question::Elsewhere,
+        _ => return Err(refused),
+    };
+    let Ok(answers) = ask(rt.alloc(), question, runs) else {
+        return Err(io::Error::from(ErrorKind::OutOfMemory));
+    };
+    println!(rt;
+        "values {}\nmet {}\nunmet {}\nevents {}\nnumbers {}",
+        answers.values, answers.met, answers.unmet, answers.events, answers.numbers
+    )
+}
+
+/// Prints how many rows stood in a file, and the microseconds that the reading and the commit took.
+fn print_times(rt: &HostRuntime, times: CommitTimes) -> io::Result<()> {
     println!(rt;
         "rows {}\nreading {}\ncommit {}",
         times.rows,
