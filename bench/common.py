@@ -9,13 +9,13 @@ import subprocess
 import sys
 
 TOP = pathlib.Path(__file__).resolve().parent.parent
-BUILDS = {"airdv": "bin/build", "aq_measure": "bin/build measure"}
+BUILDS = {"airdv": "bin/build", "airdv_journal": "bin/build journal", "aq_measure": "bin/build measure"}
 
 
 @functools.cache
 def program(name):
-    """The path of `airdv` or `aq_measure`: the one that AIRDV or AQ_MEASURE names, or the one that is built from
-    these sources. Ends the script if there is neither."""
+    """The path of a program: the one that its name in capitals names (AIRDV, AQ_MEASURE), or the one that is built
+    from these sources. Ends the script if there is neither."""
     named = os.environ.get(name.upper())
     if named:
         return named
