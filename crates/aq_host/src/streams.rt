@@ -34,9 +34,7 @@ impl<R: Read> Source for Reading<R> {
     ghost use Rattle.aq_serve.specs.Door.{HasCause, faults_after};
     ghost use Rattle.aq_serve.specs.Outside.{Moves};
 
-    ghost left = { λ _. None };
-
-    ghost faults = { λ source. source.faults };
+    ghost seen = { λ source. record { left = None; faults = source.faults } };
 
     fn read(&mut self, buffer: &mut [u8]) -> Result<usize, Failed>
         ensures moved { IfOk result (λ n. Moves None None buffer.new n) }
@@ -94,9 +92,7 @@ impl<W: Write> Sink for Writing<W> {
     ghost use Rattle.aq_serve.specs.Door.{HasCause, faults_after};
     ghost use Rattle.aq_serve.specs.Outside.{Takes};
 
-    ghost written = { λ _. None };
-
-    ghost faults = { λ sink. sink.faults };
+    ghost seen = { λ sink. record { written = None; faults = sink.faults } };
 
     fn write(&mut self, piece: &[u8]) -> Result<usize, Failed>
         ensures taken { IfOk result (λ n. Takes None None piece.now n) }

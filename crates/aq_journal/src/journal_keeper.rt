@@ -57,9 +57,10 @@ impl<D: Disk + Drop> Keeper for JournalKeeper<D> {
     ghost use Rattle.aq_journal.specs.Keeping.{Endures, IsCertain, IsLeft, both_counts, told, with_batch};
     ghost use Rattle.aq_journal.specs.Opening.{FailsOnlyIf, IsTooGreat};
 
-    ghost tables = { λ keeper. told keeper.gate (D.seen keeper.disk) };
-
-    ghost faults = { λ keeper. both_counts (D.faults keeper.disk) keeper.refusals };
+    ghost seen = { λ keeper. record {
+      tables = told keeper.gate (D.seen keeper.disk);
+      faults = both_counts (D.faults keeper.disk) keeper.refusals;
+    } };
 
     fn read_all(&mut self, alloc: Global) -> Result<Rows, KeeperFault>
         ensures rows { IfOk result (λ rows. IfSome (told self.new.gate (D.seen self.new.disk)) (λ told. rows ≡ told)) }

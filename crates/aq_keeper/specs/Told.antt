@@ -3,6 +3,12 @@ use Rattle.std.specs.Prelude.{◌≡◌, ℕ, Option, Some, None, IfSome, Result
 use Rattle.aq_base.specs.Faults.{HasRisen, next, memory_text, failed_text}
 use Rattle.aq_keeper.specs.declared.keeper.KeeperFault.{KeeperFault}
 use Rattle.aq_keeper.specs.declared.keeper.KeeperFault.TheVariants.{Failed, Memory}
+use Rattle.aq_rules.specs.Kept.Rows.{Row}
+
+-- a keeper: the rows of its tables in the order of tables and keys, if it tells them, and how often it has failed
+pub record KeeperView : Type 0 where
+  pub tables : Option (List Row)
+  pub faults : ℕ
 
 -- A store may fail within a call, and its keeper then tells no more; it never begins to tell. So what a call
 -- promises of what is told is said of what is told as it ends: it is as expected, and what was expected was told.

@@ -2,11 +2,10 @@
 //! counts its faults. It may stop telling within any call, and never begins to: so each call speaks of what
 //! is told as it ends. A count rises at a call that fails, and at no other; one at its greatest value counts
 //! as risen. Want of memory is no fault, and may come at any call.
-ghost use Rattle.std.specs.Prelude.{◌≡◌, ℕ, List, true, map, Option, Some, IfSome, IfOk, OnOk, OnErr};
+ghost use Rattle.std.specs.Prelude.{◌≡◌, true, map, Some, IfSome, IfOk, OnOk, OnErr};
 ghost use Rattle.std.specs.Option.{option_map};
-ghost use Rattle.aq_rules.specs.Kept.Rows as the_rows;
 ghost use Rattle.aq_rules.specs.Kept.RowChanges.{batch_rises, changed_key, with_row_changes};
-ghost use Rattle.aq_keeper.specs.Told.{HasCause, Stays, fault_text};
+ghost use Rattle.aq_keeper.specs.Told.{HasCause, KeeperView, Stays, fault_text};
 
 use crate::change::RowChange;
 use crate::row::Rows;
@@ -50,23 +49,21 @@ impl Error for KeeperFault {}
 
 /// Keeps the rows of the four tables.
 pub trait Keeper {
-    /// The rows of its tables in the order of tables and keys, if the keeper tells them.
-    ghost tables: { Self → Option (List the_rows.Row) };
-
-    /// How often it has failed.
-    ghost faults: { Self → ℕ };
+    /// The rows of its tables, if it tells them, and its count of faults.
+    ghost seen: { Self → KeeperView };
 
     /// All rows in the order of tables and keys. The tables stay as they are.
     fn read_all(&mut self, alloc: Global) -> Result<Rows, KeeperFault>
-        ensures rows { IfOk result (λ rows. IfSome (tables self.new) (λ told. rows ≡ told)) }
-        ensures kept { Stays (tables self.old) (tables self.new) }
-        ensures cause { HasCause (faults self.old) (faults self.new) result };
+        ensures rows { IfOk result (λ rows. IfSome (seen self.new).tables (λ told. rows ≡ told)) }
+        ensures kept { Stays (seen self.old).tables (seen self.new).tables }
+        ensures cause { HasCause (seen self.old).faults (seen self.new).faults result };
 
     /// Changes the rows by a batch, of which the keys rise in the order of a batch: that of tables and
     /// keys, but for the loads, which come last. After a fault the tables are as before.
     fn commit(&mut self, alloc: Global, batch: &[RowChange]) -> Result<(), KeeperFault>
         requires rising { batch_rises (map changed_key batch.now) ≡ true }
-        ensures done { OnOk result (Stays (option_map (λ told. with_row_changes told batch.now) (tables self.old)) (tables self.new)) }
-        ensures kept { OnErr result (Stays (tables self.old) (tables self.new)) }
-        ensures cause { HasCause (faults self.old) (faults self.new) result };
+        ensures done { OnOk result (Stays (option_map (λ told. with_row_changes told batch.now)
+            (seen self.old).tables) (seen self.new).tables) }
+        ensures kept { OnErr result (Stays (seen self.old).tables (seen self.new).tables) }
+        ensures cause { HasCause (seen self.old).faults (seen self.new).faults result };
 }

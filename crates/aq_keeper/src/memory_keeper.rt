@@ -63,9 +63,7 @@ impl Keeper for MemoryKeeper {
     ghost use Rattle.aq_keeper.specs.Told.{HasCause, faults_after};
     ghost use Rattle.aq_keeper.specs.Memories.{has_failed};
 
-    ghost tables = { λ keeper. Some keeper.tables };
-
-    ghost faults = { λ keeper. keeper.faults };
+    ghost seen = { λ keeper. record { tables = Some keeper.tables; faults = keeper.faults } };
 
     fn read_all(&mut self, alloc: Global) -> Result<Rows, KeeperFault>
         ensures rows { IfOk result (λ rows. rows ≡ self.old.tables) }

@@ -48,9 +48,7 @@ impl Keeper for SteadyKeeper {
     ghost use Rattle.aq_rules.specs.Kept.RowChanges.{batch_rises, changed_key, with_row_changes};
     ghost use Rattle.aq_keeper.specs.declared.keeper.KeeperFault.TheVariants.{Memory};
 
-    ghost tables = { λ keeper. Some keeper };
-
-    ghost faults = { λ _. 0 };
+    ghost seen = { λ keeper. record { tables = Some keeper; faults = 0 } };
 
     fn read_all(&mut self, alloc: Global) -> Result<Rows, KeeperFault>
         ensures rows { IfOk result (λ rows. rows ≡ self.old) }

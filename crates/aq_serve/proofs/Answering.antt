@@ -10,7 +10,8 @@ use Rattle.aq_http.specs.Reply.{reply_text}
 use Rattle.aq_http.specs.Step.{IsStep, Request, Step, More, Refuse, Whole as WholeStep, with_body, request_in}
 use Rattle.aq_serve.specs.Answered.{answered, error_body, refused}
 use Rattle.aq_serve.specs.Door.{DoorView, Exchange, IsDry, IsSameDoor}
-use Rattle.aq_serve.specs.Service.{Answers, Become, Counts, Loses, ServiceView}
+use Rattle.aq_keeper.specs.Standing.{Become, Standing}
+use Rattle.aq_serve.specs.Service.{Answers, Counts, Loses}
 use Rattle.aq_serve.specs.Session.{GoesOn, IsTurn, Turn, ends_behind, turn_of}
 use Rattle.aq_serve.specs.Serving.{Rises, World}
 use Rattle.aq_serve.specs.Talking.{FetchFailed, FetchLost, Replies, RepliesNot, SentBy, Stores, TakesTurn, Talks, TalksBy, Took}
@@ -19,7 +20,7 @@ use Rattle.aq_serve.specs.declared.ending.End.TheVariants.{Whole, CutByRead, Cut
 use Rattle.aq_serve.specs.declared.limits.TheConstants.{MOST_REQUESTS}
 use Rattle.aq_serve.proofs.Counts.{rises_by, rises_once, rises_same}
 use Rattle.aq_serve.proofs.Refusals.{refusal_is_no_fault}
-use Rattle.aq_serve.proofs.Tables.{become_same}
+use Rattle.aq_keeper.proofs.TablesOfOffice.{become_same}
 use Rattle.aq_serve.proofs.Wires.{door_join, exchange_join, gets_nothing, passes_nothing}
 
 -- ---- the answer
@@ -32,7 +33,7 @@ IsWholeStep (WholeStep request) = ⊤
 pub whole_is_due : (now : List ℕ) (h : Head) → h.head_bytes + h.body_bytes ≤ length now → IsWholeStep (with_body now h)
 whole_is_due now h within = subst (λ t. IsWholeStep (cond t (WholeStep (request_in now h)) More)) (sym (le-leb _ _ within)) tt
 
-pub answer_replies : (served : ℕ) (input bytes : List ℕ) (request : Request) (closes : Bool) (before after : ServiceView)
+pub answer_replies : (served : ℕ) (input bytes : List ℕ) (request : Request) (closes : Bool) (before after : Standing)
     → ((more : List ℕ) → IsStep (input ++ more) (WholeStep request)) → closes ≡ ends_behind served request
     → request.used ≤ length input → (closes ≡ false → served + 1 < MOST_REQUESTS)
     → Answers request.verb request.target request.body closes bytes before after
@@ -54,7 +55,7 @@ answer_replies served input bytes request closes before after stays so within fe
   faults = rises_by (λ (t : Turn). t.status == 503) (turn_of request.used closes (answered before.office request.verb request.target request.body a.fails)) before.faults after.faults a.cause;
 }
 
-pub answer_lost : (served : ℕ) (input : List ℕ) (request : Request) (before after : ServiceView)
+pub answer_lost : (served : ℕ) (input : List ℕ) (request : Request) (before after : Standing)
     → IsStep input (WholeStep request) → Loses request.verb request.target request.body before after
     → RepliesNot served input before after
 answer_lost served input request before after stands l = record {
@@ -79,7 +80,7 @@ goes_nowhere false = tt
 closes_all : (c : Bool) (behind : Type 0) → c ≡ true → GoesOn c [] behind
 closes_all c behind e = subst (λ t. GoesOn t [] behind) (sym e) refl
 
-pub sent_turn : (served : ℕ) (input bytes : List ℕ) (used : ℕ) (closes : Bool) (d e : DoorView) (s t : ServiceView) (end : Option End)
+pub sent_turn : (served : ℕ) (input bytes : List ℕ) (used : ℕ) (closes : Bool) (d e : DoorView) (s t : Standing) (end : Option End)
     → Replies served input bytes used closes s t → SentBy end closes bytes d e
     → TakesTurn served (record { door = d; service = s }) (record { door = e; service = t }) input (drop used input) (Ok end)
 sent_turn served input bytes used closes d e s t None r sent = record {
@@ -147,7 +148,7 @@ sent_turn served input bytes used closes d e s t (Some CutByWrite) r sent = reco
 }
 
 -- a refused head is answered over any office
-pub refusal_replies : (served : ℕ) (input bytes : List ℕ) (status : ℕ) (s : ServiceView)
+pub refusal_replies : (served : ℕ) (input bytes : List ℕ) (status : ℕ) (s : Standing)
     → ((more : List ℕ) → IsStep (input ++ more) (Refuse status))
     → bytes ≡ reply_text (record { status = status; allow = []; close = true; body = error_body status })
     → Replies served input bytes 0 true s s
@@ -170,7 +171,7 @@ refusal_replies served input bytes status s stays are = record {
 same_door : (d : DoorView) → IsSameDoor d d
 same_door d = record { listens = refl; is_open = refl; accepts = refl }
 
-pub lost_turn : (served : ℕ) (input now : List ℕ) (d : DoorView) (s t : ServiceView) (memory : Memory)
+pub lost_turn : (served : ℕ) (input now : List ℕ) (d : DoorView) (s t : Standing) (memory : Memory)
     → RepliesNot served input s t
     → TakesTurn served (record { door = d; service = s }) (record { door = d; service = t }) input now (Err memory)
 lost_turn served input now d s t memory l = record {
@@ -198,7 +199,7 @@ lost_turn served input now d s t memory l = record {
       tables = stored;
     }
 
-pub dry_turn : (served : ℕ) (input now : List ℕ) (d : DoorView) (s : ServiceView)
+pub dry_turn : (served : ℕ) (input now : List ℕ) (d : DoorView) (s : Standing)
     → IsStep input More → IsDry d.wire
     → TakesTurn served (record { door = d; service = s }) (record { door = d; service = s }) input now (Ok (Some Whole))
 dry_turn served input now d s waits dry = record {
@@ -219,7 +220,7 @@ dry_turn served input now d s waits dry = record {
   };
 }
 
-pub cut_turn : (served : ℕ) (pending now : List ℕ) (a b : DoorView) (s : ServiceView)
+pub cut_turn : (served : ℕ) (pending now : List ℕ) (a b : DoorView) (s : Standing)
     → FetchFailed a b pending now
     → TakesTurn served (record { door = a; service = s }) (record { door = b; service = s }) pending now (Ok (Some CutByRead))
 cut_turn served pending now a b s f = record {
@@ -239,7 +240,7 @@ cut_turn served pending now a b s f = record {
   };
 }
 
-pub unread_turn : (served : ℕ) (pending now : List ℕ) (a b : DoorView) (s : ServiceView) (memory : Memory)
+pub unread_turn : (served : ℕ) (pending now : List ℕ) (a b : DoorView) (s : Standing) (memory : Memory)
     → FetchLost a b
     → TakesTurn served (record { door = a; service = s }) (record { door = b; service = s }) pending now (Err memory)
 unread_turn served pending now a b s memory f = record {
@@ -260,7 +261,7 @@ unread_turn served pending now a b s memory f = record {
 
 -- ---- what was read before
 
-ends_after : (end : Result End Memory) (served : ℕ) (d e : DoorView) (s : ServiceView) (a : World) (input sent : List ℕ) (turns : List Turn)
+ends_after : (end : Result End Memory) (served : ℕ) (d e : DoorView) (s : Standing) (a : World) (input sent : List ℕ) (turns : List Turn)
     → e.reads ≡ d.reads → e.writes ≡ d.writes
     → TalksBy end served (record { door = e; service = s }) a input sent turns
     → TalksBy end served (record { door = d; service = s }) a input sent turns
@@ -297,7 +298,7 @@ ends_after (Err memory) served d e s a input sent turns reads writes t = record 
   tables = t.tables;
 }
 
-talks_after : (end : Result End Memory) (served : ℕ) (d e : DoorView) (s : ServiceView) (a : World) (pending now : List ℕ)
+talks_after : (end : Result End Memory) (served : ℕ) (d e : DoorView) (s : Standing) (a : World) (pending now : List ℕ)
     → Took d e pending now → e.reads ≡ d.reads
     → Talks served (record { door = e; service = s }) a now end → Talks served (record { door = d; service = s }) a pending end
 talks_after end served d e s a pending now took reads t = record {
@@ -313,7 +314,7 @@ talks_after end served d e s a pending now took reads t = record {
 }
 
 -- a turn from where bytes were read is one from before
-pub turn_after : (served : ℕ) (d e : DoorView) (s : ServiceView) (a : World) (pending now later : List ℕ) (answer : Result (Option End) Memory)
+pub turn_after : (served : ℕ) (d e : DoorView) (s : Standing) (a : World) (pending now later : List ℕ) (answer : Result (Option End) Memory)
     → Took d e pending now → e.reads ≡ d.reads
     → TakesTurn served (record { door = e; service = s }) a now later answer
     → TakesTurn served (record { door = d; service = s }) a pending later answer
@@ -340,7 +341,7 @@ turn_after served d e s a pending now later (Ok (Some end)) took reads t = talks
 turn_after served d e s a pending now later (Err memory) took reads t = talks_after (Err memory) served d e s a pending now took reads t
 
 -- a refusal ends the connection, whatever bytes are left
-pub refused_turn : (served : ℕ) (input now bytes : List ℕ) (d e : DoorView) (s : ServiceView) (end : Option End)
+pub refused_turn : (served : ℕ) (input now bytes : List ℕ) (d e : DoorView) (s : Standing) (end : Option End)
     → Replies served input bytes 0 true s s → SentBy end true bytes d e
     → TakesTurn served (record { door = d; service = s }) (record { door = e; service = s }) input now (Ok end)
 refused_turn served input now bytes d e s None r sent = absurd (subst (λ (b : Bool). cond b Unit ⊥) sent.0 tt)
@@ -349,6 +350,6 @@ refused_turn served input now bytes d e s (Some CutByRead) r sent = absurd sent
 refused_turn served input now bytes d e s (Some CutByWrite) r sent = sent_turn served input bytes 0 true d e s s (Some CutByWrite) r sent
 
 -- nothing was read or sent
-pub memory_turn : (served : ℕ) (input now : List ℕ) (d : DoorView) (s : ServiceView) (memory : Memory)
+pub memory_turn : (served : ℕ) (input now : List ℕ) (d : DoorView) (s : Standing) (memory : Memory)
     → TakesTurn served (record { door = d; service = s }) (record { door = d; service = s }) input now (Err memory)
 memory_turn served input now d s memory = unread_turn served input now d d s memory (record { got = []; gets = gets_nothing d; reads = refl })

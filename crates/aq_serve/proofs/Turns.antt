@@ -6,14 +6,14 @@ use Rattle.aq_base.specs.Faults.{HasRisen}
 use Rattle.aq_base.specs.declared.refusal.Memory.{Memory}
 use Rattle.aq_rules.specs.Office.Office.{Office}
 use Rattle.aq_http.specs.Step.{IsStep, More}
-use Rattle.aq_serve.specs.Service.{AreOfOffice, Become}
+use Rattle.aq_keeper.specs.Standing.{AreOfOffice, Become}
 use Rattle.aq_serve.specs.Session.{AreTurns, GoesOn, IsCut, IsTurn, Turn, office_behind, replies}
 use Rattle.aq_serve.specs.Serving.{Rises, World}
 use Rattle.aq_serve.specs.Talking.{Advances, IsAll, Session, Stores, Talks, TalksBy}
 use Rattle.aq_serve.specs.declared.ending.End.{End}
 use Rattle.aq_serve.specs.declared.ending.End.TheVariants.{Whole, CutByRead, CutByWrite}
 use Rattle.aq_serve.proofs.Counts.{count_first, rises_join}
-use Rattle.aq_serve.proofs.Tables.{become_join, keeps_join, told_after}
+use Rattle.aq_keeper.proofs.TablesOfOffice.{become_join, keeps_join, told_after}
 use Rattle.aq_serve.proofs.Wires.{door_join, exchange_join}
 
 -- a request, and those behind it

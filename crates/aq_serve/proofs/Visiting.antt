@@ -6,7 +6,8 @@ use Rattle.aq_base.specs.Faults.{HasRisen}
 use Rattle.aq_base.specs.declared.refusal.Memory.{Memory}
 use Rattle.aq_rules.specs.Office.Office.{Office}
 use Rattle.aq_serve.specs.Door.{Both, DoorView, Ends, Exchange, HasSameTransfers, IsAccepted, IsAcceptedNow, IsDry, IsIdle, IsSameDoor, Nobody, Passes, TakesNext, Wire}
-use Rattle.aq_serve.specs.Service.{AreOfOffice, Counts, Keeps, ServiceView}
+use Rattle.aq_keeper.specs.Standing.{AreOfOffice, Keeps, Standing}
+use Rattle.aq_serve.specs.Service.{Counts}
 use Rattle.aq_serve.specs.Session.{IsFront, IsSession, Turn, failed_commits, office_behind}
 use Rattle.aq_serve.specs.Serving.{AreAll, AreVisits, EndsBy, HavePassed, IsVisitBy, NobodyComes, Rises, Serves, StandsBehind, Visit, World, all_turns, bytes_of, cuts_by_read, cuts_by_write, is_cut_by_read, is_cut_by_write, line_of, office_left}
 use Rattle.aq_serve.specs.Talking.{IsAll, Talks, TalksBy, Visited}
@@ -15,7 +16,7 @@ use Rattle.aq_serve.specs.declared.ending.End.TheVariants.{Whole, CutByRead, Cut
 use Rattle.aq_serve.specs.declared.ending.ServeFault.{ServeFault}
 use Rattle.aq_serve.specs.declared.ending.ServeFault.TheVariants as fault
 use Rattle.aq_serve.proofs.Counts.{count-append, count_first, rises_by, rises_join, rises_same}
-use Rattle.aq_serve.proofs.Tables.{become_join, become_same, keeps_join, told_after}
+use Rattle.aq_keeper.proofs.TablesOfOffice.{become_join, become_same, keeps_join, told_after}
 
 -- ---- the door
 
@@ -140,7 +141,7 @@ tables_by Whole b c got sent turns t = t.tables
 tables_by CutByRead b c got sent turns t = t.tables
 tables_by CutByWrite b c got sent turns t = t.tables
 
-pub visited : (a b c d : DoorView) (s t : ServiceView) (end : End)
+pub visited : (a b c d : DoorView) (s t : Standing) (end : End)
     → IsRound a b c d → Talks 0 (record { door = b; service = s }) (record { door = c; service = t }) [] (Ok end)
     → Visited (record { door = a; service = s }) (record { door = d; service = t })
 visited a b c d s t end round talk = record {
@@ -169,7 +170,7 @@ visited a b c d s t end round talk = record {
     visit = record { got = talk.got; left = left_of c.wire; turns = talk.turns; sent = talk.sent; end = end }
 
 -- memory was not to be had in it
-pub visit_lost : (a b c d : DoorView) (s t : ServiceView) (memory : Memory)
+pub visit_lost : (a b c d : DoorView) (s t : Standing) (memory : Memory)
     → IsRound a b c d → Talks 0 (record { door = b; service = s }) (record { door = c; service = t }) [] (Err memory)
     → (n : ℕ) → 0 < n → Serves n (record { door = a; service = s }) (record { door = d; service = t }) (Err fault.Memory)
 visit_lost a b c d s t memory round talk n some = record {
@@ -202,7 +203,7 @@ visit_lost a b c d s t memory round talk n some = record {
 -- ---- all connections
 
 -- none was served
-unvisited : (n : ℕ) (a b : DoorView) (s : ServiceView) (ending : Result Unit ServeFault) → Both (HavePassed []) a.wire b.wire → b.listens ≡ a.listens → b.is_open ≡ a.is_open → HasSameTransfers a b
+unvisited : (n : ℕ) (a b : DoorView) (s : Standing) (ending : Result Unit ServeFault) → Both (HavePassed []) a.wire b.wire → b.listens ≡ a.listens → b.is_open ≡ a.is_open → HasSameTransfers a b
     → EndsBy ending n [] [] (record { door = a; service = s }) (record { door = b; service = s }) → Serves n (record { door = a; service = s }) (record { door = b; service = s }) ending
 unvisited n a b s ending wire listens open_too transfers ends = record {
   visits = [];
@@ -218,7 +219,7 @@ unvisited n a b s ending wire listens open_too transfers ends = record {
   ends = ends;
 }
 
-none_lost : (s : ServiceView) → AreAll [] [] s s
+none_lost : (s : Standing) → AreAll [] [] s s
 none_lost s = record { none = refl; office = refl; tables = λ told. become_same s told }
 
 pub nothing_served : (w : World) → Serves 0 w w (Ok tt)
@@ -226,13 +227,13 @@ nothing_served w =
     unvisited 0 w.door w.door w.service (Ok tt) (none_passed w.door.wire) refl refl (record { reads = refl; writes = refl })
     (record { all = none_lost w.service; accepts = refl; last = inl refl })
 
-pub nobody_served : (a b : DoorView) (s : ServiceView) → IsIdle a b → b.listens ≡ a.listens → a.is_open ≡ false → b.accepts ≡ a.accepts → HasSameTransfers a b
+pub nobody_served : (a b : DoorView) (s : Standing) → IsIdle a b → b.listens ≡ a.listens → a.is_open ≡ false → b.accepts ≡ a.accepts → HasSameTransfers a b
     → (n : ℕ) → Serves n (record { door = a; service = s }) (record { door = b; service = s }) (Ok tt)
 nobody_served a b s idle listens shut accepts transfers n =
     unvisited n a b s (Ok tt) (idle_passed a.wire b.wire idle.wire) listens (idle.is_open ∙ sym shut) transfers
     (record { all = none_lost s; accepts = accepts; last = inr (nobody_comes a.wire b.wire idle.wire) })
 
-pub door_failed : (a b : DoorView) (s : ServiceView) → b.wire ≡ a.wire → b.listens ≡ a.listens → b.is_open ≡ a.is_open → HasRisen a.accepts b.accepts → HasSameTransfers a b
+pub door_failed : (a b : DoorView) (s : Standing) → b.wire ≡ a.wire → b.listens ≡ a.listens → b.is_open ≡ a.is_open → HasRisen a.accepts b.accepts → HasSameTransfers a b
     → (n : ℕ) → 0 < n → Serves n (record { door = a; service = s }) (record { door = b; service = s }) (Err fault.DoorFailed)
 door_failed a b s wire listens open_too risen transfers n some =
     unvisited n a b s (Err fault.DoorFailed) (subst (λ w. Both (HavePassed []) a.wire w) (sym wire) (none_passed a.wire)) listens open_too transfers

@@ -2,6 +2,16 @@
 use Rattle.std.specs.Prelude.{◌≡◌, ℕ, ◌<◌, ◌≤◌, List, [], ◌++◌, length, take, Option, IfSome}
 use Rattle.std.specs.Option.{option_map}
 
+-- a source: the bytes that are left, if it tells them, and how often it has failed
+pub record SourceView : Type 0 where
+  pub left : Option (List ℕ)
+  pub faults : ℕ
+
+-- a sink: the bytes that were written, if it tells them, and how often it has failed
+pub record SinkView : Type 0 where
+  pub written : Option (List ℕ)
+  pub faults : ℕ
+
 -- all that an object tells
 abbrev pub IsAll : {A : Type 0} → Option (List A) → List A → Type 0
 IsAll told all = IfSome told (λ items. items ≡ all)

@@ -3,7 +3,7 @@ use Rattle.std.specs.Prelude.{◌≡◌, ℕ, ◌+◌, ◌-◌, ◌^◌, ◌<◌
 use Rattle.aq_base.specs.Faults.{HasRisen}
 use Rattle.aq_rules.specs.Office.Office.{Office}
 use Rattle.aq_serve.specs.Door.{Both, DoorView, Line, Wire}
-use Rattle.aq_serve.specs.Service.{AreOfOffice, Become, Keeps, ServiceView}
+use Rattle.aq_keeper.specs.Standing.{AreOfOffice, Become, Keeps, Standing}
 use Rattle.aq_serve.specs.Session.{IsCut, IsFront, IsSession, Turn, failed_commits, office_behind, replies}
 use Rattle.aq_serve.specs.declared.ending.End.{End}
 use Rattle.aq_serve.specs.declared.ending.End.TheVariants.{Whole, CutByRead, CutByWrite}
@@ -98,23 +98,23 @@ NobodyComes wire = IfSome wire (λ (w : Wire). w.coming ≡ [])
 -- what serving changes
 pub record World : Type 0 where
   pub door : DoorView
-  pub service : ServiceView
+  pub service : Standing
 
 -- the tables are those after these turns, or after one more of the session
-pub record StandsBehind (office : Office) (input : List ℕ) (turns : List Turn) (before after : ServiceView) : Type 0 where
+pub record StandsBehind (office : Office) (input : List ℕ) (turns : List Turn) (before after : Standing) : Type 0 where
   pub more : List Turn
   pub one : length more ≤ 1
   pub front : IsFront office input (turns ++ more)
   pub tables : Become before (office_behind office (turns ++ more)) after
 
 -- in this connection memory was not to be had: the replies to its first requests were sent whole, and no other
-pub record IsLost (office : Office) (visit : Visit) (before after : ServiceView) : Type 0 where
+pub record IsLost (office : Office) (visit : Visit) (before after : Standing) : Type 0 where
   pub front : IsFront office visit.got visit.turns
   pub sent : visit.sent ≡ replies visit.turns
   pub tables : AreOfOffice before → StandsBehind office visit.got visit.turns before after
 
 -- the office is the one that the connections left, and no other was begun
-pub record AreAll (visits lost : List Visit) (before after : ServiceView) : Type 0 where
+pub record AreAll (visits lost : List Visit) (before after : Standing) : Type 0 where
   pub none : lost ≡ []
   pub office : after.office ≡ office_left before.office visits
   pub tables : Keeps before after

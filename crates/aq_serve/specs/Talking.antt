@@ -10,7 +10,7 @@ use Rattle.aq_http.specs.declared.head.HeadStep.{HeadStep as ReadHead}
 use Rattle.aq_http.specs.declared.head.HeadStep.TheVariants as read
 use Rattle.aq_http.specs.Step.{IsStep, More, Refuse}
 use Rattle.aq_serve.specs.Door.{Both, DoorView, Exchange, IsDry, IsSameDoor}
-use Rattle.aq_serve.specs.Service.{AreOfOffice, Become, Keeps, ServiceView}
+use Rattle.aq_keeper.specs.Standing.{AreOfOffice, Become, Keeps, Standing}
 use Rattle.aq_serve.specs.Session.{AreTurns, IsCut, IsTurn, Turn, failed_commits, office_behind, replies}
 use Rattle.aq_serve.specs.Serving.{HavePassed, IsVisit, Rises, Serves, Visit, World, cuts_by_read, cuts_by_write}
 use Rattle.aq_serve.specs.declared.limits.TheConstants.{MOST_REQUESTS}
@@ -117,7 +117,7 @@ Sends text before after (Err fault) = SentPart text before after
 -- ---- answering
 
 -- a reply to the first request of these bytes, whatever bytes come after; so many of them are answered
-pub record Replies (served : ℕ) (input : List ℕ) (bytes : List ℕ) (used : ℕ) (closes : Bool) (before after : ServiceView) : Type 0 where
+pub record Replies (served : ℕ) (input : List ℕ) (bytes : List ℕ) (used : ℕ) (closes : Bool) (before after : Standing) : Type 0 where
   pub turn : Turn
   pub is : (more : List ℕ) → IsTurn served before.office (input ++ more) turn
   pub bytes_are : bytes ≡ turn.reply
@@ -130,7 +130,7 @@ pub record Replies (served : ℕ) (input : List ℕ) (bytes : List ℕ) (used : 
   pub faults : Rises before.faults after.faults (failed_commits (turn ∷ []))
 
 -- memory was not to be had for it: the tables are as before, or those after the request
-pub record RepliesNot (served : ℕ) (input : List ℕ) (before after : ServiceView) : Type 0 where
+pub record RepliesNot (served : ℕ) (input : List ℕ) (before after : Standing) : Type 0 where
   pub turn : Turn
   pub is : IsTurn served before.office input turn
   pub faults : Rises before.faults after.faults 0
@@ -198,7 +198,7 @@ pub record TalksToWrite (served : ℕ) (before after : World) (input sent : List
   pub tables : Keeps before.service after.service
 
 -- the tables are those after these turns, or after one more
-pub record Stores (served : ℕ) (office : Office) (input : List ℕ) (turns : List Turn) (before after : ServiceView) : Type 0 where
+pub record Stores (served : ℕ) (office : Office) (input : List ℕ) (turns : List Turn) (before after : Standing) : Type 0 where
   pub more : List Turn
   pub one : length more ≤ 1
   pub front : Front served office input (turns ++ more)

@@ -59,9 +59,7 @@ impl Sink for MemorySink {
     ghost use Rattle.aq_serve.specs.Outside.{Takes};
     ghost use Rattle.aq_serve.specs.MemoryStreams.{finds_no_room};
 
-    ghost written = { λ sink. Some sink.written };
-
-    ghost faults = { λ sink. sink.faults };
+    ghost seen = { λ sink. record { written = Some sink.written; faults = sink.faults } };
 
     fn write(&mut self, piece: &[u8]) -> Result<usize, Failed>
         ensures taken { IfOk result (λ n. Takes (Some self.old.written) (Some self.new.written) piece.now n) }

@@ -47,9 +47,7 @@ impl Source for MemorySource {
     ghost use Rattle.aq_serve.specs.Door.{HasCause, faults_after};
     ghost use Rattle.aq_serve.specs.Outside.{Moves};
 
-    ghost left = { λ source. Some source.left };
-
-    ghost faults = { λ source. source.faults };
+    ghost seen = { λ source. record { left = Some source.left; faults = source.faults } };
 
     fn read(&mut self, buffer: &mut [u8]) -> Result<usize, Failed>
         ensures moved { IfOk result (λ n. Moves (Some self.old.left) (Some self.new.left) buffer.new n) }

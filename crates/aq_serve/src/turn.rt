@@ -2,7 +2,7 @@
 ghost use Rattle.std.specs.Prelude.{◌≡◌, ℕ, ◌+◌, ◌<◌, ◌==◌, ◌||◌, true, false, ◌++◌, List, length, Ok, IfOk, IsTrue, OnErr};
 ghost use Rattle.aq_http.specs.Reply.{is_reply_status};
 ghost use Rattle.aq_http.specs.Step.{IsStep, Refuse};
-ghost use Rattle.aq_serve.specs.Service.{ServiceView};
+ghost use Rattle.aq_keeper.specs.Standing.{Standing};
 ghost use Rattle.aq_serve.specs.Talking.{IsWholeRequest, Replies, RepliesNot, SentBy, TakesTurn};
 ghost use Rattle.aq_serve.specs.declared.limits.TheConstants.{MOST_REQUESTS};
 
@@ -88,7 +88,7 @@ fn send<D: Door>(door: &mut D, reply: &[u8], closes: bool) -> Option<End>
 fn refuse<D: Door>(alloc: Global, door: &mut D, status: u16) -> Result<Option<End>, Memory>
     requires open { (D.seen door.old).is_open ≡ true }
     requires status { IsTrue (is_reply_status status) }
-    ensures { (served : ℕ) (input now : List ℕ) (service : ServiceView) → ((more : List ℕ) → IsStep (input ++ more) (Refuse status))
+    ensures { (served : ℕ) (input now : List ℕ) (service : Standing) → ((more : List ℕ) → IsStep (input ++ more) (Refuse status))
         → TakesTurn served (record { door = D.seen door.old; service = service }) (record { door = D.seen door.new; service = service }) input now result }
 {
     match error_reply(alloc, status, b"", true) {

@@ -71,9 +71,7 @@ impl<'a> FileKeeper<'a> {
 impl<'a> Keeper for FileKeeper<'a> {
     ghost use Rattle.std.specs.Prelude.{None};
 
-    ghost tables = { λ _. None };
-
-    ghost faults = { λ keeper. keeper.faults };
+    ghost seen = { λ keeper. record { tables = None; faults = keeper.faults } };
 
     fn read_all(&mut self, alloc: Global) -> Result<Rows, KeeperFault> {
         if let Err(fault) = self.open() {

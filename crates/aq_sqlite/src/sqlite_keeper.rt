@@ -95,9 +95,10 @@ impl<S: Alter + Drop> Keeper for SqliteKeeper<S> {
     ghost use Rattle.aq_sqlite.specs.Telling.{told, with_batch};
     ghost use Rattle.aq_sqlite.specs.Crash.{AlsoLeaves, LeavesOnly};
 
-    ghost tables = { λ keeper. told keeper.prepared (state S.Store keeper.connection) };
-
-    ghost faults = { λ keeper. keeper.faults };
+    ghost seen = { λ keeper. record {
+      tables = told keeper.prepared (state S.Store keeper.connection);
+      faults = keeper.faults;
+    } };
 
     fn read_all(&mut self, alloc: Global) -> Result<Rows, KeeperFault>
         ensures rows { IfOk result (λ rows. IfSome (told self.new.prepared (state S.Store self.new.connection)) (λ told. rows ≡ told)) }
