@@ -7,20 +7,22 @@ use Rattle.std.specs.declared.cmp.Ordering.TheVariants.{Less, Equal, Greater}
 use Rattle.std.specs.Cmp.Lexicographic.{slice_cmp}
 use Rattle.std.specs.FinMap.{nat_cmp-IsAntisymmetric, slice_cmp-IsAntisymmetric}
 use Rattle.std.specs.List.{list_all, join_with_byte}
-use Rattle.std.proofs.lemmas.Bool.{and_from, and_parts, true≢false}
+use Rattle.std.proofs.lemmas.Bool.{and_from, and_parts}
 use Rattle.std.proofs.lemmas.Bool.Decides.{nat_tests}
 use Rattle.std.proofs.lemmas.Int.{ints}
-use Rattle.json.specs.Print.{escape_byte, escape, quoted}
+use Rattle.json.specs.Print.{escape_byte, escape, print, quoted}
+use Rattle.json.specs.Token.{Token}
 use Rattle.serde_json.specs.Data.{Data, string, object, Members, no_members, member, put}
 use Rattle.serde_json.specs.View.{items_of}
-use Rattle.serde_json.specs.Written.{compact_text, items_text, members_text, has_float, members_have_float}
+use Rattle.serde_json.specs.Written.{compact_text, items_text, members_text}
+use Rattle.serde_json.proofs.Texts.{print-outline}
 use Rattle.aq_base.specs.Decimal.{fixed}
 use Rattle.aq_rules.specs.Office.Office.{comes_before, is_same, with_row}
 use Rattle.aq_rules.specs.Shown.Sheet.{SheetCell, Head, Sheet}
 use Rattle.aq_rules.specs.Shown.Sheet.SheetCell.{Int, Fixed, Text, Missing}
 use Rattle.aq_rules.specs.Shown.Json.{Member, json_string, json_list, json_cell, json_member, head_member, json_of, table_members, members_of}
 use Rattle.aq_rules.specs.Shown.WellFormed.{is_word_byte, is_word, is_whole, is_cell, is_head, is_row, IsWellFormed}
-use Rattle.aq_reports.specs.JsonView.{data_of, list_of, row_of, with_heads, with_table}
+use Rattle.aq_reports.specs.JsonView.{are_cells, data_of, list_of, row_of, tokens_of, with_heads, with_table}
 use Rattle.aq_reports.proofs.Words.{fixed-word}
 
 -- ---- words are written as they are
@@ -70,13 +72,6 @@ cell-text (Fixed v places) h = quoted-word (fixed v places) (fixed-word v places
 cell-text (Text text) h = quoted-word text h
 cell-text Missing h = refl
 
-cell-plain : (cell : SheetCell) → has_float (data_of cell) ≡ false
-cell-plain (Int (pos n)) = refl
-cell-plain (Int (negsuc n)) = refl
-cell-plain (Fixed v places) = refl
-cell-plain (Text text) = refl
-cell-plain Missing = refl
-
 -- texts, each behind a comma
 abbrev behind : List (List ℕ) → List ℕ
 behind [] = []
@@ -102,13 +97,6 @@ list-text (d ∷ ds) =
     ap (λ (rest : List ℕ). 91 ∷ (compact_text d ++ rest)) (items-later ds)
     ∙ ap (λ (rest : List ℕ). 91 ∷ rest)
     (sym (append_assoc (compact_text d) (behind (map compact_text ds)) (93 ∷ [])) ∙ ap (λ (text : List ℕ). text ++ 93 ∷ []) (sym (join-first (compact_text d) (map compact_text ds))))
-
-list-plain : {X : Type 0} (f : X → Data) (xs : List X) → ((x : X) → has_float (f x) ≡ false) → has_float (list_of (map f xs)) ≡ false
-list-plain f [] each = refl
-list-plain f (x ∷ xs) each = ap (λ b. b || has_float (list_of (map f xs))) (each x) ∙ list-plain f xs each
-
-abbrev are_cells : List (List SheetCell) → Bool
-are_cells rows = list_all (λ row. list_all is_cell row) rows
 
 row-text : (row : List SheetCell) → list_all is_cell row ≡ true → map compact_text (map data_of row) ≡ map json_cell row
 row-text [] h = refl
@@ -179,41 +167,19 @@ put-words k d (member l e ms) h hs = by_order (slice_cmp nat_cmp k l) (put-words
     by_order Equal rest = hs
     by_order Greater rest = and_from (is_word l) (names_plain (put k d ms)) (and_parts (is_word l) (names_plain ms) hs).0 rest
 
-or_first : (a b : Bool) → (a || b) ≡ false → a ≡ false
-or_first true b h = h
-or_first false b h = refl
-
-or_second : (a b : Bool) → (a || b) ≡ false → b ≡ false
-or_second true b h = absurd (true≢false h)
-or_second false b h = h
-
-neither : (a b : Bool) → a ≡ false → b ≡ false → (a || b) ≡ false
-neither a b h k = λ i. h i || k i
-
-put-plain : (k : List ℕ) (d : Data) (ms : Members) → has_float d ≡ false → members_have_float ms ≡ false → members_have_float (put k d ms) ≡ false
-put-plain k d no_members h hs = neither (has_float d) false h refl
-put-plain k d (member l e ms) h hs = by_order (slice_cmp nat_cmp k l) (put-plain k d ms h (or_second (has_float e) (members_have_float ms) hs))
-  where
-    by_order : (o : Ordering) → members_have_float (put k d ms) ≡ false → members_have_float (match_ordering o (member k d (member l e ms)) (member l d ms) (member l e (put k d ms))) ≡ false
-    by_order Less rest = neither (has_float d) (has_float e || members_have_float ms) h hs
-    by_order Equal rest = neither (has_float d) (members_have_float ms) h (or_second (has_float e) (members_have_float ms) hs)
-    by_order Greater rest = neither (has_float e) (members_have_float (put k d ms)) (or_first (has_float e) (members_have_float ms) hs) rest
-
--- the members show these rows: their names are words, and they have no float
+-- the members show these rows, and their names are words
 pub record Shows (ms : Members) (rows : List Member) : Type 0 where
   pub same : as_members ms ≡ rows
   pub words : names_plain ms ≡ true
-  pub plain : members_have_float ms ≡ false
 
 abbrev step : List Member → Member → List Member
 step done m = with_row name_of m done
 
-put-shows : (k : List ℕ) (d : Data) (text : List ℕ) (ms : Members) (rows : List Member) → is_word k ≡ true → has_float d ≡ false → compact_text d ≡ text
+put-shows : (k : List ℕ) (d : Data) (text : List ℕ) (ms : Members) (rows : List Member) → is_word k ≡ true → compact_text d ≡ text
     → Shows ms rows → Shows (put k d ms) (step rows (record { name = k; value = text }))
-put-shows k d text ms rows word plain is shows = record {
+put-shows k d text ms rows word is shows = record {
   same = put-row k d ms ∙ (λ i. with_row name_of (record { name = k; value = is i }) (shows.same i));
   words = put-words k d ms word shows.words;
-  plain = put-plain k d ms plain shows.plain;
 }
 
 heads-show : (heads : List Head) (ms : Members) (rows : List Member) → list_all is_head heads ≡ true → Shows ms rows
@@ -223,7 +189,7 @@ heads-show (head ∷ heads) ms rows h shows =
     let parts = and_parts (is_head head) (list_all is_head heads) h in
     let own = and_parts (is_word head.name) (is_cell head.cell) parts.0 in
     heads-show heads (put head.name (data_of head.cell) ms) (step rows (head_member head)) parts.1
-    (put-shows head.name (data_of head.cell) (json_cell head.cell) ms rows own.0 (cell-plain head.cell) (cell-text head.cell own.1) shows)
+    (put-shows head.name (data_of head.cell) (json_cell head.cell) ms rows own.0 (cell-text head.cell own.1) shows)
 
 table-shows : (columns : List (List ℕ)) (rows : List (List SheetCell)) (ms : Members) (members : List Member) → list_all is_word columns ≡ true → are_cells rows ≡ true → Shows ms members
     → Shows (with_table columns rows ms) (fold step members (table_members columns rows))
@@ -232,9 +198,9 @@ table-shows (column ∷ columns) rows ms members h hs shows =
     let names = list_of (map string (column ∷ columns)) in
     let table = list_of (map row_of rows) in
     put-shows (codes "rows") table (json_list (map (λ row. json_list (map json_cell row)) rows)) (put (codes "columns") names ms) _ refl
-    (list-plain row_of rows (λ row. list-plain data_of row cell-plain)) (list-text (map row_of rows) ∙ ap json_list (rows-text rows hs))
+    (list-text (map row_of rows) ∙ ap json_list (rows-text rows hs))
     (put-shows (codes "columns") names (json_list (map json_string (column ∷ columns))) ms members refl
-    (list-plain string (column ∷ columns) (λ name. refl)) (list-text (map string (column ∷ columns)) ∙ ap json_list (names-text (column ∷ columns) h)) shows)
+    (list-text (map string (column ∷ columns)) ∙ ap json_list (names-text (column ∷ columns) h)) shows)
 
 both-show : (heads : List Head) (rest rows : List Member) → fold step rows (map head_member heads ++ rest) ≡ fold step (fold step rows (map head_member heads)) rest
 both-show [] rest rows = refl
@@ -267,7 +233,7 @@ object-text (member k d ms) h =
 
 -- ---- a sheet
 
-cells-of : (columns : List (List ℕ)) (rows : List (List SheetCell)) → list_all (is_row columns) rows ≡ true → are_cells rows ≡ true
+pub cells-of : (columns : List (List ℕ)) (rows : List (List SheetCell)) → list_all (is_row columns) rows ≡ true → are_cells rows ≡ true
 cells-of columns [] h = refl
 cells-of columns (row ∷ rows) h =
     let parts = and_parts (is_row columns row) (list_all (is_row columns) rows) h in
@@ -280,13 +246,17 @@ sheet-shows : (sheet : Sheet) → IsWellFormed sheet → Shows (members_in sheet
 sheet-shows sheet formed =
     subst (λ (rows : List Member). Shows (members_in sheet) rows) (sym (both-show sheet.heads (table_members sheet.columns sheet.rows) []))
     (table-shows sheet.columns sheet.rows (with_heads sheet.heads no_members) (fold step [] (map head_member sheet.heads)) formed.columns (cells-of sheet.columns sheet.rows formed.rows)
-    (heads-show sheet.heads no_members [] formed.heads (record { same = refl; words = refl; plain = refl })))
+    (heads-show sheet.heads no_members [] formed.heads (record { same = refl; words = refl })))
 
-pub sheet-plain : (sheet : Sheet) → IsWellFormed sheet → has_float (object (members_in sheet)) ≡ false
-sheet-plain sheet formed = (sheet-shows sheet formed).plain
-
-pub sheet-text : (sheet : Sheet) → IsWellFormed sheet → compact_text (object (members_in sheet)) ≡ json_of sheet
+sheet-text : (sheet : Sheet) → IsWellFormed sheet → compact_text (object (members_in sheet)) ≡ json_of sheet
 unfolding json_of
 sheet-text sheet formed =
     let shows = sheet-shows sheet formed in
     object-text (members_in sheet) shows.words ∙ ap (λ (rows : List Member). codes "{" ++ join_with_byte 44 (map json_member rows) ++ codes "}") shows.same
+
+-- the tokens of a sheet's data are written as its text
+pub written-text : (sheet : Sheet) (d : Data) (before items : List ℕ) (tokens : List Token) → IsWellFormed sheet
+    → items ≡ before ++ print tokens → before ≡ [] → tokens ≡ tokens_of d → d ≡ object (members_in sheet) → items ≡ json_of sheet
+written-text sheet d before items tokens formed written none all same =
+    written ∙ ap (λ (start : List ℕ). start ++ print tokens) none
+    ∙ ap print (all ∙ ap tokens_of same) ∙ print-outline (object (members_in sheet)) ∙ sheet-text sheet formed

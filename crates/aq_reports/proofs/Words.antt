@@ -4,6 +4,8 @@ use Rattle.std.specs.Prelude.{ℤ, pos, int_lt, nat_lt, ◌==◌, unsigned_abs}
 use Rattle.std.specs.Fmt.{decimal}
 use Rattle.std.specs.Int.{IsInRange}
 use Rattle.std.specs.List.{list_all}
+use Rattle.std.specs.Str.{IsAscii, IsUtf8}
+use Rattle.std.proofs.lemmas.Str.{IsUtf8-from_ascii}
 use Rattle.std.proofs.lemmas.Bool.{and_from, and_parts}
 use Rattle.std.proofs.lemmas.Bool.Decides.{nat_tests}
 use Rattle.std.proofs.lemmas.Fmt.{decimal_is_IsNumeral}
@@ -66,3 +68,12 @@ fixed-word v places few =
   where
     less : (d n : ℕ) → n < 2 ^ 64 → n / d < 2 ^ 64
     less d n h = omega (arith, h)
+
+ascii : (bytes : List ℕ) → list_all is_word_byte bytes ≡ true → IsAscii bytes
+ascii [] h i = omega arith
+ascii (b ∷ bytes) h zero = let word = (and_parts (is_word_byte b) (list_all is_word_byte bytes) h).0 in grind (arith, nat_tests, word)
+ascii (b ∷ bytes) h (suc i) = ascii bytes (and_parts (is_word_byte b) (list_all is_word_byte bytes) h).1 i
+
+-- a word is a text in UTF-8
+pub word-text : (word : List ℕ) → is_word word ≡ true → IsUtf8 word
+word-text word h = IsUtf8-from_ascii word (ascii word (and_parts (nat_lt 0 (length word)) (list_all is_word_byte word) h).1)

@@ -1,11 +1,24 @@
 -- Sheets as JSON data.
-use Rattle.std.specs.Prelude.{ℕ, List, [], ◌∷◌, map, codes}
+use Rattle.std.specs.Prelude.{ℕ, Bool, List, [], ◌∷◌, map, codes}
+use Rattle.std.specs.List.{list_all}
+use Rattle.json.specs.Token.{Token}
+use Rattle.json.specs.Tree.{json_tokens}
 use Rattle.aq_base.specs.Decimal.{fixed}
 use Rattle.aq_rules.specs.Shown.Sheet.{SheetCell, Head}
 use Rattle.aq_rules.specs.Shown.Sheet.SheetCell.{Int, Fixed, Text, Missing}
+use Rattle.aq_rules.specs.Shown.WellFormed.{is_cell}
 use Rattle.serde_json.specs.Data.{Data, null, number, string, array, Members, put}
 use Rattle.serde_json.specs.Find.{of_integer}
 use Rattle.serde_json.specs.View.{items_of}
+use Rattle.serde_json.specs.Written.{outline}
+
+-- the tokens of data, as `json` writes them
+abbrev pub tokens_of : Data → List Token
+tokens_of d = json_tokens (outline d)
+
+-- rows whose cells are those of a well-formed sheet
+abbrev pub are_cells : List (List SheetCell) → Bool
+are_cells rows = list_all (λ row. list_all is_cell row) rows
 
 abbrev pub data_of : SheetCell → Data
 data_of (Int value) = number (of_integer value)

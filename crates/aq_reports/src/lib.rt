@@ -10,13 +10,14 @@
 //! - `windows_sheet`, `days_sheet`: of an ozone day's averages, and of the days of a year.
 //! - `pm25_sheet`, `pm10_sheet`: of a year's quarters.
 //! - `value_sheet`, `report_sheet`: of a design value, and of the design values of sites.
+//! - `area_sheet`, `area_sites_sheet`: of an area's years, and of its sites with their critical values.
 //! - `text_of`, `json_of`: a sheet as text, and a well-formed one as JSON.
 //! - `export_of`: observations as CSV, each with whether it is excluded.
 //! - `site_text`, `hex_digits`: a site as `SS-CCC-NNNN`, and a byte as two digits.
 //!
 //! # What it promises
 //!
-//! - Sheets are values, seen as the book's, and each of the ten is the book's sheet of what it is made
+//! - Sheets are values, seen as the book's, and each of the twelve is the book's sheet of what it is made
 //!   of.
 //! - The text of a sheet, a well-formed sheet as JSON, and observations as CSV are the book's texts.
 //! - The only refusal is want of memory.
@@ -31,6 +32,7 @@
 //! ```
 #![tactic(auto)]
 
+mod area;
 mod cell;
 mod days;
 mod decisive;
@@ -49,6 +51,7 @@ mod value_pm10;
 mod value_pm25;
 mod windows;
 
+pub use area::{area_sheet, area_sites_sheet};
 pub use cell::SheetCell;
 pub use days::days_sheet;
 pub use decisive::decisive_sheet;

@@ -29,7 +29,7 @@ pub fn report_sheet(
 }
 
 #[tactic(auto, unfolding(aq_rules::specs::Shown::OtherSheets::report_sheet))]
-fn report_heads(alloc: Global, standard: Standard, year: u16) -> Result<Heads, Memory>
+pub(crate) fn report_heads(alloc: Global, standard: Standard, year: u16) -> Result<Heads, Memory>
     ensures { IfOk result (λ heads. heads ≡ (other_sheets.report_sheet standard year []).heads) }
 {
     let mut heads = Heads::new(alloc);

@@ -1,15 +1,20 @@
 -- The words of the command line, and the command that they name (own).
-use Rattle.std.specs.Prelude.{ℕ, ◌-◌, ◌==◌, Bool, true, false, ◌&&◌, nat_le, List, [], ◌∷◌, length, take, drop, Option, Some, None, if◌then◌else◌, codes, bytes_eq}
+use Rattle.std.specs.Prelude.{ℕ, ◌-◌, ◌==◌, Bool, true, false, ◌&&◌, nat_le, List, [], ◌∷◌, length, take, drop, Option, Some, None, option_map, if◌then◌else◌, codes, bytes_eq}
 use Rattle.std.specs.List.{slice_split}
 use Rattle.aq_base.specs.Calendar.{is_year}
+use Rattle.aq_base.specs.Site.{Site}
+use Rattle.aq_base.specs.Sites.{all_sites_distinct}
+use Rattle.aq_base.specs.declared.area.Area.{Area}
+use Rattle.aq_base.specs.declared.area.Area.TheVariants.{County, Sites}
+use Rattle.aq_base.specs.declared.area.TheConstants.{MOST_AREA_SITES}
 use Rattle.aq_base.specs.declared.ask.Ask.{Ask}
 use Rattle.aq_base.specs.declared.ask.Ask.TheVariants.{Value, Report, Export}
 use Rattle.aq_base.specs.declared.assumed.Assumed.{Assumed}
 use Rattle.aq_base.specs.declared.assumed.TheConstants.{MOST_ASSUMED}
 use Rattle.aq_rules.specs.Limits.{LAST_EVENT_NUMBER, LAST_LOAD_NUMBER, MOST_GENERATED_SITES, FEWEST_GENERATED_YEARS, MOST_GENERATED_YEARS}
-use Rattle.aq_rules.specs.Lines.Spellings.{◌>>=◌, parameter_in, truth_in, year_in}
+use Rattle.aq_rules.specs.Lines.Spellings.{◌>>=◌, digits_in, parameter_in, truth_in, year_in}
 use Rattle.aq_rules.specs.Shown.Answer.{is_design_year, is_load_number}
-use Rattle.aq_rd.specs.Words.{site_word, day_word, number_to, standard_word}
+use Rattle.aq_rd.specs.Words.{behind_hyphen, site_word, day_word, number_to, standard_word}
 use Rattle.aq_words.specs.declared.words.Command.{Command}
 use Rattle.aq_words.specs.declared.words.Command.TheVariants.{Scan, Load, WhatIf, Decisive, Serve, Simulate}
 use Rattle.aq_words.specs.declared.words.Command.TheVariants as command
@@ -79,23 +84,26 @@ assumed_in text = do
   agreed ← truth_in (drop (length text - 1) text)
   Some (record { number = number; agreed = agreed })
 
--- the entries of all texts
-abbrev pub all_assumed : List (List ℕ) → Option (List Assumed)
-all_assumed [] = Some []
-all_assumed (text ∷ texts) = do
-  first ← assumed_in text
-  others ← all_assumed texts
+-- what all texts are read as, if each is
+abbrev pub all_read : {X : Type 0} → (List ℕ → Option X) → List (List ℕ) → Option (List X)
+all_read read [] = Some []
+all_read read (text ∷ texts) = do
+  first ← read text
+  others ← all_read read texts
   Some (first ∷ others)
 
 -- what stands between the commas of a text
 abbrev pub between_commas : List ℕ → List (List ℕ)
 between_commas text = slice_split (λ byte. byte == 44) text
 
+abbrev pub if_few : List Assumed → Option (List Assumed)
+if_few entries = if nat_le (length entries) MOST_ASSUMED then Some entries else None
+
 -- 1 to 64 entries, joined by commas
 unfoldable pub assumed_list : List ℕ → Option (List Assumed)
 assumed_list text = do
-  entries ← all_assumed (between_commas text)
-  if nat_le (length entries) MOST_ASSUMED then Some entries else None
+  entries ← all_read assumed_in (between_commas text)
+  if_few entries
 
 unfoldable pub what_if_of : List (List ℕ) → Option Command
 what_if_of (standard ∷ site ∷ year ∷ list ∷ []) = do
@@ -113,6 +121,41 @@ decisive_of (standard ∷ site ∷ year ∷ []) = do
   last ← design_year year
   Some (Decisive (record { standard = named; site = at; year = last }))
 decisive_of _ = None
+
+-- ---- `area STANDARD AREA YEAR`
+
+-- a county as `SS-CCC`
+unfoldable pub county_word : List ℕ → Option Area
+county_word text = do
+  state ← digits_in 2 (take 2 text)
+  code ← behind_hyphen (drop 2 text)
+  county ← digits_in 3 code
+  Some (County state county)
+
+abbrev pub if_sites : List Site → Option (List Site)
+if_sites sites = if all_sites_distinct sites && nat_le (length sites) MOST_AREA_SITES then Some sites else None
+
+-- 1 to 32 sites, none twice, joined by commas
+unfoldable pub sites_word : List ℕ → Option (List Site)
+sites_word text = do
+  sites ← all_read site_word (between_commas text)
+  if_sites sites
+
+abbrev pub area_or : Option Area → Option (List Site) → Option Area
+area_or (Some county) sites = Some county
+area_or None sites = option_map Sites sites
+
+-- a county, or sites
+unfoldable pub area_word : List ℕ → Option Area
+area_word text = area_or (county_word text) (sites_word text)
+
+unfoldable pub area_of : List (List ℕ) → Option Command
+area_of (standard ∷ area ∷ year ∷ []) = do
+  named ← standard_word standard
+  over ← area_word area
+  last ← design_year year
+  Some (command.Area (record { standard = named; area = over; year = last }))
+area_of _ = None
 
 -- ---- `serve --port P --connections N`
 
@@ -203,9 +246,10 @@ command_in name words =
     else (if bytes_eq name (codes "export") then export_of words
     else (if bytes_eq name (codes "whatif") then what_if_of words
     else (if bytes_eq name (codes "decisive") then decisive_of words
+    else (if bytes_eq name (codes "area") then area_of words
     else (if bytes_eq name (codes "serve") then serve_of words
     else (if bytes_eq name (codes "simulate") then simulate_of words
-    else None))))))))
+    else None)))))))))
 
 -- the command of the words, which are all required, and none more
 abbrev pub command_of : List (List ℕ) → Option Command
@@ -226,5 +270,6 @@ is_command (Load number) = is_load_number number
 is_command (command.Ask ask) = is_question ask
 is_command (WhatIf question) = is_design_year question.year
 is_command (Decisive question) = is_design_year question.year
+is_command (command.Area question) = is_design_year question.year
 is_command (Serve port connections) = true
 is_command (Simulate start sites years) = nat_le 1 sites && nat_le sites MOST_GENERATED_SITES && nat_le FEWEST_GENERATED_YEARS years && nat_le years MOST_GENERATED_YEARS

@@ -24,4 +24,4 @@
 
 mod words;
 
-pub use words::{Command, Decisive, WhatIf, read_words};
+pub use words::{AreaQuestion, Command, Decisive, WhatIf, read_words};

@@ -3,14 +3,16 @@ ghost use Rattle.std.specs.Prelude.{◌≡◌, ◌≤◌, ◌∷◌, map, string
 ghost use Rattle.std.specs.Option.{option_map};
 ghost use Rattle.aq_rules.specs.Limits.{FEWEST_GENERATED_YEARS, MOST_GENERATED_YEARS};
 ghost use Rattle.aq_rules.specs.Shown.Answer.{is_design_year};
-ghost use Rattle.aq_words.specs.Words.{assumed_in, assumed_list, between_commas, command_of, decisive_of, is_command, design_year, load_of, option_of, pair_of, scan_of, serve_of, served_by, show_of, simulate_of, start_in, report_of, export_of, what_if_of, years_in};
+ghost use Rattle.aq_words.specs.Words.{area_of, area_word, assumed_in, assumed_list, between_commas, command_of, county_word, decisive_of, is_command, design_year, load_of, option_of, pair_of, scan_of, serve_of, served_by, show_of, simulate_of, sites_word, start_in, report_of, export_of, what_if_of, years_in};
 ghost use Rattle.aq_words.specs.Commas.{behind_comma};
 
 use aq_base::{
-    Ask, Assumed, AssumedList, Day, FEWEST_GENERATED_YEARS, FIRST_YEAR, LAST_EVENT_NUMBER,
-    LAST_LOAD_NUMBER, MOST_GENERATED_SITES, MOST_GENERATED_YEARS, SiteId, Standard,
+    Area, Ask, Assumed, AssumedList, Day, FEWEST_GENERATED_YEARS, FIRST_YEAR, LAST_EVENT_NUMBER,
+    LAST_LOAD_NUMBER, MOST_GENERATED_SITES, MOST_GENERATED_YEARS, SiteId, SiteList, Standard,
 };
-use aq_rd::{day_word, number_to, parameter_in, site_word, standard_word, truth_in, year_in};
+use aq_rd::{
+    day_word, digits_in, number_to, parameter_in, site_word, standard_word, truth_in, year_in,
+};
 
 /// The most connections that `serve` takes.
 const MOST_CONNECTIONS: u64 = 1_000_000;
@@ -28,6 +30,9 @@ pub enum Command {
     WhatIf(WhatIf),
     /// Answers for the office of the tables which events decide a verdict.
     Decisive(Decisive),
+    /// Answers for the office of the tables whether an area meets a standard, since when, and how much
+    /// the next year may bring.
+    Area(AreaQuestion),
     /// Listens on this port of the machine, and serves so many connections at most.
     Serve { port: u16, connections: u32 },
     /// Takes generated loads of so many sites and years over an empty office, and prints a summary.
@@ -50,6 +55,15 @@ pub struct WhatIf {
 pub struct Decisive {
     pub standard: Standard,
     pub site: SiteId,
+    pub year: u16,
+}
+
+/// A question for an area's value and verdict of a standard and the three years that end with the year,
+/// its years before, and the critical values of its sites.
+#[derive(Clone, Copy, Debug, PartialEq, Eq)]
+pub struct AreaQuestion {
+    pub standard: Standard,
+    pub area: Area,
     pub year: u16,
 }
 
@@ -197,6 +211,67 @@ fn decisive_events(words: &[String]) -> Option<Command>
     }))
 }
 
+#[tactic(auto, unfolding(crate::specs::Words::area_of))]
+fn area(words: &[String]) -> Option<Command>
+    ensures command { result ≡ area_of (map string_bytes words.now) }
+    ensures range { IfSome result (λ command. IsTrue (is_command command)) }
+{
+    let [standard, area, year] = words else {
+        return None;
+    };
+    let standard = standard_word(standard.as_bytes())?;
+    let area = area_word(area.as_str())?;
+    let year = design_year(year.as_bytes())?;
+    Some(Command::Area(AreaQuestion {
+        standard,
+        area,
+        year,
+    }))
+}
+
+/// A county, or sites.
+#[tactic(auto, unfolding(crate::specs::Words::area_word))]
+fn area_word(text: &str) -> Option<Area>
+    ensures { result ≡ area_word text.now }
+{
+    if let Some(county) = county_word(text.as_bytes()) {
+        return Some(county);
+    }
+    Some(Area::Sites(sites_word(text)?))
+}
+
+/// A county as `SS-CCC`, in digits.
+#[tactic(auto, unfolding(crate::specs::Words::county_word))]
+fn county_word(text: &[u8]) -> Option<Area>
+    ensures { result ≡ county_word text.now }
+{
+    let (state, rest) = text.split_at(text.len().min(2));
+    let state = digits_in(2, state)?;
+    let county = digits_in(3, rest.strip_prefix(b"-")?)?;
+    Some(Area::County {
+        state: state as u8,
+        county: county as u16,
+    })
+}
+
+/// The sites of a list, unless there are more than 32 or one stands there twice.
+fn sites_word(text: &str) -> Option<SiteList>
+    ensures { result ≡ sites_word text.now }
+{
+    let (first, mut left) = cut_at_comma(text);
+    let mut sites = SiteList::new(site_word(first.as_bytes())?);
+    while let Some(rest) = left {
+        let (site, behind) = cut_at_comma(rest);
+        if !sites.add(site_word(site.as_bytes())?) {
+            return None;
+        }
+        left = behind;
+    }
+    // The list keeps its facts.
+    let _ = sites.as_slice();
+    Some(sites)
+}
+
 #[tactic(auto, unfolding(crate::specs::Words::serve_of))]
 fn serve(words: &[String]) -> Option<Command>
     ensures command { result ≡ serve_of (map string_bytes words.now) }
@@ -331,6 +406,7 @@ pub fn read_words(words: &[String]) -> Option<Command>
         "export" => export(words),
         "whatif" => what_if(words),
         "decisive" => decisive_events(words),
+        "area" => area(words),
         "serve" => serve(words),
         "simulate" => simulate(words),
         _ => None,
