@@ -1,7 +1,6 @@
 //! The dirty set: the cells that a change of an office's rows reaches, held until each is brought up to
 //! date. A cell is a number that is kept of an office beside its rows: an hour, an average, a day or a
-//! year of a site. The set holds those of ozone, as spans of hours, days and years. Of the rooms above
-//! only aq_ozone_cells calls it.
+//! year of a site. The set holds those of ozone, as spans of hours, days and years.
 //!
 //! # What it has
 //!

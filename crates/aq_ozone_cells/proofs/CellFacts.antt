@@ -9,6 +9,7 @@ use Rattle.aq_agg.specs.Tallies.{IsKeptOf}
 use Rattle.aq_rules.specs.Ozone.OzoneYear.{days_of}
 use Rattle.aq_rules.specs.Ozone.SiteHour.{Cell}
 use Rattle.aq_series.specs.Samples.{IsOzone}
+use Rattle.aq_ozone_cells.specs.FilledDays.{IsEmptyDay}
 use Rattle.aq_ozone_cells.specs.KeptDays.{average_at, average_in, cell_of, day_at, empty_day, held_at, hour_at, hour_in, is_kept_start, no_average, no_day}
 use Rattle.aq_ozone_cells.specs.OzoneCells.{counted_held, maxima_held, AreCells, AreYears, Cells}
 use Rattle.aq_ozone_cells.specs.RankedMaxima.{AreRanksOf}
@@ -19,7 +20,7 @@ use Rattle.aq_ozone_cells.specs.declared.kept_days.KeptAverage.{KeptAverage}
 use Rattle.aq_ozone_cells.specs.declared.kept_days.KeptHour.{KeptHour}
 use Rattle.aq_ozone_cells.specs.declared.ranked_maxima.RankedMaxima.{RankedMaxima}
 use Rattle.aq_ozone_cells.specs.declared.year_tallies.YearTallies.{YearTallies}
-use Rattle.aq_ozone_cells.proofs.DayExchange.{few_items}
+use Rattle.aq_ozone_cells.proofs.DayExchange.{few_items, no_items}
 use Rattle.aq_ozone.proofs.RangeLemmas.{Ozones}
 use Rattle.aq_ozone_cells.proofs.YearExchange.{days_few}
 
@@ -50,44 +51,41 @@ same_everywhere x zero k = refl
 same_everywhere x (suc n) zero = refl
 same_everywhere x (suc n) (suc k) = same_everywhere x n k
 
-no_hour : Option KeptHour
-no_hour = None
-
-no_items : (days : List ℕ) → filter_map (λ (day : ℕ). maximum_of no_day) days ≡ []
-no_items [] = refl
-no_items (day ∷ days) = no_items days
-
-no_counts : (days : List ℕ) → filter_map (λ (day : ℕ). count_of no_day) days ≡ []
-no_counts [] = refl
-no_counts (day ∷ days) = no_counts days
+pub empty-is : (cells : Cells) (site : Site) (day : ℕ) → day_at cells site day ≡ empty_day → IsEmptyDay cells site day
+unfolding hour_at average_at held_at
+empty-is cells site day is = record {
+  hours = λ hour lies.
+      ap (λ n. hour_in (day_at cells site n) hour) lies ∙ ap (λ (d : DayCells). hour_in d hour) is
+      ∙ ap (option_map cell_of) (same_everywhere {X = Option KeptHour} None 24 (hour % 24));
+  averages = λ start lies.
+      ap (λ n. average_in (day_at cells site n) start) lies ∙ ap (λ (d : DayCells). average_in d start) is
+      ∙ ap (λ (a : KeptAverage). cond (is_kept_start start) a no_average) (same_everywhere no_average 17 (start % 24 - 7))
+      ∙ by (is_kept_start start);
+  held = ap (λ (d : DayCells). d.held) is;
+}
+  where
+    by : (b : Bool) → cond b no_average no_average ≡ no_average
+    by true = refl
+    by false = refl
 
 module _ (cells : Cells) (empty : (site : Site) (day : ℕ) → day_at cells site day ≡ empty_day) where
+  nothing : (site : Site) (day : ℕ) → IsEmptyDay cells site day
+  nothing site day = empty-is cells site day (empty site day)
+
   pub hour-none : (site : Site) (hour : ℕ) → hour_at cells site hour ≡ None
-  unfolding hour_at
-  hour-none site hour =
-      ap (λ (d : DayCells). hour_in d hour) (empty site (hour / 24))
-      ∙ ap (option_map cell_of) (same_everywhere {X = Option KeptHour} None 24 (hour % 24))
+  hour-none site hour = (nothing site (hour / 24)).hours hour refl
 
   pub average-none : (site : Site) (start : ℕ) → average_at cells site start ≡ no_average
-  unfolding average_at
-  average-none site start =
-      ap (λ (d : DayCells). average_in d start) (empty site (start / 24))
-      ∙ ap (λ (a : KeptAverage). cond (is_kept_start start) a no_average) (same_everywhere no_average 17 (start % 24 - 7))
-      ∙ by (is_kept_start start)
-    where
-      by : (b : Bool) → cond b no_average no_average ≡ no_average
-      by true = refl
-      by false = refl
+  average-none site start = (nothing site (start / 24)).averages start refl
 
   pub held-none : (site : Site) (day : ℕ) → held_at cells site day ≡ no_day
-  unfolding held_at
-  held-none site day = ap (λ (d : DayCells). d.held) (empty site day)
+  held-none site day = (nothing site day).held
 
   years-none : (tallies : YearTallies) → ((site : Site) (year : ℕ) → AreBags site year [] [] tallies) → AreYears cells tallies
   unfolding AreYears
   years-none tallies bags site year from to =
       let maxima : [] ≡ maxima_held cells site year = sym ((λ i. filter_map (λ day. maximum_of (held-none site day i)) (days_of year)) ∙ no_items (days_of year)) in
-      let counted : [] ≡ counted_held cells site year = sym ((λ i. filter_map (λ day. count_of (held-none site day i)) (days_of year)) ∙ no_counts (days_of year)) in
+      let counted : [] ≡ counted_held cells site year = sym ((λ i. filter_map (λ day. count_of (held-none site day i)) (days_of year)) ∙ no_items (days_of year)) in
       subst (λ (l : List ℤ). AreBags site year l (counted_held cells site year) tallies) maxima
       (subst (λ (l : List ℤ). AreBags site year [] l tallies) counted (bags site year))
 

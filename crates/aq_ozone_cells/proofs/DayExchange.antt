@@ -27,6 +27,13 @@ module _ {X : Type 0} where
       let rest = same_items f g (a + 1) n (λ k low high. same k (omega (arith, low)) (omega (arith, high))) in
       λ i. cons_option (same a (omega arith) (omega arith) i) (rest i)
 
+  abbrev no_item : Option X
+  no_item = None
+
+  pub no_items : {Y : Type 0} (xs : List Y) → filter_map (λ (y : Y). no_item) xs ≡ []
+  no_items [] = refl
+  no_items (x ∷ xs) = no_items xs
+
   pub few_items : (h : ℕ → Option X) (days : List ℕ) → length (filter_map h days) ≤ length days
   few_items h [] = omega arith
   few_items h (day ∷ days) = by (h day) (few_items h days)

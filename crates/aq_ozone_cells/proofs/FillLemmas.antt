@@ -4,7 +4,6 @@ use Rattle.std.specs.Prelude.{◌≢◌, ◌||◌, ◌==◌, Option, Some, None,
 use Rattle.std.specs.List.{list_any, range_with_len}
 use Rattle.std.proofs.lemmas.Bool.{false≢true, and_parts}
 use Rattle.std.proofs.lemmas.Bool.Decides.{nat_tests}
-use Rattle.aq_base.specs.Calendar.{hour_number}
 use Rattle.aq_base.specs.Site.{Site}
 use Rattle.aq_base.specs.declared.day.TheConstants.{LAST_DAY, LAST_HOUR}
 use Rattle.aq_base.specs.declared.observation.ObsKey.{ObsKey}
@@ -15,7 +14,7 @@ use Rattle.aq_base.specs.declared.monitor.Pollutant.TheVariants.{Ozone}
 use Rattle.aq_rules.specs.Office.Approval.{approves}
 use Rattle.aq_rules.specs.Office.Monitors.{is_same_pollutant, is_same_site}
 use Rattle.aq_rules.specs.Office.Office.{Office}
-use Rattle.aq_rules.specs.Office.Sameness.{same_site, site_itself}
+use Rattle.aq_rules.specs.Office.Sameness.{same_site}
 use Rattle.aq_rules.specs.Ozone.EightHour.{row_of, window}
 use Rattle.aq_rules.specs.Ozone.SiteHour.{Cell, site_hour}
 use Rattle.aq_series.specs.DayStates.{hour_at as office_hour, site_hours}
@@ -23,11 +22,12 @@ use Rattle.aq_series.specs.OfficeView.{office_of}
 use Rattle.aq_ozone.specs.DayHours.{cells_in}
 use Rattle.aq_ozone.proofs.DayLemmas.{at_range, part_of, window_is}
 use Rattle.aq_ozone_cells.specs.FilledDays.{average_among, day_average, IsDayOf, IsEmptyDay, IsSameDay}
-use Rattle.aq_ozone_cells.specs.Filling.{hours_from, is_among, is_within, lies_at, AreFilling, IsWeekOf, StayFilled}
+use Rattle.aq_ozone_cells.specs.Filling.{hours_from, is_within, lies_at, AreFilling, IsFilling, IsWeekOf, StayFilled}
 use Rattle.aq_ozone_cells.specs.KeptDays.{average_at, averages_of, held_at, hour_at, is_kept_start, no_average}
-use Rattle.aq_ozone_cells.specs.OzoneCells.{day_from, held_day, Cells}
+use Rattle.aq_ozone_cells.specs.OzoneCells.{day_from, is_among, Cells}
 use Rattle.aq_ozone_cells.specs.declared.filling.Week.{Week}
 use Rattle.aq_ozone_cells.proofs.LevelLemmas.{day-is}
+use Rattle.aq_ozone_cells.proofs.SiteNumbers.{itself, never}
 
 -- ---- a day that is kept as before
 
@@ -53,8 +53,8 @@ module _ (before after : Cells) (site : Site) (day : ℕ) (same : IsSameDay befo
     held = then.held ∙ same.held;
   }
 
-pub itself : (cells : Cells) (site : Site) (day : ℕ) → IsSameDay cells cells site day
-itself cells site day = record { hours = λ hour lies. refl; averages = λ start lies. refl; held = refl }
+pub same-itself : (cells : Cells) (site : Site) (day : ℕ) → IsSameDay cells cells site day
+same-itself cells site day = record { hours = λ hour lies. refl; averages = λ start lies. refl; held = refl }
 
 -- ---- a day that is filled
 
@@ -78,9 +78,6 @@ module _ (records : List OfficeRecord) (cells filled settled : Cells) (site : Si
     (settled_days : (other : Site) (number : ℕ) → held_at settled other number ≡ cond (is_same_site site other && (day == number)) (day_from records filled site day) (held_at filled other number))
     (settled_hours : (other : Site) (hour : ℕ) → hour_at settled other hour ≡ hour_at filled other hour)
     (settled_averages : (other : Site) (start : ℕ) → average_at settled other start ≡ average_at filled other start) where
-  here : (number : ℕ) → number ≡ day → (is_same_site site site && (day == number)) ≡ true
-  here number is = let on : (day == number) ≡ true = grind (arith, nat_tests, is) in λ i. site_itself site i && on i
-
   pub day-left : (other : Site) (number : ℕ) → (is_same_site site other && (day == number)) ≡ false → IsSameDay cells settled other number
   day-left other number off = record {
     hours = λ hour lies.
@@ -101,7 +98,7 @@ module _ (records : List OfficeRecord) (cells filled settled : Cells) (site : Si
         let back : 24 * day + start % 24 ≡ start = omega (arith, lies) in
         let few : start % 24 + 8 ≤ 31 = omega arith in
         filled_averages site start
-        ∙ ap (λ b. cond b (day_average hours start) (average_at cells site start)) (here (start / 24) lies)
+        ∙ ap (λ b. cond b (day_average hours start) (average_at cells site start)) (itself site (start / 24) day lies)
         ∙ ap (λ b. cond b (average_among hours (start % 24)) no_average) kept
         ∙ ap (λ (l : List (Option Cell)). average_among l (start % 24)) are
         ∙ ap (λ (l : List (Option Cell)). averages_of (row_of (cells_in l))) (part_of (office_hour (office_of records rows) site) (24 * day) (start % 24) 8 31 few)
@@ -114,7 +111,7 @@ module _ (records : List OfficeRecord) (cells filled settled : Cells) (site : Si
           let back : 24 * day + hour % 24 ≡ hour = omega (arith, lies) in
           let within : nat_le hour LAST_HOUR ≡ true = grind (arith, nat_tests, back, in_profile) in
           settled_hours site hour ∙ filled_hours site hour
-          ∙ ap (λ b. cond b (get_or hours (hour % 24) None) (hour_at cells site hour)) (here (hour / 24) lies)
+          ∙ ap (λ b. cond b (get_or hours (hour % 24) None) (hour_at cells site hour)) (itself site (hour / 24) day lies)
           ∙ ap (λ (l : List (Option Cell)). get_or l (hour % 24) None) are
           ∙ at_range (office_hour (office_of records rows) site) (24 * day) 31 (hour % 24) None (omega arith)
           ∙ ap (office_hour (office_of records rows) site) back
@@ -122,7 +119,7 @@ module _ (records : List OfficeRecord) (cells filled settled : Cells) (site : Si
       averages = λ start lies kept. settled_averages site start ∙ average-filled start lies kept;
       held =
           settled_days site day
-          ∙ ap (λ b. cond b (day_from records filled site day) (held_at filled site day)) (here day refl)
+          ∙ ap (λ b. cond b (day_from records filled site day) (held_at filled site day)) (itself site day day refl)
           ∙ day-is (office_of records rows) filled site day
           (λ start low high.
           let lies : start / 24 ≡ day = omega (arith, low, high) in
@@ -146,10 +143,6 @@ module _ (office : Office) (before after : Cells) (site : Site) (first count : �
       by false off =
           let less : number < first + count = grind (arith, nat_tests, at, high) in
           day-stays now after site number (others site number (ap (λ b. is_same_site site site && b) off ∙ never (is_same_site site site))) office (so_far number low less)
-        where
-          never : (b : Bool) → (b && false) ≡ false
-          never true = refl
-          never false = refl
 
   pub others-more : (now : Cells) (day : ℕ) → first + count ≡ day
       → ((other : Site) (number : ℕ) → (is_same_site site other && is_among first count number) ≡ false → IsSameDay before now other number)
@@ -170,7 +163,7 @@ module _ (office : Office) (before after : Cells) (site : Site) (first : ℕ)
     (filled : (day : ℕ) → first ≤ day → day < first + 7 → day ≤ LAST_DAY → IsDayOf office after site day)
     (others : (other : Site) (day : ℕ) → (is_same_site site other && is_among first 7 day) ≡ false → IsSameDay before after other day) where
   -- a day is filled, or it is as before
-  either : (other : Site) (day : ℕ) → day ≤ LAST_DAY → IsDayOf office after other day ⊎ IsSameDay before after other day
+  pub either : (other : Site) (day : ℕ) → day ≤ LAST_DAY → IsDayOf office after other day ⊎ IsSameDay before after other day
   either other day in_profile = by (is_same_site site other && is_among first 7 day) refl
     where
       by : (b : Bool) → (is_same_site site other && is_among first 7 day) ≡ b → IsDayOf office after other day ⊎ IsSameDay before after other day
@@ -224,10 +217,6 @@ pub stay-itself : (office : Office) (cells : Cells) → StayFilled office cells 
 unfolding StayFilled
 stay-itself office cells site day in_profile of = of
 
-pub stay-then : (office : Office) (before after later : Cells) → StayFilled office before after → StayFilled office after later → StayFilled office before later
-unfolding StayFilled
-stay-then office before after later one two site day in_profile of = two site day in_profile (one site day in_profile of)
-
 pub stay-at : (office : Office) (before after : Cells) → StayFilled office before after → (site : Site) (day : ℕ) → day ≤ LAST_DAY → IsDayOf office before site day → IsDayOf office after site day
 unfolding StayFilled
 stay-at office before after stay = stay
@@ -246,32 +235,46 @@ near-filled office cells site day key at is here before lies =
     by true same near = let e : at ≡ day = grind (arith, nat_tests, is, same) in subst (IsDayOf office cells key.monitor.site) e here
     by false other near = let e : day + 1 ≡ at = grind (arith, nat_tests, is, near) in before day e
 
--- an observation of another pollutant fills none
-pub near-none : (site : Site) (day : ℕ) (key : ObsKey) → is_same_pollutant key.monitor.pollutant Ozone ≡ false → lies_at site day key ≡ true → ⊥
-near-none site day key other lies = false≢true (sym (λ i. other i && is_same_site key.monitor.site site && ((key.hour / 24 == day) || (key.hour / 24 == day + 1))) ∙ lies)
-
--- the day that an approval fills
-pub approved-filled : (office : Office) (cells : Cells) (site other : Site) (day number : ℕ) → IsDayOf office cells other number → (is_same_site other site && (number == day)) ≡ true → IsDayOf office cells site day
-approved-filled office cells site other day number of is =
-    let parts = and_parts (is_same_site other site) (number == day) is in
-    let days : number ≡ day = grind (arith, nat_tests, parts.1) in
-    subst (λ (s : Site). IsDayOf office cells s day) (same_site other site parts.0) (subst (IsDayOf office cells other) days of)
-
 pub none-approved : (site : Site) (day : ℕ) (row : OfficeRecord) → ((s : Site) (d : ℕ) → row ≢ Approved s d) → approves site day row ≡ true → ⊥
 none-approved site day (Approved s d) other is = other s d refl
 none-approved site day row other is = false≢true is
 
 -- ---- a walk over rows
 
-pub walk-more : {X D E : Type 0} (test : X → Bool) (old rest : List X) (row : X) → old ≡ row ∷ rest → (list_any test old ≡ true) ⊎ D
-    → (test row ≡ true → E) → (D → E) → (list_any test rest ≡ true) ⊎ E
-walk-more test old rest row is (inr done) here stays = inr (stays done)
-walk-more {E = E} test old rest row is (inl any) here stays = by (test row) refl (sym (ap (list_any test) is) ∙ any)
-  where
-    by : (b : Bool) → test row ≡ b → (b || list_any test rest) ≡ true → (list_any test rest ≡ true) ⊎ E
-    by true e any = inr (here e)
-    by false e any = inl any
+-- of each day that one of the rows reads, it is filled or one of those that are left reads it
+pub record IsWalk {X : Type 0} (office : Office) (start cells : Cells) (week : Option Week) (reads : Site → ℕ → X → Bool) (rows left : List X) : Type 0 where
+  pub filling : IsFilling office cells week
+  pub stay : StayFilled office start cells
+  pub filled : (site : Site) (day : ℕ) → day ≤ LAST_DAY → list_any (reads site day) rows ≡ true → (list_any (reads site day) left ≡ true) ⊎ IsDayOf office cells site day
 
-pub walk-done : {X D : Type 0} (test : X → Bool) (left : List X) → left ≡ [] → (list_any test left ≡ true) ⊎ D → D
-walk-done test left is (inr done) = done
-walk-done test left is (inl any) = absurd (false≢true (sym (ap (list_any test) is) ∙ any))
+module _ {X : Type 0} (office : Office) (start : Cells) (reads : Site → ℕ → X → Bool) (rows : List X) where
+  pub walk-begun : (week : Option Week) (left : List X) → IsFilling office start week → left ≡ rows → IsWalk office start start week reads rows left
+  walk-begun week left filling all = record {
+    filling = filling;
+    stay = stay-itself office start;
+    filled = λ site day within any. inl (ap (list_any (reads site day)) all ∙ any);
+  }
+
+  pub walk-more : (before after : Cells) (week now : Option Week) (old rest : List X) (row : X) → old ≡ row ∷ rest → IsWalk office start before week reads rows old
+      → IsFilling office after now → StayFilled office before after → ((site : Site) (day : ℕ) → reads site day row ≡ true → IsDayOf office after site day)
+      → IsWalk office start after now reads rows rest
+  unfolding StayFilled
+  walk-more before after week now old rest row is walk filling stay here = record {
+    filling = filling;
+    stay = λ site day within of. stay site day within (walk.stay site day within of);
+    filled = λ site day within any. elim (walk.filled site day within any) [
+      | inl left ↦ by site day (reads site day row) refl (sym (ap (list_any (reads site day)) is) ∙ left)
+      | inr of ↦ inr (stay site day within of)
+    ];
+  }
+    where
+      by : (site : Site) (day : ℕ) (b : Bool) → reads site day row ≡ b → (b || list_any (reads site day) rest) ≡ true → (list_any (reads site day) rest ≡ true) ⊎ IsDayOf office after site day
+      by site day true reads_it any = inr (here site day reads_it)
+      by site day false reads_it any = inl any
+
+  pub walk-done : (cells : Cells) (week : Option Week) (left : List X) → left ≡ [] → IsWalk office start cells week reads rows left
+      → (site : Site) (day : ℕ) → day ≤ LAST_DAY → list_any (reads site day) rows ≡ true → IsDayOf office cells site day
+  walk-done cells week left none walk site day within any = elim (walk.filled site day within any) [
+    | inl waits ↦ absurd (false≢true (sym (ap (list_any (reads site day)) none) ∙ waits))
+    | inr of ↦ of
+  ]

@@ -1,8 +1,7 @@
 -- The year of the days that are held, by its tallies.
 use Rattle.std.proofs.Common.{◌≡◌, ℕ, zero, suc, ◌+◌, ◌<◌, ◌≤◌, Bool, true, false, cond, ◌&&◌, List, [], ◌∷◌, length, map, refl, ap, sym, subst, ◌∙◌, arith}
-use Rattle.std.specs.Prelude.{ℤ, pos, ◌||◌, Option, Some, None, nat_le, nat_lt, count_by, filter_map}
+use Rattle.std.specs.Prelude.{ℤ, pos, ◌||◌, Option, Some, None, count_by, filter_map}
 use Rattle.std.specs.List.{cons_option, range_with_len}
-use Rattle.std.proofs.lemmas.Bool.Decides.{nat_tests}
 use Rattle.std.proofs.lemmas.List.Sums.{sum_by-cons, sum_by-le-sum_by}
 use Rattle.aq_base.specs.Calendar.{days_in_year, year_first, year_of}
 use Rattle.aq_base.specs.Site.{Site}
@@ -21,6 +20,7 @@ use Rattle.aq_ozone_cells.specs.RankedMaxima.{number_and_fourth}
 use Rattle.aq_ozone_cells.specs.YearTallies.{count_of, maximum_of}
 use Rattle.aq_ozone_cells.specs.declared.kept_days.HeldDay.{HeldDay}
 use Rattle.aq_ozone.proofs.YearLemmas.{length_ranked}
+use Rattle.aq_ozone_cells.proofs.SiteNumbers.{among}
 
 module _ (held : ℕ → HeldDay) where
   counted-number : (days : List ℕ) → length (filter_map (λ d. count_of (held d)) days) ≡ count_by (λ d. (held d).counted) days
@@ -52,10 +52,8 @@ module _ (records : List OfficeRecord) (cells : Cells) (site : Site) (year : ℕ
   counted-is : (k : ℕ) → year_first year ≤ k → k < year_first year + days_in_year year → (held_at cells site k).counted ≡ counts_here k
   unfolding AreHeldBy
   counted-is k first last =
-      let one : nat_le (year_first year) k ≡ true = grind (arith, nat_tests) in
-      let two : nat_lt k (year_first year + days_in_year year) ≡ true = grind (arith, nat_tests) in
       let is : year_of k ≡ year = (year_holds year k low (omega (arith, last, in_profile))).1 (first, last) in
-      held k (λ i. one i && two i)
+      held k (among (year_first year) (days_in_year year) k first last)
       ∙ ap (λ y. is_in_season (season_of records site y) k && ((held_at cells site k).valid || is_approved records site k)) is
 
   season_valid-is : length (counted_held cells site year) ≡ count_by counts_here (days_of year)
@@ -99,4 +97,4 @@ unfolding AreHeldBy day_from
 settled-held records before after site year settled day of_year =
     let is : held_at after site day ≡ day_from records before site day
     = settled site day ∙ (λ i. cond (site_itself site i && of_year i) (day_from records before site day) (held_at before site day)) in
-    ap (λ (d : HeldDay). d.counted) is ∙ ap (λ (b : Bool). counts records site day b) (sym (ap (λ (d : HeldDay). d.valid) is))
+    subst (λ (d : HeldDay). d.counted ≡ counts records site day d.valid) (sym is) refl

@@ -1,79 +1,51 @@
 -- A day of a site that is given another content, among the days that are kept.
-use Rattle.std.proofs.Common.{◌≡◌, ℕ, ◌/◌, ◌%◌, Bool, true, false, cond, ◌&&◌, List, refl, sym, ap, ◌∙◌, arith}
-use Rattle.std.specs.Prelude.{Option, Some, ◌==◌, unwrap_or}
+use Rattle.std.proofs.Common.{◌≡◌, ℕ, ◌/◌, ◌%◌, ◌-◌, Bool, true, false, cond, ◌&&◌, List, get_or, refl, sym, ap, ◌∙◌, arith}
+use Rattle.std.specs.Prelude.{Option, Some, None, ◌==◌, is_some, option_map, unwrap_or}
 use Rattle.std.specs.BTreeMap.{is_at}
 use Rattle.std.specs.Map.{lookup}
-use Rattle.std.specs.Ordering.{nat_cmp, ordering_then, is_eq}
-use Rattle.std.specs.declared.cmp.Ordering.{Ordering}
-use Rattle.std.specs.declared.cmp.Ordering.TheVariants.{Less, Equal, Greater}
 use Rattle.std.proofs.lemmas.Bool.Decides.{nat_tests}
 use Rattle.std.proofs.lemmas.Bool.{false≢true}
 use Rattle.aq_base.specs.Site.{Site}
 use Rattle.aq_rules.specs.Office.Monitors.{is_same_site}
-use Rattle.aq_rules.specs.Office.Sameness.{same_site}
-use Rattle.aq_ozone_cells.specs.declared.kept_days.SiteDay.{SiteDay}
 use Rattle.aq_ozone_cells.specs.declared.kept_days.DayCells.{DayCells}
-use Rattle.aq_ozone_cells.specs.KeptDays.{site_day, day_cmp, day_at, empty_day}
-
--- ---- the keys
-
-pub eq-then : (a b : Ordering) → is_eq (ordering_then a b) ≡ (is_eq a && is_eq b)
-eq-then Less b = refl
-eq-then Equal b = refl
-eq-then Greater b = refl
-
-pub eq-nat : (x y : ℕ) → is_eq (nat_cmp x y) ≡ (x == y)
-eq-nat x y = grind (arith, nat_tests)
-
-pub and-assoc4 : (a b c d : Bool) → (a && (b && (c && d))) ≡ (a && b && c && d)
-and-assoc4 true true true d = refl
-and-assoc4 true true false d = refl
-and-assoc4 true false c d = refl
-and-assoc4 false b c d = refl
-
-same-day : (a b : Site) (m n : ℕ) → is_eq (day_cmp (site_day a m) (site_day b n)) ≡ (is_same_site a b && (m == n))
-same-day a b m n =
-    eq-then (nat_cmp a.state b.state) _ ∙ ap (λ t. is_eq (nat_cmp a.state b.state) && t) (eq-then (nat_cmp a.county b.county) _ ∙ ap (λ t. is_eq (nat_cmp a.county b.county) && t) (eq-then (nat_cmp a.number b.number) _))
-    ∙ (λ i. eq-nat a.state b.state i && (eq-nat a.county b.county i && (eq-nat a.number b.number i && eq-nat m n i)))
-    ∙ and-assoc4 (a.state == b.state) (a.county == b.county) (a.number == b.number) (m == n)
+use Rattle.aq_ozone_cells.specs.declared.kept_days.KeptAverage.{KeptAverage}
+use Rattle.aq_ozone_cells.specs.declared.kept_days.KeptHour.{KeptHour}
+use Rattle.aq_ozone_cells.specs.declared.site_key.SiteKey.{SiteKey}
+use Rattle.aq_ozone_cells.specs.KeptDays.{average_at, average_in, cell_of, day_at, empty_day, held_at, hour_at, hour_in, is_kept_start, no_average}
+use Rattle.aq_ozone_cells.specs.OzoneCells.{Cells}
+use Rattle.aq_ozone_cells.specs.SiteKeys.{key_cmp, site_key}
+use Rattle.aq_ozone_cells.proofs.SiteNumbers.{named, same-key}
 
 -- ---- a day
 
 -- what is found under every key, if one has other cells
-abbrev pub Changes : List (SiteDay × DayCells) → List (SiteDay × DayCells) → DayCells → SiteDay → Type 0
-Changes es fs now key = (q : SiteDay) → lookup (is_at (day_cmp q)) fs ≡ cond (is_at (day_cmp key) q) (Some now) (lookup (is_at (day_cmp q)) es)
+abbrev pub Changes : Cells → Cells → DayCells → SiteKey → Type 0
+Changes es fs now key = (q : SiteKey) → lookup (is_at (key_cmp q)) fs ≡ cond (is_at (key_cmp key) q) (Some now) (lookup (is_at (key_cmp q)) es)
 
 -- what is kept of every day, if one has other cells
-abbrev pub Replaces : List (SiteDay × DayCells) → List (SiteDay × DayCells) → DayCells → Site → ℕ → Type 0
+abbrev pub Replaces : Cells → Cells → DayCells → Site → ℕ → Type 0
 Replaces es fs now site day =
     (other : Site) (number : ℕ) → day_at fs other number ≡ cond (is_same_site site other && (day == number)) now (day_at es other number)
 
-pub day-put : (site : Site) (day : ℕ) (now : DayCells) (es fs : List (SiteDay × DayCells))
-    → Changes es fs now (site_day site day) → Replaces es fs now site day
+pub day-put : (site : Site) (day : ℕ) (now : DayCells) (es fs : Cells)
+    → Changes es fs now (site_key site day) → Replaces es fs now site day
 day-put site day now es fs updates other number =
-    ap (λ (o : Option DayCells). unwrap_or o empty_day) (updates (site_day other number))
-    ∙ ap (λ b. unwrap_or (cond b (Some now) (lookup (is_at (day_cmp (site_day other number))) es)) empty_day) (same-day site other day number)
-    ∙ by (lookup (is_at (day_cmp (site_day other number))) es) (is_same_site site other && (day == number))
+    ap (λ (o : Option DayCells). unwrap_or o empty_day) (updates (site_key other number))
+    ∙ ap (λ b. unwrap_or (cond b (Some now) (lookup (is_at (key_cmp (site_key other number))) es)) empty_day) (same-key site other day number)
+    ∙ by (lookup (is_at (key_cmp (site_key other number))) es) (is_same_site site other && (day == number))
   where
     by : (found : Option DayCells) (b : Bool) → unwrap_or (cond b (Some now) found) empty_day ≡ cond b now (unwrap_or found empty_day)
     by found true = refl
     by found false = refl
 
 -- two tests that hold give one day
-same-days : (site other : Site) (day number : ℕ) (es : List (SiteDay × DayCells))
-    → (is_same_site site other && (day == number)) ≡ true → day_at es site day ≡ day_at es other number
-same-days site other day number es both = by (is_same_site site other) refl
-  where
-    by : (b : Bool) → is_same_site site other ≡ b → day_at es site day ≡ day_at es other number
-    by true same =
-        let days : day ≡ number = grind (arith, nat_tests, both, same) in
-        λ i. day_at es (same_site site other same i) (days i)
-    by false same = absurd (false≢true (ap (λ b. b && (day == number)) (sym same) ∙ both))
+same-days : (site other : Site) (day number : ℕ) (es : Cells) → (is_same_site site other && (day == number)) ≡ true → day_at es site day ≡ day_at es other number
+same-days site other day number es both = let same = named site other day number both in λ i. day_at es (same.0 i) (same.1 i)
 
 -- ---- the parts of a day
 
 -- a part that the other cells have in common with those before is the same everywhere
-pub part-stays : {X : Type 0} (part : DayCells → X) (site : Site) (day : ℕ) (now : DayCells) (es fs : List (SiteDay × DayCells))
+part-stays : {X : Type 0} (part : DayCells → X) (site : Site) (day : ℕ) (now : DayCells) (es fs : Cells)
     → Replaces es fs now site day → (before : DayCells) → before ≡ day_at es site day → part now ≡ part before
     → (other : Site) (number : ℕ) → part (day_at fs other number) ≡ part (day_at es other number)
 part-stays part site day now es fs replaces before was same other number =
@@ -83,11 +55,28 @@ part-stays part site day now es fs replaces before was same other number =
     by true both = same ∙ ap part (was ∙ same-days site other day number es both)
     by false both = refl
 
+module _ (site : Site) (day : ℕ) (now before : DayCells) (es fs : Cells) (replaces : Replaces es fs now site day) (was : before ≡ day_at es site day) where
+  pub hours-stay : now.hours ≡ before.hours → (other : Site) (hour : ℕ) → hour_at fs other hour ≡ hour_at es other hour
+  unfolding hour_at
+  hours-stay same other hour =
+      part-stays (λ (d : DayCells). hour_in d hour) site day now es fs replaces before was
+      (ap (λ (hours : List (Option KeptHour)). option_map cell_of (get_or hours (hour % 24) None)) same) other (hour / 24)
+
+  pub averages-stay : now.averages ≡ before.averages → (other : Site) (start : ℕ) → average_at fs other start ≡ average_at es other start
+  unfolding average_at
+  averages-stay same other start =
+      part-stays (λ (d : DayCells). average_in d start) site day now es fs replaces before was
+      (ap (λ (averages : List KeptAverage). cond (is_kept_start start) (get_or averages (start % 24 - 7) no_average) no_average) same) other (start / 24)
+
+  pub held-stays : now.held ≡ before.held → (other : Site) (number : ℕ) → held_at fs other number ≡ held_at es other number
+  unfolding held_at
+  held-stays same = part-stays (λ (d : DayCells). d.held) site day now es fs replaces before was same
+
 -- an hour by its day and its place there
 by_place : (h k : ℕ) → ((h / 24 == k / 24) && (h % 24 == k % 24)) ≡ (h == k)
 by_place h k = grind (arith, nat_tests)
 
-pub place-put : {X : Type 0} (part : DayCells → ℕ → X) (site : Site) (hour : ℕ) (value : X) (now : DayCells) (es fs : List (SiteDay × DayCells))
+pub place-put : {X : Type 0} (part : DayCells → ℕ → X) (site : Site) (hour : ℕ) (value : X) (now : DayCells) (es fs : Cells)
     → Replaces es fs now site (hour / 24) → (before : DayCells) → before ≡ day_at es site (hour / 24)
     → ((other : ℕ) → part now other ≡ cond (hour % 24 == other % 24) value (part before other))
     → (other : Site) (number : ℕ) → part (day_at fs other (number / 24)) number
@@ -110,3 +99,13 @@ place-put part site hour value now es fs replaces before was new other number =
         ∙ ap (λ (d : DayCells). cond (hour == number) value (part d number)) (was ∙ same-days site other (hour / 24) (number / 24) es (λ i. same i && day i))
     by true false same day = ap (λ b. cond b value (part (day_at es other (number / 24)) number)) (off day)
     by false q same day = refl
+
+-- an average of a day that is kept
+pub average-of-day : (days : Cells) (site : Site) (day start : ℕ) (kept : DayCells) → kept ≡ day_at days site day → start / 24 ≡ day → average_in kept start ≡ average_at days site start
+unfolding average_at
+average-of-day days site day start kept is lies = ap (λ (d : DayCells). average_in d start) (is ∙ ap (day_at days site) (sym lies))
+
+-- a day of which nothing is kept
+pub no-cells : (found : Option DayCells) → is_some found ≡ false → unwrap_or found empty_day ≡ empty_day
+no-cells None none = refl
+no-cells (Some cells) none = absurd (false≢true (sym none))

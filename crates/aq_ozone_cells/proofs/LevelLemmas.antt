@@ -1,6 +1,6 @@
 -- What is kept is the office's, level by level.
-use Rattle.std.proofs.Common.{◌≡◌, ℕ, zero, suc, ◌+◌, ◌<◌, ◌≤◌, Bool, true, false, cond, ◌&&◌, List, ◌∷◌, length, map, refl, ap, sym, ◌∙◌, arith}
-use Rattle.std.specs.Prelude.{ℤ, ◌||◌, Option, IsTrue, nat_le, nat_lt, count_by, filter, filter_map}
+use Rattle.std.proofs.Common.{◌≡◌, ℕ, zero, suc, ◌+◌, ◌<◌, ◌≤◌, Bool, true, false, cond, ◌&&◌, List, ◌∷◌, length, map, refl, ap, sym, subst, arith}
+use Rattle.std.specs.Prelude.{ℤ, ◌||◌, Option, IsTrue, nat_le, count_by, filter, filter_map}
 use Rattle.std.specs.List.{cons_option, range_with_len}
 use Rattle.std.proofs.lemmas.Bool.Decides.{nat_tests}
 use Rattle.aq_base.specs.Calendar.{days_in_year, hour_number, year_first}
@@ -12,7 +12,7 @@ use Rattle.aq_rules.specs.Office.Approval.{is_approved}
 use Rattle.aq_rules.specs.Office.Office.{Office}
 use Rattle.aq_rules.specs.Office.Season.{is_in_season, season_of}
 use Rattle.aq_rules.specs.Ozone.EightHour.{WindowRow, eight_hours, row_of, window}
-use Rattle.aq_rules.specs.Ozone.OzoneDay.{OzoneDay, full_averages, net_averages, ozone_day, starts_of, windows}
+use Rattle.aq_rules.specs.Ozone.OzoneDay.{ozone_day, starts_of, windows}
 use Rattle.aq_rules.specs.Ozone.OzoneYear.{days_of, fourth_of, ozone_days, ozone_year, ranked_maximum}
 use Rattle.aq_rules.specs.Ozone.SiteHour.{Cell, site_hour}
 use Rattle.aq_rules.specs.Standards.{is_above, level_of}
@@ -22,10 +22,11 @@ use Rattle.aq_ozone_cells.specs.YearTallies.{maximum_of}
 use Rattle.aq_ozone_cells.specs.declared.kept_days.HeldDay.{HeldDay}
 use Rattle.aq_ozone_cells.specs.declared.kept_days.KeptAverage.{KeptAverage}
 use Rattle.aq_ozone_cells.proofs.HeldYear.{count-same}
+use Rattle.aq_ozone_cells.proofs.SiteNumbers.{among}
 
 -- ---- an average and its hours
 
-hours-same : (f g : ℕ → Option Cell) (last a n : ℕ) → ((hour : ℕ) → a ≤ hour → hour < a + n → hour ≤ last → f hour ≡ g hour)
+pub hours-same : (f g : ℕ → Option Cell) (last a n : ℕ) → ((hour : ℕ) → a ≤ hour → hour < a + n → hour ≤ last → f hour ≡ g hour)
     → filter_map f (filter (λ hour. nat_le hour last) (range_with_len a n)) ≡ filter_map g (filter (λ hour. nat_le hour last) (range_with_len a n))
 hours-same f g last a zero same = refl
 hours-same f g last a (suc n) same =
@@ -50,21 +51,12 @@ average-is office cells site start same =
 
 -- ---- a day and its averages
 
-full-same : (f : ℕ → KeptAverage) (g : ℕ → WindowRow) (a n : ℕ) → ((k : ℕ) → a ≤ k → k < a + n → f k ≡ averages_of (g k))
-    → full_averages (map (λ k. row_with (f k)) (range_with_len a n)) ≡ full_averages (map g (range_with_len a n))
-full-same f g a zero same = refl
-full-same f g a (suc n) same =
-    let here = same a (omega arith) (omega arith) in
-    let rest = full-same f g (a + 1) n (λ k low high. same k (omega (arith, low)) (omega (arith, high))) in
-    λ i. cons_option (here i).full (rest i)
-
-net-same : (f : ℕ → KeptAverage) (g : ℕ → WindowRow) (a n : ℕ) → ((k : ℕ) → a ≤ k → k < a + n → f k ≡ averages_of (g k))
-    → net_averages (map (λ k. row_with (f k)) (range_with_len a n)) ≡ net_averages (map g (range_with_len a n))
-net-same f g a zero same = refl
-net-same f g a (suc n) same =
-    let here = same a (omega arith) (omega arith) in
-    let rest = net-same f g (a + 1) n (λ k low high. same k (omega (arith, low)) (omega (arith, high))) in
-    λ i. cons_option (here i).net (rest i)
+items-same : {X Y : Type 0} (p : X → Option ℤ) (f : ℕ → X) (q : Y → Option ℤ) (g : ℕ → Y) (a n : ℕ) → ((k : ℕ) → a ≤ k → k < a + n → p (f k) ≡ q (g k))
+    → filter_map p (map f (range_with_len a n)) ≡ filter_map q (map g (range_with_len a n))
+items-same p f q g a zero same = refl
+items-same p f q g a (suc n) same =
+    let rest = items-same p f q g (a + 1) n (λ k low high. same k (omega (arith, low)) (omega (arith, high))) in
+    λ i. cons_option (same a (omega arith) (omega arith) i) (rest i)
 
 module _ (office : Office) (cells : Cells) (site : Site) where
   pub day-is : (day : ℕ)
@@ -72,33 +64,23 @@ module _ (office : Office) (cells : Cells) (site : Site) where
       → day_from office.records cells site day ≡ held_day office site day
   unfolding day_from day_of_averages held_day ozone_day windows starts_of
   day-is day same =
-      let full = full-same (average_at cells site) (window office site) (hour_number day 7) 17 same in
-      let net = net-same (average_at cells site) (window office site) (hour_number day 7) 17 same in
+      let row : ℕ → WindowRow = λ start. row_with (average_at cells site start) in
+      let full = items-same (λ (r : WindowRow). r.full) row (λ (r : WindowRow). r.full) (window office site) (hour_number day 7) 17
+      (λ start low high. ap (λ (a : KeptAverage). a.full) (same start low high)) in
+      let net = items-same (λ (r : WindowRow). r.net) row (λ (r : WindowRow). r.net) (window office site) (hour_number day 7) 17
+      (λ start low high. ap (λ (a : KeptAverage). a.net) (same start low high)) in
       let valid = ap (λ (l : List ℤ). nat_le 13 (length l) || is_above (level_of Ozone2015) (greatest l)) full in
       λ i. record { valid = valid i; counted = counts office.records site day (valid i); maximum = greatest (net i) }
 
   -- ---- a year and its days
 
-  maxima-same : (f : ℕ → HeldDay) (g : ℕ → OzoneDay) (a n : ℕ) → ((k : ℕ) → a ≤ k → k < a + n → maximum_of (f k) ≡ ranked_maximum (g k))
-      → filter_map ranked_maximum (map (λ k. ozone_day_of (f k)) (range_with_len a n)) ≡ filter_map ranked_maximum (map g (range_with_len a n))
-  maxima-same f g a zero same = refl
-  maxima-same f g a (suc n) same =
-      let here = same a (omega arith) (omega arith) in
-      let rest = maxima-same f g (a + 1) n (λ k low high. same k (omega (arith, low)) (omega (arith, high))) in
-      λ i. cons_option (here i) (rest i)
-
   module _ (year : ℕ) (same : (day : ℕ) → IsTrue (is_day_of year day) → held_at cells site day ≡ held_day office site day) where
     pub are-held : AreHeldBy office.records cells site year
     unfolding AreHeldBy held_day
-    are-held day of_year =
-        let is = same day of_year in
-        ap (λ (d : HeldDay). d.counted) is ∙ ap (λ (b : Bool). counts office.records site day b) (sym (ap (λ (d : HeldDay). d.valid) is))
+    are-held day of_year = subst (λ (d : HeldDay). d.counted ≡ counts office.records site day d.valid) (sym (same day of_year)) refl
 
     day-held : (day : ℕ) → year_first year ≤ day → day < year_first year + days_in_year year → held_at cells site day ≡ held_day office site day
-    day-held day first last =
-        let one : nat_le (year_first year) day ≡ true = grind (arith, nat_tests) in
-        let two : nat_lt day (year_first year + days_in_year year) ≡ true = grind (arith, nat_tests) in
-        same day (λ i. one i && two i)
+    day-held day first last = same day (among (year_first year) (days_in_year year) day first last)
 
     pub year-is : year_of_days office.records cells site year ≡ ozone_year office site year
     unfolding year_of_days ozone_year ozone_days days_of held_day
@@ -108,7 +90,8 @@ module _ (office : Office) (cells : Cells) (site : Site) where
         let counted = count-same (λ day. is_in_season season day && ((held_at cells site day).valid || is_approved office.records site day))
         (λ day. is_in_season season day && ((ozone_day office site day).valid || is_approved office.records site day)) (year_first year) (days_in_year year)
         (λ day first last. ap (λ (d : HeldDay). is_in_season season day && (d.valid || is_approved office.records site day)) (day-held day first last)) in
-        let maxima = maxima-same (held_at cells site) (ozone_day office site) (year_first year) (days_in_year year) (λ day first last. ap maximum_of (day-held day first last)) in
+        let maxima = items-same ranked_maximum (λ day. ozone_day_of (held_at cells site day)) ranked_maximum (ozone_day office site) (year_first year) (days_in_year year)
+        (λ day first last. ap maximum_of (day-held day first last)) in
         λ i. record {
           season_days = count_by (is_in_season season) days;
           season_valid = counted i;

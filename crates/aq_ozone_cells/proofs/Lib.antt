@@ -10,5 +10,7 @@ pub mod LevelLemmas
 pub mod NextCells
 pub mod SettledCells
 pub mod SettleLemmas
+pub mod SiteNumbers
 pub mod TallyLemmas
+pub mod WeekCells
 pub mod YearExchange

@@ -1,11 +1,11 @@
 -- The cell that is next, and those that wait behind it.
-use Rattle.std.proofs.Common.{◌≡◌, ◌≢◌, ℕ, ◌+◌, ◌<◌, ◌≤◌, Bool, true, false, ◌&&◌, not, List, [], ◌∷◌, refl, ap, sym, subst, ◌∙◌, arith}
+use Rattle.std.proofs.Common.{◌≡◌, ℕ, ◌+◌, ◌<◌, Bool, true, false, ◌&&◌, not, List, [], ◌∷◌, refl, ap, sym, subst, ◌∙◌, arith}
 use Rattle.std.specs.Prelude.{Option, Some, None, sum_by}
 use Rattle.std.specs.List.{list_any}
 use Rattle.std.proofs.lemmas.Bool.{false≢true}
 use Rattle.aq_base.specs.Site.{Site}
 use Rattle.aq_rules.proofs.CellsOnce.{cell-same}
-use Rattle.aq_rules.specs.Kept.Cells.{CellName as Cell, HourCell, WindowCell, OzoneDayCell, OzoneYearCell, PmDayCell, StratumCell, QuarterCell, PmYearCell, is_same_cell}
+use Rattle.aq_rules.specs.Kept.Cells.{CellName as Cell, HourCell, WindowCell, OzoneDayCell, OzoneYearCell, is_same_cell}
 use Rattle.aq_rules.specs.Kept.Reach.{each_once}
 use Rattle.aq_rules.specs.Office.Office.{Office}
 use Rattle.aq_dirty.specs.Marked.{cells_of, first_or, holds_cell, named, next_in, Marked}
@@ -14,7 +14,7 @@ use Rattle.aq_dirty.specs.declared.cell_name.CellName.{CellName}
 use Rattle.aq_dirty.specs.declared.cell_name.CellName.TheVariants.{Hour, Window, OzoneDay, OzoneYear, PmDay, Stratum, Quarter, PmYear}
 use Rattle.aq_dirty.specs.declared.spans.Span.{Span}
 use Rattle.aq_ozone_cells.specs.OzoneCells.{Cells}
-use Rattle.aq_ozone_cells.specs.Settling.{AreBelow, CellsStay, IsAverageOf, IsCellOf, IsHourOf}
+use Rattle.aq_ozone_cells.specs.Settling.{AreBelow, CellsStay, IsAverageOf, IsBroughtUp, IsCellOf, IsHourOf}
 
 -- the level of a cell
 abbrev level : Cell → ℕ
@@ -63,15 +63,15 @@ module _ (office : Office) (cells : Cells) (marked : Marked) (others : (cell : C
   below-next (PmYear site year) is = tt
 
   -- without the next one, once it is the office's
-  pub others-next : (after : Cells) (left : Marked) (cell : Cell) → CellsStay office cells after → IsCellOf office after cell
+  pub others-next : (after : Cells) (left : Marked) (cell : Cell) → IsBroughtUp office cells after cell
       → ((other : Cell) → holds_cell left other ≡ (holds_cell marked other && not (is_same_cell cell other)))
       → (other : Cell) → holds_cell left other ≡ false → IsCellOf office after other
   unfolding CellsStay
-  others-next after left cell stay now drops other free = by (holds_cell marked other) (is_same_cell cell other) refl refl (sym (drops other) ∙ free)
+  others-next after left cell up drops other free = by (holds_cell marked other) (is_same_cell cell other) refl refl (sym (drops other) ∙ free)
     where
       by : (h s : Bool) → holds_cell marked other ≡ h → is_same_cell cell other ≡ s → (h && not s) ≡ false → IsCellOf office after other
-      by false s held same none = stay other (others other held)
-      by true true held same none = subst (IsCellOf office after) (cell-same cell other same) now
+      by false s held same none = up.stay other (others other held)
+      by true true held same none = subst (IsCellOf office after) (cell-same cell other same) up.now
       by true false held same none = absurd (false≢true (sym none))
 
 -- one cell fewer waits

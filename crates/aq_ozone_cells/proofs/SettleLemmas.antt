@@ -1,19 +1,21 @@
 -- The days of a year, brought up to date one by one.
 use Rattle.std.proofs.Common.{◌≡◌, ℕ, suc, ◌+◌, Bool, true, false, cond, ◌&&◌, List, [], ◌∷◌, map, refl, ap, sym, ◌∙◌, arith}
-use Rattle.std.specs.Prelude.{◌==◌, nat_le, nat_lt, None, IfSome, count_by}
+use Rattle.std.specs.Prelude.{◌==◌, None, IfSome, count_by}
 use Rattle.std.specs.List.{range_with_len}
 use Rattle.std.proofs.lemmas.Bool.Decides.{nat_tests}
 use Rattle.aq_base.specs.Site.{Site}
 use Rattle.aq_base.specs.declared.office.OfficeRecord.{OfficeRecord}
+use Rattle.aq_rules.specs.Office.Monitors.{is_same_site}
 use Rattle.aq_rules.specs.Ozone.OzoneDay.{day_of_windows, starts_of}
 use Rattle.aq_series.specs.Samples.{IsOzone}
 use Rattle.aq_ozone.specs.DayHours.{AreNetOzone}
-use Rattle.aq_ozone_cells.specs.KeptDays.{average_at}
-use Rattle.aq_ozone_cells.specs.OzoneCells.{counts, day_from, day_of_averages, row_with, Cells}
+use Rattle.aq_ozone_cells.specs.KeptDays.{average_at, held_at, hour_at}
+use Rattle.aq_ozone_cells.specs.OzoneCells.{counts, day_from, day_of_averages, is_among, row_with, AreSettled, Cells}
 use Rattle.aq_ozone_cells.specs.YearTallies.{maximum_of}
 use Rattle.aq_ozone_cells.specs.declared.kept_days.HeldDay.{HeldDay}
 use Rattle.aq_ozone_cells.specs.declared.kept_days.KeptAverage.{KeptAverage}
 use Rattle.aq_ozone_cells.proofs.DayExchange.{cut}
+use Rattle.aq_ozone_cells.proofs.SiteNumbers.{never}
 use Rattle.aq_ozone.proofs.YearLemmas.{count_more}
 
 -- what a day gives its year rests on the averages alone
@@ -25,10 +27,6 @@ day-same records cells after site day same = λ i. record {
   counted = counts records site day (day_of_windows (map (λ start. row_with (same site start i)) (starts_of day))).valid;
   maximum = (day_of_windows (map (λ start. row_with (same site start i)) (starts_of day))).maximum;
 }
-
--- whether a number is one of so many from the first on
-abbrev pub is_among : ℕ → ℕ → ℕ → Bool
-is_among first count number = nat_le first number && nat_lt number (first + count)
 
 -- one more day
 pub one-more : (p : Bool) (first count number day : ℕ) (new : ℕ → HeldDay) (old : HeldDay) → first + count ≡ day
@@ -46,6 +44,37 @@ one-more true first count number day new old at = by (day == number) refl
     by false is =
         let same : is_among first count number ≡ is_among first (count + 1) number = grind (arith, nat_tests, at, is) in
         ap (λ b. cond b (new number) old) same
+
+-- no day is settled, and one more
+pub settled-none : (records : List OfficeRecord) (cells : Cells) (site : Site) (first : ℕ) → AreSettled records cells cells site first 0
+settled-none records cells site first = record {
+  days = λ other number.
+      let none : is_among first 0 number ≡ false = grind (arith, nat_tests) in
+      sym (ap (λ b. cond b (day_from records cells site number) (held_at cells other number)) (ap (λ b. is_same_site site other && b) none ∙ never (is_same_site site other)));
+  hours = λ other hour. refl;
+  averages = λ other start. refl;
+}
+
+pub settled-more : (records : List OfficeRecord) (start now after : Cells) (site : Site) (first count day : ℕ) → first + count ≡ day → AreSettled records start now site first count
+    → (held : HeldDay) → held ≡ day_from records now site day
+    → ((other : Site) (number : ℕ) → held_at after other number ≡ cond (is_same_site site other && (day == number)) held (held_at now other number))
+    → ((other : Site) (hour : ℕ) → hour_at after other hour ≡ hour_at now other hour)
+    → ((other : Site) (start : ℕ) → average_at after other start ≡ average_at now other start)
+    → AreSettled records start after site first (count + 1)
+settled-more records start now after site first count day at so_far held is days hours averages =
+    let held_is = is ∙ day-same records start now site day so_far.averages in
+    record {
+      days = λ other number.
+          days other number
+          ∙ (λ i. cond (is_same_site site other && (day == number)) (held_is i) (so_far.days other number i))
+          ∙ one-more (is_same_site site other) first count number day (day_from records start site) (held_at start other number) at;
+      hours = λ other hour. hours other hour ∙ so_far.hours other hour;
+      averages = λ other number. averages other number ∙ so_far.averages other number;
+    }
+
+-- one day from itself on
+pub day-alone : (b : Bool) (day number : ℕ) → (b && is_among day 1 number) ≡ (b && (day == number))
+day-alone b day number = let is : is_among day 1 number ≡ (day == number) = grind (arith, nat_tests) in ap (λ t. b && t) is
 
 -- rows with averages that are ozone's
 pub net-rows : (f : ℕ → KeptAverage) (starts : List ℕ) → ((start : ℕ) → IfSome (f start).net IsOzone) → AreNetOzone (map (λ start. row_with (f start)) starts)

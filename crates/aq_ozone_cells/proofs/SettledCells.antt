@@ -1,66 +1,80 @@
 -- Which cells are the office's, once one of them is brought up to date.
-use Rattle.std.proofs.Common.{◌≡◌, ℕ, suc, ◌+◌, ◌*◌, ◌/◌, ◌%◌, ◌<◌, ◌≤◌, Bool, true, false, cond, ◌&&◌, refl, ap, sym, subst, ◌∙◌, arith}
-use Rattle.std.specs.Prelude.{◌==◌, Option, nat_le, nat_lt, IsTrue}
-use Rattle.std.proofs.lemmas.Bool.{false≢true, and_parts}
+use Rattle.std.proofs.Common.{◌≡◌, ℕ, ◌%◌, ◌≤◌, Bool, true, false, cond, ◌&&◌, refl, ap, sym, subst, ◌∙◌, arith}
+use Rattle.std.specs.Prelude.{◌==◌, Option, nat_le}
+use Rattle.std.proofs.lemmas.Bool.{and_parts}
 use Rattle.std.proofs.lemmas.Bool.Decides.{nat_tests}
-use Rattle.aq_base.specs.Calendar.{hour_number, year_of}
+use Rattle.aq_base.specs.Calendar.{year_of}
 use Rattle.aq_base.specs.Site.{Site}
 use Rattle.aq_base.specs.declared.day.TheConstants.{FIRST_YEAR, LAST_DAY, LAST_HOUR, LAST_YEAR}
 use Rattle.aq_cal.proofs.Within.{year_holds}
-use Rattle.aq_rules.proofs.Days.{in_year, years_count}
+use Rattle.aq_rules.proofs.Days.{in_year}
 use Rattle.aq_rules.specs.Kept.Cells.{CellName, HourCell, WindowCell, OzoneDayCell, OzoneYearCell, PmDayCell, StratumCell, QuarterCell, PmYearCell}
 use Rattle.aq_rules.specs.Office.Monitors.{is_same_site}
 use Rattle.aq_rules.specs.Office.Office.{Office}
 use Rattle.aq_rules.specs.Office.Sameness.{same_site, site_itself}
 use Rattle.aq_rules.specs.Ozone.EightHour.{window}
-use Rattle.aq_rules.specs.Ozone.OzoneDay.{ozone_day}
 use Rattle.aq_rules.specs.Ozone.SiteHour.{Cell, site_hour}
-use Rattle.aq_ozone_cells.specs.FilledDays.{AreKept, IsDayOf}
+use Rattle.aq_ozone_cells.specs.FilledDays.{AreKept}
 use Rattle.aq_ozone_cells.specs.KeptDays.{average_at, averages_of, held_at, hour_at, is_kept_start}
 use Rattle.aq_ozone_cells.specs.OzoneCells.{average_of_hours, counts, day_from, held_day, is_day_of, Cells}
-use Rattle.aq_ozone_cells.specs.Settling.{AreBelow, CellsStay, CountsAs, HasMaximumOf, IsAverageOf, IsCellOf, IsHourOf}
+use Rattle.aq_ozone_cells.specs.Settling.{CellsStay, CountsAs, HasMaximumOf, IsAverageOf, IsBroughtUp, IsCellOf, IsHourOf}
 use Rattle.aq_ozone_cells.specs.declared.kept_days.HeldDay.{HeldDay}
-use Rattle.aq_ozone_cells.specs.declared.kept_days.KeptAverage.{KeptAverage}
 use Rattle.aq_ozone_cells.proofs.LevelLemmas.{average-is, day-is}
+use Rattle.aq_ozone_cells.proofs.SiteNumbers.{itself, named}
 
-pub cells-stay-still : (office : Office) (cells : Cells) → CellsStay office cells cells
+-- cells are the office's, level by level, if those of each level are
+pub each-level : (P : CellName → Type 0) (office : Office) (cells : Cells)
+    → ((site : Site) (hour : ℕ) → P (HourCell site hour) → IsHourOf office cells site hour)
+    → ((site : Site) (start : ℕ) → P (WindowCell site start) → IsAverageOf office cells site start)
+    → ((site : Site) (day : ℕ) → P (OzoneDayCell site day) → day ≤ LAST_DAY → HasMaximumOf office cells site day)
+    → ((site : Site) (year : ℕ) → P (OzoneYearCell site year) → (day : ℕ) → day ≤ LAST_DAY → year_of day ≡ year → CountsAs office cells site day)
+    → (cell : CellName) → P cell → IsCellOf office cells cell
+unfolding IsCellOf
+each-level P office cells hours averages days years (HourCell site hour) of = hours site hour of
+each-level P office cells hours averages days years (WindowCell site start) of = averages site start of
+each-level P office cells hours averages days years (OzoneDayCell site day) of = days site day of
+each-level P office cells hours averages days years (OzoneYearCell site year) of = years site year of
+each-level P office cells hours averages days years (PmDayCell site pollutant day) of = tt
+each-level P office cells hours averages days years (StratumCell site first) of = tt
+each-level P office cells hours averages days years (QuarterCell site pollutant quarter) of = tt
+each-level P office cells hours averages days years (PmYearCell site year) of = tt
+
+-- the cells that are the office's stay so, if those of each level do
+pub cells-stay : (office : Office) (before after : Cells)
+    → ((site : Site) (hour : ℕ) → IsHourOf office before site hour → IsHourOf office after site hour)
+    → ((site : Site) (start : ℕ) → IsAverageOf office before site start → IsAverageOf office after site start)
+    → ((site : Site) (day : ℕ) → day ≤ LAST_DAY → HasMaximumOf office before site day → HasMaximumOf office after site day)
+    → ((site : Site) (day : ℕ) → day ≤ LAST_DAY → CountsAs office before site day → CountsAs office after site day)
+    → CellsStay office before after
+unfolding CellsStay IsCellOf
+cells-stay office before after hours averages days counted =
+    each-level (IsCellOf office before) office after hours averages (λ site day of within. days site day within (of within))
+    (λ site year of day within its. counted site day within (of day within its))
+
+-- nothing is to do for a cell that is the office's
+pub nothing-to_do : (office : Office) (cells : Cells) (cell : CellName) → IsCellOf office cells cell → IsBroughtUp office cells cells cell
 unfolding CellsStay
-cells-stay-still office cells cell is = is
+nothing-to_do office cells cell of = record { stay = λ other is. is; now = of }
 
--- two tests that hold name one number of one site
-named : (site other : Site) (number n : ℕ) → (is_same_site site other && (number == n)) ≡ true → (site ≡ other) × (number ≡ n)
-named site other number n is =
-    let parts = and_parts (is_same_site site other) (number == n) is in
-    let numbers : number ≡ n = grind (arith, nat_tests, parts.1) in
-    (same_site site other parts.0, numbers)
-
-itself : (site : Site) (number : ℕ) → (is_same_site site site && (number == number)) ≡ true
-itself site number = let on : (number == number) ≡ true = grind (arith, nat_tests) in λ i. site_itself site i && on i
-
--- what a day gives its year is the office's
-day-parts : (office : Office) (cells : Cells) (site : Site) (day : ℕ) (held : HeldDay) → held_at cells site day ≡ held → held ≡ held_day office site day → HasMaximumOf office cells site day
+-- a day that gives its year what it gives it in the office
+pub day-parts : (office : Office) (cells : Cells) (site : Site) (day : ℕ) → held_at cells site day ≡ held_day office site day → HasMaximumOf office cells site day
 unfolding held_day
-day-parts office cells site day held at is = record {
-  valid = ap (λ (d : HeldDay). d.valid) (at ∙ is);
-  maximum = ap (λ (d : HeldDay). d.maximum) (at ∙ is);
-}
+day-parts office cells site day is = record { valid = ap (λ (d : HeldDay). d.valid) is; maximum = ap (λ (d : HeldDay). d.maximum) is }
 
-day-counts : (office : Office) (cells : Cells) (site : Site) (day : ℕ) (held : HeldDay) → held_at cells site day ≡ held → held ≡ held_day office site day → CountsAs office cells site day
+pub day-counts : (office : Office) (cells : Cells) (site : Site) (day : ℕ) → held_at cells site day ≡ held_day office site day → CountsAs office cells site day
 unfolding held_day
-day-counts office cells site day held at is =
-    ap (λ (d : HeldDay). d.counted) (at ∙ is) ∙ ap (λ (b : Bool). counts office.records site day b) (sym (ap (λ (d : HeldDay). d.valid) (at ∙ is)))
+day-counts office cells site day is = subst (λ (d : HeldDay). d.counted ≡ counts office.records site day d.valid) (sym is) refl
 
 module _ (office : Office) (before after : Cells) where
   -- a day that is held as before
-  same-parts : (site : Site) (day : ℕ) → held_at after site day ≡ held_at before site day → HasMaximumOf office before site day → HasMaximumOf office after site day
+  pub same-parts : (site : Site) (day : ℕ) → held_at after site day ≡ held_at before site day → HasMaximumOf office before site day → HasMaximumOf office after site day
   same-parts site day same is = record {
     valid = ap (λ (d : HeldDay). d.valid) same ∙ is.valid;
     maximum = ap (λ (d : HeldDay). d.maximum) same ∙ is.maximum;
   }
 
-  same-counts : (site : Site) (day : ℕ) → held_at after site day ≡ held_at before site day → CountsAs office before site day → CountsAs office after site day
-  same-counts site day same is =
-      ap (λ (d : HeldDay). d.counted) same ∙ is ∙ ap (λ (d : HeldDay). counts office.records site day d.valid) (sym same)
+  pub same-counts : (site : Site) (day : ℕ) → held_at after site day ≡ held_at before site day → CountsAs office before site day → CountsAs office after site day
+  same-counts site day same is = subst (λ (d : HeldDay). d.counted ≡ counts office.records site day d.valid) (sym same) is
 
   -- ---- an hour
 
@@ -75,20 +89,13 @@ module _ (office : Office) (before after : Cells) where
         by true both = let same = named site other hour number both in is ∙ (λ i. site_hour office (same.0 i) (same.1 i))
         by false both = of within
 
-    pub hour-stay : CellsStay office before after
-    unfolding CellsStay IsCellOf
-    hour-stay (HourCell other number) of = hour-there other number of
-    hour-stay (WindowCell other start) of = λ within kept. averages other start ∙ of within kept
-    hour-stay (OzoneDayCell other day) of = λ within. same-parts other day (days other day) (of within)
-    hour-stay (OzoneYearCell other year) of = λ day within its. same-counts other day (days other day) (of day within its)
-    hour-stay (PmDayCell other pollutant day) of = tt
-    hour-stay (StratumCell other first) of = tt
-    hour-stay (QuarterCell other pollutant quarter) of = tt
-    hour-stay (PmYearCell other year) of = tt
-
-    pub hour-is : IsCellOf office after (HourCell site hour)
+    pub hour-up : IsBroughtUp office before after (HourCell site hour)
     unfolding IsCellOf
-    hour-is within = hours site hour ∙ ap (λ b. cond b value (hour_at before site hour)) (itself site hour) ∙ is
+    hour-up = record {
+      stay = cells-stay office before after hour-there (λ other start of within kept. averages other start ∙ of within kept)
+          (λ other day within. same-parts other day (days other day)) (λ other day within. same-counts other day (days other day));
+      now = λ within. hours site hour ∙ ap (λ b. cond b value (hour_at before site hour)) (itself site hour hour refl) ∙ is;
+    }
 
   -- ---- an average
 
@@ -107,21 +114,14 @@ module _ (office : Office) (before after : Cells) where
         by true false both = of within kept
         by false k both = of within kept
 
-    pub average-stay : CellsStay office before after
-    unfolding CellsStay IsCellOf
-    average-stay (HourCell other number) of = λ within. hours other number ∙ of within
-    average-stay (WindowCell other number) of = average-there other number of
-    average-stay (OzoneDayCell other day) of = λ within. same-parts other day (days other day) (of within)
-    average-stay (OzoneYearCell other year) of = λ day within its. same-counts other day (days other day) (of day within its)
-    average-stay (PmDayCell other pollutant day) of = tt
-    average-stay (StratumCell other first) of = tt
-    average-stay (QuarterCell other pollutant quarter) of = tt
-    average-stay (PmYearCell other year) of = tt
-
-    pub average-now : IsCellOf office after (WindowCell site start)
+    pub average-up : IsBroughtUp office before after (WindowCell site start)
     unfolding IsCellOf
-    average-now within kept =
-        averages site start ∙ (λ i. cond (itself site start i && kept i) (average_of_hours before site start) (average_at before site start)) ∙ new-average
+    average-up = record {
+      stay = cells-stay office before after (λ other number of within. hours other number ∙ of within) average-there
+          (λ other day within. same-parts other day (days other day)) (λ other day within. same-counts other day (days other day));
+      now = λ within kept.
+          averages site start ∙ (λ i. cond (itself site start start refl i && kept i) (average_of_hours before site start) (average_at before site start)) ∙ new-average;
+    }
 
   -- ---- days
 
@@ -152,34 +152,31 @@ module _ (office : Office) (before after : Cells) where
       parts-there other day within of = by (test other day) refl
         where
           by : (b : Bool) → test other day ≡ b → HasMaximumOf office after other day
-          by true is = day-parts office after other day (held_day office other day) (day-there other day within is) refl
+          by true is = day-parts office after other day (day-there other day within is)
           by false is = same-parts other day (day-elsewhere other day is) of
 
       counts-there : (other : Site) (day : ℕ) → day ≤ LAST_DAY → CountsAs office before other day → CountsAs office after other day
       counts-there other day within of = by (test other day) refl
         where
           by : (b : Bool) → test other day ≡ b → CountsAs office after other day
-          by true is = day-counts office after other day (held_day office other day) (day-there other day within is) refl
+          by true is = day-counts office after other day (day-there other day within is)
           by false is = same-counts other day (day-elsewhere other day is) of
 
-      pub days-stay : CellsStay office before after
-      unfolding CellsStay IsCellOf
-      days-stay (HourCell other number) of = λ within. hours other number ∙ of within
-      days-stay (WindowCell other start) of = λ within kept. averages other start ∙ of within kept
-      days-stay (OzoneDayCell other day) of = λ within. parts-there other day within (of within)
-      days-stay (OzoneYearCell other year) of = λ day within its. counts-there other day within (of day within its)
-      days-stay (PmDayCell other pollutant day) of = tt
-      days-stay (StratumCell other first) of = tt
-      days-stay (QuarterCell other pollutant quarter) of = tt
-      days-stay (PmYearCell other year) of = tt
+      days-stay : CellsStay office before after
+      days-stay =
+          cells-stay office before after (λ other number of within. hours other number ∙ of within) (λ other start of within kept. averages other start ∙ of within kept)
+          parts-there counts-there
 
-      pub day-now : (day : ℕ) → test site day ≡ true → IsCellOf office after (OzoneDayCell site day)
+      pub day-up : (day : ℕ) → test site day ≡ true → IsBroughtUp office before after (OzoneDayCell site day)
       unfolding IsCellOf
-      day-now day is within = day-parts office after site day (held_day office site day) (day-there site day within is) refl
+      day-up day is = record { stay = days-stay; now = λ within. day-parts office after site day (day-there site day within is) }
 
-      pub year-now : (year : ℕ) → ((day : ℕ) → day ≤ LAST_DAY → year_of day ≡ year → test site day ≡ true) → IsCellOf office after (OzoneYearCell site year)
+      pub year-up : (year : ℕ) → ((day : ℕ) → day ≤ LAST_DAY → year_of day ≡ year → test site day ≡ true) → IsBroughtUp office before after (OzoneYearCell site year)
       unfolding IsCellOf
-      year-now year is day within its = day-counts office after site day (held_day office site day) (day-there site day within (is day within its)) refl
+      year-up year is = record {
+        stay = days-stay;
+        now = λ day within its. day-counts office after site day (day-there site day within (is day within its));
+      }
 
 -- the tests that name a day, and the days of a year
 pub one-day : (site : Site) (day : ℕ) (other : Site) (number : ℕ) → (is_same_site site other && (day == number)) ≡ true → site ≡ other
@@ -188,9 +185,6 @@ one-day site day other number is = (named site other day number is).0
 pub of-year : (site : Site) (year : ℕ) (other : Site) (number : ℕ) → (is_same_site site other && is_day_of year number) ≡ true → site ≡ other
 of-year site year other number is = same_site site other (and_parts (is_same_site site other) (is_day_of year number) is).0
 
-pub day-itself : (site : Site) (day : ℕ) → (is_same_site site site && (day == day)) ≡ true
-day-itself = itself
-
 pub its-year : (site : Site) (year day : ℕ) → FIRST_YEAR ≤ year → day ≤ LAST_DAY → year_of day ≡ year → (is_same_site site site && is_day_of year day) ≡ true
 its-year site year day low within its =
     let of = (year_holds year day low within).0 its in
@@ -198,9 +192,9 @@ its-year site year day low within its =
     λ i. site_itself site i && inside i
 
 -- no day of the profile is of a year outside
-pub no-year : (office : Office) (cells : Cells) (site : Site) (year : ℕ) → ((day : ℕ) → day ≤ LAST_DAY → year_of day ≡ year → ⊥) → IsCellOf office cells (OzoneYearCell site year)
+pub no-year : (office : Office) (cells : Cells) (site : Site) (year : ℕ) → ((day : ℕ) → day ≤ LAST_DAY → year_of day ≡ year → ⊥) → IsBroughtUp office cells cells (OzoneYearCell site year)
 unfolding IsCellOf
-no-year office cells site year none day within its = absurd (none day within its)
+no-year office cells site year none = nothing-to_do office cells (OzoneYearCell site year) (λ day within its. absurd (none day within its))
 
 pub year-inside : (day : ℕ) → day ≤ LAST_DAY → (FIRST_YEAR ≤ year_of day) × (year_of day ≤ LAST_YEAR)
 year-inside day within =
@@ -223,21 +217,3 @@ all-cells office cells each site day within =
         maximum = parts.maximum i;
       };
     }
-
--- what is below a cell, if all cells of that level are the office's
-pub hours-below : (office : Office) (cells : Cells) → ((site : Site) (hour : ℕ) → IsCellOf office cells (HourCell site hour)) → (site : Site) (hour : ℕ) → IsHourOf office cells site hour
-unfolding IsCellOf
-hours-below office cells each = each
-
-pub averages-below : (office : Office) (cells : Cells) → ((site : Site) (start : ℕ) → IsCellOf office cells (WindowCell site start)) → (site : Site) (start : ℕ) → IsAverageOf office cells site start
-unfolding IsCellOf
-averages-below office cells each = each
-
--- what a day gives its year, if the day is the one that is named
-pub one-number : (site other : Site) (day number : ℕ) (f : ℕ → HeldDay) (old : HeldDay)
-    → cond (is_same_site site other && (day == number)) (f day) old ≡ cond (is_same_site site other && (day == number)) (f number) old
-one-number site other day number f old = by (is_same_site site other && (day == number)) refl
-  where
-    by : (b : Bool) → (is_same_site site other && (day == number)) ≡ b → cond b (f day) old ≡ cond b (f number) old
-    by true is = ap f (named site other day number is).1
-    by false is = refl

@@ -1,8 +1,8 @@
 -- A day that no observation of ozone and no approval reads: nothing of it is in the office. So once the days that one reads are filled, all that is kept is the office's.
-use Rattle.std.proofs.Common.{◌≡◌, ℕ, zero, suc, ◌+◌, ◌/◌, ◌<◌, ◌≤◌, Bool, true, false, cond, ◌&&◌, List, [], ◌∷◌, map, refl, ap, sym, subst, ◌∙◌, arith, inl, inr}
-use Rattle.std.specs.Prelude.{◌||◌, ◌==◌, Option, Some, None, nat_le, find, filter, filter_map, option_map, ℤ}
-use Rattle.std.specs.List.{cons_option, list_any, range_with_len}
-use Rattle.std.proofs.lemmas.Bool.{false≢true, or_parts}
+use Rattle.std.proofs.Common.{◌≡◌, ℕ, zero, suc, ◌+◌, ◌*◌, ◌/◌, ◌<◌, ◌≤◌, Bool, true, false, cond, ◌&&◌, List, [], ◌∷◌, map, refl, ap, sym, subst, ◌∙◌, arith, inl, inr}
+use Rattle.std.specs.Prelude.{◌||◌, ◌==◌, Option, Some, None, is_none, nat_le, find, filter, filter_map, option_map}
+use Rattle.std.specs.List.{cons_option, list_all, list_any, range_with_len}
+use Rattle.std.proofs.lemmas.Bool.{and_parts, false≢true, or_parts}
 use Rattle.std.proofs.lemmas.Bool.Decides.{nat_tests}
 use Rattle.aq_base.specs.Calendar.{day_of_hour, hour_number, year_of}
 use Rattle.aq_base.specs.Site.{Site}
@@ -18,12 +18,30 @@ use Rattle.aq_rules.specs.Office.Office.{Office}
 use Rattle.aq_rules.specs.Office.Season.{is_in_season, season_of}
 use Rattle.aq_rules.specs.Ozone.EightHour.{WindowRow, eight_hours, row_of, window}
 use Rattle.aq_rules.specs.Ozone.OzoneDay.{OzoneDay, day_of_windows, ozone_day, starts_of, windows}
-use Rattle.aq_rules.specs.Ozone.SiteHour.{Cell, Sample, chosen, is_of_poc, is_ozone_at, sample_of, samples_at, site_hour}
+use Rattle.aq_rules.specs.Ozone.SiteHour.{Cell, Sample, chosen, is_of_poc, is_ozone_at, sample_of, site_hour}
+use Rattle.aq_series.specs.DayStates.{hour_at}
 use Rattle.aq_ozone_cells.specs.FilledDays.{AreKept, IsDayOf, IsEmptyDay}
-use Rattle.aq_ozone_cells.specs.Filling.{lies_at, observes, AreFilling}
-use Rattle.aq_ozone_cells.specs.KeptDays.{averages_of, no_average, no_day}
+use Rattle.aq_ozone_cells.specs.Filling.{hours_from, lies_at, observes, AreFilling}
+use Rattle.aq_ozone_cells.specs.KeptDays.{averages_of, no_day}
 use Rattle.aq_ozone_cells.specs.OzoneCells.{counts, held_day, Cells}
-use Rattle.aq_ozone_cells.specs.declared.kept_days.HeldDay.{HeldDay}
+use Rattle.aq_ozone_cells.proofs.DayExchange.{no_items}
+use Rattle.aq_ozone_cells.proofs.LevelLemmas.{hours-same}
+use Rattle.aq_ozone_cells.proofs.SiteNumbers.{never}
+
+-- a list of numbers' values, none of which is there
+none-there : (f : ℕ → Option Cell) (a n : ℕ) → list_all is_none (map f (range_with_len a n)) ≡ true → (k : ℕ) → a ≤ k → k < a + n → f k ≡ None
+none-there f a zero all k low high = absurd (omega (arith, low, high))
+none-there f a (suc n) all k low high =
+    let parts = and_parts (is_none (f a)) (list_all is_none (map f (range_with_len (a + 1) n))) all in
+    by (a == k) refl parts.0 (none-there f (a + 1) n parts.1 k)
+  where
+    none-of : (o : Option Cell) → is_none o ≡ true → o ≡ None
+    none-of None is = refl
+    none-of (Some cell) is = absurd (false≢true is)
+
+    by : (b : Bool) → (a == k) ≡ b → is_none (f a) ≡ true → (a + 1 ≤ k → k < a + 1 + n → f k ≡ None) → f k ≡ None
+    by true same none rest = let e : a ≡ k = grind (arith, nat_tests, same) in ap f (sym e) ∙ none-of (f a) none
+    by false other none rest = rest (grind (arith, nat_tests, other, low)) (omega (arith, high))
 
 module _ (office : Office) (site : Site) (day : ℕ) where
   -- an observation that does not lie in the day or the next gives no sample of an hour of them
@@ -55,24 +73,16 @@ module _ (office : Office) (site : Site) (day : ℕ) where
     no-hour hour near =
         ap (λ (samples : List Sample). chosen (find (is_of_poc (primary_on office.records site Ozone (day_of_hour hour))) samples) samples) (no-samples hour near office.observations none)
 
-    no-cells : (last a n : ℕ) → ((hour : ℕ) → a ≤ hour → hour < a + n → site_hour office site hour ≡ None)
-        → filter_map (site_hour office site) (filter (λ hour. nat_le hour last) (range_with_len a n)) ≡ []
-    no-cells last a zero each = refl
-    no-cells last a (suc n) each = by (nat_le a last) (no-cells last (a + 1) n (λ hour low high. each hour (omega (arith, low)) (omega (arith, high))))
-      where
-        by : (b : Bool) → filter_map (site_hour office site) (filter (λ hour. nat_le hour last) (range_with_len (a + 1) n)) ≡ []
-            → filter_map (site_hour office site) (cond b (a ∷ filter (λ hour. nat_le hour last) (range_with_len (a + 1) n)) (filter (λ hour. nat_le hour last) (range_with_len (a + 1) n))) ≡ []
-        by true rest = λ i. cons_option (each a (omega arith) (omega arith) i) (rest i)
-        by false rest = rest
-
+  module _ (in_profile : day ≤ LAST_DAY) (absent : (hour : ℕ) → 24 * day ≤ hour → hour < 24 * day + 31 → hour ≤ LAST_HOUR → site_hour office site hour ≡ None) where
     abbrev no_row : WindowRow
     no_row = row_of []
 
     no-window : (start : ℕ) → start / 24 ≡ day → window office site start ≡ no_row
     unfolding window eight_hours
     no-window start at =
-        ap row_of (no-cells LAST_HOUR start 8
-        (λ hour low high. no-hour hour (let near : ((hour / 24 == day) || (hour / 24 == day + 1)) ≡ true = grind (arith, nat_tests, at, low, high) in near)))
+        ap row_of
+        (hours-same (site_hour office site) (λ _. None) LAST_HOUR start 8 (λ hour low high within. absent hour (omega (arith, at, low)) (omega (arith, at, high)) within)
+        ∙ no_items (filter (λ hour. nat_le hour LAST_HOUR) (range_with_len start 8)))
 
     no-windows : (a n : ℕ) → ((start : ℕ) → a ≤ start → start < a + n → start / 24 ≡ day) → day_of_windows (map (window office site) (range_with_len a n)) ≡ day_of_windows []
     no-windows a zero each = refl
@@ -92,17 +102,30 @@ module _ (office : Office) (site : Site) (day : ℕ) where
         counted = (ap (λ (d : OzoneDay). counts office.records site day d.valid) no-day ∙ ap (λ b. is_in_season (season_of office.records site (year_of day)) day && b) unapproved ∙ never (is_in_season (season_of office.records site (year_of day)) day)) i;
         maximum = (no-day i).maximum;
       }
-        where
-          never : (b : Bool) → (b && false) ≡ false
-          never true = refl
-          never false = refl
 
-      pub unobserved : (cells : Cells) → IsEmptyDay cells site day → IsDayOf office cells site day
-      unobserved cells empty = record {
-        hours = λ hour at. empty.hours hour at ∙ sym (no-hour hour (let near : ((hour / 24 == day) || (hour / 24 == day + 1)) ≡ true = grind (arith, nat_tests, at) in near));
+      -- nothing is kept of a day whose hours have nothing
+      pub absent-day : (cells : Cells) → IsEmptyDay cells site day → IsDayOf office cells site day
+      absent-day cells empty = record {
+        hours = λ hour at. empty.hours hour at ∙ sym (absent hour (omega (arith, at)) (omega (arith, at)) (omega (arith, at, in_profile)));
         averages = λ start at kept. empty.averages start at ∙ sym (ap averages_of (no-window start at));
         held = empty.held ∙ sym no-held;
       }
+
+  -- hours that are a list without a value
+  pub absent-hours : (hours : List (Option Cell)) → hours ≡ hours_from office site day → list_all is_none hours ≡ true
+      → (hour : ℕ) → 24 * day ≤ hour → hour < 24 * day + 31 → hour ≤ LAST_HOUR → site_hour office site hour ≡ None
+  unfolding hours_from
+  absent-hours hours are none hour low high within =
+      let on : nat_le hour LAST_HOUR ≡ true = grind (arith, nat_tests, within) in
+      sym (ap (λ b. cond b (site_hour office site hour) None) on)
+      ∙ none-there (hour_at office site) (24 * day) 31 (sym (ap (list_all is_none) are) ∙ none) hour low high
+
+pub unobserved : (office : Office) (site : Site) (day : ℕ) → day ≤ LAST_DAY → list_any (observes site day) office.observations ≡ false → is_approved office.records site day ≡ false
+    → (cells : Cells) → IsEmptyDay cells site day → IsDayOf office cells site day
+unobserved office site day in_profile none unapproved =
+    absent-day office site day in_profile
+    (λ hour low high within. no-hour office site day none hour (let near : ((hour / 24 == day) || (hour / 24 == day + 1)) ≡ true = grind (arith, nat_tests, low, high) in near))
+    unapproved
 
 pub all-kept : (office : Office) (cells : Cells) → AreFilling office cells
     → ((site : Site) (day : ℕ) → day ≤ LAST_DAY → list_any (observes site day) office.observations ≡ true → IsDayOf office cells site day)
@@ -117,4 +140,4 @@ all-kept office cells each observed approved site day in_profile = elim (each si
     by : (p q : Bool) → list_any (observes site day) office.observations ≡ p → list_any (approves site day) office.records ≡ q → IsEmptyDay cells site day → IsDayOf office cells site day
     by true q is app empty = observed site day in_profile is
     by false true is app empty = approved site day in_profile app
-    by false false is app empty = unobserved office site day is app cells empty
+    by false false is app empty = unobserved office site day in_profile is app cells empty

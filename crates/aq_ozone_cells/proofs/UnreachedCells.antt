@@ -1,26 +1,25 @@
 -- The cells of an office that a change of its rows does not reach are those of the office after it.
-use Rattle.std.proofs.Common.{◌≡◌, ℕ, ◌+◌, ◌*◌, ◌/◌, ◌<◌, ◌≤◌, Bool, true, false, ◌&&◌, refl, ap, sym, ◌∙◌, arith}
+use Rattle.std.proofs.Common.{◌≡◌, ℕ, ◌/◌, ◌≤◌, Bool, true, false, ◌&&◌, refl, ap, sym, ◌∙◌, arith}
 use Rattle.std.specs.Prelude.{◌||◌}
 use Rattle.aq_base.specs.Calendar.{year_of}
 use Rattle.aq_base.specs.Site.{Site}
-use Rattle.aq_base.specs.declared.day.TheConstants.{LAST_DAY, LAST_HOUR}
+use Rattle.aq_base.specs.declared.day.TheConstants.{LAST_DAY}
 use Rattle.aq_rules.proofs.CellsOnce.{member}
 use Rattle.aq_rules.proofs.UnreachedHour.{hour-out_of_reach}
 use Rattle.aq_reach.proofs.Windows.{day-out_of_reach, window-out_of_reach}
 use Rattle.aq_reach.proofs.Years.{approved-out_of_reach, season-out_of_reach}
-use Rattle.aq_rules.specs.Kept.Cells.{CellName as Cell, HourCell, WindowCell, OzoneDayCell, OzoneYearCell, PmDayCell, StratumCell, QuarterCell, PmYearCell}
+use Rattle.aq_rules.specs.Kept.Cells.{CellName as Cell, HourCell, WindowCell, OzoneDayCell, OzoneYearCell}
 use Rattle.aq_rules.specs.Kept.Reach.{reach}
-use Rattle.aq_rules.specs.Office.Approval.{is_approved}
 use Rattle.aq_rules.specs.Office.Office.{IsOffice, Office}
-use Rattle.aq_rules.specs.Office.Season.{is_in_season, season_of}
-use Rattle.aq_rules.specs.Ozone.EightHour.{window}
-use Rattle.aq_rules.specs.Ozone.OzoneDay.{OzoneDay, ozone_day}
+use Rattle.aq_rules.specs.Office.Season.{is_in_season}
+use Rattle.aq_rules.specs.Ozone.OzoneDay.{OzoneDay}
 use Rattle.aq_dirty.specs.Reach.{is_of_ozone}
 use Rattle.aq_ozone_cells.specs.FilledDays.{AreKept, IsDayOf}
 use Rattle.aq_ozone_cells.specs.KeptDays.{averages_of, held_at}
 use Rattle.aq_ozone_cells.specs.OzoneCells.{counts, held_day, Cells}
 use Rattle.aq_ozone_cells.specs.Settling.{CountsAs, HasMaximumOf, IsAverageOf, IsCellOf, IsHourOf}
 use Rattle.aq_ozone_cells.specs.declared.kept_days.HeldDay.{HeldDay}
+use Rattle.aq_ozone_cells.proofs.SettledCells.{each-level}
 
 module _ (old new : Office) (valid : IsOffice old) (after : IsOffice new) (cells : Cells) (kept : AreKept old cells) where
   of-day : (site : Site) (day : ℕ) → day ≤ LAST_DAY → IsDayOf old cells site day
@@ -56,12 +55,9 @@ module _ (old new : Office) (valid : IsOffice old) (after : IsOffice new) (cells
       ∙ (λ i. is_in_season (season i) day && ((held_at cells site day).valid || approved i))
 
   pub unreached : (cell : Cell) → (is_of_ozone cell ≡ true → member cell (reach old new) ≡ false) → IsCellOf new cells cell
-  unfolding IsCellOf
-  unreached (HourCell site hour) out = hour-unreached site hour (out refl)
-  unreached (WindowCell site start) out = average-unreached site start (out refl)
-  unreached (OzoneDayCell site day) out = maximum-unreached site day (out refl)
-  unreached (OzoneYearCell site year) out = λ day within its. counts-unreached site day (ap (λ y. member (OzoneYearCell site y) (reach old new)) its ∙ out refl) within
-  unreached (PmDayCell site pollutant day) out = tt
-  unreached (StratumCell site first) out = tt
-  unreached (QuarterCell site pollutant quarter) out = tt
-  unreached (PmYearCell site year) out = tt
+  unreached =
+      each-level (λ cell. is_of_ozone cell ≡ true → member cell (reach old new) ≡ false) new cells
+      (λ site hour out. hour-unreached site hour (out refl))
+      (λ site start out. average-unreached site start (out refl))
+      (λ site day out. maximum-unreached site day (out refl))
+      (λ site year out day within its. counts-unreached site day (ap (λ y. member (OzoneYearCell site y) (reach old new)) its ∙ out refl) within)

@@ -15,22 +15,24 @@ use Rattle.aq_agg.specs.AnyOrder.{sums-any_order}
 use Rattle.aq_agg.specs.Bags.{with_item}
 use Rattle.aq_cal.proofs.Within.{year_holds}
 use Rattle.aq_rules.specs.Office.Monitors.{is_same_site}
-use Rattle.aq_rules.specs.Office.Sameness.{same_site, site_itself}
+use Rattle.aq_rules.specs.Office.Sameness.{same_site}
 use Rattle.aq_rules.specs.Ozone.OzoneYear.{days_of}
 use Rattle.aq_ozone_cells.specs.KeptDays.{held_at}
 use Rattle.aq_ozone_cells.specs.OzoneCells.{counted_held, maxima_held, AreYears, Cells}
 use Rattle.aq_ozone_cells.specs.RankedMaxima.{ranks-any_order, AreRanksOf}
-use Rattle.aq_ozone_cells.specs.YearTallies.{count_of, maximum_of, site_year, year_cmp, AreBags, Exchanges, HasDay, IsCountOf, OthersStay}
+use Rattle.aq_ozone_cells.specs.SiteKeys.{key_cmp, site_key}
+use Rattle.aq_ozone_cells.specs.YearTallies.{count_of, maximum_of, AreBags, Exchanges, HasDay, IsCountOf, OthersStay}
 use Rattle.aq_ozone_cells.specs.declared.kept_days.HeldDay.{HeldDay}
 use Rattle.aq_ozone_cells.specs.declared.year_tallies.YearTallies.{YearTallies}
 use Rattle.aq_ozone_cells.proofs.DayExchange.{changed, same_items, Changed}
+use Rattle.aq_ozone_cells.proofs.SiteNumbers.{itself, never}
 
 any_order : (site : Site) (year : ℕ) (a b c d : List ℤ) (tallies : YearTallies) → IsPermutation a b → IsPermutation c d
     → AreBags site year a c tallies → AreBags site year b d tallies
 any_order site year a b c d tallies maxima counted of = record {
-  maxima_are = any_order_at year_cmp AreRanksOf ranks-any_order (site_year site year) a b (lookup (is_at (year_cmp (site_year site year))) tallies.maxima) maxima of.maxima_are;
-  counted_are = any_order_at year_cmp IsCountOf (λ x y kept moved is. sums-any_order x y kept.sum kept.number moved is) (site_year site year) c d
-      (lookup (is_at (year_cmp (site_year site year))) tallies.counted) counted of.counted_are;
+  maxima_are = any_order_at key_cmp AreRanksOf ranks-any_order (site_key site year) a b (lookup (is_at (key_cmp (site_key site year))) tallies.maxima) maxima of.maxima_are;
+  counted_are = any_order_at key_cmp IsCountOf (λ x y kept moved is. sums-any_order x y kept.sum kept.number moved is) (site_key site year) c d
+      (lookup (is_at (key_cmp (site_key site year))) tallies.counted) counted of.counted_are;
 }
 
 pub days_few : (year : ℕ) → days_in_year year ≤ 366
@@ -65,16 +67,10 @@ module _ (cells after : Cells) (tallies later : YearTallies) (site : Site) (year
   elsewhere : (number : ℕ) → number ≢ day → held_at cells site number ≡ held_at after site number
   elsewhere number apart =
       let off : (day == number) ≡ false = grind (arith, nat_tests, apart) in
-      sym (held site number ∙ ap (λ b. cond (is_same_site site site && b) new (held_at cells site number)) off ∙ by (is_same_site site site))
-    where
-      by : (b : Bool) → cond (b && false) new (held_at cells site number) ≡ held_at cells site number
-      by true = refl
-      by false = refl
+      sym (held site number ∙ ap (λ b. cond b new (held_at cells site number)) (ap (λ b. is_same_site site site && b) off ∙ never (is_same_site site site)))
 
   here : held_at after site day ≡ new
-  here =
-      let on : (day == day) ≡ true = grind (arith, nat_tests) in
-      held site day ∙ (λ i. cond (site_itself site i && on i) new (held_at cells site day))
+  here = held site day ∙ ap (λ b. cond b new (held_at cells site day)) (itself site day day refl)
 
   this_year : AreBags site year (maxima_held cells site year) (counted_held cells site year) tallies
       → AreBags site year (maxima_held after site year) (counted_held after site year) later

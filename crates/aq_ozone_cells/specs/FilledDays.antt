@@ -1,7 +1,7 @@
 -- A day that is filled from hours that follow one another, and an office that is kept.
 use Rattle.std.specs.Prelude.{◌≡◌, ◌≤◌, ℕ, ◌/◌, ◌%◌, if◌then◌else◌, IsTrue, Option, None, List, take, drop}
 use Rattle.aq_base.specs.Site.{Site}
-use Rattle.aq_base.specs.declared.day.TheConstants.{LAST_DAY, LAST_HOUR}
+use Rattle.aq_base.specs.declared.day.TheConstants.{LAST_DAY}
 use Rattle.aq_rules.specs.Office.Office.{Office}
 use Rattle.aq_rules.specs.Ozone.EightHour.{row_of, window}
 use Rattle.aq_rules.specs.Ozone.SiteHour.{Cell, site_hour}

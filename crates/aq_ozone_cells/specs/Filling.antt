@@ -14,10 +14,6 @@ use Rattle.aq_ozone_cells.specs.FilledDays.{IsDayOf, IsEmptyDay}
 use Rattle.aq_ozone_cells.specs.OzoneCells.{Cells}
 use Rattle.aq_ozone_cells.specs.declared.filling.Week.{Week}
 
--- whether a number is one of so many from the first on
-abbrev pub is_among : ℕ → ℕ → ℕ → Bool
-is_among first count number = nat_le first number && nat_lt number (first + count)
-
 -- each day is the office's, or nothing is kept of it
 unfoldable pub AreFilling : Office → Cells → Type 0
 AreFilling office cells = (site : Site) (day : ℕ) → day ≤ LAST_DAY → IsDayOf office cells site day ⊎ IsEmptyDay cells site day
@@ -30,6 +26,11 @@ StayFilled office before after = (site : Site) (day : ℕ) → day ≤ LAST_DAY 
 unfoldable pub IsWeekOf : Office → Cells → Option Week → Type 0
 IsWeekOf office cells week =
     IfSome week (λ (w : Week). (day : ℕ) → w.first ≤ day → day < w.first + 7 → day ≤ LAST_DAY → IsDayOf office cells w.site day)
+
+-- both of these, while rows are walked through
+pub record IsFilling (office : Office) (cells : Cells) (last : Option Week) : Type 0 where
+  pub each : AreFilling office cells
+  pub week : IsWeekOf office cells last
 
 -- whether the week has the days of a site from the first to the last
 abbrev pub is_within : Option Week → Site → ℕ → ℕ → Bool

@@ -1,8 +1,6 @@
 -- What is kept of the days of sites: the values of their hours, their averages, and what each day gives its year.
 use Rattle.std.specs.BTreeMap.{is_at}
 use Rattle.std.specs.Map.{lookup}
-use Rattle.std.specs.Ordering.{nat_cmp, ordering_then}
-use Rattle.std.specs.declared.cmp.Ordering.{Ordering}
 use Rattle.std.specs.Prelude.{ℕ, ◌/◌, ◌%◌, ◌-◌, Bool, false, nat_le, if◌then◌else◌, List, replicate, get_or, Option, None, option_map, unwrap_or}
 use Rattle.aq_base.specs.Site.{Site}
 use Rattle.aq_rules.specs.Ozone.EightHour.{WindowRow}
@@ -11,7 +9,8 @@ use Rattle.aq_ozone_cells.specs.declared.kept_days.DayCells.{DayCells}
 use Rattle.aq_ozone_cells.specs.declared.kept_days.HeldDay.{HeldDay}
 use Rattle.aq_ozone_cells.specs.declared.kept_days.KeptAverage.{KeptAverage}
 use Rattle.aq_ozone_cells.specs.declared.kept_days.KeptHour.{KeptHour}
-use Rattle.aq_ozone_cells.specs.declared.kept_days.SiteDay.{SiteDay}
+use Rattle.aq_ozone_cells.specs.SiteKeys.{key_cmp, site_key}
+use Rattle.aq_ozone_cells.specs.declared.site_key.SiteKey.{SiteKey}
 
 -- ---- a day
 
@@ -51,25 +50,16 @@ average_in day start = if is_kept_start start then get_or day.averages (start % 
 
 -- ---- days of sites
 
-abbrev pub site_day : Site → ℕ → SiteDay
-site_day site day = record { state = site.state; county = site.county; number = site.number; day = day }
-
--- their order
-abbrev pub day_cmp : SiteDay → SiteDay → Ordering
-day_cmp a b =
-    ordering_then (nat_cmp a.state b.state) (ordering_then (nat_cmp a.county b.county)
-    (ordering_then (nat_cmp a.number b.number) (nat_cmp a.day b.day)))
-
 -- what is kept of a day
-abbrev pub day_at : List (SiteDay × DayCells) → Site → ℕ → DayCells
-day_at days site day = unwrap_or (lookup (is_at (day_cmp (site_day site day))) days) empty_day
+abbrev pub day_at : List (SiteKey × DayCells) → Site → ℕ → DayCells
+day_at days site day = unwrap_or (lookup (is_at (key_cmp (site_key site day))) days) empty_day
 
 -- the value of an hour, the average that starts at an hour, and what a day gives its year
-unfoldable pub hour_at : List (SiteDay × DayCells) → Site → ℕ → Option Cell
+unfoldable pub hour_at : List (SiteKey × DayCells) → Site → ℕ → Option Cell
 hour_at days site hour = hour_in (day_at days site (hour / 24)) hour
 
-unfoldable pub average_at : List (SiteDay × DayCells) → Site → ℕ → KeptAverage
+unfoldable pub average_at : List (SiteKey × DayCells) → Site → ℕ → KeptAverage
 average_at days site start = average_in (day_at days site (start / 24)) start
 
-unfoldable pub held_at : List (SiteDay × DayCells) → Site → ℕ → HeldDay
+unfoldable pub held_at : List (SiteKey × DayCells) → Site → ℕ → HeldDay
 held_at days site day = (day_at days site day).held

@@ -5,4 +5,5 @@ pub mod KeptDays
 pub mod OzoneCells
 pub mod RankedMaxima
 pub mod Settling
+pub mod SiteKeys
 pub mod YearTallies

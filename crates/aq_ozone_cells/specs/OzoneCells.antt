@@ -5,6 +5,7 @@ use Rattle.aq_base.specs.Site.{Site}
 use Rattle.aq_base.specs.declared.day.TheConstants.{FIRST_YEAR, LAST_HOUR, LAST_YEAR}
 use Rattle.aq_base.specs.declared.office.OfficeRecord.{OfficeRecord}
 use Rattle.aq_rules.specs.Office.Approval.{is_approved}
+use Rattle.aq_rules.specs.Office.Monitors.{is_same_site}
 use Rattle.aq_rules.specs.Office.Office.{Office}
 use Rattle.aq_rules.specs.Office.Season.{is_in_season, season_of}
 use Rattle.aq_rules.specs.Ozone.EightHour.{WindowRow, window_by}
@@ -17,12 +18,12 @@ use Rattle.aq_ozone_cells.specs.YearTallies.{count_of, maximum_of, AreBags}
 use Rattle.aq_ozone_cells.specs.declared.kept_days.DayCells.{DayCells}
 use Rattle.aq_ozone_cells.specs.declared.kept_days.HeldDay.{HeldDay}
 use Rattle.aq_ozone_cells.specs.declared.kept_days.KeptAverage.{KeptAverage}
-use Rattle.aq_ozone_cells.specs.declared.kept_days.SiteDay.{SiteDay}
+use Rattle.aq_ozone_cells.specs.declared.site_key.SiteKey.{SiteKey}
 use Rattle.aq_ozone_cells.specs.declared.year_tallies.YearTallies.{YearTallies}
 
 -- what is kept of the days of sites
 abbrev pub Cells : Type 0
-Cells = List (SiteDay × DayCells)
+Cells = List (SiteKey × DayCells)
 
 -- what is kept of an hour, and none past the profile
 abbrev pub hour_in_profile : Cells → Site → ℕ → Option Cell
@@ -70,14 +71,23 @@ year_of_days records cells site year =
     year_by (is_in_season (season_of records site year)) (λ day. (held_at cells site day).valid || is_approved records site day)
     (map (λ day. ozone_day_of (held_at cells site day)) (days_of year)) year
 
--- whether a day is one of a year
+-- whether a number is one of so many from the first on, and a day one of a year
+abbrev pub is_among : ℕ → ℕ → ℕ → Bool
+is_among first count number = nat_le first number && nat_lt number (first + count)
+
 abbrev pub is_day_of : ℕ → ℕ → Bool
-is_day_of year day = nat_le (year_first year) day && nat_lt day (year_first year + days_in_year year)
+is_day_of year day = is_among (year_first year) (days_in_year year) day
 
 -- each day of the year is held with the season and the approvals of these records
 unfoldable pub AreHeldBy : List OfficeRecord → Cells → Site → ℕ → Type 0
 AreHeldBy records cells site year =
     (day : ℕ) → IsTrue (is_day_of year day) → (held_at cells site day).counted ≡ counts records site day (held_at cells site day).valid
+
+-- so many days of a site from the first on give their years what the averages that are kept give them, by these records; all else is as before
+pub record AreSettled (records : List OfficeRecord) (before after : Cells) (site : Site) (first count : ℕ) : Type 0 where
+  pub days : (other : Site) (number : ℕ) → held_at after other number ≡ (if is_same_site site other && is_among first count number then day_from records before site number else held_at before other number)
+  pub hours : (other : Site) (hour : ℕ) → hour_at after other hour ≡ hour_at before other hour
+  pub averages : (other : Site) (start : ℕ) → average_at after other start ≡ average_at before other start
 
 -- ---- what always holds
 

@@ -1,7 +1,5 @@
 -- What the days of the years of sites give them: the maxima that are ranked, and the days that count as valid.
 use Rattle.std.specs.Prelude.{◌≡◌, ◌<◌, ℕ, ◌&&◌, ◌==◌, false, if◌then◌else◌, List, length, Option, Some, None, ℤ, pos}
-use Rattle.std.specs.Ordering.{nat_cmp, ordering_then}
-use Rattle.std.specs.declared.cmp.Ordering.{Ordering}
 use Rattle.aq_base.specs.Site.{Site}
 use Rattle.aq_agg.specs.Bags.{with_item}
 use Rattle.aq_agg.specs.Sums.{AreOf}
@@ -9,8 +7,8 @@ use Rattle.aq_agg.specs.Tallies.{BagAt}
 use Rattle.aq_agg.specs.declared.sum_count.SumCount.{SumCount}
 use Rattle.aq_rules.specs.Office.Monitors.{is_same_site}
 use Rattle.aq_ozone_cells.specs.RankedMaxima.{AreRanksOf}
+use Rattle.aq_ozone_cells.specs.SiteKeys.{key_cmp, site_key}
 use Rattle.aq_ozone_cells.specs.declared.kept_days.HeldDay.{HeldDay}
-use Rattle.aq_ozone_cells.specs.declared.year_tallies.SiteYear.{SiteYear}
 use Rattle.aq_ozone_cells.specs.declared.year_tallies.YearTallies.{YearTallies}
 
 -- ---- what a day gives its year
@@ -24,23 +22,14 @@ count_of day = if day.counted then Some (pos 0) else None
 
 -- ---- the years
 
-abbrev pub site_year : Site → ℕ → SiteYear
-site_year site year = record { state = site.state; county = site.county; number = site.number; year = year }
-
--- their order
-abbrev pub year_cmp : SiteYear → SiteYear → Ordering
-year_cmp a b =
-    ordering_then (nat_cmp a.state b.state) (ordering_then (nat_cmp a.county b.county)
-    (ordering_then (nat_cmp a.number b.number) (nat_cmp a.year b.year)))
-
 -- what is kept of a bag of such items
 abbrev pub IsCountOf : List ℤ → SumCount → Type 0
 IsCountOf bag kept = AreOf bag kept.sum kept.number
 
 -- the maxima and the counted days of a year
 pub record AreBags (site : Site) (year : ℕ) (maxima counted : List ℤ) (tallies : YearTallies) : Type 0 where
-  pub maxima_are : BagAt year_cmp AreRanksOf (site_year site year) maxima tallies.maxima
-  pub counted_are : BagAt year_cmp IsCountOf (site_year site year) counted tallies.counted
+  pub maxima_are : BagAt key_cmp AreRanksOf (site_key site year) maxima tallies.maxima
+  pub counted_are : BagAt key_cmp IsCountOf (site_key site year) counted tallies.counted
 
 -- the day is one of those that the year has, of which there are few
 pub record HasDay (site : Site) (year : ℕ) (day : HeldDay) (tallies : YearTallies) : Type 0 where

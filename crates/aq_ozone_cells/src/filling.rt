@@ -1,16 +1,17 @@
 //! The cells of an office, filled from its rows.
-ghost use Rattle.std.specs.Prelude.{◌≡◌, ◌+◌, ◌<◌, ◌≤◌, ◌&&◌, ◌==◌, ℕ, List, false, true, length, IfOk, OnOk};
-ghost use Rattle.std.specs.List.{list_any};
+ghost use Rattle.std.specs.Prelude.{◌≡◌, ◌+◌, ◌<◌, ◌≤◌, ◌&&◌, ◌==◌, ℕ, List, false, true, is_none, length, IfOk, IsTrue, OnOk};
+ghost use Rattle.std.specs.List.{list_all, list_any};
 ghost use Rattle.aq_base.specs.Site.{Site};
 ghost use Rattle.aq_base.specs.declared.day.TheConstants.{LAST_DAY};
 ghost use Rattle.aq_base.specs.declared.observation.ObsKey.{ObsKey};
 ghost use Rattle.aq_base.specs.declared.observation.Observation.{Observation};
-ghost use Rattle.aq_rules.specs.Office.Approval.{approves};
+ghost use Rattle.aq_rules.specs.Office.Approval.{approves, is_approved};
 ghost use Rattle.aq_rules.specs.Office.Monitors.{is_same_site};
 ghost use Rattle.aq_series.specs.OfficeView.{office_of};
 ghost use Rattle.aq_series.specs.Samples.{AreOzone};
-ghost use Rattle.aq_ozone_cells.specs.Filling.{hours_from, is_among, is_within, lies_at, observes, AreFilling, IsWeekOf, StayFilled};
-ghost use Rattle.aq_ozone_cells.specs.FilledDays.{AreKept, IsDayOf, IsSameDay};
+ghost use Rattle.aq_ozone_cells.specs.Filling.{hours_from, is_within, lies_at, observes, AreFilling, IsFilling, StayFilled};
+ghost use Rattle.aq_ozone_cells.specs.FilledDays.{AreKept, IsDayOf, IsEmptyDay, IsSameDay};
+ghost use Rattle.aq_ozone_cells.specs.OzoneCells.{is_among};
 
 use crate::filled_days::REACH;
 use crate::ozone_cells::OzoneCells;
@@ -28,8 +29,8 @@ const WEEK: u16 = 7;
 /// Days of a site that were filled, a week from the first on.
 #[derive(Clone, Copy)]
 pub(crate) struct Week {
-    site: SiteId,
-    first: u16,
+    pub(crate) site: SiteId,
+    pub(crate) first: u16,
 }
 
 /// The ozone cells of the office of these records and observations, level by level. It costs a walk over
@@ -95,11 +96,9 @@ fn fill_observation<L: Ledger>(
     key: &ObsKey,
     steps: &mut Steps<L>,
 ) -> Result<(), Memory>
-    requires each { AreFilling (office_of registry.now shelf.now) cells.old }
-    requires week { IsWeekOf (office_of registry.now shelf.now) cells.old week.old }
-    ensures each { OnOk result (AreFilling (office_of registry.now shelf.now) cells.new) }
+    requires { IsFilling (office_of registry.now shelf.now) cells.old week.old }
+    ensures filling { OnOk result (IsFilling (office_of registry.now shelf.now) cells.new week.new) }
     ensures stay { OnOk result (StayFilled (office_of registry.now shelf.now) cells.old cells.new) }
-    ensures week { OnOk result (IsWeekOf (office_of registry.now shelf.now) cells.new week.new) }
     ensures filled { OnOk result ((site : Site) (day : ℕ) → lies_at site day key.now ≡ true → IsDayOf (office_of registry.now shelf.now) cells.new site day) }
 {
     if key.monitor.pollutant != Pollutant::Ozone {
@@ -119,11 +118,9 @@ fn fill_record<L: Ledger>(
     row: &OfficeRecord,
     steps: &mut Steps<L>,
 ) -> Result<(), Memory>
-    requires each { AreFilling (office_of registry.now shelf.now) cells.old }
-    requires week { IsWeekOf (office_of registry.now shelf.now) cells.old week.old }
-    ensures each { OnOk result (AreFilling (office_of registry.now shelf.now) cells.new) }
+    requires { IsFilling (office_of registry.now shelf.now) cells.old week.old }
+    ensures filling { OnOk result (IsFilling (office_of registry.now shelf.now) cells.new week.new) }
     ensures stay { OnOk result (StayFilled (office_of registry.now shelf.now) cells.old cells.new) }
-    ensures week { OnOk result (IsWeekOf (office_of registry.now shelf.now) cells.new week.new) }
     ensures filled { OnOk result ((site : Site) (day : ℕ) → approves site day row.now ≡ true → IsDayOf (office_of registry.now shelf.now) cells.new site day) }
 {
     match row {
@@ -146,11 +143,9 @@ fn fill_at<L: Ledger>(
     steps: &mut Steps<L>,
 ) -> Result<(), Memory>
     requires day { day ≤ LAST_DAY }
-    requires each { AreFilling (office_of registry.now shelf.now) cells.old }
-    requires week { IsWeekOf (office_of registry.now shelf.now) cells.old week.old }
-    ensures each { OnOk result (AreFilling (office_of registry.now shelf.now) cells.new) }
+    requires filling { IsFilling (office_of registry.now shelf.now) cells.old week.old }
+    ensures filling { OnOk result (IsFilling (office_of registry.now shelf.now) cells.new week.new) }
     ensures stay { OnOk result (StayFilled (office_of registry.now shelf.now) cells.old cells.new) }
-    ensures week { OnOk result (IsWeekOf (office_of registry.now shelf.now) cells.new week.new) }
     ensures day { OnOk result (IsDayOf (office_of registry.now shelf.now) cells.new site day) }
     ensures before { OnOk result ((number : ℕ) → number + 1 ≡ day → IsDayOf (office_of registry.now shelf.now) cells.new site number) }
 {
@@ -164,7 +159,7 @@ fn fill_at<L: Ledger>(
 }
 
 /// Whether a week has the days of a site from the first to the last.
-fn is_within(week: &Option<Week>, site: SiteId, first: u16, last: u16) -> bool
+pub(crate) fn is_within(week: &Option<Week>, site: SiteId, first: u16, last: u16) -> bool
     requires { first ≤ last }
     ensures { result ≡ is_within week.now site first last }
 {
@@ -175,7 +170,7 @@ fn is_within(week: &Option<Week>, site: SiteId, first: u16, last: u16) -> bool
 }
 
 /// Fills the days of a week from a day on, as far as the profile goes.
-fn fill_week<L: Ledger>(
+pub(crate) fn fill_week<L: Ledger>(
     cells: &mut OzoneCells,
     shelf: &Shelf,
     registry: &Registry,
@@ -214,7 +209,29 @@ fn days_from(first: u16) -> u16
     if left < WEEK { left } else { WEEK }
 }
 
-/// Fills a day from its hours, and brings what it gives its year up to date.
+/// Whether a day with these hours has nothing, and nothing was ever kept of it: it is as it should be.
+fn is_unread(
+    cells: &OzoneCells,
+    registry: &Registry,
+    site: SiteId,
+    day: Day,
+    hours: &[Option<Cell>],
+) -> bool
+    ensures kept { IsTrue result → IsEmptyDay cells.now site day }
+    ensures approved { IsTrue result → is_approved registry.now site day ≡ false }
+    ensures hours { IsTrue result → IsTrue (list_all is_none hours.now) }
+{
+    if cells.has_day(site, day) {
+        return false;
+    }
+    if registry.is_approved(site, day) {
+        return false;
+    }
+    hours.iter().all(|hour| hour.is_none())
+}
+
+/// Fills a day from its hours, and brings what it gives its year up to date. A day of which nothing is kept
+/// and that has nothing stays so.
 fn fill_one<L: Ledger>(
     cells: &mut OzoneCells,
     registry: &Registry,
@@ -230,6 +247,9 @@ fn fill_one<L: Ledger>(
 {
     // The proof learns that the day is one of the profile.
     let _ = day.number();
+    if is_unread(cells, registry, site, day, hours) {
+        return Ok(());
+    }
     cells.fill_day(site, day, hours)?;
     cells.settle_day(registry, site, day, steps)?;
     Ok(())

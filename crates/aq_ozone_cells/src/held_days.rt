@@ -1,7 +1,7 @@
 //! What the days of sites give their years.
-ghost use Rattle.std.specs.Prelude.{◌≡◌, ◌≤◌, ◌+◌, ◌&&◌, ◌==◌, ℕ, if◌then◌else◌, count_by, map, IfSome, OnOk};
+ghost use Rattle.std.specs.Prelude.{◌≡◌, ◌≤◌, ◌+◌, ◌*◌, ◌&&◌, ◌==◌, ℕ, if◌then◌else◌, count_by, map, IfSome, OnOk};
 ghost use Rattle.aq_base.specs.Site.{Site};
-ghost use Rattle.aq_base.specs.declared.day.TheConstants.{FIRST_YEAR, LAST_YEAR};
+ghost use Rattle.aq_base.specs.declared.day.TheConstants.{FIRST_YEAR, LAST_DAY, LAST_YEAR};
 ghost use Rattle.aq_rules.specs.Office.Monitors.{is_same_site};
 ghost use Rattle.aq_rules.specs.Office.Season.{is_in_season, season_of};
 ghost use Rattle.aq_rules.specs.Ozone.OzoneDay.{starts_of};
@@ -9,13 +9,13 @@ ghost use Rattle.aq_rules.specs.Ozone.OzoneYear.{days_of};
 ghost use Rattle.aq_series.specs.Samples.{IsOzone};
 ghost use Rattle.aq_ozone.specs.DayHours.{AreNetOzone};
 ghost use Rattle.aq_ozone_cells.specs.KeptDays.{average_at, held_at, hour_at};
-ghost use Rattle.aq_ozone_cells.specs.OzoneCells.{counts, day_from, is_day_of, row_with, AreAveragesOfOzone, AreYears};
+ghost use Rattle.aq_ozone_cells.specs.OzoneCells.{counts, day_from, row_with, AreAveragesOfOzone, AreSettled, AreYears};
 ghost use Rattle.aq_ozone_cells.specs.YearTallies.{maximum_of};
 
 use crate::kept_days::{HeldDay, KeptAverage, KeptDays};
 use crate::kept_window::small;
 use crate::year_tallies::YearTallies;
-use aq_base::{Day, FIRST_YEAR, Hour, LAST_YEAR, Memory, SiteId, Steps};
+use aq_base::{Day, FIRST_YEAR, LAST_YEAR, Memory, SiteId, Steps};
 use aq_cal::{civil_of, year_span};
 use aq_ozone::{DayWindows, FIRST_START, WINDOWS, WindowRow, day_of_windows};
 use aq_registry::Registry;
@@ -41,7 +41,9 @@ fn averages_of(days: &KeptDays, site: SiteId, day: Day) -> DayWindows
     ensures rows { result ≡ map (λ start. row_with (average_at days.now.days.entries site start)) (starts_of day) }
     ensures range { AreNetOzone result }
 {
-    let first = 24 * u32::from(day.number()) + FIRST_START;
+    let number = day.number();
+    let cells = days.day(site, number);
+    let first = 24 * u32::from(number) + FIRST_START;
     let none = WindowRow {
         net: None,
         net_hours: 0,
@@ -50,7 +52,7 @@ fn averages_of(days: &KeptDays, site: SiteId, day: Day) -> DayWindows
     };
     let mut rows = [none; WINDOWS];
     for i in 0..WINDOWS {
-        rows[i] = row_with(days.average(site, Hour::new(first + i as u32)));
+        rows[i] = row_with(cells.average(first + i as u32));
     }
     DayWindows::new(rows)
 }
@@ -82,10 +84,11 @@ fn counts(registry: &Registry, site: SiteId, day: Day, valid: bool) -> bool
     ensures { result ≡ counts registry.now site day valid }
 {
     let season = registry.season(site, civil_of(day).year);
-    season.0 <= day && day <= season.1 && (valid || registry.is_approved(site, day))
+    is_in_season(&season, day) && (valid || registry.is_approved(site, day))
 }
 
-/// A day gives its year something else, in two steps. After want of memory a part of it may be done.
+/// A day gives its year something else, in two steps; what it gave before costs none. After want of memory
+/// a part of it may be done.
 pub(crate) fn exchange_day<L: Ledger>(
     days: &mut KeptDays,
     tallies: &mut YearTallies,
@@ -105,32 +108,32 @@ pub(crate) fn exchange_day<L: Ledger>(
     // The proof learns that the day is one of the profile.
     let _ = day.number();
     let old = days.held(site, day);
+    if old == *new {
+        return Ok(());
+    }
     tallies.exchange(site, civil_of(day).year, &old, new, steps)?;
     days.put_held(site, day, *new)?;
     Ok(())
 }
 
-/// Brings what each day of a year gives it up to date, by the averages that are kept. After want of memory
-/// a part of it may be done.
+/// Brings what so many days from the first on give their years up to date, by the averages that are kept.
+/// After want of memory a part of it may be done.
 pub(crate) fn settle_days<L: Ledger>(
     days: &mut KeptDays,
     tallies: &mut YearTallies,
     registry: &Registry,
     site: SiteId,
-    year: u16,
+    first: Day,
+    count: u16,
     steps: &mut Steps<L>,
 ) -> Result<(), Memory>
-    requires first { FIRST_YEAR ≤ year }
-    requires last { year ≤ LAST_YEAR }
+    requires profile { first + count ≤ LAST_DAY + 1 }
     requires ozone { AreAveragesOfOzone days.old.days.entries }
     requires years { AreYears days.old.days.entries tallies.old }
     ensures years { OnOk result (AreYears days.new.days.entries tallies.new) }
-    ensures hours { OnOk result ((other : Site) (hour : ℕ) → hour_at days.new.days.entries other hour ≡ hour_at days.old.days.entries other hour) }
-    ensures averages { OnOk result ((other : Site) (start : ℕ) → average_at days.new.days.entries other start ≡ average_at days.old.days.entries other start) }
-    ensures days { OnOk result ((other : Site) (number : ℕ) → held_at days.new.days.entries other number ≡ (if is_same_site site other && is_day_of year number then day_from registry.now days.old.days.entries site number else held_at days.old.days.entries other number)) }
-    ensures steps { steps.new ≤ steps.old + 732 }
+    ensures settled { OnOk result (AreSettled registry.now days.old.days.entries days.new.days.entries site first count) }
+    ensures steps { steps.new ≤ steps.old + 2 * count }
 {
-    let (first, count) = year_span(year);
     for i in 0..count {
         let day = Day::new(first.number() + i);
         let held = day_from(days, registry, site, day);

@@ -1,37 +1,16 @@
 //! What is kept of the days of sites: the ozone values of their hours, their 8-hour averages, and what
 //! each day gives its year.
-ghost use Rattle.std.specs.Prelude.{◌≡◌, ◌≢◌, ◌≤◌, ◌<◌, ◌%◌, ◌&&◌, ◌==◌, ℕ, if◌then◌else◌, option_map, IfSome, OnOk, OnErr, IsTrue};
+ghost use Rattle.std.specs.Prelude.{◌≡◌, ◌≢◌, ◌≤◌, ◌<◌, ◌%◌, ◌&&◌, ◌==◌, ℕ, false, if◌then◌else◌, option_map, IfSome, OnOk, OnErr, IsTrue};
 ghost use Rattle.aq_base.specs.Site.{Site};
 ghost use Rattle.aq_rules.specs.Office.Monitors.{is_same_site};
 ghost use Rattle.aq_series.specs.Samples.{IsOzone};
-ghost use Rattle.aq_ozone_cells.specs.KeptDays.{average_at, average_in, cell_of, day_at, empty_day, held_at, hour_at, hour_in, is_kept_start, kept_of, site_day};
+ghost use Rattle.aq_ozone_cells.specs.KeptDays.{average_at, average_in, cell_of, day_at, empty_day, held_at, hour_at, hour_in, is_kept_start, kept_of};
 
+use crate::site_key::SiteKey;
 use aq_base::{Day, Hour, Memory, SiteId};
 use aq_series::Cell;
 use std::alloc::Global;
 use std::collections::BTreeMap;
-
-/// A calendar day of a site, by numbers.
-#[derive(Clone, Copy, Debug, PartialEq, Eq, PartialOrd, Ord)]
-pub(crate) struct SiteDay {
-    state: u8,
-    county: u16,
-    number: u16,
-    day: u16,
-}
-
-impl SiteDay {
-    fn new(site: SiteId, day: u16) -> SiteDay
-        ensures { result ≡ site_day site day }
-    {
-        SiteDay {
-            state: site.state(),
-            county: site.county(),
-            number: site.site(),
-            day,
-        }
-    }
-}
 
 /// The ozone value of an hour in thousandths of a ppm, which fits sixteen bits, and whether it is
 /// excluded.
@@ -139,7 +118,7 @@ impl DayCells {
     }
 
     /// The average that starts at an hour of the day, none before 07:00.
-    fn average(&self, start: u32) -> KeptAverage
+    pub(crate) fn average(&self, start: u32) -> KeptAverage
         ensures { result ≡ average_in self.now start }
     {
         let place = start % 24;
@@ -167,7 +146,7 @@ impl DayCells {
 /// What is kept of the days of sites. Nothing is kept of a day that was never changed.
 #[derive(Drop)]
 pub(crate) struct KeptDays {
-    days: BTreeMap<SiteDay, DayCells>,
+    days: BTreeMap<SiteKey, DayCells>,
 }
 
 impl KeptDays {
@@ -184,10 +163,17 @@ impl KeptDays {
     pub(crate) fn day(&self, site: SiteId, day: u16) -> DayCells
         ensures { result ≡ day_at self.now.days.entries site day }
     {
-        match self.days.get(&SiteDay::new(site, day)) {
+        match self.days.get(&SiteKey::new(site, day)) {
             Some(cells) => *cells,
             None => DayCells::new(),
         }
+    }
+
+    /// Whether anything was ever kept of a day.
+    pub(crate) fn has(&self, site: SiteId, day: u16) -> bool
+        ensures { result ≡ false → day_at self.now.days.entries site day ≡ empty_day }
+    {
+        self.days.contains_key(&SiteKey::new(site, day))
     }
 
     /// Keeps something else of a day. After want of memory all is as before.
@@ -195,7 +181,7 @@ impl KeptDays {
         ensures ok { OnOk result ((other : Site) (number : ℕ) → day_at self.new.days.entries other number ≡ (if is_same_site site other && (day == number) then cells else day_at self.old.days.entries other number)) }
         ensures err { OnErr result (self.new.days.entries ≡ self.old.days.entries) }
     {
-        match self.days.insert(SiteDay::new(site, day), cells) {
+        match self.days.insert(SiteKey::new(site, day), cells) {
             Ok(_) => Ok(()),
             Err(_) => Err(Memory),
         }

@@ -1,5 +1,6 @@
 //! The ozone cells of sites (40 CFR Part 50, Appendix U): hours, 8-hour averages, days and years, kept
-//! under change, so that a question needs no walk over the observations. No room above calls it yet.
+//! under change, so that a question needs no walk over the observations. aq_book keeps those of its
+//! office.
 //!
 //! # What it has
 //!
@@ -8,6 +9,16 @@
 //! - [`filled`]: the cells of an office, made from its records and observations.
 //! - [`settle`]: brings the cells that wait in a `Dirty` of aq_dirty up to date with the office after a
 //!   change.
+//!
+//! # What it costs
+//!
+//! - What is kept of a day of a site stands together: its hours, its averages and what it gives its year.
+//!   A day that never had any of them, and that is not approved, takes no room.
+//! - `settle` brings each cell up to date by itself: an hour from the observations of the site's
+//!   monitors, and any other from the level below it, as it is kept.
+//! - Where the hours of two days or more wait together, it fills whole weeks from the rows instead, and
+//!   passes over the cells that these have. So a change that reaches years costs little more than one
+//!   walk over the observations that it reaches, and a look at each day.
 //!
 //! # What it promises
 //!
@@ -42,8 +53,10 @@ mod levels;
 mod ozone_cells;
 mod ranked_maxima;
 mod settling;
+mod site_key;
 #[cfg(test)]
 mod tests;
+mod weeks;
 mod year_tallies;
 
 pub use filling::filled;

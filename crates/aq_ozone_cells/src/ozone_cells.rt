@@ -1,16 +1,16 @@
 //! The ozone cells of sites, kept under change.
-ghost use Rattle.std.specs.Prelude.{◌≡◌, ◌≤◌, ◌+◌, ◌/◌, ◌%◌, ◌&&◌, ◌==◌, ℕ, [], None, get_or, length, if◌then◌else◌, IfSome, OnOk, OnErr};
+ghost use Rattle.std.specs.Prelude.{◌≡◌, ◌≤◌, ◌+◌, ◌*◌, ◌/◌, ◌%◌, ◌&&◌, ◌==◌, ℕ, [], None, false, get_or, length, if◌then◌else◌, IfSome, OnOk, OnErr};
 ghost use Rattle.aq_base.specs.Calendar.{year_of};
 ghost use Rattle.aq_base.specs.Site.{Site};
-ghost use Rattle.aq_base.specs.declared.day.TheConstants.{FIRST_YEAR, LAST_YEAR};
+ghost use Rattle.aq_base.specs.declared.day.TheConstants.{FIRST_YEAR, LAST_DAY, LAST_YEAR};
 ghost use Rattle.aq_rules.specs.Office.Monitors.{is_same_site};
 ghost use Rattle.aq_series.specs.Samples.{AreOzone, IsOzone};
-ghost use Rattle.aq_ozone_cells.specs.FilledDays.{day_average};
+ghost use Rattle.aq_ozone_cells.specs.FilledDays.{day_average, IsEmptyDay};
 ghost use Rattle.aq_ozone_cells.specs.KeptDays.{average_at, held_at, hour_at, is_kept_start, no_average, no_day};
-ghost use Rattle.aq_ozone_cells.specs.OzoneCells.{average_of_hours, day_from, is_day_of, year_of_days, AreHeldBy};
+ghost use Rattle.aq_ozone_cells.specs.OzoneCells.{average_of_hours, day_from, is_day_of, year_of_days, AreHeldBy, AreSettled};
 
 use crate::filled_days::fill_day;
-use crate::held_days::{day_from, exchange_day, season_days, settle_days};
+use crate::held_days::{season_days, settle_days};
 use crate::kept_days::KeptDays;
 use crate::kept_window::average_of_hours;
 use crate::year_tallies::YearTallies;
@@ -32,7 +32,7 @@ use std::sync::ledger::Ledger;
 pub struct OzoneCells {
     days: KeptDays,
     tallies: YearTallies,
-    alloc: Global,
+    pub(crate) alloc: Global,
 }
 
 impl Model for OzoneCells {
@@ -91,6 +91,13 @@ impl OzoneCells {
         Ok(())
     }
 
+    /// Whether anything was ever kept of a day.
+    pub(crate) fn has_day(&self, site: SiteId, day: Day) -> bool
+        ensures { result ≡ false → IsEmptyDay self.now site day }
+    {
+        self.days.has(site, day.number())
+    }
+
     /// The hours of a day become these, from its 00:00 to 06:00 of the next day, of which there are
     /// thirty-one, and its averages those that they give. What the day gives its year follows by
     /// `settle_day`. It makes no step.
@@ -123,6 +130,9 @@ impl OzoneCells {
             return Ok(());
         }
         let average = average_of_hours(&self.days, site, start);
+        if self.days.average(site, start) == average {
+            return Ok(());
+        }
         self.days.put_average(site, start, average)?;
         Ok(())
     }
@@ -141,14 +151,8 @@ impl OzoneCells {
         ensures averages { OnOk result ((other : Site) (start : ℕ) → average_at self.new other start ≡ average_at self.old other start) }
         ensures steps { steps.new ≤ steps.old + 4 }
     {
-        let held = day_from(&self.days, registry, site, day);
-        match exchange_day(&mut self.days, &mut self.tallies, site, day, &held, steps) {
-            Ok(()) => Ok(()),
-            Err(Memory) => {
-                *self = OzoneCells::new(self.alloc);
-                Err(Memory)
-            }
-        }
+        self.settle_days(registry, site, day, 1, steps)?;
+        Ok(())
     }
 
     /// The same for each day of a year, 1990 to 2059, so that `year` may be asked. At most 732 steps.
@@ -167,12 +171,31 @@ impl OzoneCells {
         ensures averages { OnOk result ((other : Site) (start : ℕ) → average_at self.new other start ≡ average_at self.old other start) }
         ensures steps { steps.new ≤ steps.old + 732 }
     {
+        let (first, count) = year_span(year);
+        self.settle_days(registry, site, first, count, steps)?;
+        Ok(())
+    }
+
+    /// The same for so many days from the first on, in at most two steps each.
+    fn settle_days<L: Ledger>(
+        &mut self,
+        registry: &Registry,
+        site: SiteId,
+        first: Day,
+        count: u16,
+        steps: &mut Steps<L>,
+    ) -> Result<(), Memory>
+        requires { first + count ≤ LAST_DAY + 1 }
+        ensures settled { OnOk result (AreSettled registry.now self.old self.new site first count) }
+        ensures steps { steps.new ≤ steps.old + 2 * count }
+    {
         match settle_days(
             &mut self.days,
             &mut self.tallies,
             registry,
             site,
-            year,
+            first,
+            count,
             steps,
         ) {
             Ok(()) => Ok(()),

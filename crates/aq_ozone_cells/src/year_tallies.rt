@@ -4,43 +4,22 @@ ghost use Rattle.aq_base.specs.Site.{Site};
 ghost use Rattle.aq_rules.specs.Ozone.OzoneYear.{fourth_of};
 ghost use Rattle.aq_series.specs.Samples.{IsOzone};
 ghost use Rattle.aq_ozone_cells.specs.RankedMaxima.{number_and_fourth};
-ghost use Rattle.aq_ozone_cells.specs.YearTallies.{count_of, maximum_of, site_year, AreBags, Exchanges, HasDay, OthersStay};
+ghost use Rattle.aq_ozone_cells.specs.YearTallies.{count_of, maximum_of, AreBags, Exchanges, HasDay, OthersStay};
 
 use crate::kept_days::HeldDay;
 use crate::ranked_maxima::RankedMaxima;
+use crate::site_key::SiteKey;
 use aq_agg::{SumCount, Tally};
 use aq_base::{Memory, SiteId, Steps};
 use std::alloc::Global;
 use std::sync::ledger::Ledger;
 
-/// A year of a site, by numbers.
-#[derive(Clone, Copy, Debug, PartialEq, Eq, PartialOrd, Ord)]
-pub(crate) struct SiteYear {
-    state: u8,
-    county: u16,
-    number: u16,
-    year: u16,
-}
-
-impl SiteYear {
-    fn new(site: SiteId, year: u16) -> SiteYear
-        ensures { result ≡ site_year site year }
-    {
-        SiteYear {
-            state: site.state(),
-            county: site.county(),
-            number: site.site(),
-            year,
-        }
-    }
-}
-
 /// For each year of a site the maxima of its valid days, and an item for each day of its season that is
 /// valid or approved.
 #[derive(Drop)]
 pub(crate) struct YearTallies {
-    maxima: Tally<SiteYear, RankedMaxima>,
-    counted: Tally<SiteYear, SumCount>,
+    maxima: Tally<SiteKey, RankedMaxima>,
+    counted: Tally<SiteKey, SumCount>,
 }
 
 impl YearTallies {
@@ -70,7 +49,7 @@ impl YearTallies {
         ensures others { OnOk result (OthersStay site year self.old self.new) }
         ensures steps { steps.new ≤ steps.old + 2 }
     {
-        let key = SiteYear::new(site, year);
+        let key = SiteKey::new(site, year);
         self.maxima
             .change(key, maximum_of(old), maximum_of(new), steps)?;
         self.counted
@@ -82,14 +61,14 @@ impl YearTallies {
     pub(crate) fn maxima(&self, site: SiteId, year: u16) -> (u32, Option<i32>)
         ensures { (maxima counted : List ℤ) → AreBags site year maxima counted self.now → result ≡ number_and_fourth maxima }
     {
-        self.maxima.answer(SiteYear::new(site, year))
+        self.maxima.answer(SiteKey::new(site, year))
     }
 
     /// How many days of the season of a year are valid or approved.
     pub(crate) fn counted(&self, site: SiteId, year: u16) -> u32
         ensures { (maxima counted : List ℤ) → AreBags site year maxima counted self.now → result ≡ length counted }
     {
-        let (_, number) = self.counted.answer(SiteYear::new(site, year));
+        let (_, number) = self.counted.answer(SiteKey::new(site, year));
         number
     }
 }

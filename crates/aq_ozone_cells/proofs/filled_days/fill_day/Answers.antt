@@ -2,10 +2,10 @@ use Rattle.std.proofs.Common.{◌≡◌, ◌&&◌, ◌/◌, ◌%◌, None, cond,
 use Rattle.std.specs.Prelude.{◌==◌}
 use Rattle.aq_rules.specs.Office.Monitors.{is_same_site}
 use Rattle.aq_ozone_cells.specs.FilledDays.{day_average}
-use Rattle.aq_ozone_cells.specs.KeptDays.{average_at, average_in, day_at, held_at, hour_at, hour_in}
+use Rattle.aq_ozone_cells.specs.KeptDays.{average_at, average_in, day_at, hour_at, hour_in}
 use Rattle.aq_ozone_cells.specs.declared.kept_days.DayCells.{DayCells}
 use Rattle.aq_ozone_cells.proofs.FilledLemmas.{filled}
-use Rattle.aq_ozone_cells.proofs.KeptDayLemmas.{part-stays}
+use Rattle.aq_ozone_cells.proofs.KeptDayLemmas.{held-stays}
 use Rattle.aq_ozone_cells.proofs.filled_days.fill_day.Goals as goal
 
 pub returns-clause-hours : goal.returns-clause-hours
@@ -25,7 +25,6 @@ returns-clause-averages c other start =
     (c.in_ok-put.ensures.ok other (start / 24)) (c.fill_cells.ensures.averages start))
 
 pub returns-clause-held : goal.returns-clause-held
-unfolding held_at
 returns-clause-held c =
-    part-stays (λ (day : DayCells). day.held) c.args.site c.number-day.result c.fill_cells.new.cells c.args.days.now.days.entries c.put.new.self.days.entries
-    c.in_ok-put.ensures.ok c.day-cells.result c.day-cells.ensures c.fill_cells.ensures.held
+    held-stays c.args.site c.number-day.result c.fill_cells.new.cells c.day-cells.result c.args.days.now.days.entries c.put.new.self.days.entries
+    c.in_ok-put.ensures.ok c.day-cells.ensures c.fill_cells.ensures.held

@@ -1,4 +1,4 @@
-use Rattle.std.proofs.Common.{◌≡◌, ◌/◌, ap, sym}
+use Rattle.std.proofs.Common.{◌/◌, ap, sym}
 use Rattle.aq_series.specs.OfficeView.{office_of}
 use Rattle.aq_ozone_cells.proofs.FillLemmas.{near-filled, stay-itself}
 use Rattle.aq_ozone_cells.proofs.filling.fill_observation.Goals as goal

@@ -4,8 +4,7 @@ use Rattle.aq_ozone_cells.proofs.filling.fill_record.Goals as goal
 
 pub returns-in_default : goal.returns-in_default
 returns-in_default g c = record {
-  each = c.requires.each;
+  filling = c.requires;
   stay = stay-itself (office_of c.args.registry.now c.args.shelf.now) c.args.cells.now;
-  week = c.requires.week;
   filled = λ site day is. absurd (none-approved site day c.args.row.now c.in_default.not-Approved is);
 }

@@ -1,14 +1,14 @@
-use Rattle.std.proofs.Common.{◌≡◌, ◌+◌, ◌*◌, ◌<◌, ◌≤◌, ◌∙◌, ap, sym, subst, arith}
+use Rattle.std.proofs.Common.{◌≡◌, ◌+◌, ◌*◌, ◌<◌, ◌∙◌, ap, arith}
 use Rattle.aq_series.specs.DayStates.{site_hours}
 use Rattle.aq_series.specs.OfficeView.{office_of}
 use Rattle.aq_ozone_cells.specs.Filling.{hours_from}
-use Rattle.aq_ozone_cells.proofs.FillLemmas.{itself, others-more, others-of, span-part, week-more}
+use Rattle.aq_ozone_cells.proofs.FillLemmas.{others-more, others-of, same-itself, span-part, week-more}
 use Rattle.aq_ozone_cells.proofs.filling.fill_week.Goals as goal
 
 pub loop-i-init : goal.loop-i-init
 loop-i-init g c = record {
   filled = λ day low high. absurd (omega (arith, low, high));
-  others = λ other day off. itself c.args.cells.now other day;
+  others = λ other day off. same-itself c.args.cells.now other day;
 }
 
 pub loop-i-preserved : goal.loop-i-preserved

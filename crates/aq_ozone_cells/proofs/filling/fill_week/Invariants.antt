@@ -3,7 +3,7 @@ use Rattle.aq_base.specs.Site.{Site}
 use Rattle.aq_rules.specs.Office.Monitors.{is_same_site}
 use Rattle.aq_series.specs.OfficeView.{office_of}
 use Rattle.aq_ozone_cells.specs.FilledDays.{IsDayOf, IsSameDay}
-use Rattle.aq_ozone_cells.specs.Filling.{is_among}
+use Rattle.aq_ozone_cells.specs.OzoneCells.{is_among}
 use Rattle.aq_ozone_cells.proofs.filling.fill_week.Given as goal
 
 abbrev pub invariant-loop-i : goal.invariant-loop-i

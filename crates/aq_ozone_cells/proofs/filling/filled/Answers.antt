@@ -1,4 +1,4 @@
-use Rattle.std.proofs.Common.{◌≡◌, inr}
+use Rattle.std.proofs.Common.{inr}
 use Rattle.aq_series.specs.OfficeView.{office_of}
 use Rattle.aq_ozone_cells.specs.Filling.{AreFilling}
 use Rattle.aq_ozone_cells.proofs.FillLemmas.{stay-at}

@@ -1,30 +1,33 @@
-use Rattle.std.proofs.Common.{◌≡◌, ◌∙◌, ◌&&◌, ◌+◌, sym, subst, cond, arith}
-use Rattle.std.specs.Prelude.{◌==◌, IfSome}
-use Rattle.aq_rules.specs.Office.Monitors.{is_same_site}
+use Rattle.std.proofs.Common.{◌≡◌, ◌+◌, sym, subst, arith}
+use Rattle.std.specs.Prelude.{IfSome}
 use Rattle.aq_series.specs.Samples.{IsOzone}
-use Rattle.aq_ozone_cells.specs.KeptDays.{held_at}
-use Rattle.aq_ozone_cells.specs.OzoneCells.{day_from}
+use Rattle.aq_ozone_cells.specs.OzoneCells.{AreSettled}
 use Rattle.aq_ozone_cells.specs.declared.kept_days.KeptAverage.{KeptAverage}
-use Rattle.aq_ozone_cells.proofs.SettleLemmas.{day-same, one-more}
+use Rattle.aq_ozone_cells.proofs.SettleLemmas.{settled-more, settled-none}
 use Rattle.aq_ozone_cells.proofs.held_days.settle_days.Goals as goal
+
+pub loop-i-init : goal.loop-i-init
+loop-i-init g c = record {
+  years = c.requires.years;
+  ozone = c.requires.ozone;
+  settled = settled-none c.args.registry.now c.args.days.now.days.entries c.args.site c.args.first;
+  steps = omega arith;
+}
 
 pub loop-i-preserved : goal.loop-i-preserved
 loop-i-preserved g c =
-    let start = c.args.days.now.days.entries in
-    let now = c.loop-i.days.days.entries in
-    let at : c.year_span-first.result.0 + c.loop-i.i ≡ c.new-day.result = omega (arith, c.new-day.ensures, c.number.ensures.value) in
-    let held : c.day_from-held.result ≡ day_from c.args.registry.now start c.args.site c.new-day.result
-    = c.day_from-held.ensures.day ∙ day-same c.args.registry.now start now c.args.site c.new-day.result c.loop-i.invariant.averages in
+    let at : c.args.first + c.loop-i.i ≡ c.new-day.result = omega (arith, c.new-day.ensures, c.number.ensures.value) in
     record {
       years = c.in_ok-exchange_day.ensures.years;
-      ozone = λ site hour.
-          subst (λ (average : KeptAverage). IfSome average.net IsOzone) (sym (c.in_ok-exchange_day.ensures.averages site hour)) (c.loop-i.invariant.ozone site hour);
-      hours = λ other hour. c.in_ok-exchange_day.ensures.hours other hour ∙ c.loop-i.invariant.hours other hour;
-      averages = λ other hour. c.in_ok-exchange_day.ensures.averages other hour ∙ c.loop-i.invariant.averages other hour;
-      held = λ other number.
-          c.in_ok-exchange_day.ensures.days other number
-          ∙ (λ i. cond (is_same_site c.args.site other && (c.new-day.result == number)) (held i) (c.loop-i.invariant.held other number i))
-          ∙ one-more (is_same_site c.args.site other) c.year_span-first.result.0 c.loop-i.i number c.new-day.result
-          (day_from c.args.registry.now start c.args.site) (held_at start other number) at;
+      ozone = λ site start.
+          subst (λ (average : KeptAverage). IfSome average.net IsOzone) (sym (c.in_ok-exchange_day.ensures.averages site start)) (c.loop-i.invariant.ozone site start);
+      settled =
+          settled-more c.args.registry.now c.args.days.now.days.entries c.loop-i.days.days.entries c.exchange_day.new.days.days.entries c.args.site c.args.first c.loop-i.i c.new-day.result at
+          c.loop-i.invariant.settled c.day_from-held.result c.day_from-held.ensures.day c.in_ok-exchange_day.ensures.days c.in_ok-exchange_day.ensures.hours c.in_ok-exchange_day.ensures.averages;
       steps = omega (arith, c.loop-i.invariant.steps, c.in_ok-exchange_day.ensures.steps);
     }
+
+pub returns-clause-settled : goal.returns-clause-settled
+returns-clause-settled g c =
+    let all : c.loop-i.i ≡ c.args.count = omega (arith, c.loop-i-test.false, c.loop-i.auto.i-end) in
+    subst (AreSettled c.args.registry.now c.args.days.now.days.entries c.loop-i.days.days.entries c.args.site c.args.first) all c.loop-i.invariant.settled

@@ -1,6 +1,7 @@
 use Rattle.aq_series.specs.OfficeView.{office_of}
+use Rattle.aq_dirty.specs.Marked.{named}
+use Rattle.aq_ozone_cells.proofs.SettledCells.{nothing-to_do}
 use Rattle.aq_ozone_cells.proofs.NextCells.{below-day, below-window, below-year, no-ozone}
-use Rattle.aq_ozone_cells.proofs.SettledCells.{cells-stay-still}
 use Rattle.aq_ozone_cells.proofs.settling.bring_up.Goals as goal
 
 pub bring_up_average-requires : goal.bring_up_average-requires
@@ -12,9 +13,8 @@ bring_up_day-requires g c = below-day (office_of c.args.registry.now c.args.shel
 pub bring_up_year-requires : goal.bring_up_year-requires
 bring_up_year-requires g c = below-year (office_of c.args.registry.now c.args.shelf.now) c.args.cells.now c.args.cell.now c.requires c.in-OzoneYear.site c.in-OzoneYear.year c.in-OzoneYear.is
 
-pub returns-in_default-clause-stay : goal.returns-in_default-clause-stay
-returns-in_default-clause-stay g c = cells-stay-still (office_of c.args.registry.now c.args.shelf.now) c.args.cells.now
-
-pub returns-in_default-clause-cell : goal.returns-in_default-clause-cell
-returns-in_default-clause-cell g c =
-    no-ozone (office_of c.args.registry.now c.args.shelf.now) c.args.cells.now c.args.cell.now c.in_default.not-Hour c.in_default.not-Window c.in_default.not-OzoneDay c.in_default.not-OzoneYear
+pub returns-in_default : goal.returns-in_default
+returns-in_default g c =
+    let office = office_of c.args.registry.now c.args.shelf.now in
+    nothing-to_do office c.args.cells.now (named c.args.cell.now)
+    (no-ozone office c.args.cells.now c.args.cell.now c.in_default.not-Hour c.in_default.not-Window c.in_default.not-OzoneDay c.in_default.not-OzoneYear)

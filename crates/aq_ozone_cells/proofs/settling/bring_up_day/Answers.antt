@@ -1,23 +1,17 @@
-use Rattle.std.proofs.Common.{◌&&◌, ◌∙◌}
+use Rattle.std.proofs.Common.{◌&&◌, ◌∙◌, refl}
 use Rattle.std.specs.Prelude.{◌==◌}
 use Rattle.aq_rules.specs.Office.Monitors.{is_same_site}
 use Rattle.aq_series.specs.OfficeView.{office_of}
 use Rattle.aq_ozone_cells.specs.KeptDays.{held_at}
 use Rattle.aq_ozone_cells.specs.OzoneCells.{day_from}
-use Rattle.aq_ozone_cells.proofs.SettledCells.{day-itself, day-now, days-stay, one-day, one-number}
+use Rattle.aq_ozone_cells.proofs.SettledCells.{day-up, one-day}
+use Rattle.aq_ozone_cells.proofs.SiteNumbers.{itself, one-number}
 use Rattle.aq_ozone_cells.proofs.settling.bring_up_day.Goals as goal
 
-pub returns-clause-stay : goal.returns-clause-stay
-returns-clause-stay g c =
-    days-stay (office_of c.args.registry.now c.args.shelf.now) c.args.cells.now c.settle_day.new.self c.requires c.in_ok-settle_day.ensures.hours c.in_ok-settle_day.ensures.averages
+pub returns : goal.returns
+returns g c =
+    day-up (office_of c.args.registry.now c.args.shelf.now) c.args.cells.now c.settle_day.new.self c.requires c.in_ok-settle_day.ensures.hours c.in_ok-settle_day.ensures.averages
     c.args.site (λ other number. is_same_site c.args.site other && (c.args.day == number)) (one-day c.args.site c.args.day)
     (λ other number. c.in_ok-settle_day.ensures.days other number
     ∙ one-number c.args.site other c.args.day number (day_from c.args.registry.now c.args.cells.now c.args.site) (held_at c.args.cells.now other number))
-
-pub returns-clause-cell : goal.returns-clause-cell
-returns-clause-cell g c =
-    day-now (office_of c.args.registry.now c.args.shelf.now) c.args.cells.now c.settle_day.new.self c.requires c.in_ok-settle_day.ensures.hours c.in_ok-settle_day.ensures.averages
-    c.args.site (λ other number. is_same_site c.args.site other && (c.args.day == number)) (one-day c.args.site c.args.day)
-    (λ other number. c.in_ok-settle_day.ensures.days other number
-    ∙ one-number c.args.site other c.args.day number (day_from c.args.registry.now c.args.cells.now c.args.site) (held_at c.args.cells.now other number))
-    c.args.day (day-itself c.args.site c.args.day)
+    c.args.day (itself c.args.site c.args.day c.args.day refl)

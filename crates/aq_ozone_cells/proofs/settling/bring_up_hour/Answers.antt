@@ -1,13 +1,8 @@
 use Rattle.aq_series.specs.OfficeView.{office_of}
-use Rattle.aq_ozone_cells.proofs.SettledCells.{hour-is, hour-stay}
+use Rattle.aq_ozone_cells.proofs.SettledCells.{hour-up}
 use Rattle.aq_ozone_cells.proofs.settling.bring_up_hour.Goals as goal
 
-pub returns-clause-stay : goal.returns-clause-stay
-returns-clause-stay g c =
-    hour-stay (office_of c.args.registry.now c.args.shelf.now) c.args.cells.now c.change_hour.new.self c.args.site c.args.hour c.site_hour-new.result c.site_hour-new.ensures.value
-    c.in_ok-change_hour.ensures.hours c.in_ok-change_hour.ensures.averages c.in_ok-change_hour.ensures.days
-
-pub returns-clause-cell : goal.returns-clause-cell
-returns-clause-cell g c =
-    hour-is (office_of c.args.registry.now c.args.shelf.now) c.args.cells.now c.change_hour.new.self c.args.site c.args.hour c.site_hour-new.result c.site_hour-new.ensures.value
+pub returns : goal.returns
+returns g c =
+    hour-up (office_of c.args.registry.now c.args.shelf.now) c.args.cells.now c.change_hour.new.self c.args.site c.args.hour c.site_hour-new.result c.site_hour-new.ensures.value
     c.in_ok-change_hour.ensures.hours c.in_ok-change_hour.ensures.averages c.in_ok-change_hour.ensures.days

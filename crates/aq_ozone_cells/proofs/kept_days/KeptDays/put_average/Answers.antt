@@ -1,18 +1,14 @@
-use Rattle.std.proofs.Common.{◌≡◌, ◌&&◌, ◌/◌, ◌%◌, ap, cond, subst, List}
-use Rattle.std.specs.Prelude.{◌==◌, get_or, option_map, None, Option}
+use Rattle.std.proofs.Common.{◌≡◌, ◌&&◌, ◌/◌, cond, subst}
+use Rattle.std.specs.Prelude.{◌==◌}
 use Rattle.aq_rules.specs.Office.Monitors.{is_same_site}
-use Rattle.aq_ozone_cells.specs.declared.kept_days.DayCells.{DayCells}
-use Rattle.aq_ozone_cells.specs.declared.kept_days.KeptHour.{KeptHour}
-use Rattle.aq_ozone_cells.specs.KeptDays.{average_at, average_in, cell_of, held_at, hour_at, hour_in}
-use Rattle.aq_ozone_cells.proofs.KeptDayLemmas.{part-stays, place-put}
+use Rattle.aq_ozone_cells.specs.KeptDays.{average_at, average_in}
+use Rattle.aq_ozone_cells.proofs.KeptDayLemmas.{held-stays, hours-stay, place-put}
 use Rattle.aq_ozone_cells.proofs.kept_days.KeptDays.put_average.Goals as goal
 
 pub returns-clause-hours : goal.returns-clause-hours
-unfolding hour_at
-returns-clause-hours c other number =
-    part-stays (λ (day : DayCells). hour_in day number) c.args.site (c.number-start.result / 24) c.put_average.new.self c.args.self.now.days.entries c.put.new.self.days.entries
-    c.in_ok-put.ensures.ok c.day-cells.result c.day-cells.ensures
-    (ap (λ (hours : List (Option KeptHour)). option_map cell_of (get_or hours (number % 24) None)) c.put_average.ensures.hours) other (number / 24)
+returns-clause-hours c =
+    hours-stay c.args.site (c.number-start.result / 24) c.put_average.new.self c.day-cells.result c.args.self.now.days.entries c.put.new.self.days.entries
+    c.in_ok-put.ensures.ok c.day-cells.ensures c.put_average.ensures.hours
 
 pub returns-clause-averages : goal.returns-clause-averages
 unfolding average_at
@@ -22,7 +18,6 @@ returns-clause-averages c other number =
     c.in_ok-put.ensures.ok c.day-cells.result c.day-cells.ensures c.put_average.ensures.averages other number)
 
 pub returns-clause-held : goal.returns-clause-held
-unfolding held_at
 returns-clause-held c =
-    part-stays (λ (day : DayCells). day.held) c.args.site (c.number-start.result / 24) c.put_average.new.self c.args.self.now.days.entries c.put.new.self.days.entries
-    c.in_ok-put.ensures.ok c.day-cells.result c.day-cells.ensures c.put_average.ensures.held
+    held-stays c.args.site (c.number-start.result / 24) c.put_average.new.self c.day-cells.result c.args.self.now.days.entries c.put.new.self.days.entries
+    c.in_ok-put.ensures.ok c.day-cells.ensures c.put_average.ensures.held

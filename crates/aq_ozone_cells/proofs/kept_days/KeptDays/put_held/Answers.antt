@@ -1,23 +1,20 @@
-use Rattle.std.proofs.Common.{◌≡◌, ◌&&◌, ◌/◌, Bool, true, false, ap, cond, subst, refl}
+use Rattle.std.proofs.Common.{◌≡◌, ◌∙◌, ◌&&◌, Bool, true, false, ap, cond, subst, refl}
 use Rattle.std.specs.Prelude.{◌==◌}
 use Rattle.aq_rules.specs.Office.Monitors.{is_same_site}
 use Rattle.aq_ozone_cells.specs.declared.kept_days.DayCells.{DayCells}
-use Rattle.aq_ozone_cells.specs.KeptDays.{average_at, average_in, day_at, held_at, hour_at, hour_in}
-use Rattle.aq_ozone_cells.proofs.KeptDayLemmas.{part-stays}
-use Rattle.std.proofs.Common.{◌∙◌}
+use Rattle.aq_ozone_cells.specs.KeptDays.{day_at, held_at}
+use Rattle.aq_ozone_cells.proofs.KeptDayLemmas.{averages-stay, hours-stay}
 use Rattle.aq_ozone_cells.proofs.kept_days.KeptDays.put_held.Goals as goal
 
 pub returns-clause-hours : goal.returns-clause-hours
-unfolding hour_at
-returns-clause-hours c other number =
-    part-stays (λ (day : DayCells). hour_in day number) c.args.site c.number-day.result (record c.day-cells.result { held = c.args.held }) c.args.self.now.days.entries c.put.new.self.days.entries
-    c.in_ok-put.ensures.ok c.day-cells.result c.day-cells.ensures refl other (number / 24)
+returns-clause-hours c =
+    hours-stay c.args.site c.number-day.result (record c.day-cells.result { held = c.args.held }) c.day-cells.result c.args.self.now.days.entries c.put.new.self.days.entries
+    c.in_ok-put.ensures.ok c.day-cells.ensures refl
 
 pub returns-clause-averages : goal.returns-clause-averages
-unfolding average_at
-returns-clause-averages c other start =
-    part-stays (λ (day : DayCells). average_in day start) c.args.site c.number-day.result (record c.day-cells.result { held = c.args.held }) c.args.self.now.days.entries c.put.new.self.days.entries
-    c.in_ok-put.ensures.ok c.day-cells.result c.day-cells.ensures refl other (start / 24)
+returns-clause-averages c =
+    averages-stay c.args.site c.number-day.result (record c.day-cells.result { held = c.args.held }) c.day-cells.result c.args.self.now.days.entries c.put.new.self.days.entries
+    c.in_ok-put.ensures.ok c.day-cells.ensures refl
 
 pub returns-clause-held : goal.returns-clause-held
 unfolding held_at

@@ -1,10 +1,8 @@
-use Rattle.std.proofs.Common.{◌≡◌, ◌&&◌, ◌/◌, ◌%◌, ◌-◌, ap, cond, subst, List}
-use Rattle.std.specs.Prelude.{◌==◌, get_or}
+use Rattle.std.proofs.Common.{◌≡◌, ◌&&◌, ◌/◌, cond, subst}
+use Rattle.std.specs.Prelude.{◌==◌}
 use Rattle.aq_rules.specs.Office.Monitors.{is_same_site}
-use Rattle.aq_ozone_cells.specs.declared.kept_days.DayCells.{DayCells}
-use Rattle.aq_ozone_cells.specs.declared.kept_days.KeptAverage.{KeptAverage}
-use Rattle.aq_ozone_cells.specs.KeptDays.{average_at, average_in, held_at, hour_at, hour_in, is_kept_start, no_average}
-use Rattle.aq_ozone_cells.proofs.KeptDayLemmas.{part-stays, place-put}
+use Rattle.aq_ozone_cells.specs.KeptDays.{hour_at, hour_in}
+use Rattle.aq_ozone_cells.proofs.KeptDayLemmas.{averages-stay, held-stays, place-put}
 use Rattle.aq_ozone_cells.proofs.kept_days.KeptDays.put_hour.Goals as goal
 
 pub returns-clause-hours : goal.returns-clause-hours
@@ -15,14 +13,11 @@ returns-clause-hours c other number =
     c.in_ok-put.ensures.ok c.day-cells.result c.day-cells.ensures c.put_hour.ensures.hours other number)
 
 pub returns-clause-averages : goal.returns-clause-averages
-unfolding average_at
-returns-clause-averages c other start =
-    part-stays (λ (day : DayCells). average_in day start) c.args.site (c.number-hour.result / 24) c.put_hour.new.self c.args.self.now.days.entries c.put.new.self.days.entries
-    c.in_ok-put.ensures.ok c.day-cells.result c.day-cells.ensures
-    (ap (λ (averages : List KeptAverage). cond (is_kept_start start) (get_or averages (start % 24 - 7) no_average) no_average) c.put_hour.ensures.averages) other (start / 24)
+returns-clause-averages c =
+    averages-stay c.args.site (c.number-hour.result / 24) c.put_hour.new.self c.day-cells.result c.args.self.now.days.entries c.put.new.self.days.entries
+    c.in_ok-put.ensures.ok c.day-cells.ensures c.put_hour.ensures.averages
 
 pub returns-clause-held : goal.returns-clause-held
-unfolding held_at
 returns-clause-held c =
-    part-stays (λ (day : DayCells). day.held) c.args.site (c.number-hour.result / 24) c.put_hour.new.self c.args.self.now.days.entries c.put.new.self.days.entries
-    c.in_ok-put.ensures.ok c.day-cells.result c.day-cells.ensures c.put_hour.ensures.held
+    held-stays c.args.site (c.number-hour.result / 24) c.put_hour.new.self c.day-cells.result c.args.self.now.days.entries c.put.new.self.days.entries
+    c.in_ok-put.ensures.ok c.day-cells.ensures c.put_hour.ensures.held

@@ -8,7 +8,8 @@ use Rattle.aq_rules.specs.Lists.{ranked}
 use Rattle.aq_rules.specs.Ozone.OzoneYear.{ozone_year}
 use Rattle.aq_registry.specs.Registry.{office_with}
 use Rattle.aq_ozone_cells.specs.OzoneCells.{counted_held, maxima_held, year_of_days, AreHeldBy, AreYears, Cells}
-use Rattle.aq_ozone_cells.specs.YearTallies.{count_of, maximum_of, site_year, year_cmp}
+use Rattle.aq_ozone_cells.specs.SiteKeys.{key_cmp, site_key}
+use Rattle.aq_ozone_cells.specs.YearTallies.{count_of, maximum_of}
 use Rattle.aq_ozone_cells.proofs.CellFacts.{few-in_year, ranks-ozone}
 use Rattle.aq_ozone_cells.proofs.HeldYear.{held-year, valid-few}
 use Rattle.aq_ozone.proofs.RangeLemmas.{fourth_range}
@@ -55,7 +56,7 @@ new-requires c =
       season_valid = omega (arith, counted, c.season_days.ensures, valid-few records cells site year c.requires.first in_profile held);
       ranked = omega (arith, number, few-in_year maximum_of cells site year);
       fourth = ap (λ (o : Option ℤ). is_some o) fourth ∙ fourth_there (ranked values) ∙ ap (λ n. nat_le 4 n) (length_ranked values ∙ sym number);
-      fourth_in_range = rw fourth (fourth_range values (ranks-ozone values (lookup (is_at (year_cmp (site_year site year))) c.self.inside.tallies.maxima) bags.maxima_are));
+      fourth_in_range = rw fourth (fourth_range values (ranks-ozone values (lookup (is_at (key_cmp (site_key site year))) c.self.inside.tallies.maxima) bags.maxima_are));
     }
 
 pub returns : goal.returns
