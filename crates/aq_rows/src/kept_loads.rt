@@ -1,9 +1,9 @@
 //! The loads that were taken.
-ghost use Rattle.std.specs.Prelude.{◌≡◌, [], ◌∷◌, length, nat_le, nat_lt, option_map, IfOk, IsTrue, OnErr, OnOk};
+ghost use Rattle.std.specs.Prelude.{◌≡◌, [], ◌∷◌, length, nat_le, nat_lt, option_map, IsTrue, OnErr, OnOk};
 ghost use Rattle.std.specs.List.{list_all};
 ghost use Rattle.aq_rules.specs.Limits.{MOST_LOADS};
 ghost use Rattle.aq_rules.specs.Office.Office.{load_rank, row_at, with_row};
-ghost use Rattle.aq_rows.specs.KeptLoads.{digest_in, reply_in, stored_as, stored_in, with_kept};
+ghost use Rattle.aq_rows.specs.KeptLoads.{digest_in, reply_in, stored_as, stored_in};
 
 use aq_base::{LoadReply, MOST_LOADS, Memory};
 use std::alloc::Global;
@@ -72,19 +72,6 @@ impl Loads {
     {
         let kept = self.by_number.get(&number)?;
         Some(kept.digest)
-    }
-
-    /// With one more load, unless its number is 0, the number of a load that is not kept. After want of
-    /// memory the loads are gone.
-    pub fn with(self, number: u32, digest: [u8; 32], reply: LoadReply) -> Result<Loads, Memory>
-        ensures { IfOk result (λ loads. loads ≡ with_kept (stored_as number digest reply) self) }
-    {
-        if number == 0 {
-            return Ok(self);
-        }
-        let mut loads = self;
-        loads.put(number, digest, reply)?;
-        Ok(loads)
     }
 
     /// Keeps a load under a number, by one search of the map.

@@ -10,7 +10,7 @@
 //! - `open(alloc, rows)`: the parts of an office, as an `Opened`, or an `OpenFault` with the first
 //!   damaged row's `Place`; `place_of`, `table_of`: where a row stands.
 //! - `rows_of(alloc, registry, shelf, loads)`: the rows of an office.
-//! - `Loads`, `KeptLoad`: the loads that were taken; `put`, `with`, `reply_of`, `digest_of`, `entries`,
+//! - `Loads`, `KeptLoad`: the loads that were taken; `put`, `reply_of`, `digest_of`, `entries`,
 //!   `are_full`.
 //!
 //! # What it promises

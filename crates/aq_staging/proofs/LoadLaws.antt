@@ -72,9 +72,9 @@ pub same_reply : (number lines taken : ℕ) (refused listed : List ListedLine) (
     → (let reply : LoadReply = record { number = number; lines = lines; accepted = taken - length refused; refused = length refused; listed = listed; rest = rest } in reply) ≡ reply_for number lines taken refused
 same_reply number lines taken refused listed rest same_listed same_rest = cc
 
-pub reply_for-same : (number lines lines' taken taken' : ℕ) (refused refused' : List ListedLine) → lines ≡ lines' → taken ≡ taken' → refused ≡ refused' → reply_for number lines taken refused ≡ reply_for number lines' taken' refused'
-reply_for-same number lines lines' taken taken' refused refused' p q r =
-    ap (λ n. reply_for number n taken refused) p ∙ ap (λ n. reply_for number lines' n refused) q ∙ ap (λ xs. reply_for number lines' taken' xs) r
+pub reply_for-same : (number number' lines lines' taken taken' : ℕ) (refused refused' : List ListedLine) → number ≡ number' → lines ≡ lines' → taken ≡ taken' → refused ≡ refused' → reply_for number lines taken refused ≡ reply_for number' lines' taken' refused'
+reply_for-same number number' lines lines' taken taken' refused refused' n p q r =
+    λ i. reply_for (n i) (p i) (q i) (r i)
 
 -- ---- counts by number
 

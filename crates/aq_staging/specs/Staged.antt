@@ -1,5 +1,5 @@
 -- What a load makes of an office, and what it leaves.
-use Rattle.std.specs.Prelude.{ℕ, ◌≤◌, List, length}
+use Rattle.std.specs.Prelude.{◌≤◌, Option, List, length}
 use Rattle.aq_base.specs.declared.observation.ObsKey.{ObsKey}
 use Rattle.aq_base.specs.declared.observation.Observation.{Observation}
 use Rattle.aq_base.specs.declared.office.OfficeRecord.{OfficeRecord}
@@ -7,16 +7,16 @@ use Rattle.aq_base.specs.declared.reply.LoadReply.{LoadReply}
 use Rattle.aq_rules.specs.Limits.{MOST_OBSERVATIONS}
 use Rattle.aq_rules.specs.Office.Office.{Office}
 use Rattle.aq_staging.specs.declared.changes.Changes.{Changes}
+use Rattle.aq_staging.specs.declared.identity.LoadIdentity.{LoadIdentity}
 use Rattle.aq_staging.specs.Changes.{with_changes, AreChanges}
 use Rattle.aq_staging.specs.Touched.{AreTouched}
 
--- the records after the load, those that its lines touched, what it leaves of the observations, and its number, its body's digest and its reply
+-- the records after the load, those that its lines touched, what it leaves of the observations, under what it is kept, if it is, and its reply
 pub record StagedLoad : Type 0 where
   pub records : List OfficeRecord
   pub touched : List OfficeRecord
   pub changes : Changes
-  pub number : ℕ
-  pub digest : List ℕ
+  pub identity : Option LoadIdentity
   pub reply : LoadReply
 
 -- the office after the lines of a staged load

@@ -3,9 +3,11 @@
 //!
 //! # What it has
 //!
-//! - `stage_load(alloc, registry, shelf, number, digest, body)`: what the lines of a body make of an
-//!   office, as a `Staged`.
-//! - `Staged::reply`, `number`, `digest`: the reply to the load, its number and the digest of its body.
+//! - `stage_load(alloc, registry, shelf, identity, body)`: what the lines of a body make of an office, as
+//!   a `Staged`.
+//! - `LoadIdentity`: under what a load is kept, its number and the digest of its body. A load that is not
+//!   kept has none.
+//! - `Staged::reply`, `identity`: the reply to the load, and under what it is kept.
 //! - `Staged::changes`: what the load changes, as `OfficeChanges`, a list of `OfficeChange`.
 //! - `Staged::onto(shelf)`: what stands after the load, as a `Taken`.
 //!
@@ -21,7 +23,8 @@
 //! # An example
 //!
 //! ```rust
-//! let staged = stage_load(alloc, &registry, &shelf, 1, digest, body)?;
+//! let identity = LoadIdentity::new(1, digest);
+//! let staged = stage_load(alloc, &registry, &shelf, identity, body)?;
 //! if staged.reply().refused == 0 {
 //!     let changes = staged.changes(alloc, &registry, &shelf)?;
 //!     let Taken { registry, shelf, .. } = staged.onto(shelf)?;
@@ -32,6 +35,7 @@
 mod batch;
 mod change;
 mod changes;
+mod identity;
 mod keys;
 mod list;
 mod load;
@@ -42,6 +46,7 @@ mod staging;
 mod touched;
 
 pub use change::OfficeChange;
+pub use identity::LoadIdentity;
 pub use list::OfficeChanges;
 pub use load::stage_load;
 pub use staged::{Staged, Taken};

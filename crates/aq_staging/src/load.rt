@@ -1,5 +1,6 @@
 //! A load's lines, taken in their order beside the office.
 ghost use Rattle.std.specs.Prelude.{◌≡◌, ◌≤◌, ◌++◌, length, IfOk, OnOk};
+ghost use Rattle.aq_staging.specs.Identity.{number_in};
 ghost use Rattle.aq_staging.specs.Refusals.{office_in, AreNoted};
 ghost use Rattle.aq_staging.specs.Staged.{after_lines, IsStagedOn};
 ghost use Rattle.aq_rules.specs.Limits.{MOST_BYTES};
@@ -7,6 +8,7 @@ ghost use Rattle.aq_rules.specs.Lines.Lines.{body_lines};
 ghost use Rattle.aq_rules.specs.Office.Load.{after, after_all, listed_for, refusal, reply};
 ghost use Rattle.aq_staging.specs.OfficeView.{office_of};
 
+use crate::identity::{LoadIdentity, number_in};
 use crate::reply::reply_of;
 use crate::staged::Staged;
 use crate::staging::{Refusal, Staging};
@@ -23,13 +25,12 @@ pub fn stage_load(
     alloc: Global,
     registry: &Registry,
     shelf: &Shelf,
-    number: u32,
-    digest: [u8; 32],
+    identity: Option<LoadIdentity>,
     body: &[u8],
 ) -> Result<Staged, Memory>
     requires { length body.now ≤ MOST_BYTES }
-    ensures reply { IfOk result (λ staged. staged.reply ≡ reply (office_of registry.now shelf.now) number body.now) }
-    ensures load { IfOk result (λ staged. (staged.number ≡ number) × (staged.digest ≡ digest)) }
+    ensures reply { IfOk result (λ staged. staged.reply ≡ reply (office_of registry.now shelf.now) (number_in identity) body.now) }
+    ensures identity { IfOk result (λ staged. staged.identity ≡ identity) }
     ensures staged_on { IfOk result (IsStagedOn registry.now shelf.now) }
     ensures office { IfOk result (λ staged. after_lines staged (office_of registry.now shelf.now) ≡ after_all (office_of registry.now shelf.now) (body_lines body.now)) }
 {
@@ -40,13 +41,13 @@ pub fn stage_load(
         take_line(&mut staging, &mut refused, line.number, line.text)?;
         taken += 1;
     }
+    let number = number_in(identity);
     let reply = reply_of(alloc, number, count_lines(body), taken, &refused)?;
     Ok(Staged {
         registry: staging.registry,
         touched: staging.touched,
         changes: staging.observations.into_changes(),
-        number,
-        digest,
+        identity,
         reply,
     })
 }

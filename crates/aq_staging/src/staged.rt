@@ -4,20 +4,20 @@ ghost use Rattle.aq_staging.specs.Changes.{with_changes};
 ghost use Rattle.aq_rules.specs.Limits.{MOST_OBSERVATIONS};
 
 use crate::changes::Changes;
+use crate::identity::LoadIdentity;
 use aq_base::{LoadReply, Memory};
 use aq_registry::{Records, Registry};
 use aq_shelf::Shelf;
 use std::marker::Model;
 
 /// What a load makes of an office, held beside it: the records after it, those that its lines put or
-/// dropped, the observations that it changed, and its number, the digest of its body and its reply.
+/// dropped, the observations that it changed, under what it is kept, if it is, and its reply.
 #[derive(Drop)]
 pub struct Staged {
     pub(crate) registry: Registry,
     pub(crate) touched: Records,
     pub(crate) changes: Changes,
-    pub(crate) number: u32,
-    pub(crate) digest: [u8; 32],
+    pub(crate) identity: Option<LoadIdentity>,
     pub(crate) reply: LoadReply,
 }
 
@@ -26,7 +26,7 @@ impl Model for Staged {
 
     ghost Value = { StagedLoad };
 
-    ghost view = { λ staged. record { records = staged.registry; touched = staged.touched; changes = staged.changes; number = staged.number; digest = staged.digest; reply = staged.reply } };
+    ghost view = { λ staged. record { records = staged.registry; touched = staged.touched; changes = staged.changes; identity = staged.identity; reply = staged.reply } };
 }
 
 impl Staged {
@@ -37,18 +37,11 @@ impl Staged {
         &self.reply
     }
 
-    /// The number of the load.
-    pub fn number(&self) -> u32
-        ensures { result ≡ self.now.number }
+    /// Under what the load is kept, if it is.
+    pub fn identity(&self) -> Option<LoadIdentity>
+        ensures { result ≡ self.now.identity }
     {
-        self.number
-    }
-
-    /// The digest of the load's body.
-    pub fn digest(&self) -> &[u8; 32]
-        ensures { result.now ≡ self.now.digest }
-    {
-        &self.digest
+        self.identity
     }
 
     /// What a load leaves of the office whose observations stand on this shelf. It costs a search of the
@@ -57,27 +50,24 @@ impl Staged {
         requires { length (with_changes self.changes shelf) ≤ MOST_OBSERVATIONS }
         ensures records { IfOk result (λ taken. taken.registry ≡ self.records) }
         ensures observations { IfOk result (λ taken. taken.shelf ≡ with_changes self.changes shelf) }
-        ensures number { IfOk result (λ taken. taken.number ≡ self.number) }
-        ensures digest { IfOk result (λ taken. taken.digest ≡ self.digest) }
+        ensures identity { IfOk result (λ taken. taken.identity ≡ self.identity) }
         ensures reply { IfOk result (λ taken. taken.reply ≡ self.reply) }
     {
         Ok(Taken {
             registry: self.registry,
             shelf: self.changes.onto(shelf)?,
-            number: self.number,
-            digest: self.digest,
+            identity: self.identity,
             reply: self.reply,
         })
     }
 }
 
-/// What stands after a load: the records and the observations, and of the load its number, the digest of
-/// its body and its reply.
+/// What stands after a load: the records and the observations, and of the load under what it is kept, if it
+/// is, and its reply.
 #[derive(Drop)]
 pub struct Taken {
     pub registry: Registry,
     pub shelf: Shelf,
-    pub number: u32,
-    pub digest: [u8; 32],
+    pub identity: Option<LoadIdentity>,
     pub reply: LoadReply,
 }

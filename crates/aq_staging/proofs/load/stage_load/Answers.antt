@@ -20,7 +20,7 @@ reply_of-requires c =
 
 pub returns-clause-office : goal.returns-clause-office
 returns-clause-office c =
-    staged-office c.loop-line.staging c.into_changes.result c.args.number c.args.digest c.in_ok-reply.reply c.args.registry.now c.args.shelf.now c.loop-line.invariant.before c.into_changes.ensures.standing
+    staged-office c.loop-line.staging c.into_changes.result c.args.identity c.in_ok-reply.reply c.args.registry.now c.args.shelf.now c.loop-line.invariant.before c.into_changes.ensures.standing
     ∙ after_all_lines _ _ _ c.in-None.ensures.steps.0 c.loop-line.invariant.office
 
 pub returns-clause-reply : goal.returns-clause-reply
@@ -31,7 +31,7 @@ returns-clause-reply c =
     let taken : c.loop-line.taken ≡ length (body_lines c.args.body.now) =
     omega (arith, ap length c.in-None.ensures.steps.0, c.loop-line.invariant.count)
     in
-    c.in_ok-reply.ensures ∙ reply_for-same c.args.number c.count_lines.result _ c.loop-line.taken _ c.deref.result.now _ c.count_lines.ensures taken refused
+    c.in_ok-reply.ensures ∙ reply_for-same c.number_in-number.result _ c.count_lines.result _ c.loop-line.taken _ c.deref.result.now _ c.number_in-number.ensures c.count_lines.ensures taken refused
 
 pub returns-clause-staged_on : goal.returns-clause-staged_on
 returns-clause-staged_on c = record {
