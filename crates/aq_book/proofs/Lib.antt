@@ -1,10 +1,12 @@
 pub mod StageLemmas
 pub mod BatchLemmas
+pub mod CellYears
 pub mod OzoneLemmas
 pub mod Loadless
 pub mod LoadlessAnswers
 pub mod RisingSites
 pub mod ShownLemmas
+pub mod ReachedLemmas
 pub mod ReportLemmas
 pub mod OpenedFronts
 pub mod MigrationLemmas

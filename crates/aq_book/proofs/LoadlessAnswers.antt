@@ -5,12 +5,10 @@ use Rattle.aq_base.specs.declared.monitor.Pollutant.{Pollutant}
 use Rattle.aq_base.specs.declared.observation.ObsKey.{ObsKey}
 use Rattle.aq_base.specs.declared.observation.Observation.{Observation}
 use Rattle.aq_base.specs.declared.office.OfficeRecord.{OfficeRecord}
-use Rattle.aq_rules.specs.DesignValues.{pm10_years, pm25_years}
 use Rattle.aq_rules.specs.Kept.Summaries.{pm25_summary}
 use Rattle.aq_rules.specs.Office.Office.{StoredLoad}
 use Rattle.aq_rules.specs.Ozone.EightHour.{window}
 use Rattle.aq_rules.specs.Ozone.OzoneDay.{ozone_day, windows}
-use Rattle.aq_rules.specs.Ozone.OzoneVerdict.{three_years}
 use Rattle.aq_rules.specs.Ozone.OzoneYear.{ozone_days, ozone_year}
 use Rattle.aq_rules.specs.Ozone.SiteHour.{site_hour}
 use Rattle.aq_rules.specs.Particles.ParticleDay.{monitor_day, site_day}

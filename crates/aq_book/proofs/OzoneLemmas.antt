@@ -1,5 +1,5 @@
 -- The ozone days of a year one by one.
-use Rattle.std.proofs.Common.{◌≡◌, ℕ, ◌+◌, ◌-◌, List, [], ◌∷◌, ◌++◌, map, sym, ap, ◌∙◌}
+use Rattle.std.proofs.Common.{◌≡◌, ℕ, ◌+◌, List, [], ◌∷◌, ◌++◌, map, sym, ap, ◌∙◌}
 use Rattle.std.specs.List.{range_with_len}
 use Rattle.std.proofs.lemmas.List.FromFn.{map-range_with_len_more}
 use Rattle.aq_base.specs.Calendar.{year_first, days_in_year}
@@ -7,8 +7,7 @@ use Rattle.aq_base.specs.Site.{Site}
 use Rattle.aq_rules.specs.Office.Office.{Office}
 use Rattle.aq_rules.specs.Ozone.EightHour.{WindowRow}
 use Rattle.aq_rules.specs.Ozone.OzoneDay.{OzoneDay, day_of_windows, ozone_day, windows}
-use Rattle.aq_rules.specs.Ozone.OzoneVerdict.{three_years}
-use Rattle.aq_rules.specs.Ozone.OzoneYear.{OzoneYear, days_of, ozone_days, ozone_year}
+use Rattle.aq_rules.specs.Ozone.OzoneYear.{days_of, ozone_days}
 
 module _ (office : Office) (site : Site) where
   abbrev pub first_days : ℕ → ℕ → List OzoneDay

@@ -1,5 +1,5 @@
 -- The registered sites in rising order, one after another as the records ask for them, and the monitors of a site.
-use Rattle.std.proofs.Common.{◌≡◌, ℕ, Bool, true, false, cond, not, ◌&&◌, ◌||◌, ◌==◌, Option, Some, None, is_some, List, [], ◌∷◌, refl, ap, sym, subst, ◌∙◌, arith, inl, inr}
+use Rattle.std.proofs.Common.{◌≡◌, ℕ, Bool, true, false, cond, not, ◌&&◌, ◌||◌, ◌==◌, ◌≤◌, length, Option, Some, None, is_some, List, [], ◌∷◌, refl, ap, sym, subst, ◌∙◌, arith, inl, inr}
 use Rattle.std.specs.Prelude.{nat_lt, filter, filter_map, slice_get}
 use Rattle.std.specs.List.{AllByRecursion, cons_option, list_all, list_any}
 use Rattle.std.proofs.lemmas.Bool.{false≢true, and_from, and_parts, cases_Bool}
@@ -15,9 +15,11 @@ use Rattle.aq_rules.specs.Office.Monitors.{is_same_site, is_same_pollutant}
 use Rattle.aq_rules.specs.Office.Office.{Office, IsOffice, comes_before, fits_records, has_monitor, is_same, parameter_number, record_rank, registers, rises, rises_from, row_at, series_numbers, site_numbers, sites_of, with_row, with_site}
 use Rattle.aq_rules.specs.Office.Questions.{first_given, is_site_after, next_poc, next_site, poc_above, site_above}
 use Rattle.aq_rules.specs.Office.RowOrder.{before-total, before-trans, with_row-rises}
+use Rattle.aq_rules.specs.Limits.{MOST_SITES}
 use Rattle.aq_rules.specs.Shown.OtherSheets.{rising_sites, sites_with}
 use Rattle.aq_rules.proofs.Lookups.{found-with, one_list, same-is}
-use Rattle.aq_rules.proofs.RowsPlaced.{with_row-all}
+use Rattle.aq_rules.proofs.Pm10Facts.{length-filter-le}
+use Rattle.aq_rules.proofs.RowsPlaced.{length-with_row, with_row-all}
 use Rattle.aq_rules.proofs.SitesCounted.{lists}
 use Rattle.aq_rules.proofs.Spans.{before-itself}
 use Rattle.aq_series.proofs.SitePocs.{some_poc}
@@ -332,3 +334,13 @@ with_next office pollutant after site valid next there is =
 
 pub with_none : (office : Office) (pollutant : Pollutant) (after : Option Site) → IsOffice office → next_site office.records after ≡ None → with_monitor office pollutant (sites_above office.records after) ≡ []
 with_none office pollutant after valid none = ap (with_monitor office pollutant) (sites-end office.records after valid.keys_rise.records none)
+
+few-rising : (sites : List Site) → length (rising_sites sites) ≤ length sites
+few-rising [] = omega arith
+few-rising (site ∷ sites) = omega (arith, few-rising sites, length-with_row site_numbers site (rising_sites sites))
+
+-- an office has few sites
+pub few_with : (office : Office) (pollutant : Pollutant) → IsOffice office → length (sites_with office pollutant) ≤ MOST_SITES
+unfolding sites_with
+few_with office pollutant valid =
+    omega (arith, length-filter-le (λ site. has_monitor office site pollutant) (rising_sites (sites_of office.records)), few-rising (sites_of office.records), valid.few_sites)

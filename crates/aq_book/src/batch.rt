@@ -1,33 +1,30 @@
 //! The batch of a staged load: the changes of rows that a keeper takes.
 ghost use Rattle.std.specs.Prelude.{◌≡◌, ◌++◌, map, IfOk, OnOk};
 ghost use Rattle.aq_staging.specs.Batch.{change_in, changes_in};
-ghost use Rattle.aq_rows.specs.KeptLoads.{stored_as};
+ghost use Rattle.aq_book.specs.Staged.{own_change};
 ghost use Rattle.aq_rules.specs.Kept.RowChanges.{row_change};
-ghost use Rattle.aq_rules.specs.Office.Load.{load_change};
 
 use aq_base::{Items, LoadReply, Memory};
 use aq_keeper::{Row, RowChange};
 use aq_rows::{load_row, observation_key, observation_row, office_key, office_row};
-use aq_staging::{OfficeChange, OfficeChanges};
+use aq_staging::{LoadIdentity, OfficeChange, OfficeChanges};
 use std::alloc::Global;
 
 /// Changes of rows, in the order of a batch: that of tables and keys, but for the loads, which come last.
 pub type RowChanges = Items<RowChange>;
 
-/// The changes of rows that a load's changes stand for, and its own row last; a load with the number 0 has
-/// none.
+/// The changes of rows that a load's changes stand for, and its own row last, if it is kept.
 pub(crate) fn batch_of(
     alloc: Global,
     changes: &OfficeChanges,
-    number: u32,
-    digest: &[u8; 32],
+    identity: Option<LoadIdentity>,
     reply: &LoadReply,
 ) -> Result<RowChanges, Memory>
-    ensures { IfOk result (λ batch. batch ≡ map row_change changes.now ++ map row_change (load_change (stored_as number digest.now reply.now))) }
+    ensures { IfOk result (λ batch. batch ≡ map row_change changes.now ++ map row_change (own_change identity reply.now)) }
 {
     let mut batch = RowChanges::new(alloc);
     add_changes(alloc, &mut batch, changes.as_slice())?;
-    add_load(alloc, &mut batch, number, digest, reply)?;
+    add_load(alloc, &mut batch, identity, reply)?;
     Ok(batch)
 }
 
@@ -61,14 +58,13 @@ fn row_change(alloc: Global, change: &OfficeChange) -> Result<RowChange, Memory>
 fn add_load(
     alloc: Global,
     batch: &mut RowChanges,
-    number: u32,
-    digest: &[u8; 32],
+    identity: Option<LoadIdentity>,
     reply: &LoadReply,
 ) -> Result<(), Memory>
-    ensures { OnOk result (batch.new ≡ batch.old ++ map row_change (load_change (stored_as number digest.now reply.now))) }
+    ensures { OnOk result (batch.new ≡ batch.old ++ map row_change (own_change identity reply.now)) }
 {
-    if number != 0 {
-        let row = Row::load(load_row(alloc, number, digest, reply)?);
+    if let Some(identity) = identity {
+        let row = Row::load(load_row(alloc, identity.number, &identity.digest, reply)?);
         batch.push(RowChange::put(row))?;
     }
     Ok(())

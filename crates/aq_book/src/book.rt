@@ -3,7 +3,7 @@ ghost use Rattle.std.specs.Prelude.{◌≡◌, ◌≤◌, ◌⊎◌, ℕ, List, 
 ghost use Rattle.aq_book.specs.Checks.{decision_of};
 ghost use Rattle.aq_staging.specs.Staged.{IsStagedOn};
 ghost use Rattle.aq_rows.specs.KeptLoads.{digest_in, reply_in};
-ghost use Rattle.aq_book.specs.Staged.{office_with, Fits, IsStageOf};
+ghost use Rattle.aq_book.specs.Staged.{kept_under, office_with, Fits, IsStageOf};
 ghost use Rattle.aq_rules.specs.Kept.RowChanges.{row_batch};
 ghost use Rattle.aq_rules.specs.Limits.{MOST_BYTES, MOST_LINES};
 ghost use Rattle.aq_rules.specs.Lines.Lines.{line_count};
@@ -12,33 +12,38 @@ ghost use Rattle.aq_rules.specs.Office.Office.{load_at, nothing};
 
 use crate::batch::{RowChanges, batch_of};
 use crate::check::LoadCheck;
+use crate::reached::bring_up;
 use aq_base::{LoadReply, Memory};
+use aq_ozone_cells::{OzoneCells, cells_out_of_reach_are_those_of_the_office_after_it};
 use aq_registry::Registry;
 use aq_rows::{Loads, digest_is_32_bytes};
+use aq_rules::kept::reach::what_reads_a_changed_row_is_in_reach;
 use aq_rules::office::valid_load::{an_office_of_nothing_is_valid, loads_leave_the_office_valid};
 use aq_shelf::Shelf;
-use aq_staging::{Staged, stage_load};
+use aq_staging::{LoadIdentity, Staged, stage_load};
 use std::alloc::Global;
 use std::marker::Model;
 
-/// An office with its records, observations and loads, as it stands between two loads. Contracts see the
-/// valid office of the book of rules.
+/// An office with its records, observations and loads, as it stands between two loads, and with its ozone
+/// cells. Contracts see the valid office of the book of rules; every cell that is kept is that office's.
 #[derive(Drop)]
 pub struct Book {
     pub(crate) registry: Registry,
     pub(crate) shelf: Shelf,
     pub(crate) loads: Loads,
+    pub(crate) cells: OzoneCells,
+    pub(crate) alloc: Global,
 }
 
 impl Model for Book {
-    ghost use Rattle.aq_rules.specs.Office.Office.{IsOffice, Office};
-    ghost use Rattle.aq_book.specs.View.{standing};
+    ghost use Rattle.aq_rules.specs.Office.Office.{Office};
+    ghost use Rattle.aq_book.specs.View.{standing, IsBook};
 
     ghost Value = { Office };
 
     ghost view = { λ book. standing book.registry book.shelf book.loads };
 
-    ghost invariant = { λ book. IsOffice (standing book.registry book.shelf book.loads) };
+    ghost invariant = { λ book. IsBook book.registry book.shelf book.loads book.cells };
 }
 
 impl Book {
@@ -51,6 +56,8 @@ impl Book {
             registry: Registry::new(alloc),
             shelf: Shelf::new(alloc),
             loads: Loads::new(alloc),
+            cells: OzoneCells::new(alloc),
+            alloc,
         }
     }
 
@@ -127,7 +134,8 @@ impl Book {
         loads_leave_the_office_valid();
         // The proof learns that the digest is 32 bytes.
         digest_is_32_bytes(&digest);
-        let staged = stage_load(alloc, &self.registry, &self.shelf, number, digest, body)?;
+        let identity = LoadIdentity::new(number, digest);
+        let staged = stage_load(alloc, &self.registry, &self.shelf, identity, body)?;
         Ok(staged)
     }
 
@@ -139,23 +147,51 @@ impl Book {
         ensures { IfOk result (λ batch. (number : ℕ) (digest body : List ℕ) → IsStageOf self.now number digest body staged.now → batch ≡ row_batch self.now number digest body) }
     {
         let changes = staged.changes(alloc, &self.registry, &self.shelf)?;
-        let (number, digest, reply) = (staged.number(), staged.digest(), staged.reply());
-        let batch = batch_of(alloc, &changes, number, digest, reply)?;
+        let batch = batch_of(alloc, &changes, staged.identity(), staged.reply())?;
         Ok(batch)
     }
 
     /// The book after a load that fits it: one that was staged on this book. It costs a search of the
-    /// observations for each that the load changed, or two. After want of memory the book is gone.
+    /// observations for each that the load changed, or two, and brings the ozone cells that the load reaches
+    /// up to date, lower levels first. After want of memory the book is gone.
     pub fn take(self, staged: Staged) -> Result<Book, Memory>
         requires { Fits staged self }
         ensures { IfOk result (λ book. book ≡ office_with staged self) }
     {
+        cells_out_of_reach_are_those_of_the_office_after_it();
+        what_reads_a_changed_row_is_in_reach();
+        let changes = staged.changes(self.alloc, &self.registry, &self.shelf)?;
         let taken = staged.onto(self.shelf)?;
-        let loads = self.loads.with(taken.number, taken.digest, taken.reply)?;
+        let loads = with_load(self.loads, taken.identity, taken.reply)?;
+        let mut cells = self.cells;
+        bring_up(
+            self.alloc,
+            &mut cells,
+            &changes,
+            &self.registry,
+            &taken.registry,
+            &taken.shelf,
+        )?;
         Ok(Book {
             registry: taken.registry,
             shelf: taken.shelf,
             loads,
+            cells,
+            alloc: self.alloc,
         })
     }
+}
+
+/// The loads with one more, if it is kept. After want of memory the loads are gone.
+fn with_load(
+    mut loads: Loads,
+    identity: Option<LoadIdentity>,
+    reply: LoadReply,
+) -> Result<Loads, Memory>
+    ensures { IfOk result (λ after. after ≡ kept_under identity reply loads) }
+{
+    if let Some(identity) = identity {
+        loads.put(identity.number, identity.digest, reply)?;
+    }
+    Ok(loads)
 }

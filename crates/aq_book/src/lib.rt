@@ -1,10 +1,11 @@
-//! The book: an office with its records, observations and loads. It is read from rows and gives them
-//! back, stages a load beside what stands, names its batch, takes it, and answers questions of a site.
-//! Contracts see the valid office of the book of rules, and nothing else of it.
+//! The book: an office with its records, observations and loads, and its ozone cells. It is read from rows
+//! and gives them back, stages a load beside what stands, names its batch, takes it, and answers questions
+//! of a site. Contracts see the valid office of the book of rules, and nothing else of it.
 //!
 //! # What it has
 //!
 //! - `Book::new`, `book_of`, `rows_of`: an empty book, one of an office's rows, and the rows of one.
+//!   `Book::over`: one of an office that aq_rows opened, so that its rows can be let go first.
 //! - `migrate`, `Migration`: the batch that brings rows of version 1 up to date, and the rows after it.
 //! - `Book::check`, `reply_of`, `digest_of`: what becomes of a load's number (`LoadCheck`), and what is
 //!   kept of a load.
@@ -29,6 +30,9 @@
 //!   `batch`). Taken, it gives the book of that office (`take`).
 //! - A question of a site is answered as the book of rules answers it, and refused exactly if no monitor
 //!   of the site is registered, or for want of memory where its answer takes some.
+//! - Each ozone cell that is kept is the office's, in every book (the invariant of `Book`): a load that is
+//!   taken brings up to date what reads one of its changes, before it or after it. So an ozone year, a
+//!   design value and a report of ozone make no step (`ozone_year`, `design_value`, `report`).
 //! - The report of a standard has the sites with a monitor of its pollutant, in rising order, each with
 //!   its whole design value (`report`).
 //!
@@ -53,6 +57,7 @@ mod migration;
 mod opening;
 mod ozone;
 mod question;
+mod reached;
 mod report;
 mod version_1;
 

@@ -92,8 +92,8 @@ impl Book {
 
     /// The ozone year of a site: the days of its season, those of them that are valid or approved, how
     /// many maxima are ranked, and the fourth highest of these in thousandths of a ppm (40 CFR Part 50,
-    /// Appendix U, 3(e) and 4(b)), in at most 200 steps a day. It takes no memory. The year is 1990 to
-    /// 2059.
+    /// Appendix U, 3(e) and 4(b)), from the cells that are kept. It takes no memory and makes no step. The
+    /// year is 1990 to 2059.
     pub fn ozone_year<L: Ledger>(
         &self,
         site: SiteId,
@@ -104,7 +104,7 @@ impl Book {
         requires last { year ≤ LAST_YEAR }
         ensures year { IfOk result (λ summary. summary ≡ years.ozone_year self.now site year) }
         ensures registered { is_ok result ≡ is_registered self.now site }
-        ensures steps { steps.new ≤ steps.old + 200 * 367 }
+        ensures steps { steps.new ≤ steps.old }
     {
         self.find(site)?;
         Ok(self.ozone(site, year, steps))

@@ -1,6 +1,7 @@
 //! The report of a standard: the design values of the sites that measure its pollutant.
-ghost use Rattle.std.specs.Prelude.{◌≡◌, ◌+◌, ◌*◌, ◌≤◌, ◌++◌, [], ◌∷◌, IfOk, OnOk, filter, length, map};
+ghost use Rattle.std.specs.Prelude.{◌≡◌, ◌+◌, ◌≤◌, ◌++◌, [], ◌∷◌, IfOk, OnOk, filter, length, map};
 ghost use Rattle.aq_base.specs.declared.day.TheConstants.{FIRST_YEAR, LAST_YEAR};
+ghost use Rattle.aq_base.specs.declared.limits.TheConstants.{MOST_SITES};
 ghost use Rattle.aq_base.specs.declared.standard.Standard.TheVariants.{Ozone2015};
 ghost use Rattle.aq_book.specs.Questions.{valued, valued_in};
 ghost use Rattle.aq_rules.specs.Office.Office as offices;
@@ -20,7 +21,7 @@ pub type SiteValues = Items<(SiteId, DesignValue)>;
 impl Book {
     /// The design value of a standard for each site that has a registered monitor of its pollutant, eligible
     /// or not, and the three years that end with a year, in rising order of sites. Each site is asked once.
-    /// For ozone it makes at most 200 steps a day of each. The year is 1992 to 2059.
+    /// For ozone it makes no step. The year is 1992 to 2059.
     pub fn report<L: Ledger>(
         &self,
         alloc: Global,
@@ -31,7 +32,8 @@ impl Book {
         requires first { FIRST_YEAR + 2 ≤ year }
         requires last { year ≤ LAST_YEAR }
         ensures values { IfOk result (λ values. map valued_in values ≡ map (valued standard self.now year) (sites_with self.now (standards.pollutant_of standard))) }
-        ensures steps { standard ≡ Ozone2015 → steps.new ≤ steps.old + 3 * (200 * 367) * length (sites_with self.now (standards.pollutant_of standard)) }
+        ensures few { IfOk result (λ values. length values ≤ MOST_SITES) }
+        ensures steps { standard ≡ Ozone2015 → steps.new ≤ steps.old }
     {
         let mut values = SiteValues::new(alloc);
         let mut after = None;

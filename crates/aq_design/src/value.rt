@@ -20,7 +20,8 @@ use std::sync::ledger::Ledger;
 
 /// The design value of a standard for a site and the three years that end with a year, with what is kept
 /// of these and the verdict (40 CFR Part 50, Appendix U, 3(e) and 4, Appendix N, 4 and 5, and Appendix K,
-/// 2.1). It takes no memory. For ozone it makes at most 200 steps a day. The year is 1992 to 2059.
+/// 2.1). It takes no memory. For ozone it makes at most the steps of three years of the source. The year is 1992 to
+/// 2059.
 #[tactic(auto, unfolding(aq_rules::specs::DesignValues::design_value))]
 pub fn design_value<Y: Years, L: Ledger>(
     source: &Y,
@@ -32,7 +33,7 @@ pub fn design_value<Y: Years, L: Ledger>(
     requires first { FIRST_YEAR + 2 ≤ year }
     requires last { year ≤ LAST_YEAR }
     ensures value { design_of result ≡ design_value standard (Y.office source.now) site year }
-    ensures steps { standard ≡ Ozone2015 → steps.new ≤ steps.old + 3 * (200 * 367) }
+    ensures steps { standard ≡ Ozone2015 → steps.new ≤ steps.old + 3 * Y.ozone_steps }
 {
     match standard {
         Standard::Ozone2015 => ozone_value(source, site, year, steps),
@@ -54,7 +55,7 @@ fn ozone_value<Y: Years, L: Ledger>(
     requires first { FIRST_YEAR + 2 ≤ year }
     requires last { year ≤ LAST_YEAR }
     ensures value { design_of result ≡ OfOzone (three_years (Y.office source.now) site year) (ozone_design (Y.office source.now) site year) }
-    ensures steps { steps.new ≤ steps.old + 3 * (200 * 367) }
+    ensures steps { steps.new ≤ steps.old + 3 * Y.ozone_steps }
 {
     let first = source.ozone(site, year - 2, steps);
     let second = source.ozone(site, year - 1, steps);

@@ -1,5 +1,5 @@
 //! Where the years of an office are had from.
-ghost use Rattle.std.specs.Prelude.{◌≡◌, ◌+◌, ◌*◌, ◌≤◌};
+ghost use Rattle.std.specs.Prelude.{◌≡◌, ◌+◌, ◌≤◌, ℕ};
 ghost use Rattle.aq_base.specs.declared.day.TheConstants.{FIRST_YEAR, LAST_YEAR};
 ghost use Rattle.aq_rules.specs.Kept.Summaries.{pm25_summary};
 ghost use Rattle.aq_rules.specs.Office.Office.{Office};
@@ -15,13 +15,16 @@ pub trait Years {
     /// The office whose years they are.
     ghost office: { Self → Office };
 
-    /// The ozone year of a site (40 CFR Part 50, Appendix U, 3(e) and 4(b)), in at most 200 steps a day.
-    /// The year is 1990 to 2059.
+    /// How many steps an ozone year makes at most.
+    ghost ozone_steps: { ℕ };
+
+    /// The ozone year of a site (40 CFR Part 50, Appendix U, 3(e) and 4(b)), in at most as many
+    /// steps as the source says. The year is 1990 to 2059.
     fn ozone<L: Ledger>(&self, site: SiteId, year: u16, steps: &mut Steps<L>) -> OzoneYear
         requires first { FIRST_YEAR ≤ year }
         requires last { year ≤ LAST_YEAR }
         ensures year { result ≡ ozone_year (office self.now) site year }
-        ensures steps { steps.new ≤ steps.old + 200 * 367 };
+        ensures steps { steps.new ≤ steps.old + ozone_steps };
 
     /// The PM2.5 year of a site (40 CFR Part 50, Appendix N, 1.0(c), 3.0 and 4). The year is 1990 to 2059.
     fn pm25<L: Ledger>(&self, site: SiteId, year: u16, steps: &mut Steps<L>) -> PmYear

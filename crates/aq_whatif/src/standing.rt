@@ -61,7 +61,11 @@ impl<'a> Model for Turned<'a> {
 }
 
 impl<'a> Years for Turned<'a> {
+    ghost use Rattle.std.specs.Prelude.{◌*◌};
+
     ghost office = { λ office. office };
+
+    ghost ozone_steps = { 200 * 367 };
 
     fn ozone<L: Ledger>(&self, site: SiteId, year: u16, steps: &mut Steps<L>) -> OzoneYear {
         match self.standing.ozone(&self.hours, site, year) {

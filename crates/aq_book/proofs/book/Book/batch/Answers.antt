@@ -1,12 +1,11 @@
 use Rattle.std.proofs.Common.{◌∙◌, ◌++◌, map}
 use Rattle.aq_rules.specs.Kept.RowChanges.{row_change}
-use Rattle.aq_rules.specs.Office.Load.{load_change}
-use Rattle.aq_rows.specs.KeptLoads.{stored_as}
+use Rattle.aq_book.specs.Staged.{own_change}
 use Rattle.aq_book.proofs.BatchLemmas.{batch_is}
 use Rattle.aq_book.proofs.book.Book.batch.Goals as goal
 
 pub returns : goal.returns
 returns c number digest body stage =
     c.in_ok-batch.ensures
-    ∙ (λ i. map row_change c.in_ok-changes.changes ++ map row_change (load_change (stored_as (c.number-number.ensures i) (c.digest-digest.ensures i) (c.reply-reply.ensures i))))
+    ∙ (λ i. map row_change c.in_ok-changes.changes ++ map row_change (own_change (c.identity.ensures i) (c.reply.ensures i)))
     ∙ batch_is c.args.staged.now c.self.inside.registry c.self.inside.shelf c.self.inside.loads c.args.self.now c.self.view_is c.in_ok-changes.changes c.in_ok-changes.ensures number digest body stage

@@ -1,4 +1,4 @@
-use Rattle.std.proofs.Common.{◌≡◌, ◌+◌, ◌*◌, ◌≤◌, ◌++◌, length, map}
+use Rattle.std.proofs.Common.{◌≡◌, ◌≤◌, ◌++◌, length, map}
 use Rattle.aq_base.specs.declared.standard.Standard.TheVariants.{Ozone2015}
 use Rattle.aq_rules.specs.Shown.OtherSheets.{sites_with}
 use Rattle.aq_rules.specs.Standards.{pollutant_of}
@@ -11,9 +11,7 @@ invariant-loop-site g l = record {
   values :
       map valued_in l.values ++ map (valued l.standard l.self l.year) (with_monitor l.self (pollutant_of l.standard) (sites_above l.self.records l.after))
       ≡ map (valued l.standard l.self l.year) (sites_with l.self (pollutant_of l.standard));
-  steps : l.standard ≡ Ozone2015
-      → l.steps + 3 * (200 * 367) * length (with_monitor l.self (pollutant_of l.standard) (sites_above l.self.records l.after))
-      ≤ l.fn.steps + 3 * (200 * 367) * length (sites_with l.self (pollutant_of l.standard));
+  steps : l.standard ≡ Ozone2015 → l.steps ≤ l.fn.steps;
 }
 
 abbrev pub decreases-loop-site : goal.decreases-loop-site

@@ -1,18 +1,59 @@
+use Rattle.std.proofs.Common.{◌∙◌, sym, subst}
+use Rattle.aq_rules.specs.Office.Office.{Office}
+use Rattle.aq_series.specs.OfficeView.{office_of}
+use Rattle.aq_staging.specs.Staged.{IsStagedOn}
+use Rattle.aq_book.proofs.ReachedLemmas.{changes-are, loadless, none-amiss, reached-by}
 use Rattle.aq_book.proofs.StageLemmas.{room-after, taken-office, valid-after}
 use Rattle.aq_book.proofs.book.Book.take.Goals as goal
+
+pub changes-requires : goal.changes-requires
+changes-requires c = record {
+  staged = subst (λ (o : Office). IsStagedOn o.records o.observations c.args.staged) (sym c.self.view_is) c.requires.on;
+  order = c.self.invariant.office.keys_rise.records;
+}
 
 pub onto-requires : goal.onto-requires
 onto-requires c =
     room-after c.args.staged c.args.self c.self.inside.registry c.self.inside.shelf c.self.inside.loads c.self.view_is c.requires
 
-pub invariant_of-result : goal.invariant_of-result
-invariant_of-result c =
+pub bring_up-requires-clause-drops : goal.bring_up-requires-clause-drops
+bring_up-requires-clause-drops c =
+    none-amiss (office_of c.self.inside.registry c.self.inside.shelf) (office_of c.in_ok-taken.taken.registry c.in_ok-taken.taken.shelf) c.in_ok-changes.changes
+    (changes-are c.self.inside.registry c.in_ok-taken.taken.registry c.self.inside.shelf c.in_ok-taken.taken.shelf c.args.staged c.in_ok-changes.changes
+    c.in_ok-taken.ensures.records c.in_ok-taken.ensures.observations c.in_ok-changes.ensures)
+
+pub bring_up-requires-clause-others : goal.bring_up-requires-clause-others
+bring_up-requires-clause-others c cell out =
+    let before = office_of c.self.inside.registry c.self.inside.shelf in
+    let after = office_of c.in_ok-taken.taken.registry c.in_ok-taken.taken.shelf in
+    let valid =
     valid-after c.args.staged c.args.self c.self.inside.registry c.self.inside.shelf c.self.inside.loads c.self.view_is
-    c.in_ok-taken.taken.registry c.in_ok-taken.ensures.records c.in_ok-taken.taken.shelf c.in_ok-taken.ensures.observations c.in_ok-taken.taken.number c.in_ok-taken.ensures.number
-    c.in_ok-taken.taken.digest c.in_ok-taken.ensures.digest c.in_ok-taken.taken.reply c.in_ok-taken.ensures.reply c.in_ok-loads.loads c.in_ok-loads.ensures c.requires
+    c.in_ok-taken.taken.registry c.in_ok-taken.ensures.records c.in_ok-taken.taken.shelf c.in_ok-taken.ensures.observations c.in_ok-taken.taken.identity c.in_ok-taken.ensures.identity
+    c.in_ok-taken.taken.reply c.in_ok-taken.ensures.reply c.in_ok-loads.loads c.in_ok-loads.ensures c.requires
+    in
+    let are =
+    changes-are c.self.inside.registry c.in_ok-taken.taken.registry c.self.inside.shelf c.in_ok-taken.taken.shelf c.args.staged c.in_ok-changes.changes
+    c.in_ok-taken.ensures.records c.in_ok-taken.ensures.observations c.in_ok-changes.ensures
+    in
+    c.cells_out_of_reach_are_those_of_the_office_after_it.ensures before after c.self.inside.cells cell
+    (loadless c.self.inside.registry c.self.inside.shelf c.self.inside.loads c.self.invariant.office)
+    (loadless c.in_ok-taken.taken.registry c.in_ok-taken.taken.shelf c.in_ok-loads.loads valid)
+    c.self.invariant.cells_kept
+    (λ ozone.
+    reached-by c.self.inside.registry c.in_ok-taken.taken.registry c.self.inside.shelf c.in_ok-taken.taken.shelf c.in_ok-changes.changes are cell
+    (c.what_reads_a_changed_row_is_in_reach.ensures before after cell) ∙ out ozone c.self.inside.shelf)
+
+pub invariant_of-result : goal.invariant_of-result
+invariant_of-result c = record {
+  office =
+      valid-after c.args.staged c.args.self c.self.inside.registry c.self.inside.shelf c.self.inside.loads c.self.view_is
+      c.in_ok-taken.taken.registry c.in_ok-taken.ensures.records c.in_ok-taken.taken.shelf c.in_ok-taken.ensures.observations c.in_ok-taken.taken.identity c.in_ok-taken.ensures.identity
+      c.in_ok-taken.taken.reply c.in_ok-taken.ensures.reply c.in_ok-loads.loads c.in_ok-loads.ensures c.requires;
+  cells_kept = c.in_ok-bring_up.ensures;
+}
 
 pub returns : goal.returns
 returns c =
     taken-office c.args.staged c.args.self c.self.inside.registry c.self.inside.shelf c.self.inside.loads c.self.view_is
-    c.in_ok-taken.taken.registry c.in_ok-taken.ensures.records c.in_ok-taken.taken.shelf c.in_ok-taken.ensures.observations c.in_ok-taken.taken.number c.in_ok-taken.ensures.number
-    c.in_ok-taken.taken.digest c.in_ok-taken.ensures.digest c.in_ok-taken.taken.reply c.in_ok-taken.ensures.reply c.in_ok-loads.loads c.in_ok-loads.ensures
+    c.in_ok-taken.taken.registry c.in_ok-taken.ensures.records c.in_ok-taken.taken.shelf c.in_ok-taken.ensures.observations c.in_ok-taken.taken.identity c.in_ok-taken.ensures.identity
+    c.in_ok-taken.taken.reply c.in_ok-taken.ensures.reply c.in_ok-loads.loads c.in_ok-loads.ensures
