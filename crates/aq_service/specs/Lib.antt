@@ -1,4 +1,2 @@
 -- What the service of an office promises.
-pub mod Answers
-pub mod Posting
 pub mod Replies

@@ -5,12 +5,13 @@ use Rattle.aq_rules.specs.Office.Office.{Office, StoredLoad, load_at}
 use Rattle.aq_rules.specs.Shown.OtherSheets.{conflict_sheet}
 use Rattle.aq_rules.specs.Shown.Sheets.{load_sheet}
 use Rattle.aq_serve.specs.Answered.{Answered, refused, reply_of, shown}
-use Rattle.aq_serve.specs.Service.{AreOfOffice, Become, Counts, Keeps, ServiceView}
-use Rattle.aq_service.specs.declared.posting.Posted.{Posted}
-use Rattle.aq_service.specs.declared.posting.Posted.TheVariants.{Done, Lines, Conflict, Full, Failed}
+use Rattle.aq_keeper.specs.Standing.{AreOfOffice, Become, Keeps, Standing}
+use Rattle.aq_serve.specs.Service.{Counts}
+use Rattle.aq_office.specs.declared.posting.Posted.{Posted}
+use Rattle.aq_office.specs.declared.posting.Posted.TheVariants.{Done, Lines, Conflict, Full, Failed}
 
 -- bytes that answer, the keeper failing or not, and the office and the tables after them
-pub record AnswersBy (answered : Bool → Answered) (close : Bool) (bytes : List ℕ) (before after : ServiceView) : Type 0 where
+pub record AnswersBy (answered : Bool → Answered) (close : Bool) (bytes : List ℕ) (before after : Standing) : Type 0 where
   pub fails : Bool
   pub reply : bytes ≡ reply_of (answered fails) close
   pub office : after.office ≡ (answered fails).office
@@ -18,7 +19,7 @@ pub record AnswersBy (answered : Bool → Answered) (close : Bool) (bytes : List
   pub tables : Keeps before after
 
 -- memory was not to be had for them
-pub record LosesBy (answered : Bool → Answered) (before after : ServiceView) : Type 0 where
+pub record LosesBy (answered : Bool → Answered) (before after : Standing) : Type 0 where
   pub cause : (after.faults ≡ before.faults) ⊎ HasRisen before.faults after.faults
   pub tables : AreOfOffice before → Become before before.office after ⊎ Become before (answered false).office after
 

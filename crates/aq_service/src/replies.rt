@@ -8,35 +8,34 @@ ghost use Rattle.aq_rules.specs.Shown.Json as json;
 ghost use Rattle.aq_rules.specs.Shown.Sheets.{load_sheet};
 ghost use Rattle.aq_rules.specs.Shown.WellFormed.{IsWellFormed};
 ghost use Rattle.aq_serve.specs.Answered.{reply_of, shown, to_question};
-ghost use Rattle.aq_service.specs.Answers.{IsTextOf};
 ghost use Rattle.aq_service.specs.Replies.{IsLoadReply, Stands, methods};
 
-use crate::answers::{Answer, answer_to};
-use crate::posting::Posted;
 use aq_base::{Ask, Memory};
 use aq_book::Book;
 use aq_http::reply_bytes;
+use aq_office::{Answer, Posted, answer_to};
 use aq_reports::{Sheet, conflict_sheet, json_of, load_sheet};
 use aq_rows::digest_is_32_bytes;
 use aq_rules::shown::well_formed::{answers_are_well_formed, other_sheets_are_well_formed};
 use aq_serve::error_reply;
 use std::alloc::Global;
 
-/// The JSON that a question is answered with, or None if it is answered with 404: no route asks for an
-/// export.
-pub(crate) fn question_text(
+/// The reply to a question. No route asks for an export.
+pub(crate) fn question_reply(
     alloc: Global,
     book: &Book,
     ask: &Ask,
-) -> Result<Option<Vec<u8>>, Memory>
+    close: bool,
+) -> Result<Vec<u8>, Memory>
     requires valid { IsOffice book.now }
     requires asked { IsTrue (is_asked ask.now) }
-    ensures { IfOk result (λ text. IsTextOf (to_question book.now (answer book.now ask.now)) book.now text) }
+    ensures { IfOk result (λ reply. reply.items ≡ reply_of
+        (to_question book.now (answer book.now ask.now)) close) }
 {
     answers_are_well_formed();
     match answer_to(alloc, book, ask)? {
-        Answer::Sheet(sheet) => Ok(Some(json_of(alloc, &sheet)?)),
-        Answer::Export(_) | Answer::NoSite | Answer::NoLoad => Ok(None),
+        Answer::Sheet(sheet) => sheet_reply(alloc, 200, &sheet, close),
+        Answer::Export(_) | Answer::NoSite | Answer::NoLoad => error_reply(alloc, 404, b"", close),
     }
 }
 
@@ -65,7 +64,8 @@ pub(crate) fn load_reply(
 fn kept_reply(alloc: Global, book: &Book, number: u32, close: bool) -> Result<Vec<u8>, Memory>
     requires valid { IsOffice book.now }
     requires stands { IsSome (load_at book.now number) }
-    ensures { IfOk result (λ bytes. IfSome (load_at book.now number) (λ kept. bytes.items ≡ reply_of (shown 200 (load_sheet kept.reply) book.now) close)) }
+    ensures { IfOk result (λ bytes. IfSome (load_at book.now number)
+        (λ kept. bytes.items ≡ reply_of (shown 200 (load_sheet kept.reply) book.now) close)) }
 {
     answers_are_well_formed();
     match book.reply_of(number) {
@@ -86,7 +86,9 @@ fn conflict_reply(
     close: bool,
 ) -> Result<Vec<u8>, Memory>
     requires { IsSome (load_at book.now number) }
-    ensures { IfOk result (λ bytes. IfSome (load_at book.now number) (λ kept. bytes.items ≡ reply_of (shown 409 (conflict_sheet number kept.digest sent.now) book.now) close)) }
+    ensures { IfOk result (λ bytes. IfSome (load_at book.now number)
+        (λ kept. bytes.items ≡ reply_of (shown 409
+        (conflict_sheet number kept.digest sent.now) book.now) close)) }
 {
     other_sheets_are_well_formed();
     match book.digest_of(number) {
@@ -104,7 +106,8 @@ fn conflict_reply(
 fn sheet_reply(alloc: Global, status: u16, sheet: &Sheet, close: bool) -> Result<Vec<u8>, Memory>
     requires status { IsTrue (is_reply_status status) }
     requires well_formed { IsWellFormed sheet.now }
-    ensures { IfOk result (λ bytes. bytes.items ≡ reply_text (record { status = status; allow = []; close = close; body = json.json_of sheet.now })) }
+    ensures { IfOk result (λ bytes. bytes.items ≡ reply_text
+        (record { status = status; allow = []; close = close; body = json.json_of sheet.now })) }
 {
     let body = json_of(alloc, sheet)?;
     reply_bytes(alloc, status, b"", close, &body)

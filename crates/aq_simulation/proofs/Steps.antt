@@ -1,23 +1,29 @@
 -- Loads that are taken one after the other.
-use Rattle.std.proofs.Common.{◌≡◌, ℕ, suc, ◌+◌, ◌-◌, ◌*◌, ◌≤◌, ◌<◌, Bool, false, List, ◌++◌, length, flat_map, Vec, Global, Option, Some, None, refl, sym, ap, subst, ◌∙◌, arith}
+use Rattle.std.proofs.Common.{◌≡◌, ℕ, suc, ◌+◌, ◌-◌, ◌*◌, ◌≤◌, ◌<◌, inl, inr, Bool, false, List, ◌++◌, length, flat_map, Vec, Global, Option, Some, None, refl, sym, ap, subst, ◌∙◌, arith}
 use Rattle.std.specs.Prelude.{◌||◌, ◌==◌, nat_lt, if◌then◌else◌, fold, Result, IfOk}
 use Rattle.std.specs.List.{range_with_len}
 use Rattle.std.proofs.lemmas.Bool.Decides.{nat_tests}
 use Rattle.std.proofs.lemmas.Nat.{mul-le}
 use Rattle.sha2.specs.Sha256.{sha256}
+use Rattle.aq_base.specs.Faults.{HasRisen}
 use Rattle.aq_base.specs.Standard.{standards}
 use Rattle.aq_base.specs.declared.standard.Standard.{Standard}
 use Rattle.aq_rules.specs.Limits.{MOST_LINES, MOST_GENERATED_SITES, MOST_GENERATED_YEARS}
 use Rattle.aq_rules.specs.Lines.Lines.{line_count}
 use Rattle.aq_rules.specs.Office.Office.{Office, nothing}
-use Rattle.aq_rules.specs.Office.Load.{post}
+use Rattle.aq_rules.specs.Office.Load.{TooManyLines, Repeated, Differing, NoRoom, Taken, office_after, post}
+use Rattle.aq_rules.specs.Office.Load as loads
 use Rattle.aq_rules.specs.Shown.Answer.{OfSheet, OfExport, NoSite, NoLoad, Report, answer}
 use Rattle.aq_rules.specs.Shown.Generator.{generate, generated_lines, generated_load, generated_office, load_count, loads_to_take, simulation, FIRST_GENERATED_YEAR}
 use Rattle.aq_rules.specs.Shown.OtherSheets.{report_answer, summary_sheet}
 use Rattle.aq_rules.specs.Shown.Sheet.{Sheet, text_of}
-use Rattle.aq_service.specs.Answers.{seen}
-use Rattle.aq_service.specs.declared.answers.Answer as service
-use Rattle.aq_service.specs.declared.answers.Answer.TheVariants as kinds
+use Rattle.aq_keeper.specs.Standing.{Standing}
+use Rattle.aq_office.specs.Answers.{seen}
+use Rattle.aq_office.specs.Posting.{IsPosted}
+use Rattle.aq_office.specs.declared.answers.Answer as service
+use Rattle.aq_office.specs.declared.answers.Answer.TheVariants as kinds
+use Rattle.aq_office.specs.declared.posting.Posted.{Posted}
+use Rattle.aq_office.specs.declared.posting.Posted.TheVariants.{Done, Lines, Conflict, Full, Failed}
 
 -- ---- the load that is taken
 
@@ -41,6 +47,24 @@ module _ (start sites years load : ℕ) (first : 1 ≤ load) (last : load ≤ lo
 
   pub body_is : (body : List ℕ) → found ≡ Some body → body ≡ generated_load start sites years load
   body_is body some = same-some body (generated_load start sites years load) (sym some ∙ is ∙ generated_is start sites years load first last)
+
+-- ---- the office that stands behind it
+
+not_risen : (before after : ℕ) → before ≡ 0 → after ≡ 0 → HasRisen before after → ⊥
+not_risen before after none still (inl rose) = omega (arith, still, rose)
+not_risen before after none still (inr full) = omega (arith, none, full.0)
+
+-- over a keeper that never fails it is what the load comes to
+pub posted_office : (comes : loads.Posted) (told : Posted) (lines : ℕ) (before after : Standing) → before.faults ≡ 0 → after.faults ≡ 0 → IsPosted comes lines before after told → after.office ≡ office_after comes before.office
+posted_office TooManyLines told lines before after none still is = ap (λ (s : Standing). s.office) is.1
+posted_office (Repeated kept) told lines before after none still is = ap (λ (s : Standing). s.office) is.1
+posted_office (Differing kept sent) told lines before after none still is = ap (λ (s : Standing). s.office) is.1
+posted_office NoRoom told lines before after none still is = ap (λ (s : Standing). s.office) is.1
+posted_office (Taken reply now) Done lines before after none still is = is.0
+posted_office (Taken reply now) Failed lines before after none still is = absurd (not_risen before.faults after.faults none still is.2)
+posted_office (Taken reply now) (Lines count) lines before after none still is = absurd is
+posted_office (Taken reply now) (Conflict sent) lines before after none still is = absurd is
+posted_office (Taken reply now) Full lines before after none still is = absurd is
 
 -- ---- the report of a standard
 

@@ -8,8 +8,8 @@ ghost use Rattle.aq_rules.specs.Shown.Sheet.{text_of};
 use crate::taken::Taken;
 use aq_base::{Ask, Memory, Standard};
 use aq_book::Book;
+use aq_office::{Answer, answer_to};
 use aq_reports::{summary_sheet, text_of};
-use aq_service::{Answer, answer_to};
 use std::alloc::Global;
 
 /// The text of the summary.

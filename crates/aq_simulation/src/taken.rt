@@ -11,7 +11,7 @@ use aq_book::Book;
 use aq_forms::count_lines;
 use aq_generator::{generate, load_count};
 use aq_keeper::SteadyKeeper;
-use aq_service::post;
+use aq_office::post;
 use std::alloc::Global;
 use std::mem;
 

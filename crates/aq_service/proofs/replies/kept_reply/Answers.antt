@@ -1,6 +1,6 @@
 use Rattle.aq_rules.specs.Office.Office.{load_at}
 use Rattle.aq_rules.specs.Shown.WellFormed.{IsWellFormed}
-use Rattle.aq_service.proofs.Asked.{kept_sheet}
+use Rattle.aq_office.proofs.Asked.{kept_sheet}
 use Rattle.aq_service.proofs.replies.kept_reply.Goals as goal
 
 pub sheet_reply-requires-clause-well_formed : goal.sheet_reply-requires-clause-well_formed

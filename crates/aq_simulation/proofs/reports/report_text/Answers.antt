@@ -1,5 +1,5 @@
 use Rattle.std.proofs.Common.{ap, ◌∙◌}
-use Rattle.aq_service.specs.Answers.{seen}
+use Rattle.aq_office.specs.Answers.{seen}
 use Rattle.aq_simulation.proofs.Steps.{no_other, report_sheet_is, text_is}
 use Rattle.aq_simulation.proofs.reports.report_text.Goals as goal
 

@@ -1,0 +1,4 @@
+-- Lemmas on the answers to questions and on loads that are posted.
+pub mod Asked
+pub mod PostedLoads
+pub mod Taking

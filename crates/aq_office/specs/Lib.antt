@@ -1,0 +1,3 @@
+-- What answers questions about an office, and what becomes of a load that is posted.
+pub mod Answers
+pub mod Posting

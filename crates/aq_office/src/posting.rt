@@ -1,0 +1,101 @@
+//! Loads that are posted: checked, staged, committed, and then taken.
+ghost use Rattle.std.specs.Prelude.{◌≡◌, ◌≤◌, length, IfOk, OnErr};
+ghost use Rattle.sha2.specs.Sha256.{sha256};
+ghost use Rattle.aq_rules.specs.Limits.{MOST_BYTES, MOST_LINES};
+ghost use Rattle.aq_rules.specs.Lines.Lines.{line_count};
+ghost use Rattle.aq_rules.specs.Office.Load.{New, decide, load, posted, reply};
+ghost use Rattle.aq_rules.specs.Office.Office.{IsOffice};
+ghost use Rattle.aq_keeper.specs.Standing.{standing_of};
+ghost use Rattle.aq_office.specs.Posting.{IsPosted, LosesLoad, TakenBy};
+
+use aq_base::{MOST_LINES, Memory};
+use aq_book::{Book, LoadCheck};
+use aq_forms::count_lines;
+use aq_keeper::{Keeper, KeeperFault};
+use aq_rules::kept::row_changes::{batch_gives_the_rows_after, batch_is_in_order};
+use sha2::{Digest, Sha256};
+use std::alloc::Global;
+
+/// What became of a load that was posted.
+#[derive(Clone, Copy, Debug, PartialEq, Eq)]
+pub enum Posted {
+    /// It stands: it was taken, or it had been before.
+    Done,
+    /// Its body has this many lines, more than may be.
+    Lines(u32),
+    /// Its number is kept with another digest than this one, which was sent.
+    Conflict([u8; 32]),
+    /// As many loads stand as may.
+    Full,
+    /// The keeper failed, and nothing was taken.
+    Failed,
+}
+
+/// Posts a load under a number from 1 on, and answers the book that then stands: a load that is taken is
+/// committed first. The digest of a load is the SHA-256 of its body. After `Memory` the book is gone, and
+/// the keeper's tables are as before or have the load.
+pub fn post<K: Keeper>(
+    alloc: Global,
+    book: Book,
+    keeper: &mut K,
+    number: u32,
+    body: &[u8],
+) -> Result<(Book, Posted), Memory>
+    requires bytes { length body.now ≤ MOST_BYTES }
+    requires valid { IsOffice book }
+    ensures posted { IfOk result (λ ends. IsPosted (posted book number (sha256 body.now) body.now)
+        (line_count body.now)
+        (standing_of book (K.seen keeper.old))
+        (standing_of ends.0 (K.seen keeper.new)) ends.1) }
+    ensures valid { IfOk result (λ ends. IsOffice ends.0) }
+    ensures lost { OnErr result (LosesLoad number (sha256 body.now) body.now
+        (standing_of book (K.seen keeper.old))
+        (standing_of book (K.seen keeper.new))) }
+{
+    let lines = count_lines(body);
+    if lines > MOST_LINES {
+        return Ok((book, Posted::Lines(lines)));
+    }
+    let digest = Sha256::digest(body);
+    match book.check(number, &digest) {
+        LoadCheck::Repeat => Ok((book, Posted::Done)),
+        LoadCheck::Conflict => Ok((book, Posted::Conflict(digest))),
+        LoadCheck::Full => Ok((book, Posted::Full)),
+        LoadCheck::New => take(alloc, book, keeper, number, digest, body),
+    }
+}
+
+/// Stages a new load, commits its batch, and takes it.
+fn take<K: Keeper>(
+    alloc: Global,
+    book: Book,
+    keeper: &mut K,
+    number: u32,
+    digest: [u8; 32],
+    body: &[u8],
+) -> Result<(Book, Posted), Memory>
+    requires new { decide book number digest ≡ New }
+    requires bytes { length body.now ≤ MOST_BYTES }
+    requires lines { line_count body.now ≤ MOST_LINES }
+    requires valid { IsOffice book }
+    ensures taken { IfOk result (λ ends. TakenBy ends.1 (load book number digest body.now)
+        (standing_of book (K.seen keeper.old))
+        (standing_of ends.0 (K.seen keeper.new))) }
+    ensures valid { IfOk result (λ ends. IsOffice ends.0) }
+    ensures lost { OnErr result (LosesLoad number digest body.now
+        (standing_of book (K.seen keeper.old))
+        (standing_of book (K.seen keeper.new))) }
+{
+    batch_is_in_order();
+    batch_gives_the_rows_after();
+    let staged = book.stage(alloc, number, digest, body)?;
+    let batch = book.batch(alloc, &staged)?;
+    match keeper.commit(alloc, batch.as_slice()) {
+        Ok(()) => {
+            let book = book.take(staged)?;
+            Ok((book, Posted::Done))
+        }
+        Err(KeeperFault::Failed) => Ok((book, Posted::Failed)),
+        Err(KeeperFault::Memory) => Err(Memory),
+    }
+}

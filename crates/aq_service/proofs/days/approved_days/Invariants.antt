@@ -1,6 +1,0 @@
-use Rattle.std.proofs.Common.{◌≡◌}
-use Rattle.aq_service.proofs.Asked.{first_approvals}
-use Rattle.aq_service.proofs.days.approved_days.Given as goal
-
-abbrev pub invariant-loop-i : goal.invariant-loop-i
-invariant-loop-i l = l.approved ≡ first_approvals l.book l.site l.first l.i

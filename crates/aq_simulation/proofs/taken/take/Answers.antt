@@ -1,0 +1,14 @@
+use Rattle.std.proofs.Common.{List, refl, ap, ◌∙◌}
+use Rattle.sha2.specs.Sha256.{sha256}
+use Rattle.aq_rules.specs.Lines.Lines.{line_count}
+use Rattle.aq_rules.specs.Office.Load.{post, posted}
+use Rattle.aq_rules.specs.Office.Office.{Office}
+use Rattle.aq_keeper.specs.Standing.{Standing}
+use Rattle.aq_simulation.proofs.Steps.{posted_office}
+use Rattle.aq_simulation.proofs.taken.take.Goals as goal
+
+pub returns-clause-book : goal.returns-clause-book
+returns-clause-book c =
+    let office = λ (o : Office). post o c.args.number (sha256 c.args.body.now) c.args.body.now in
+    posted_office _ _ _ _ _ refl refl c.in_ok-book.ensures.posted
+    ∙ ap office c.replace-book.ensures.value
