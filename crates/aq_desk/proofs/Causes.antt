@@ -10,7 +10,7 @@ use Rattle.aq_desk.proofs.Serving.{serve_status}
 use Rattle.aq_desk.proofs.Tables.{keeps_same, of_any, of_told, with_tables}
 use Rattle.aq_desk.specs.Command.{Follows, IsWhole, Outcome, Printout, RisesAt, Tells, leaving, message_for}
 use Rattle.aq_desk.specs.Ending.{no_command}
-use Rattle.aq_serve.specs.Outside.{IsAll, OfTold}
+use Rattle.aq_serve.specs.Outside.{IsAll, OfTold, SinkView, SourceView}
 use Rattle.aq_desk.specs.Run.{Acts, KeeperRises, Runs, Surroundings, hosting_for, hosting_in, outcome_of, reads_input}
 use Rattle.aq_desk.specs.Serve.{Around, HasServed, Hosting, serve_outcome}
 use Rattle.aq_desk.specs.Simulate.{simulate_outcome}
@@ -18,7 +18,7 @@ use Rattle.aq_desk.specs.Stop.{EndsAs, IsMeasured, Obeys, Performs, ending_of, s
 use Rattle.aq_words.specs.declared.words.Command.{Command}
 use Rattle.aq_words.specs.declared.words.Command.TheVariants.{Serve}
 use Rattle.aq_desk.specs.declared.stop.Stop.{Stop}
-use Rattle.aq_desk.specs.declared.stop.Stop.TheVariants.{InputFailed, OutputFailed, KeeperFailed, DoorFailed, Damaged, Memory, Conflict, TooManyBytes, TooManyLines, LoadsFull, NoSite, NoEvent}
+use Rattle.aq_desk.specs.declared.stop.Stop.TheVariants.{InputFailed, OutputFailed, KeeperFailed, DoorFailed, Damaged, Memory, Conflict, TooManyBytes, TooManyLines, LoadsFull, NoSite, NoEvent, NoSiteInArea}
 
 whole-0 : IsWhole 0
 whole-0 = grind arith
@@ -41,6 +41,9 @@ whole-12 = grind arith
 whole-13 : IsWhole 13
 whole-13 = grind arith
 
+whole-15 : IsWhole 15
+whole-15 = grind arith
+
 -- the message that was told is that of the status
 message-is : (outcome : Outcome) (answer : Result Unit Stop) → EndsAs outcome answer → (ending_of answer).message ≡ message_for outcome (status_of answer)
 message-is outcome (Ok nothing) ends = ap (λ ending. ending.message) (ends whole-0)
@@ -56,8 +59,9 @@ message-is outcome (Err (TooManyLines lines)) ends = ap (λ ending. ending.messa
 message-is outcome (Err LoadsFull) ends = ap (λ ending. ending.message) (ends whole-11)
 message-is outcome (Err (NoSite site)) ends = ap (λ ending. ending.message) (ends whole-12)
 message-is outcome (Err (NoEvent number)) ends = ap (λ ending. ending.message) (ends whole-13)
+message-is outcome (Err NoSiteInArea) ends = ap (λ ending. ending.message) (ends whole-15)
 
-performs_follows : (outcome : Outcome) (answer : Result Unit Stop) (before after : Option (List ℕ)) (tables_before tables_after : Option (List Row)) → Performs outcome answer before after tables_before tables_after → Follows outcome (status_of answer) before after tables_before tables_after
+performs_follows : (outcome : Outcome) (answer : Result Unit Stop) (before after : SinkView) (tables_before tables_after : Option (List Row)) → Performs outcome answer before after tables_before tables_after → Follows outcome (status_of answer) before after tables_before tables_after
 performs_follows outcome answer before after tables_before tables_after performs = record {
   answered = λ whole. ap (λ ending. ending.status) (performs.obeys.ending whole);
   whole = performs.obeys.whole;
@@ -69,11 +73,11 @@ performs_follows outcome answer before after tables_before tables_after performs
 -- ---- what each command does
 
 -- a command that prints
-module _ (command kind : Command) (is : command ≡ kind) (none : hosting_in kind ≡ None) (answer : Result Unit Stop) (left written_before written_after : Option (List ℕ)) (before after : Around) where
-  pub printing : OfTold (told_through before.tables after.tables) (λ rows. OfTold left (λ body. Performs (outcome_of kind rows body) answer written_before written_after before.tables after.tables × IsMeasured (reads_input kind) body (status_of answer)))
-      → Acts command answer left written_before written_after before after
+module _ (command kind : Command) (is : command ≡ kind) (none : hosting_in kind ≡ None) (answer : Result Unit Stop) (left : Option (List ℕ)) (output_before output_after : SinkView) (before after : Around) where
+  pub printing : OfTold (told_through before.tables after.tables) (λ rows. OfTold left (λ body. Performs (outcome_of kind rows body) answer output_before output_after before.tables after.tables × IsMeasured (reads_input kind) body (status_of answer)))
+      → Acts command answer left output_before output_after before after
   printing over =
-      let P = λ (c : Command). Acts c answer left written_before written_after before after in
+      let P = λ (c : Command). Acts c answer left output_before output_after before after in
       let both = over.says.says in
       subst P (sym is) (record {
         rows = over.all;
@@ -87,11 +91,11 @@ module _ (command kind : Command) (is : command ≡ kind) (none : hosting_in kin
       })
 
 -- one that serves: it does not read its input
-pub serving : (command : Command) (port connections : ℕ) → command ≡ Serve port connections → (answer : Result Unit Stop) (left written_before written_after : Option (List ℕ)) (before after : Around)
+pub serving : (command : Command) (port connections : ℕ) → command ≡ Serve port connections → (answer : Result Unit Stop) (left : Option (List ℕ)) (output_before output_after : SinkView) (before after : Around)
     → OfTold (told_through before.tables after.tables) (λ rows. HasServed (record { port = port; connections = connections }) rows (status_of answer) before after × EndsAs (serve_outcome rows) answer)
-    → Acts command answer left written_before written_after before after
-serving command port connections is answer left written_before written_after before after over =
-    let P = λ (c : Command). Acts c answer left written_before written_after before after in
+    → Acts command answer left output_before output_after before after
+serving command port connections is answer left output_before output_after before after over =
+    let P = λ (c : Command). Acts c answer left output_before output_after before after in
     let input : OfTold left (λ _. Unit {0}) = of_any left (λ _. Unit {0}) (λ _. tt) in
     subst P (sym is) (record {
       rows = over.all;
@@ -105,7 +109,7 @@ serving command port connections is answer left written_before written_after bef
     })
 
 -- a command that reads its input, and one that does not
-pub without_keeper : (printout : List ℕ → Printout) (reads : Bool) (left : Option (List ℕ)) (answer : Result Unit Stop) (before after : Option (List ℕ)) (tables : Option (List Row))
+pub without_keeper : (printout : List ℕ → Printout) (reads : Bool) (left : Option (List ℕ)) (answer : Result Unit Stop) (before after : SinkView) (tables : Option (List Row))
     → OfTold left (λ body. Obeys (printout body) answer before after × IsMeasured reads body (status_of answer))
     → OfTold (told_through tables tables) (λ rows. OfTold left (λ body. Performs (leaving rows (printout body)) answer before after tables tables × IsMeasured reads body (status_of answer)))
 without_keeper printout reads left answer before after tables over =
@@ -116,13 +120,13 @@ without_keeper printout reads left answer before after tables over =
 unmeasured : (body : List ℕ) (status : ℕ) → (status ≡ 10 → ⊥) → IsMeasured false body status
 unmeasured body status other = record { too_many = λ ten. absurd (other ten); whole = λ reads _. absurd (false≢true reads) }
 
-pub simulate_over : (start sites years : ℕ) (left : Option (List ℕ)) (tables : Option (List Row)) (answer : Result Unit Stop) (before after : Option (List ℕ)) → (status_of answer ≡ 10 → ⊥) → Obeys (simulate_outcome start sites years) answer before after
+pub simulate_over : (start sites years : ℕ) (left : Option (List ℕ)) (tables : Option (List Row)) (answer : Result Unit Stop) (before after : SinkView) → (status_of answer ≡ 10 → ⊥) → Obeys (simulate_outcome start sites years) answer before after
     → OfTold (told_through tables tables) (λ rows. OfTold left (λ body. Performs (leaving rows (simulate_outcome start sites years)) answer before after tables tables × IsMeasured false body (status_of answer)))
 simulate_over start sites years left tables answer before after other obeys =
     without_keeper (λ _. simulate_outcome start sites years) false left answer before after tables
     (of_any left (λ body. Obeys (simulate_outcome start sites years) answer before after × IsMeasured false body (status_of answer)) (λ body. (obeys, unmeasured body (status_of answer) other)))
 
-pub without_reading : (outcome : List Row → Outcome) (left : Option (List ℕ)) (answer : Result Unit Stop) (before after : Option (List ℕ)) (tables_before tables_after : Option (List Row)) → (status_of answer ≡ 10 → ⊥)
+pub without_reading : (outcome : List Row → Outcome) (left : Option (List ℕ)) (answer : Result Unit Stop) (before after : SinkView) (tables_before tables_after : Option (List Row)) → (status_of answer ≡ 10 → ⊥)
     → OfTold (told_through tables_before tables_after) (λ rows. Performs (outcome rows) answer before after tables_before tables_after)
     → OfTold (told_through tables_before tables_after) (λ rows. OfTold left (λ body. Performs (outcome rows) answer before after tables_before tables_after × IsMeasured false body (status_of answer)))
 without_reading outcome left answer before after tables_before tables_after other over = record {
@@ -143,18 +147,18 @@ keeper_rises asked status m n rises = record { rises = rises.rises; stays = λ _
 -- ---- a run of the command that the words name
 
 module _ (command : Command) (found : Option Command) (answer : Result Unit Stop) (status : ℕ) (same : Some command ≡ found) (is : status ≡ status_of answer) where
-  pub runs : (before after : Surroundings) → Acts command answer before.left before.written after.written before.around after.around → Tells (ending_of answer).message before.unsaid after.unsaid before.said after.said → Runs found status before after
+  pub runs : (before after : Surroundings) → Acts command answer before.input.left before.output after.output before.around after.around → Tells (ending_of answer).message before.errors after.errors → Runs found status before after
   runs before after acts tells =
       let P = λ (c : Option Command). Runs c status before after in
       let Q = λ (s : ℕ). Runs (Some command) s before after in
-      let R = λ (message : List ℕ). Tells message before.unsaid after.unsaid before.said after.said in
+      let R = λ (message : List ℕ). Tells message before.errors after.errors in
       let outcome = outcome_of command acts.rows acts.body in
       subst P same (subst Q (sym is) (record {
         rows = acts.rows;
         body = acts.body;
         are_told = acts.are_told;
         is_told = acts.is_told;
-        prints = λ none. performs_follows outcome answer before.written after.written before.around.tables after.around.tables (acts.performs none);
+        prints = λ none. performs_follows outcome answer before.output after.output before.around.tables after.around.tables (acts.performs none);
         serves = acts.serves;
         tells = subst R (message-is outcome answer acts.ends) tells;
         measured = acts.measured;
@@ -167,28 +171,28 @@ module _ (command : Command) (found : Option Command) (answer : Result Unit Stop
       subst P same (subst Q (sym is) rises)
 
 -- and of words that name none
-pub none_runs : (found : Option Command) (around : Around) (left later written said telling : Option (List ℕ)) (m n : ℕ) → None ≡ found → Tells no_command.message m n said telling
-    → Runs found 2 (record { around = around; left = left; written = written; said = said; unsaid = m }) (record { around = around; left = later; written = written; said = telling; unsaid = n })
-none_runs found around left later written said telling m n same tells =
-    let P = λ (c : Option Command). Runs c 2 (record { around = around; left = left; written = written; said = said; unsaid = m }) (record { around = around; left = later; written = written; said = telling; unsaid = n }) in
+pub none_runs : (found : Option Command) (around : Around) (input later : SourceView) (output errors told : SinkView) → None ≡ found → Tells no_command.message errors told
+    → Runs found 2 (record { around = around; input = input; output = output; errors = errors }) (record { around = around; input = later; output = output; errors = told })
+none_runs found around input later output errors told same tells =
+    let P = λ (c : Option Command). Runs c 2 (record { around = around; input = input; output = output; errors = errors }) (record { around = around; input = later; output = output; errors = told }) in
     let tables : OfTold (told_through around.tables around.tables) (λ rows. IsAll (told_through around.tables around.tables) rows) = of_told (told_through around.tables around.tables) (λ rows. IsAll (told_through around.tables around.tables) rows) (λ rows told. told) in
-    let input : OfTold left (λ _. Unit {0}) = of_any left (λ _. Unit {0}) (λ _. tt) in
+    let read : OfTold input.left (λ _. Unit {0}) = of_any input.left (λ _. Unit {0}) (λ _. tt) in
     subst P same (record {
       rows = tables.all;
-      body = input.all;
+      body = read.all;
       are_told = tables.is_all;
-      is_told = input.is_all;
+      is_told = read.is_all;
       prints = λ _. record {
         answered = λ _. refl;
-        whole = λ _. sym (behind_nothing written);
-        front = nothing_written written [];
+        whole = λ _. sym (behind_nothing output.written);
+        front = nothing_written output.written [];
         written = λ four. absurd (omega (arith, four));
         tables = keeps_same tables.all 2 around.tables tables.is_all;
       };
       serves = tt;
       tells = tells;
-      measured = unmeasured input.all 2 (λ ten. omega (arith, ten));
+      measured = unmeasured read.all 2 (λ ten. omega (arith, ten));
     })
 
-pub tells_nothing : (count : ℕ) (written : Option (List ℕ)) → Tells [] count count written written
-tells_nothing count written = record { front = nothing_written written []; whole = inr (sym (behind_nothing written)) }
+pub tells_nothing : (errors : SinkView) → Tells [] errors errors
+tells_nothing errors = record { front = nothing_written errors.written []; whole = inr (sym (behind_nothing errors.written)) }

@@ -7,7 +7,9 @@ pub mod Opening
 pub mod Posting
 pub mod Asking
 pub mod Assuming
+pub mod Areas
 pub mod Serving
 pub mod TableNames
 pub mod Telling
 pub mod Causes
+pub mod Reading

@@ -23,7 +23,7 @@ use Rattle.aq_desk.specs.Office.{HasOpened, IsOpened, IsUnopened, over_damage, o
 use Rattle.aq_serve.specs.Outside.{IsAll, OfTold}
 use Rattle.aq_desk.specs.Stop.{Gives, IsUnprinted, ending_at, status_of, stop_of_book}
 use Rattle.aq_desk.specs.declared.stop.Stop.{Stop}
-use Rattle.aq_desk.specs.declared.stop.Stop.TheVariants.{InputFailed, OutputFailed, KeeperFailed, DoorFailed, Damaged, Memory, Conflict, TooManyBytes, TooManyLines, LoadsFull, NoSite, NoEvent}
+use Rattle.aq_desk.specs.declared.stop.Stop.TheVariants.{InputFailed, OutputFailed, KeeperFailed, DoorFailed, Damaged, Memory, Conflict, TooManyBytes, TooManyLines, LoadsFull, NoSite, NoEvent, NoSiteInArea}
 
 -- ---- rows that are opened
 
@@ -156,6 +156,18 @@ read_unopened before read after m k n (TooManyLines lines) stays steady cause = 
 read_unopened before read after m k n LoadsFull stays steady cause = absurd cause
 read_unopened before read after m k n (NoSite site) stays steady cause = absurd cause
 read_unopened before read after m k n (NoEvent number) stays steady cause = absurd cause
+read_unopened before read after m k n NoSiteInArea stays steady cause = absurd cause
+
+pub stopped_unopened : {A : Type 0} (answer : Result A Stop) (before read after : Option (List Row)) (m k n : ℕ) (stop : Stop) → IsErrAnd answer (λ why. why ≡ stop)
+    → Stays before read → k ≡ m → IsUnopened read after k n stop → IfErr answer (IsUnopened before after m n)
+stopped_unopened answer before read after m k n stop is stays steady cause =
+    subst (λ r. IfErr r (IsUnopened before after m n)) (sym (stopped_by answer stop is)) (read_unopened before read after m k n stop stays steady cause)
+
+-- an office for whose cells no memory could be had
+pub unfilled : {A : Type 0} (answer : Result A Stop) (before read after : Option (List Row)) (m k n : ℕ) (office : Office) → IsErrAnd answer (λ stop. stop ≡ Memory)
+    → Stays before read → k ≡ m → HasOpened office read after → n ≡ k → IfErr answer (IsUnopened before after m n)
+unfilled answer before read after m k n office is stays steady has same =
+    subst (λ r. IfErr r (IsUnopened before after m n)) (sym (stopped_by answer Memory is)) (inr (read_opened before read after office stays has).tables, same ∙ steady)
 
 -- migrated rows are an office's, so none is damaged
 pub undamaged_old : (rows standing : List Row) (place : Place) → ((rs : List Row) → (damage rs ≡ None) ↔ IsTrue (are_office_rows rs)) → ((rs : List Row) → IsTrue (are_version_1 rs) → IsTrue (are_office_rows (migrated rs)))
@@ -224,6 +236,7 @@ unopened-gives before after m n (TooManyLines lines) next cause = absurd cause
 unopened-gives before after m n LoadsFull next cause = absurd cause
 unopened-gives before after m n (NoSite site) next cause = absurd cause
 unopened-gives before after m n (NoEvent number) next cause = absurd cause
+unopened-gives before after m n NoSiteInArea next cause = absurd cause
 
 pub unopened_gives : (before after : Option (List Row)) (m n : ℕ) (stop : Stop) (next : Office → Outcome) (answer : Result (List ℕ) Stop) → IsErrAnd answer (λ why. why ≡ stop) → IsUnopened before after m n stop → OfTold (told_through before after) (λ rows. Gives (over_office rows next) answer before after)
 unopened_gives before after m n stop next answer is cause =
@@ -247,6 +260,7 @@ unopened-fault before after m n (TooManyLines lines) cause = absurd cause
 unopened-fault before after m n LoadsFull cause = absurd cause
 unopened-fault before after m n (NoSite site) cause = absurd cause
 unopened-fault before after m n (NoEvent number) cause = absurd cause
+unopened-fault before after m n NoSiteInArea cause = absurd cause
 
 pub fault-unprinted : (m n : ℕ) (stop : Stop) → IsFault m n (ending_at stop).status → IsUnprinted stop
 fault-unprinted m n stop (inl five) = inl five.0

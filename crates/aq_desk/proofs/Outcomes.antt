@@ -22,6 +22,7 @@ use Rattle.aq_desk.specs.Ending.{Ending, too_many_bytes, too_many_lines}
 use Rattle.aq_desk.specs.Scan.{scan_answer, scan_outcome, sheet_or_no_site}
 use Rattle.aq_desk.specs.Stop.{IsCutShort, Obeys, ending_at, ending_of, status_of}
 use Rattle.aq_desk.specs.Writing.{WritesFront}
+use Rattle.aq_serve.specs.Outside.{SinkView}
 use Rattle.aq_desk.specs.declared.stop.Stop.{Stop}
 use Rattle.aq_desk.specs.declared.stop.Stop.TheVariants.{InputFailed, Memory}
 
@@ -56,7 +57,7 @@ front_behind before between after first second written front = record {
 
 -- ---- a command that was cut short, or that writes nothing
 
-pub cut_short : (outcome : Printout) (stop : Stop) (before after : Option (List ℕ)) → (IsWhole (ending_at stop).status → ⊥) → WritesFront before after outcome.output → ((ending_at stop).status ≡ 4 → 0 < length outcome.output) → Obeys outcome (Err stop) before after
+pub cut_short : (outcome : Printout) (stop : Stop) (before after : SinkView) → (IsWhole (ending_at stop).status → ⊥) → WritesFront before.written after.written outcome.output → ((ending_at stop).status ≡ 4 → 0 < length outcome.output) → Obeys outcome (Err stop) before after
 cut_short outcome stop before after cut front written = record {
   ending = λ whole. absurd (cut whole);
   whole = λ whole. absurd (cut whole);
@@ -64,19 +65,19 @@ cut_short outcome stop before after cut front written = record {
   written = written;
 }
 
-pub without_memory : (outcome : Printout) (stop : Stop) (written : Option (List ℕ)) → stop ≡ Memory → Obeys outcome (Err stop) written written
-without_memory outcome stop written is =
-    let P = λ (s : Stop). Obeys outcome (Err s) written written in
-    subst P (sym is) (cut_short outcome Memory written written (λ whole. omega arith) (nothing_written written outcome.output) (λ four. absurd (omega arith)))
+pub without_memory : (outcome : Printout) (stop : Stop) (output : SinkView) → stop ≡ Memory → Obeys outcome (Err stop) output output
+without_memory outcome stop output is =
+    let P = λ (s : Stop). Obeys outcome (Err s) output output in
+    subst P (sym is) (cut_short outcome Memory output output (λ whole. omega arith) (nothing_written output.written outcome.output) (λ four. absurd (omega arith)))
 
-pub without_input : (outcome : Printout) (written : Option (List ℕ)) → Obeys outcome (Err InputFailed) written written
-without_input outcome written = cut_short outcome InputFailed written written (λ whole. omega arith) (nothing_written written outcome.output) (λ four. absurd (omega arith))
+pub without_input : (outcome : Printout) (output : SinkView) → Obeys outcome (Err InputFailed) output output
+without_input outcome output = cut_short outcome InputFailed output output (λ whole. omega arith) (nothing_written output.written outcome.output) (λ four. absurd (omega arith))
 
-pub writes_nothing : (ending : Ending) (answer : Result Unit Stop) (written : Option (List ℕ)) → ending_of answer ≡ ending → (status_of answer ≡ 4 → ⊥) → Obeys (unwritten ending) answer written written
-writes_nothing ending answer written is other = record {
+pub writes_nothing : (ending : Ending) (answer : Result Unit Stop) (output : SinkView) → ending_of answer ≡ ending → (status_of answer ≡ 4 → ⊥) → Obeys (unwritten ending) answer output output
+writes_nothing ending answer output is other = record {
   ending = λ _. is;
-  whole = λ _. sym (behind_nothing written);
-  front = nothing_written written [];
+  whole = λ _. sym (behind_nothing output.written);
+  front = nothing_written output.written [];
   written = λ four. absurd (other four);
 }
 
@@ -136,30 +137,30 @@ pub bytes_behind : (first second : List ℕ) → 0 < length second → 0 < lengt
 bytes_behind first second some = omega (arith, some, length-append first second)
 
 -- a text that was printed whole, and then what follows it
-obeys_behind : (text : List ℕ) (outcome : Printout) (answer : Result Unit Stop) (before between after : Option (List ℕ)) → between ≡ option_map (λ bytes. bytes ++ text) before → Obeys outcome answer between after → Obeys (after_text text outcome) answer before after
+obeys_behind : (text : List ℕ) (outcome : Printout) (answer : Result Unit Stop) (before between after : SinkView) → between.written ≡ option_map (λ bytes. bytes ++ text) before.written → Obeys outcome answer between after → Obeys (after_text text outcome) answer before after
 obeys_behind text outcome answer before between after written obeys = record {
   ending = obeys.ending;
-  whole = λ whole. obeys.whole whole ∙ ap (option_map (λ bytes. bytes ++ outcome.output)) written ∙ join before text outcome.output;
-  front = front_behind before between after text outcome.output written obeys.front;
+  whole = λ whole. obeys.whole whole ∙ ap (option_map (λ bytes. bytes ++ outcome.output)) written ∙ join before.written text outcome.output;
+  front = front_behind before.written between.written after.written text outcome.output written obeys.front;
   written = λ four. bytes_behind text outcome.output (obeys.written four);
 }
 
-pub taken_behind : (text : List ℕ) (outcome : Printout) (first : Unit) (answer : Result Unit Stop) (before between after : Option (List ℕ))
+pub taken_behind : (text : List ℕ) (outcome : Printout) (first : Unit) (answer : Result Unit Stop) (before between after : SinkView)
     → Obeys (printed text) (Ok first) before between → Obeys outcome answer between after → Obeys (after_text text outcome) answer before after
 taken_behind text outcome first answer before between after told obeys = obeys_behind text outcome answer before between after (told.whole (inl refl)) obeys
 
 -- and a text of which a front was printed
-pub cut_behind : (text : List ℕ) (outcome : Printout) (stop : Stop) (answer : Result Unit Stop) (before after : Option (List ℕ)) → answer ≡ Err stop → IsCutShort stop → Obeys (printed text) (Err stop) before after → Obeys (after_text text outcome) answer before after
+pub cut_behind : (text : List ℕ) (outcome : Printout) (stop : Stop) (answer : Result Unit Stop) (before after : SinkView) → answer ≡ Err stop → IsCutShort stop → Obeys (printed text) (Err stop) before after → Obeys (after_text text outcome) answer before after
 cut_behind text outcome stop answer before after is cut told =
     let P = λ (r : Result Unit Stop). Obeys (after_text text outcome) r before after in
-    subst P (sym is) (cut_short (after_text text outcome) stop before after (λ whole. omega (arith, cut, whole)) (front_of_more before after text outcome.output told.front) (λ four. more_bytes text outcome.output (told.written four)))
+    subst P (sym is) (cut_short (after_text text outcome) stop before after (λ whole. omega (arith, cut, whole)) (front_of_more before.written after.written text outcome.output told.front) (λ four. more_bytes text outcome.output (told.written four)))
 
 -- the reply and the office are those of the body
 scanned : (site : Site) (day : ℕ) (body : List ℕ) → after_text (text_of (load_sheet (reply nothing 0 body))) (sheet_or_no_site site (questions.answer (load nothing 0 [] body) (Windows site day))) ≡ scan_answer site day body
 unfolding scan_answer
 scanned site day body = refl
 
-pub answers : (site : Site) (day : ℕ) (body : List ℕ) (start : Office) (told : LoadReply) (office : Office) (answer : Result Unit Stop) (before after : Option (List ℕ)) → start ≡ nothing → told ≡ reply start 0 body → office ≡ load start 0 [] body
+pub answers : (site : Site) (day : ℕ) (body : List ℕ) (start : Office) (told : LoadReply) (office : Office) (answer : Result Unit Stop) (before after : SinkView) → start ≡ nothing → told ≡ reply start 0 body → office ≡ load start 0 [] body
     → Obeys (after_text (text_of (load_sheet told)) (sheet_or_no_site site (questions.answer office (Windows site day)))) answer before after → Obeys (scan_answer site day body) answer before after
 answers site day body start told office answer before after empty same_reply same_office obeys =
     let P = λ (r : LoadReply). Obeys (after_text (text_of (load_sheet r)) (sheet_or_no_site site (questions.answer office (Windows site day)))) answer before after in

@@ -17,11 +17,11 @@ use Rattle.aq_rules.specs.Office.Office.{Office, StoredLoad, load_at}
 use Rattle.aq_rules.specs.Shown.Answer.{is_load_number}
 use Rattle.aq_rules.specs.Shown.Sheet.{text_of}
 use Rattle.aq_rules.specs.Shown.Sheets.{load_sheet}
-use Rattle.aq_serve.specs.Service.{AreOfOffice, Become, Keeps, ServiceView}
-use Rattle.aq_service.proofs.PostedLoads.{IsKept, Tells, is_numbered, load_stands, tells}
-use Rattle.aq_service.specs.Posting.{IsPosted, LosesLoad, TakenBy}
-use Rattle.aq_service.specs.declared.posting.Posted as answers
-use Rattle.aq_service.specs.declared.posting.Posted.TheVariants as answered
+use Rattle.aq_keeper.specs.Standing.{AreOfOffice, Become, Keeps, Standing}
+use Rattle.aq_office.proofs.PostedLoads.{IsKept, Tells, is_numbered, load_stands, tells}
+use Rattle.aq_office.specs.Posting.{IsPosted, LosesLoad, TakenBy}
+use Rattle.aq_office.specs.declared.posting.Posted as answers
+use Rattle.aq_office.specs.declared.posting.Posted.TheVariants as answered
 use Rattle.aq_desk.proofs.Opening.{over_opened, unopened_gives}
 use Rattle.aq_desk.proofs.Tables.{become_through, cut_gives, keeps_opened, keeps_at_most_opened, of_opened, opened_still, stopped_gives, tells_before, tells_still, told_until}
 use Rattle.aq_desk.proofs.Unread.{stays_at_from, stopped_by}
@@ -119,7 +119,7 @@ conflict-gives (Some load) number kept digest sent rows answer before after keep
 
 -- ---- and over the office that was opened: what its tables were at the start
 
-module _ (number : ℕ) (rows : List Row) (body : List ℕ) (start : Option (List Row)) (before after : ServiceView) (told : IsAll (told_through start before.tables) rows) (are : rows_of before.office ≡ opened_rows rows) (opened : Stays (option_map opened_rows start) before.tables) (some : (number == 0) ≡ false) where
+module _ (number : ℕ) (rows : List Row) (body : List ℕ) (start : Option (List Row)) (before after : Standing) (told : IsAll (told_through start before.tables) rows) (are : rows_of before.office ≡ opened_rows rows) (opened : Stays (option_map opened_rows start) before.tables) (some : (number == 0) ≡ false) where
   abbrev digest : List ℕ
   digest = sha256 body
 
@@ -144,12 +144,12 @@ module _ (number : ℕ) (rows : List Row) (body : List ℕ) (start : Option (Lis
   same-answer : (ans kind : answers.Posted) (answer : Result (List ℕ) Stop) → (ans ≡ kind) × (after ≡ before) → IsTextOf ans number (load_at after.office number) answer → IsTextOf kind number (load_at before.office number) answer
   same-answer ans kind answer is text =
       let P = λ (a : answers.Posted). IsTextOf a number (load_at before.office number) answer in
-      let Q = λ (v : ServiceView). IsTextOf ans number (load_at v.office number) answer in
+      let Q = λ (v : Standing). IsTextOf ans number (load_at v.office number) answer in
       subst P is.0 (subst Q is.1 text)
 
   same-keeps : (status : ℕ) → (status ≡ 3 → ⊥) → after ≡ before → commands.Keeps (rows_of before.office) status start after.tables
   same-keeps status three is =
-      subst (λ (v : ServiceView). commands.Keeps (rows_of before.office) status start v.tables) (sym is)
+      subst (λ (v : Standing). commands.Keeps (rows_of before.office) status start v.tables) (sym is)
       (keeps_opened rows before.office status start before.tables three told are opened)
 
   taken-gives : (ans : answers.Posted) (answer : Result (List ℕ) Stop) (made : LoadReply) (now : Office) → (made ≡ reply before.office number body) × (now ≡ load before.office number digest body) → TakenBy ans now before after → IsTextOf ans number (load_at after.office number) answer → Gives (leaving (rows_of now) (printed (text_of (load_sheet made)))) answer start after.tables
@@ -201,12 +201,12 @@ module _ (number : ℕ) (rows : List Row) (body : List ℕ) (start : Option (Lis
 
 -- ---- what is told to the end was told as the load was posted
 
-module _ (before after : ServiceView) (its-own : AreOfOffice before) where
+module _ (before after : Standing) (its-own : AreOfOffice before) where
   become-tells : (office : Office) → Become before office after → IsSome after.tables → IsSome before.tables
   become-tells office become = tells_before (λ _. rows_of office) before.tables after.tables become
 
   same-tells : after ≡ before → IsSome after.tables → IsSome before.tables
-  same-tells same = subst (λ (v : ServiceView). IsSome after.tables → IsSome v.tables) same (λ tells. tells)
+  same-tells same = subst (λ (v : Standing). IsSome after.tables → IsSome v.tables) same (λ tells. tells)
 
   taken-tells : (ans : answers.Posted) (now : Office) → TakenBy ans now before after → IsSome after.tables → IsSome before.tables
   taken-tells answered.Done now taken = become-tells after.office (taken.2 its-own)
@@ -232,11 +232,11 @@ module _ (before after : ServiceView) (its-own : AreOfOffice before) where
 -- ---- what it is answered with
 
 -- what a text, or a stop, needs
-module _ (number : ℕ) (digest body : List ℕ) (lines : ℕ) (before after : ServiceView) (some : (number == 0) ≡ false) where
+module _ (number : ℕ) (digest body : List ℕ) (lines : ℕ) (before after : Standing) (some : (number == 0) ≡ false) where
   answered-same : (ans kind : answers.Posted) → (ans ≡ kind) × (after ≡ before) → IsAnswered kind (load_at before.office number) → IsAnswered ans (load_at after.office number)
   answered-same ans kind is kept =
       let P = λ (a : answers.Posted). IsAnswered a (load_at after.office number) in
-      let Q = λ (v : ServiceView). IsAnswered kind (load_at v.office number) in
+      let Q = λ (v : Standing). IsAnswered kind (load_at v.office number) in
       subst P (sym is.0) (subst Q (sym is.1) kept)
 
   is-some : (P : StoredLoad → Type 0) (found : Option StoredLoad) → IsKept P found → IsSome found
@@ -278,20 +278,20 @@ IsCounted (answered.Lines lines) m n = n ≡ m
 IsCounted (answered.Conflict sent) m n = n ≡ m
 IsCounted answered.Full m n = n ≡ m
 
-counted-same : (ans kind : answers.Posted) (before after : ServiceView) → (ans ≡ kind) × (after ≡ before) → IsCounted kind before.faults before.faults → IsCounted ans before.faults after.faults
+counted-same : (ans kind : answers.Posted) (before after : Standing) → (ans ≡ kind) × (after ≡ before) → IsCounted kind before.faults before.faults → IsCounted ans before.faults after.faults
 counted-same ans kind before after is steady =
     let P = λ (a : answers.Posted). IsCounted a before.faults after.faults in
-    let Q = λ (v : ServiceView). IsCounted kind before.faults v.faults in
+    let Q = λ (v : Standing). IsCounted kind before.faults v.faults in
     subst P (sym is.0) (subst Q (sym is.1) steady)
 
-counted-taken : (ans : answers.Posted) (now : Office) (before after : ServiceView) → TakenBy ans now before after → IsCounted ans before.faults after.faults
+counted-taken : (ans : answers.Posted) (now : Office) (before after : Standing) → TakenBy ans now before after → IsCounted ans before.faults after.faults
 counted-taken answered.Done now before after taken = taken.1
 counted-taken answered.Failed now before after taken = taken.2
 counted-taken (answered.Lines count) now before after taken = absurd taken
 counted-taken (answered.Conflict sent) now before after taken = absurd taken
 counted-taken answered.Full now before after taken = absurd taken
 
-pub is_counted : (p : loads.Posted) (ans : answers.Posted) (lines : ℕ) (before after : ServiceView) → IsPosted p lines before after ans → IsCounted ans before.faults after.faults
+pub is_counted : (p : loads.Posted) (ans : answers.Posted) (lines : ℕ) (before after : Standing) → IsPosted p lines before after ans → IsCounted ans before.faults after.faults
 is_counted TooManyLines ans lines before after posted = counted-same ans (answered.Lines lines) before after posted refl
 is_counted (Repeated made) ans lines before after posted = counted-same ans answered.Done before after posted refl
 is_counted (Differing kept sent) ans lines before after posted = counted-same ans (answered.Conflict sent) before after posted refl
@@ -315,10 +315,10 @@ text_rises answered.Failed number found answer m n kept text risen = subst (λ (
 -- ---- over the tables
 
 module _ (number : ℕ) (body : List ℕ) (office now : Office) (before between after : Option (List Row)) (m n : ℕ) (has : HasOpened office before between) where
-  abbrev view : ServiceView
+  abbrev view : Standing
   view = record { office = office; tables = between; faults = m }
 
-  abbrev later : ServiceView
+  abbrev later : Standing
   later = record { office = now; tables = after; faults = n }
 
   -- the tables as the load is posted

@@ -6,7 +6,7 @@ use Rattle.aq_rules.specs.Kept.Rows.{Row}
 use Rattle.aq_desk.proofs.Tables.{print_performs, stop_performs}
 use Rattle.aq_desk.proofs.Unread.{stays_at, stopped_by}
 use Rattle.aq_desk.specs.Command.{Outcome, RisesAt, WritesNothing, printed}
-use Rattle.aq_serve.specs.Outside.{OfTold}
+use Rattle.aq_serve.specs.Outside.{OfTold, SinkView}
 use Rattle.aq_desk.specs.Stop.{Gives, IsCutShort, IsUnprinted, Obeys, Performs, ending_at, status_of}
 use Rattle.aq_desk.specs.declared.stop.Stop.{Stop}
 use Rattle.aq_desk.specs.declared.stop.Stop.TheVariants.{OutputFailed}
@@ -14,11 +14,11 @@ use Rattle.aq_desk.specs.declared.stop.Stop.TheVariants.{OutputFailed}
 -- ---- a command that was stopped before it printed
 
 module _ (stop : Stop) (answer : Result Unit Stop) (is : IsErrAnd answer (λ why. why ≡ stop)) (unprinted : IsUnprinted stop) where
-  pub stopped_over : (outcome : List Row → Outcome) (written : Option (List ℕ)) (before after : Option (List Row)) → OfTold (told_through before after) (λ rows. Gives (outcome rows) (Err stop) before after) → OfTold (told_through before after) (λ rows. Performs (outcome rows) answer written written before after)
-  stopped_over outcome written before after over =
-      let P = λ (r : Result Unit Stop). OfTold (told_through before after) (λ rows. Performs (outcome rows) r written written before after) in
+  pub stopped_over : (outcome : List Row → Outcome) (output : SinkView) (before after : Option (List Row)) → OfTold (told_through before after) (λ rows. Gives (outcome rows) (Err stop) before after) → OfTold (told_through before after) (λ rows. Performs (outcome rows) answer output output before after)
+  stopped_over outcome output before after over =
+      let P = λ (r : Result Unit Stop). OfTold (told_through before after) (λ rows. Performs (outcome rows) r output output before after) in
       subst P (sym (stopped_by answer stop is))
-      (record { all = over.all; is_all = over.is_all; says = stop_performs (outcome over.all) stop written before after over.says unprinted })
+      (record { all = over.all; is_all = over.is_all; says = stop_performs (outcome over.all) stop output before after over.says unprinted })
 
   pub stopped_read : (status_of answer ≡ 3 → ⊥) × (status_of answer ≡ 10 → ⊥)
   stopped_read =
@@ -47,7 +47,7 @@ printed-status (Ok nothing) Says cut whole front = whole
 printed-status (Err stop) Says cut whole front = subst (λ (s : Stop). Says (ending_at s).status) (sym cut) front
 
 module _ (answer : Result Unit Stop) (cut : IfErr answer (λ stop. stop ≡ OutputFailed)) where
-  pub printed_over : (outcome : List Row → Outcome) (text shown : List ℕ) (before after : Option (List ℕ)) (tables_before tables_after : Option (List Row)) → shown ≡ text → OfTold (told_through tables_before tables_after) (λ rows. Gives (outcome rows) (Ok text) tables_before tables_after) → Obeys (printed shown) answer before after → OfTold (told_through tables_before tables_after) (λ rows. Performs (outcome rows) answer before after tables_before tables_after)
+  pub printed_over : (outcome : List Row → Outcome) (text shown : List ℕ) (before after : SinkView) (tables_before tables_after : Option (List Row)) → shown ≡ text → OfTold (told_through tables_before tables_after) (λ rows. Gives (outcome rows) (Ok text) tables_before tables_after) → Obeys (printed shown) answer before after → OfTold (told_through tables_before tables_after) (λ rows. Performs (outcome rows) answer before after tables_before tables_after)
   printed_over outcome text shown before after tables_before tables_after same over obeys =
       let P = λ (t : List ℕ). Obeys (printed t) answer before after in
       record { all = over.all; is_all = over.is_all; says = print_performs (outcome over.all) text answer before after tables_before tables_after over.says (subst P same obeys) cut }

@@ -8,7 +8,7 @@ use Rattle.aq_rules.specs.Kept.Migration.{opening_damage}
 use Rattle.aq_rules.specs.Kept.Rows.{Place, Row, rows_of}
 use Rattle.aq_rules.specs.Office.Office.{Office}
 use Rattle.aq_serve.specs.Door.{DoorView}
-use Rattle.aq_serve.specs.Service.{AreOfOffice, Become, ServiceView}
+use Rattle.aq_keeper.specs.Standing.{AreOfOffice, Become, Standing}
 use Rattle.aq_serve.specs.Serving.{Serves, World, office_left}
 use Rattle.aq_serve.specs.Session.{office_behind}
 use Rattle.aq_serve.specs.declared.ending.ServeFault.{ServeFault}
@@ -24,7 +24,7 @@ use Rattle.aq_desk.specs.Run.{KeeperRises}
 use Rattle.aq_desk.specs.Serve.{Around, CannotListen, HasAttended, HasListened, HasServed, IsServed, IsUnserved, Hosting, holding, serve_outcome, serving, status_served, stop_served}
 use Rattle.aq_desk.specs.Stop.{EndsAs, ending_of, status_of}
 use Rattle.aq_desk.specs.declared.stop.Stop.{Stop}
-use Rattle.aq_desk.specs.declared.stop.Stop.TheVariants.{InputFailed, OutputFailed, KeeperFailed, DoorFailed, Damaged, Memory, Conflict, TooManyBytes, TooManyLines, LoadsFull, NoSite, NoEvent}
+use Rattle.aq_desk.specs.declared.stop.Stop.TheVariants.{InputFailed, OutputFailed, KeeperFailed, DoorFailed, Damaged, Memory, Conflict, TooManyBytes, TooManyLines, LoadsFull, NoSite, NoEvent, NoSiteInArea}
 
 -- ---- no connection was accepted
 
@@ -88,6 +88,7 @@ module _ (before after : Around) (door : after.door ≡ before.door) where
   unopened-served n LoadsFull cause = absurd cause
   unopened-served n (NoSite site) cause = absurd cause
   unopened-served n (NoEvent number) cause = absurd cause
+  unopened-served n NoSiteInArea cause = absurd cause
 
   pub unopened_served : (n : Hosting) (stop : Stop) (answer : Result Unit Stop) → IsErrAnd answer (λ why. why ≡ stop) → IsUnopened before.tables after.tables before.faults after.faults stop → OfTold (told_through before.tables after.tables) (Ends n answer)
   unopened_served n stop answer is cause =
@@ -106,7 +107,7 @@ status-is (Err faults.DoorFailed) = refl
 status-is (Err faults.Memory) = refl
 
 -- what is told as serving ends was told as it began
-become-tells : (before after : ServiceView) (office : Office) → Become before office after → IsSome after.tables → IsSome before.tables
+become-tells : (before after : Standing) (office : Office) → Become before office after → IsSome after.tables → IsSome before.tables
 become-tells before after office become = tells_before (λ _. rows_of office) before.tables after.tables become
 
 serves-tells : (n : ℕ) (before after : World) (ending : Result Unit ServeFault) → Serves n before after ending → AreOfOffice before.service → IsSome after.service.tables → IsSome before.service.tables

@@ -10,7 +10,7 @@ use Rattle.aq_desk.proofs.Outcomes.{nothing_written}
 use Rattle.aq_desk.proofs.Fronts.{behind_nothing}
 use Rattle.aq_desk.specs.Command.{AtMostOpened, BecomeRows, IsKept, IsWhole, Keeps, Outcome, Printout, leaving, opened_rows, printed, printout_of, unwritten}
 use Rattle.aq_desk.specs.Ending.{done}
-use Rattle.aq_serve.specs.Outside.{IsAll, OfTold}
+use Rattle.aq_serve.specs.Outside.{IsAll, OfTold, SinkView}
 use Rattle.aq_desk.specs.Stop.{Gives, IsUnprinted, Obeys, Performs, ending_at, status_of}
 use Rattle.aq_desk.specs.declared.stop.Stop.{Stop}
 use Rattle.aq_desk.specs.declared.stop.Stop.TheVariants.{OutputFailed}
@@ -155,7 +155,7 @@ one_exact rows status before after tells keeps = by keeps.one
 
 -- ---- and of a command that does not use them
 
-pub with_tables : (rows : List Row) (printout : Printout) (answer : Result Unit Stop) (before after : Option (List ℕ)) (tables : Option (List Row)) → IsAll (told_through tables tables) rows → Obeys printout answer before after → Performs (leaving rows printout) answer before after tables tables
+pub with_tables : (rows : List Row) (printout : Printout) (answer : Result Unit Stop) (before after : SinkView) (tables : Option (List Row)) → IsAll (told_through tables tables) rows → Obeys printout answer before after → Performs (leaving rows printout) answer before after tables tables
 with_tables rows printout answer before after tables told obeys = record {
   obeys = obeys;
   tables = keeps_same rows (status_of answer) tables told;
@@ -208,7 +208,7 @@ still_kept rows before after keeps = record {
   one = keeps.one;
 }
 
-pub print_performs : (outcome : Outcome) (text : List ℕ) (answer : Result Unit Stop) (before after : Option (List ℕ)) (tables_before tables_after : Option (List Row)) → Gives outcome (Ok text) tables_before tables_after → Obeys (printed text) answer before after → IfErr answer (λ stop. stop ≡ OutputFailed) → Performs outcome answer before after tables_before tables_after
+pub print_performs : (outcome : Outcome) (text : List ℕ) (answer : Result Unit Stop) (before after : SinkView) (tables_before tables_after : Option (List Row)) → Gives outcome (Ok text) tables_before tables_after → Obeys (printed text) answer before after → IfErr answer (λ stop. stop ≡ OutputFailed) → Performs outcome answer before after tables_before tables_after
 print_performs outcome text (Ok nothing) before after tables_before tables_after gives obeys cut = record {
   obeys = subst (λ (p : Printout). Obeys p (Ok nothing) before after) (of_printed outcome text gives.text (gives.ending whole-0)) obeys;
   tables = gives.tables;
@@ -218,12 +218,12 @@ print_performs outcome text (Err stop) before after tables_before tables_after g
   tables = subst (λ (s : Stop). Keeps outcome.rows (ending_at s).status tables_before tables_after) (sym cut) (still_kept outcome.rows tables_before tables_after gives.tables);
 }
 
-pub stop_performs : (outcome : Outcome) (stop : Stop) (written : Option (List ℕ)) (tables_before tables_after : Option (List Row)) → Gives outcome (Err stop) tables_before tables_after → IsUnprinted stop → Performs outcome (Err stop) written written tables_before tables_after
-stop_performs outcome stop written tables_before tables_after gives unprinted = record {
+pub stop_performs : (outcome : Outcome) (stop : Stop) (output : SinkView) (tables_before tables_after : Option (List Row)) → Gives outcome (Err stop) tables_before tables_after → IsUnprinted stop → Performs outcome (Err stop) output output tables_before tables_after
+stop_performs outcome stop output tables_before tables_after gives unprinted = record {
   obeys = record {
     ending = gives.ending;
-    whole = λ whole. sym (ap (λ part. option_map (λ bytes. bytes ++ part) written) (gives.nothing refl whole) ∙ behind_nothing written);
-    front = nothing_written written outcome.output;
+    whole = λ whole. sym (ap (λ part. option_map (λ bytes. bytes ++ part) output.written) (gives.nothing refl whole) ∙ behind_nothing output.written);
+    front = nothing_written output.written outcome.output;
     written = λ four. absurd (omega (arith, four, unprinted));
   };
   tables = gives.tables;

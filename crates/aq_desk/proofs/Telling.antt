@@ -1,5 +1,5 @@
 -- The messages on the errors stream, piece by piece.
-use Rattle.std.proofs.Common.{◌≡◌, ℕ, ◌/◌, ◌%◌, ◌<◌, ◌≤◌, ◌^◌, ◌+◌, List, [], ◌∷◌, ◌++◌, Option, refl, sym, ap, subst, ◌∙◌, append_assoc, inl, inr, codes, arith}
+use Rattle.std.proofs.Common.{◌≡◌, ℕ, ◌/◌, ◌%◌, ◌<◌, ◌≤◌, ◌^◌, ◌+◌, List, [], ◌∷◌, ◌++◌, refl, sym, ap, subst, ◌∙◌, append_assoc, inl, inr, codes, arith}
 use Rattle.std.specs.Prelude.{Result, Ok, Err, IsErr, decimal}
 use Rattle.std.specs.Option.{option_map}
 use Rattle.std.specs.Fmt.{digits}
@@ -10,52 +10,53 @@ use Rattle.aq_desk.proofs.Outcomes.{bytes_behind, front_behind, front_of_more, j
 use Rattle.aq_desk.specs.Command.{Tells}
 use Rattle.aq_rules.specs.Kept.RowChanges.{table_name}
 use Rattle.aq_rules.specs.Shown.OtherSheets.{digest_text}
-use Rattle.aq_desk.specs.Ending.{conflict, damaged, door_failed, input_failed, keeper_failed, loads_full, no_command, no_event, no_memory, no_site, output_failed, too_many_bytes, too_many_lines}
+use Rattle.aq_desk.specs.Ending.{conflict, damaged, door_failed, input_failed, keeper_failed, loads_full, no_site_in_area, no_command, no_event, no_memory, no_site, output_failed, too_many_bytes, too_many_lines}
 use Rattle.aq_base.specs.Faults.{HasRisen}
 use Rattle.aq_desk.specs.Stop.{ending_at}
 use Rattle.aq_desk.specs.declared.stop.Stop.{Stop}
 use Rattle.aq_desk.specs.Writing.{Writes}
+use Rattle.aq_serve.specs.Outside.{SinkView}
 
 module _ {A E : Type 0} where
   -- the first part of a text was cut short, and so the text was
-  pub writes_cut : (first second : List ℕ) (before after : Option (List ℕ)) (m n : ℕ) (fault : E) (answer : Result A E) → IsErr answer → Writes {A = A} {E = E} first before after m n (Err fault) → Writes (first ++ second) before after m n answer
-  writes_cut first second before after m n fault (Ok went) failed writes = absurd (cc)
-  writes_cut first second before after m n fault (Err other) failed writes = record {
+  pub writes_cut : (first second : List ℕ) (before after : SinkView) (fault : E) (answer : Result A E) → IsErr answer → Writes {A = A} {E = E} first before after (Err fault) → Writes (first ++ second) before after answer
+  writes_cut first second before after fault (Ok went) failed writes = absurd (cc)
+  writes_cut first second before after fault (Err other) failed writes = record {
     whole = tt;
-    front = front_of_more before after first second writes.front;
+    front = front_of_more before.written after.written first second writes.front;
     some = more_bytes first second writes.some;
     cause = writes.cause;
   }
 
   -- the first part was written whole, and then the second
-  pub writes_then : (first second : List ℕ) (before between after : Option (List ℕ)) (l m n : ℕ) (done : A) (answer : Result A E) → Writes {A = A} {E = E} first before between l m (Ok done) → Writes second between after m n answer → Writes (first ++ second) before after l n answer
-  writes_then first second before between after l m n done (Ok went) one two = record {
-    whole = two.whole ∙ ap (option_map (λ bytes. bytes ++ second)) one.whole ∙ join before first second;
-    front = front_behind before between after first second one.whole two.front;
+  pub writes_then : (first second : List ℕ) (before between after : SinkView) (done : A) (answer : Result A E) → Writes {A = A} {E = E} first before between (Ok done) → Writes second between after answer → Writes (first ++ second) before after answer
+  writes_then first second before between after done (Ok went) one two = record {
+    whole = two.whole ∙ ap (option_map (λ bytes. bytes ++ second)) one.whole ∙ join before.written first second;
+    front = front_behind before.written between.written after.written first second one.whole two.front;
     some = tt;
     cause = two.cause ∙ one.cause;
   }
-  writes_then first second before between after l m n done (Err fault) one two = record {
+  writes_then first second before between after done (Err fault) one two = record {
     whole = tt;
-    front = front_behind before between after first second one.whole two.front;
+    front = front_behind before.written between.written after.written first second one.whole two.front;
     some = bytes_behind first second two.some;
-    cause = subst (λ (k : ℕ). HasRisen k n) one.cause two.cause;
+    cause = subst (λ (k : ℕ). HasRisen k after.faults) one.cause two.cause;
   }
 
   -- whatever a text's writing answered, it was told
-  pub tells : (text : List ℕ) (before after : Option (List ℕ)) (m n : ℕ) (answer : Result A E) → Writes text before after m n answer → Tells text m n before after
-  tells text before after m n (Ok went) writes = record { front = writes.front; whole = inr writes.whole }
-  tells text before after m n (Err fault) writes = record { front = writes.front; whole = inl writes.cause }
+  pub tells : (text : List ℕ) (before after : SinkView) (answer : Result A E) → Writes text before after answer → Tells text before after
+  tells text before after (Ok went) writes = record { front = writes.front; whole = inr writes.whole }
+  tells text before after (Err fault) writes = record { front = writes.front; whole = inl writes.cause }
 
   -- the same text in other words
-  pub writes_same : (text other : List ℕ) (before after : Option (List ℕ)) (m n : ℕ) (answer : Result A E) → text ≡ other → Writes text before after m n answer → Writes other before after m n answer
-  writes_same text other before after m n answer same writes = let P = λ (t : List ℕ). Writes t before after m n answer in subst P same writes
+  pub writes_same : (text other : List ℕ) (before after : SinkView) (answer : Result A E) → text ≡ other → Writes text before after answer → Writes other before after answer
+  writes_same text other before after answer same writes = let P = λ (t : List ℕ). Writes t before after answer in subst P same writes
 
   -- the message of what stopped a command
-  pub writes_at : (text : List ℕ) (stop kind : Stop) (before after : Option (List ℕ)) (m n : ℕ) (answer : Result A E) → stop ≡ kind → text ≡ (ending_at kind).message → Writes text before after m n answer → Writes (ending_at stop).message before after m n answer
-  writes_at text stop kind before after m n answer is same writes =
-      let P = λ (s : Stop). Writes (ending_at s).message before after m n answer in
-      subst P (sym is) (writes_same text (ending_at kind).message before after m n answer same writes)
+  pub writes_at : (text : List ℕ) (stop kind : Stop) (before after : SinkView) (answer : Result A E) → stop ≡ kind → text ≡ (ending_at kind).message → Writes text before after answer → Writes (ending_at stop).message before after answer
+  writes_at text stop kind before after answer is same writes =
+      let P = λ (s : Stop). Writes (ending_at s).message before after answer in
+      subst P (sym is) (writes_same text (ending_at kind).message before after answer same writes)
 
 -- the numbers of the statuses
 three : decimal 3 ≡ codes "3"
@@ -102,6 +103,10 @@ thirteen : decimal 13 ≡ codes "13"
 unfolding digits
 thirteen = refl
 
+fifteen : decimal 15 ≡ codes "15"
+unfolding digits
+fifteen = refl
+
 two : decimal 2 ≡ codes "2"
 unfolding digits
 two = refl
@@ -110,7 +115,7 @@ most_bytes : decimal 8388608 ≡ codes "8388608"
 unfolding digits
 most_bytes = refl
 
-pub no_command_message : codes "airdv: 2 no command\nusage: airdv scan SITE DAY\nusage: airdv load NUMBER\nusage: airdv show STANDARD SITE YEAR\nusage: airdv report STANDARD YEAR\nusage: airdv export SITE PARAMETER YEAR\nusage: airdv whatif STANDARD SITE YEAR LIST\nusage: airdv decisive STANDARD SITE YEAR\nusage: airdv serve --port P --connections N\nusage: airdv simulate START SITES YEARS\n" ≡ no_command.message
+pub no_command_message : codes "airdv: 2 no command\nusage: airdv scan SITE DAY\nusage: airdv load NUMBER\nusage: airdv show STANDARD SITE YEAR\nusage: airdv report STANDARD YEAR\nusage: airdv export SITE PARAMETER YEAR\nusage: airdv whatif STANDARD SITE YEAR LIST\nusage: airdv decisive STANDARD SITE YEAR\nusage: airdv area STANDARD AREA YEAR\nusage: airdv serve --port P --connections N\nusage: airdv simulate START SITES YEARS\n" ≡ no_command.message
 no_command_message = rw two refl
 
 pub input_message : codes "airdv: 3 input failed\n" ≡ input_failed.message
@@ -127,6 +132,9 @@ door_message = rw eight refl
 
 pub full_message : codes "airdv: 11 loads full\n" ≡ loads_full.message
 full_message = rw eleven refl
+
+pub area_message : codes "airdv: 15 no site in area\n" ≡ no_site_in_area.message
+area_message = rw fifteen refl
 
 pub damaged_message : (table index : ℕ) → (codes "airdv: 6 damaged " ++ table_name table) ++ ((codes " " ++ decimal index) ++ codes "\n") ≡ (damaged (record { table = table; index = index })).message
 damaged_message table index =

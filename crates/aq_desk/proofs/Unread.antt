@@ -12,7 +12,7 @@ use Rattle.aq_desk.specs.Body.{HasTooManyBytes, HasTooManyLines, IsBodyFault, ex
 use Rattle.aq_desk.specs.Command.{Keeps, Outcome, Printout, RisesAt, leaving, printout_of, unwritten}
 use Rattle.aq_desk.specs.Ending.{too_many_lines}
 use Rattle.aq_desk.specs.Load.{load_answer, load_outcome}
-use Rattle.aq_serve.specs.Outside.{IsAll, OfTold}
+use Rattle.aq_serve.specs.Outside.{IsAll, OfTold, SinkView, SourceView}
 use Rattle.aq_desk.specs.Scan.{scan_answer, scan_outcome}
 use Rattle.aq_desk.specs.Stop.{HasCauses, IsMeasured, Obeys, Performs, ending_at, status_of, stop_of}
 use Rattle.aq_desk.specs.declared.body.BodyFault.{BodyFault}
@@ -62,14 +62,14 @@ unread left m n (fault.TooManyLines lines) cause =
     let many = subst (λ (k : ℕ). MOST_LINES < k) cause.1.says.counted cause.1.says.many in
     record { all = body; is_all = cause.1.is_all; says = inr (inr (is_within-lines body many, (ap too_many_lines cause.1.says.counted ∙ sym (excess-lines body cause.1.says.bytes), refl))) }
 
-unread_obeys : (printout : Printout) (stop : Stop) (body : List ℕ) (written : Option (List ℕ)) → (is_within body ≡ false → printout ≡ unwritten (excess body)) → IsUnread stop body → Obeys printout (Err stop) written written
-unread_obeys printout stop body written beyond (inl input) =
-    let P = λ (s : Stop). Obeys printout (Err s) written written in
-    subst P (sym input) (without_input printout written)
-unread_obeys printout stop body written beyond (inr (inl memory)) = without_memory printout stop written memory
-unread_obeys printout stop body written beyond (inr (inr cause)) =
-    let P = λ (p : Printout). Obeys p (Err stop) written written in
-    subst P (sym (beyond cause.0)) (writes_nothing (excess body) (Err stop) written cause.1.0 (λ four. absurd (omega (arith, four, cause.1.1))))
+unread_obeys : (printout : Printout) (stop : Stop) (body : List ℕ) (output : SinkView) → (is_within body ≡ false → printout ≡ unwritten (excess body)) → IsUnread stop body → Obeys printout (Err stop) output output
+unread_obeys printout stop body output beyond (inl input) =
+    let P = λ (s : Stop). Obeys printout (Err s) output output in
+    subst P (sym input) (without_input printout output)
+unread_obeys printout stop body output beyond (inr (inl memory)) = without_memory printout stop output memory
+unread_obeys printout stop body output beyond (inr (inr cause)) =
+    let P = λ (p : Printout). Obeys p (Err stop) output output in
+    subst P (sym (beyond cause.0)) (writes_nothing (excess body) (Err stop) output cause.1.0 (λ four. absurd (omega (arith, four, cause.1.1))))
 
 unread_keeps : (outcome : Outcome) (rows : List Row) (stop : Stop) (body : List ℕ) (tables : Option (List Row)) → IsAll (told_through tables tables) rows → (is_within body ≡ false → outcome ≡ leaving rows (unwritten (excess body))) → IsUnread stop body → Keeps outcome.rows (ending_at stop).status tables tables
 unread_keeps outcome rows stop body tables told beyond (inl input) =
@@ -96,19 +96,19 @@ unread_measured stop body (inr (inr cause)) = record { too_many = λ _. cause.0;
 read_measured : (body : List ℕ) (status : ℕ) → is_within body ≡ true → (status ≡ 10 → ⊥) → IsMeasured true body status
 read_measured body status within no_excess = record { too_many = λ ten. absurd (no_excess ten); whole = λ _ _. within }
 
-pub unread_told : (site : Site) (day : ℕ) (left written : Option (List ℕ)) (m n : ℕ) (why : BodyFault) (answer : Result Unit Stop) → IsErrAnd answer (λ stop. stop ≡ stop_of why) → IsBodyFault m n (HasTooManyBytes left) (HasTooManyLines left) why
-    → OfTold left (λ body. Obeys (scan_outcome site day body) answer written written × IsMeasured true body (status_of answer))
-unread_told site day left written m n why answer is cause =
-    let P = λ (r : Result Unit Stop). OfTold left (λ body. Obeys (scan_outcome site day body) r written written × IsMeasured true body (status_of r)) in
+pub unread_told : (site : Site) (day : ℕ) (left : Option (List ℕ)) (output : SinkView) (m n : ℕ) (why : BodyFault) (answer : Result Unit Stop) → IsErrAnd answer (λ stop. stop ≡ stop_of why) → IsBodyFault m n (HasTooManyBytes left) (HasTooManyLines left) why
+    → OfTold left (λ body. Obeys (scan_outcome site day body) answer output output × IsMeasured true body (status_of answer))
+unread_told site day left output m n why answer is cause =
+    let P = λ (r : Result Unit Stop). OfTold left (λ body. Obeys (scan_outcome site day body) r output output × IsMeasured true body (status_of r)) in
     let over = unread left m n why cause in
     subst P (sym (stopped_by answer (stop_of why) is))
     (record {
       all = over.all;
       is_all = over.is_all;
-      says = (unread_obeys (scan_outcome site day over.all) (stop_of why) over.all written (scan_beyond site day over.all) over.says, unread_measured (stop_of why) over.all over.says);
+      says = (unread_obeys (scan_outcome site day over.all) (stop_of why) over.all output (scan_beyond site day over.all) over.says, unread_measured (stop_of why) over.all over.says);
     })
 
-pub read_scan : (site : Site) (day : ℕ) (left : Option (List ℕ)) (body seen : List ℕ) (answer : Result Unit Stop) (before after : Option (List ℕ)) → IsAll left body → seen ≡ body → is_within body ≡ true → (status_of answer ≡ 10 → ⊥) → Obeys (scan_answer site day seen) answer before after
+pub read_scan : (site : Site) (day : ℕ) (left : Option (List ℕ)) (body seen : List ℕ) (answer : Result Unit Stop) (before after : SinkView) → IsAll left body → seen ≡ body → is_within body ≡ true → (status_of answer ≡ 10 → ⊥) → Obeys (scan_answer site day seen) answer before after
     → OfTold left (λ body. Obeys (scan_outcome site day body) answer before after × IsMeasured true body (status_of answer))
 read_scan site day left body seen answer before after told same within no_excess obeys =
     let P = λ (p : Printout). Obeys p answer before after in
@@ -126,25 +126,25 @@ load_within number rows body is = ap (λ few. if few then load_answer number bod
 load_beyond : (number : ℕ) (rows : List Row) (body : List ℕ) → is_within body ≡ false → load_outcome number rows body ≡ leaving rows (unwritten (excess body))
 load_beyond number rows body is = ap (λ few. if few then load_answer number body rows else leaving rows (unwritten (excess body))) is
 
-pub unread_load : (number : ℕ) (left written : Option (List ℕ)) (tables : Option (List Row)) (m n : ℕ) (why : BodyFault) (answer : Result Unit Stop) → IsErrAnd answer (λ stop. stop ≡ stop_of why) → IsBodyFault m n (HasTooManyBytes left) (HasTooManyLines left) why
-    → OfTold (told_through tables tables) (λ rows. OfTold left (λ body. Performs (load_outcome number rows body) answer written written tables tables × IsMeasured true body (status_of answer)))
-unread_load number left written tables m n why answer is cause =
-    let P = λ (r : Result Unit Stop). OfTold (told_through tables tables) (λ rows. OfTold left (λ body. Performs (load_outcome number rows body) r written written tables tables × IsMeasured true body (status_of r))) in
+pub unread_load : (number : ℕ) (left : Option (List ℕ)) (output : SinkView) (tables : Option (List Row)) (m n : ℕ) (why : BodyFault) (answer : Result Unit Stop) → IsErrAnd answer (λ stop. stop ≡ stop_of why) → IsBodyFault m n (HasTooManyBytes left) (HasTooManyLines left) why
+    → OfTold (told_through tables tables) (λ rows. OfTold left (λ body. Performs (load_outcome number rows body) answer output output tables tables × IsMeasured true body (status_of answer)))
+unread_load number left output tables m n why answer is cause =
+    let P = λ (r : Result Unit Stop). OfTold (told_through tables tables) (λ rows. OfTold left (λ body. Performs (load_outcome number rows body) r output output tables tables × IsMeasured true body (status_of r))) in
     let over = unread left m n why cause in
     subst P (sym (stopped_by answer (stop_of why) is))
-    (of_told (told_through tables tables) (λ rows. OfTold left (λ body. Performs (load_outcome number rows body) (Err (stop_of why)) written written tables tables × IsMeasured true body (ending_at (stop_of why)).status)) (λ rows told. record {
+    (of_told (told_through tables tables) (λ rows. OfTold left (λ body. Performs (load_outcome number rows body) (Err (stop_of why)) output output tables tables × IsMeasured true body (ending_at (stop_of why)).status)) (λ rows told. record {
       all = over.all;
       is_all = over.is_all;
       says = (
         record {
-          obeys = unread_obeys (printout_of (load_outcome number rows over.all)) (stop_of why) over.all written (λ few. ap printout_of (load_beyond number rows over.all few)) over.says;
+          obeys = unread_obeys (printout_of (load_outcome number rows over.all)) (stop_of why) over.all output (λ few. ap printout_of (load_beyond number rows over.all few)) over.says;
           tables = unread_keeps (load_outcome number rows over.all) rows (stop_of why) over.all tables told (load_beyond number rows over.all) over.says;
         },
         unread_measured (stop_of why) over.all over.says,
       );
     }))
 
-pub read_load : (number : ℕ) (left : Option (List ℕ)) (body seen : List ℕ) (answer : Result Unit Stop) (before after : Option (List ℕ)) (tables_before tables_after : Option (List Row)) → IsAll left body → seen ≡ body → is_within body ≡ true → (status_of answer ≡ 10 → ⊥) → OfTold (told_through tables_before tables_after) (λ rows. Performs (load_answer number seen rows) answer before after tables_before tables_after)
+pub read_load : (number : ℕ) (left : Option (List ℕ)) (body seen : List ℕ) (answer : Result Unit Stop) (before after : SinkView) (tables_before tables_after : Option (List Row)) → IsAll left body → seen ≡ body → is_within body ≡ true → (status_of answer ≡ 10 → ⊥) → OfTold (told_through tables_before tables_after) (λ rows. Performs (load_answer number seen rows) answer before after tables_before tables_after)
     → OfTold (told_through tables_before tables_after) (λ rows. OfTold left (λ body. Performs (load_outcome number rows body) answer before after tables_before tables_after × IsMeasured true body (status_of answer)))
 read_load number left body seen answer before after tables_before tables_after told same within no_excess over =
     let P = λ (o : Outcome). Performs o answer before after tables_before tables_after in
@@ -160,28 +160,30 @@ read_load number left body seen answer before after tables_before tables_after t
 
 -- ---- causes
 
-unread_caused : (left : Option (List ℕ)) (m n count : ℕ) (why : BodyFault) → IsBodyFault m n (HasTooManyBytes left) (HasTooManyLines left) why → HasCauses (ending_at (stop_of why)).status m n count count
-unread_caused left m n count fault.InputFailed cause = record {
-  input = rises_at 3 m n cause;
-  output = stays_at 4 3 count (λ same. omega arith);
+unread_caused : (before after : SourceView) (output : SinkView) (why : BodyFault) → IsBodyFault before.faults after.faults (HasTooManyBytes before.left) (HasTooManyLines before.left) why
+    → HasCauses (ending_at (stop_of why)).status before after output output
+unread_caused before after output fault.InputFailed cause = record {
+  input = rises_at 3 before.faults after.faults cause;
+  output = stays_at 4 3 output.faults (λ same. omega arith);
 }
-unread_caused left m n count fault.Memory cause = record {
+unread_caused before after output fault.Memory cause = record {
   input = record { rises = λ same. absurd (omega arith); stays = λ _. cause };
-  output = stays_at 4 7 count (λ same. omega arith);
+  output = stays_at 4 7 output.faults (λ same. omega arith);
 }
-unread_caused left m n count fault.TooManyBytes cause = record {
+unread_caused before after output fault.TooManyBytes cause = record {
   input = record { rises = λ same. absurd (omega arith); stays = λ _. cause.0 };
-  output = stays_at 4 10 count (λ same. omega arith);
+  output = stays_at 4 10 output.faults (λ same. omega arith);
 }
-unread_caused left m n count (fault.TooManyLines lines) cause = record {
+unread_caused before after output (fault.TooManyLines lines) cause = record {
   input = record { rises = λ same. absurd (omega arith); stays = λ _. cause.0 };
-  output = stays_at 4 10 count (λ same. omega arith);
+  output = stays_at 4 10 output.faults (λ same. omega arith);
 }
 
-pub unread_causes : (left : Option (List ℕ)) (m n count : ℕ) (why : BodyFault) (answer : Result Unit Stop) → IsErrAnd answer (λ stop. stop ≡ stop_of why) → IsBodyFault m n (HasTooManyBytes left) (HasTooManyLines left) why → HasCauses (status_of answer) m n count count
-unread_causes left m n count why answer is cause =
-    let P = λ (r : Result Unit Stop). HasCauses (status_of r) m n count count in
-    subst P (sym (stopped_by answer (stop_of why) is)) (unread_caused left m n count why cause)
+pub unread_causes : (before after : SourceView) (output : SinkView) (why : BodyFault) (answer : Result Unit Stop) → IsErrAnd answer (λ stop. stop ≡ stop_of why)
+    → IsBodyFault before.faults after.faults (HasTooManyBytes before.left) (HasTooManyLines before.left) why → HasCauses (status_of answer) before after output output
+unread_causes before after output why answer is cause =
+    let P = λ (r : Result Unit Stop). HasCauses (status_of r) before after output output in
+    subst P (sym (stopped_by answer (stop_of why) is)) (unread_caused before after output why cause)
 
 unread_other : (why : BodyFault) → (ending_at (stop_of why)).status ≡ 5 → ⊥
 unread_other fault.InputFailed = λ five. omega (arith, five)
@@ -200,8 +202,9 @@ unread_keeper count why answer is =
     let P = λ (r : Result Unit Stop). RisesAt 5 (status_of r) count count in
     subst P (sym (stopped_by answer (stop_of why) is)) (stays_at 5 (ending_at (stop_of why)).status count (unread_other why))
 
-pub read_causes : (status m n count after : ℕ) → n ≡ m → (status ≡ 3 → ⊥) → RisesAt 4 status count after → HasCauses status m n count after
-read_causes status m n count after steady no_fault output = record {
+pub read_causes : (status : ℕ) (before after : SourceView) (output later : SinkView) → after.faults ≡ before.faults → (status ≡ 3 → ⊥) → RisesAt 4 status output.faults later.faults
+    → HasCauses status before after output later
+read_causes status before after output later steady no_fault rises = record {
   input = record { rises = λ same. absurd (no_fault same); stays = λ _. steady };
-  output = output;
+  output = rises;
 }

@@ -26,6 +26,12 @@ pub record Extends (before after : Option (List ℕ)) (body longer : List ℕ) (
   pub moved : option_map (λ left. body ++ left) before ≡ option_map (λ left. longer ++ left) after
   pub end : n ≡ 0 → IfSome before (λ left. left ≡ [])
 
+-- at most so many bytes went from the front of what was left
+pub record TakesFew (most : ℕ) (before after : Option (List ℕ)) : Type 0 where
+  pub taken : List ℕ
+  pub few : length taken ≤ most
+  pub front : before ≡ option_map (λ rest. taken ++ rest) after
+
 -- there are more bytes than a body may have
 abbrev pub HasTooManyBytes : Option (List ℕ) → Type 0
 HasTooManyBytes left = OfTold left (λ body. MOST_BYTES < length body)

@@ -6,6 +6,7 @@ use Rattle.aq_rules.specs.Kept.RowChanges.{table_name}
 use Rattle.aq_rules.specs.Kept.Rows.{Place}
 use Rattle.aq_rules.specs.Shown.OtherSheets.{digest_text}
 use Rattle.aq_rules.specs.Shown.Sheet.{site_text}
+use Rattle.aq_desk.specs.declared.status.TheConstants.{DONE, NO_COMMAND, INPUT_FAILED, OUTPUT_FAILED, KEEPER_FAILED, DAMAGED, NO_MEMORY, DOOR_FAILED, CONFLICT, TOO_LARGE, LOADS_FULL, NO_SITE, NO_EVENT, NO_SITE_IN_AREA}
 
 pub record Ending : Type 0 where
   pub status : ℕ
@@ -13,7 +14,7 @@ pub record Ending : Type 0 where
 
 -- a run that did all of its command ends with 0, and without a message
 abbrev pub done : Ending
-done = record { status = 0; message = [] }
+done = record { status = DONE; message = [] }
 
 -- any other ends with another status, and a line that names it and its cause
 abbrev pub ends : ℕ → List ℕ → Ending
@@ -24,7 +25,7 @@ abbrev pub commands : List (List ℕ)
 commands =
     codes "scan SITE DAY" ∷ codes "load NUMBER" ∷ codes "show STANDARD SITE YEAR" ∷ codes "report STANDARD YEAR"
     ∷ codes "export SITE PARAMETER YEAR" ∷ codes "whatif STANDARD SITE YEAR LIST" ∷ codes "decisive STANDARD SITE YEAR"
-    ∷ codes "serve --port P --connections N" ∷ codes "simulate START SITES YEARS" ∷ []
+    ∷ codes "area STANDARD AREA YEAR" ∷ codes "serve --port P --connections N" ∷ codes "simulate START SITES YEARS" ∷ []
 
 -- a line for each command
 abbrev pub usage : List ℕ
@@ -32,56 +33,56 @@ usage = flat_map (λ command. codes "usage: airdv " ++ command ++ codes "\n") co
 
 -- with the usage text after its line
 abbrev pub no_command : Ending
-no_command = let ending = ends 2 (codes "no command") in record { status = ending.status; message = ending.message ++ usage }
+no_command = let ending = ends NO_COMMAND (codes "no command") in record { status = ending.status; message = ending.message ++ usage }
 
 abbrev pub input_failed : Ending
-input_failed = ends 3 (codes "input failed")
+input_failed = ends INPUT_FAILED (codes "input failed")
 
 abbrev pub output_failed : Ending
-output_failed = ends 4 (codes "output failed")
+output_failed = ends OUTPUT_FAILED (codes "output failed")
 
 abbrev pub keeper_failed : Ending
-keeper_failed = ends 5 (codes "keeper failed")
+keeper_failed = ends KEEPER_FAILED (codes "keeper failed")
 
 -- with the table of the first damaged row, and its place among that table's rows from 0
 abbrev pub damaged : Place → Ending
-damaged place = ends 6 (codes "damaged " ++ table_name place.table ++ codes " " ++ decimal place.index)
+damaged place = ends DAMAGED (codes "damaged " ++ table_name place.table ++ codes " " ++ decimal place.index)
 
 abbrev pub no_memory : Ending
-no_memory = ends 7 (codes "memory")
+no_memory = ends NO_MEMORY (codes "memory")
 
 abbrev pub door_failed : Ending
-door_failed = ends 8 (codes "door failed")
+door_failed = ends DOOR_FAILED (codes "door failed")
 
 -- with the load's number, the digest that is kept, and the one that was sent
 abbrev pub conflict : ℕ → List ℕ → List ℕ → Ending
 conflict number kept sent =
-    ends 9 (codes "load " ++ decimal number ++ codes " kept " ++ digest_text kept ++ codes " sent " ++ digest_text sent)
+    ends CONFLICT (codes "load " ++ decimal number ++ codes " kept " ++ digest_text kept ++ codes " sent " ++ digest_text sent)
 
 abbrev pub too_many_bytes : Ending
-too_many_bytes = ends 10 (codes "more than " ++ decimal MOST_BYTES ++ codes " bytes")
+too_many_bytes = ends TOO_LARGE (codes "more than " ++ decimal MOST_BYTES ++ codes " bytes")
 
 -- with how many lines there are
 abbrev pub too_many_lines : ℕ → Ending
-too_many_lines lines = ends 10 (decimal lines ++ codes " lines")
+too_many_lines lines = ends TOO_LARGE (decimal lines ++ codes " lines")
 
 abbrev pub loads_full : Ending
-loads_full = ends 11 (codes "loads full")
+loads_full = ends LOADS_FULL (codes "loads full")
 
 -- with the site that was asked for
 abbrev pub no_site : Site → Ending
-no_site site = ends 12 (codes "no site " ++ site_text site)
+no_site site = ends NO_SITE (codes "no site " ++ site_text site)
 
 -- with the first number of the list that no event has
 abbrev pub no_event : ℕ → Ending
-no_event number = ends 13 (codes "no event " ++ decimal number)
+no_event number = ends NO_EVENT (codes "no event " ++ decimal number)
 
--- ---- of the commands to come: combined sites and areas
+-- no registered site of the area has a monitor of the standard's pollutant
+abbrev pub no_site_in_area : Ending
+no_site_in_area = ends NO_SITE_IN_AREA (codes "no site in area")
+
+-- ---- of a command to come: combined sites
 
 -- with the site of which no combination stands
 abbrev pub no_combination : Site → Ending
 no_combination site = ends 14 (codes "no combination " ++ site_text site)
-
--- no registered site of the area has a monitor of the standard's pollutant
-abbrev pub no_site_in_area : Ending
-no_site_in_area = ends 15 (codes "no site in area")

@@ -14,8 +14,8 @@ use Rattle.aq_desk.specs.Ending.{conflict, loads_full, too_many_lines}
 use Rattle.aq_desk.specs.Office.{over_office}
 use Rattle.aq_desk.specs.declared.stop.Stop.{Stop}
 use Rattle.aq_desk.specs.declared.stop.Stop.TheVariants as stops
-use Rattle.aq_service.specs.declared.posting.Posted as answers
-use Rattle.aq_service.specs.declared.posting.Posted.TheVariants.{Done, Lines, Conflict, Full, Failed}
+use Rattle.aq_office.specs.declared.posting.Posted as answers
+use Rattle.aq_office.specs.declared.posting.Posted.TheVariants.{Done, Lines, Conflict, Full, Failed}
 
 -- a known number with the same body gives the kept reply; the office changes only if the load is taken
 abbrev pub posted_outcome : ℕ → Office → List ℕ → Posted → Outcome

@@ -6,17 +6,19 @@ use Rattle.aq_rules.specs.Kept.Rows.{Row}
 use Rattle.aq_words.specs.declared.words.Command.{Command}
 use Rattle.aq_words.specs.declared.words.Command.TheVariants.{Scan, Load, WhatIf, Decisive, Serve, Simulate}
 use Rattle.aq_words.specs.declared.words.Command.TheVariants as command
+use Rattle.aq_desk.specs.Area.{area_printout}
 use Rattle.aq_desk.specs.Ask.{ask_outcome, ask_printout}
 use Rattle.aq_desk.specs.Command.{Follows, Outcome, Tells, leaving, message_for, unwritten}
 use Rattle.aq_desk.specs.Ending.{no_command}
 use Rattle.aq_desk.specs.Load.{load_outcome}
-use Rattle.aq_serve.specs.Outside.{IsAll}
+use Rattle.aq_serve.specs.Outside.{IsAll, SinkView, SourceView}
 use Rattle.aq_desk.specs.Scan.{scan_outcome}
 use Rattle.aq_desk.specs.Serve.{Around, HasServed, Hosting, serve_outcome}
 use Rattle.aq_desk.specs.Simulate.{simulate_outcome}
 use Rattle.aq_desk.specs.Stop.{EndsAs, IsMeasured, Performs, status_of}
 use Rattle.aq_desk.specs.WhatIf.{decisive_printout, what_if_printout}
 use Rattle.aq_desk.specs.declared.stop.Stop.{Stop}
+use Rattle.aq_desk.specs.declared.status.TheConstants.{KEEPER_FAILED}
 
 -- what a command gives over the tables' rows and an input; what `serve` does at the door is said separately
 abbrev pub outcome_of : Command → List Row → List ℕ → Outcome
@@ -25,6 +27,7 @@ outcome_of (Load number) rows body = load_outcome number rows body
 outcome_of (command.Ask ask) rows body = ask_outcome (ask_printout ask) rows
 outcome_of (WhatIf question) rows body = ask_outcome (what_if_printout question) rows
 outcome_of (Decisive question) rows body = ask_outcome (decisive_printout question) rows
+outcome_of (command.Area question) rows body = ask_outcome (area_printout question) rows
 outcome_of (Serve port connections) rows body = serve_outcome rows
 outcome_of (Simulate start sites years) rows body = leaving rows (simulate_outcome start sites years)
 
@@ -41,6 +44,7 @@ reads_input (Load number) = true
 reads_input (command.Ask ask) = false
 reads_input (WhatIf question) = false
 reads_input (Decisive question) = false
+reads_input (command.Area question) = false
 reads_input (Serve port connections) = false
 reads_input (Simulate start sites years) = false
 
@@ -50,6 +54,7 @@ uses_keeper (Load number) = true
 uses_keeper (command.Ask ask) = true
 uses_keeper (WhatIf question) = true
 uses_keeper (Decisive question) = true
+uses_keeper (command.Area question) = true
 uses_keeper (Serve port connections) = true
 uses_keeper (Simulate start sites years) = false
 
@@ -59,6 +64,7 @@ writes_output (Load number) = true
 writes_output (command.Ask ask) = true
 writes_output (WhatIf question) = true
 writes_output (Decisive question) = true
+writes_output (command.Area question) = true
 writes_output (Serve port connections) = false
 writes_output (Simulate start sites years) = true
 
@@ -74,6 +80,7 @@ hosting_in (Load number) = None
 hosting_in (command.Ask ask) = None
 hosting_in (WhatIf question) = None
 hosting_in (Decisive question) = None
+hosting_in (command.Area question) = None
 hosting_in (Serve port connections) = Some (record { port = port; connections = connections })
 hosting_in (Simulate start sites years) = None
 
@@ -83,41 +90,40 @@ hosting_for (Some command) = hosting_in command
 
 -- the keeper's count rose if a run ends with 5; it is as before if one ends otherwise, unless connections were served
 pub record KeeperRises (asked : Option Hosting) (status before after : ℕ) : Type 0 where
-  pub rises : status ≡ 5 → HasRisen before after
-  pub stays : IsNone asked → (status ≡ 5 → ⊥) → after ≡ before
+  pub rises : status ≡ KEEPER_FAILED → HasRisen before after
+  pub stays : IsNone asked → (status ≡ KEEPER_FAILED → ⊥) → after ≡ before
 
 -- ---- what a run does
 
--- what is around a run: the door and the keeper, the bytes left of the input, those on the output, and those on the errors stream with its count of faults
+-- what is around a run: the door and the keeper, the input, the output, and the errors stream
 pub record Surroundings : Type 0 where
   pub around : Around
-  pub left : Option (List ℕ)
-  pub written : Option (List ℕ)
-  pub said : Option (List ℕ)
-  pub unsaid : ℕ
+  pub input : SourceView
+  pub output : SinkView
+  pub errors : SinkView
 
 -- The headline. All of a run is said over the same rows and the same body: over the rows of the tables, if these are told throughout, and the bytes of the input, if these are told; and else over some.
 pub record Runs (command : Option Command) (status : ℕ) (before after : Surroundings) : Type 0 where
   pub rows : List Row
   pub body : List ℕ
   pub are_told : IsAll (told_through before.around.tables after.around.tables) rows
-  pub is_told : IsAll before.left body
+  pub is_told : IsAll before.input.left body
   -- of a command that prints, what is answered and written, and the tables after it, are what its definition gives
-  pub prints : IsNone (hosting_for command) → Follows (outcome_for command rows body) status before.written after.written before.around.tables after.around.tables
+  pub prints : IsNone (hosting_for command) → Follows (outcome_for command rows body) status before.output after.output before.around.tables after.around.tables
   -- of the one that serves, the replies are those of each connection's session, and the tables after it those of the last office
   pub serves : IfSome (hosting_for command) (λ asked. HasServed asked rows status before.around after.around)
   -- the message is that of the status: of a status that the definition gives, the definition's
-  pub tells : Tells (message_for (outcome_for command rows body) status) before.unsaid after.unsaid before.said after.said
+  pub tells : Tells (message_for (outcome_for command rows body) status) before.errors after.errors
   -- a body of too many bytes or lines, and no other, ends with 10, unless the input or memory failed first
   pub measured : IsMeasured (uses reads_input command) body status
 
 -- the same of a command, before anything is said of it
-pub record Acts (command : Command) (answer : Result Unit Stop) (left written_before written_after : Option (List ℕ)) (before after : Around) : Type 0 where
+pub record Acts (command : Command) (answer : Result Unit Stop) (left : Option (List ℕ)) (output_before output_after : SinkView) (before after : Around) : Type 0 where
   pub rows : List Row
   pub body : List ℕ
   pub are_told : IsAll (told_through before.tables after.tables) rows
   pub is_told : IsAll left body
-  pub performs : IsNone (hosting_in command) → Performs (outcome_of command rows body) answer written_before written_after before.tables after.tables
+  pub performs : IsNone (hosting_in command) → Performs (outcome_of command rows body) answer output_before output_after before.tables after.tables
   pub serves : IfSome (hosting_in command) (λ asked. HasServed asked rows (status_of answer) before after)
   pub ends : EndsAs (outcome_of command rows body) answer
   pub measured : IsMeasured (reads_input command) body (status_of answer)

@@ -2,12 +2,12 @@
 use Rattle.std.specs.Prelude.{◌≡◌, ℕ, ◌⊎◌, List, Option, Some, None, Result, Ok, Err}
 use Rattle.std.specs.Option.{option_map}
 use Rattle.aq_base.specs.Faults.{HasRisen}
-use Rattle.aq_keeper.specs.Told.{Stays}
+use Rattle.aq_keeper.specs.Told.{KeeperView, Stays}
 use Rattle.aq_rules.specs.Kept.Migration.{opening_damage}
 use Rattle.aq_rules.specs.Kept.Rows.{Row, office_in, rows_of}
 use Rattle.aq_rules.specs.Office.Office.{Office}
 use Rattle.aq_serve.specs.Door.{DoorView}
-use Rattle.aq_serve.specs.Service.{AreOfOffice, ServiceView}
+use Rattle.aq_keeper.specs.Standing.{AreOfOffice, Standing}
 use Rattle.aq_serve.specs.Serving.{Serves}
 use Rattle.aq_serve.specs.declared.ending.ServeFault.{ServeFault}
 use Rattle.aq_serve.specs.declared.ending.ServeFault.TheVariants.{DoorFailed, Memory}
@@ -16,6 +16,7 @@ use Rattle.aq_desk.specs.Ending.{done}
 use Rattle.aq_desk.specs.Office.{over_office}
 use Rattle.aq_desk.specs.declared.stop.Stop.{Stop}
 use Rattle.aq_desk.specs.declared.stop.Stop.TheVariants as stops
+use Rattle.aq_desk.specs.declared.status.TheConstants.{DONE, KEEPER_FAILED, DAMAGED, NO_MEMORY, DOOR_FAILED}
 
 -- nothing is printed; what is served is told by the door
 unfoldable pub serve_outcome : List Row → Outcome
@@ -27,12 +28,16 @@ pub record Around : Type 0 where
   pub tables : Option (List Row)
   pub faults : ℕ
 
+-- a door and a keeper that are seen so
+abbrev pub around_of : DoorView → KeeperView → Around
+around_of door keeper = record { door = door; tables = keeper.tables; faults = keeper.faults }
+
 -- the same with these tables
 abbrev pub holding : Option (List Row) → Around → Around
 holding tables around = record { door = around.door; tables = tables; faults = around.faults }
 
 -- the same with the office that is served
-abbrev pub serving : Office → Around → ServiceView
+abbrev pub serving : Office → Around → Standing
 serving office around = record { office = office; tables = around.tables; faults = around.faults }
 
 -- what is asked for: the port, and how many connections are served at most
@@ -51,23 +56,23 @@ pub record IsListening (port : ℕ) (before after : DoorView) : Type 0 where
 
 -- no connection was accepted: the office was not opened, memory ran out, or the door did not listen, which comes after the migration
 pub record IsUnserved (rows : List Row) (status : ℕ) (before after : Around) : Type 0 where
-  pub ended : (status ≡ 5) ⊎ (status ≡ 6) ⊎ (status ≡ 7) ⊎ (status ≡ 8)
-  pub damaged : status ≡ 6 → opening_damage rows ≡ None → ⊥
-  pub undamaged : status ≡ 8 → opening_damage rows ≡ None
+  pub ended : (status ≡ KEEPER_FAILED) ⊎ (status ≡ DAMAGED) ⊎ (status ≡ NO_MEMORY) ⊎ (status ≡ DOOR_FAILED)
+  pub damaged : status ≡ DAMAGED → opening_damage rows ≡ None → ⊥
+  pub undamaged : status ≡ DOOR_FAILED → opening_damage rows ≡ None
   pub wire : after.door.wire ≡ before.door.wire
-  pub unopened : (status ≡ 5) ⊎ (status ≡ 6) → Stays before.tables after.tables
-  pub opened : status ≡ 8 → Stays (option_map opened_rows before.tables) after.tables
+  pub unopened : (status ≡ KEEPER_FAILED) ⊎ (status ≡ DAMAGED) → Stays before.tables after.tables
+  pub opened : status ≡ DOOR_FAILED → Stays (option_map opened_rows before.tables) after.tables
   pub tables : AtMostOpened before.tables after.tables
-  pub faults : RisesAt 5 status before.faults after.faults
-  pub accepts : RisesAt 8 status before.door.accepts after.door.accepts
+  pub faults : RisesAt KEEPER_FAILED status before.faults after.faults
+  pub accepts : RisesAt DOOR_FAILED status before.door.accepts after.door.accepts
   pub reads : after.door.reads ≡ before.door.reads
   pub writes : after.door.writes ≡ before.door.writes
 
 -- the exit status with which serving ends
 abbrev pub status_served : Result Unit ServeFault → ℕ
-status_served (Ok nothing) = 0
-status_served (Err DoorFailed) = 8
-status_served (Err Memory) = 7
+status_served (Ok nothing) = DONE
+status_served (Err DoorFailed) = DOOR_FAILED
+status_served (Err Memory) = NO_MEMORY
 
 -- connections were served over the office of the tables, once it was opened; these then are its own, if they are told still
 pub record IsServed (asked : Hosting) (rows : List Row) (status : ℕ) (before after : Around) : Type 0 where

@@ -1,11 +1,13 @@
 -- What stops a command, the ending of each cause, and what a command does that was stopped so.
-use Rattle.std.specs.Prelude.{◌≡◌, ◌⊎◌, ℕ, ◌<◌, Bool, true, false, List, [], ◌++◌, length, Option, Result, Ok, Err, IfOk, IsErr}
+use Rattle.std.specs.Prelude.{◌≡◌, ◌⊎◌, ℕ, ◌+◌, ◌<◌, ◌≤◌, Bool, true, false, List, [], ◌++◌, length, Option, Result, Ok, Err, IfOk, IsErr}
 use Rattle.std.specs.Option.{option_map}
 use Rattle.aq_rules.specs.Kept.Rows.{Row}
+use Rattle.aq_rules.specs.Limits.{MOST_BYTES}
 use Rattle.aq_desk.specs.Body.{is_within}
 use Rattle.aq_desk.specs.Command.{IsWhole, Keeps, Outcome, Printout, ReadsWhole, RisesAt, printout_of}
-use Rattle.aq_desk.specs.Ending.{Ending, done, input_failed, output_failed, keeper_failed, damaged, no_memory, door_failed, conflict, too_many_bytes, too_many_lines, loads_full, no_site, no_event}
+use Rattle.aq_desk.specs.Ending.{Ending, done, input_failed, output_failed, keeper_failed, damaged, no_memory, door_failed, conflict, too_many_bytes, too_many_lines, loads_full, no_site, no_event, no_site_in_area}
 use Rattle.aq_desk.specs.Writing.{WritesFront}
+use Rattle.aq_serve.specs.Outside.{IsAll, SinkView, SourceView}
 use Rattle.aq_rows.specs.declared.opening.OpenFault.{OpenFault}
 use Rattle.aq_rows.specs.declared.opening.OpenFault.TheVariants as opening
 use Rattle.aq_keeper.specs.declared.keeper.KeeperFault.{KeeperFault}
@@ -13,7 +15,8 @@ use Rattle.aq_keeper.specs.declared.keeper.KeeperFault.TheVariants as keeper
 use Rattle.aq_desk.specs.declared.body.BodyFault.{BodyFault}
 use Rattle.aq_desk.specs.declared.body.BodyFault.TheVariants as fault
 use Rattle.aq_desk.specs.declared.stop.Stop.{Stop}
-use Rattle.aq_desk.specs.declared.stop.Stop.TheVariants.{InputFailed, OutputFailed, KeeperFailed, DoorFailed, Damaged, Memory, Conflict, TooManyBytes, TooManyLines, LoadsFull, NoSite, NoEvent}
+use Rattle.aq_desk.specs.declared.stop.Stop.TheVariants.{InputFailed, OutputFailed, KeeperFailed, DoorFailed, Damaged, Memory, Conflict, TooManyBytes, TooManyLines, LoadsFull, NoSite, NoEvent, NoSiteInArea}
+use Rattle.aq_desk.specs.declared.status.TheConstants.{DONE, INPUT_FAILED, OUTPUT_FAILED, KEEPER_FAILED, DAMAGED, NO_MEMORY, CONFLICT, TOO_LARGE, LOADS_FULL, NO_SITE, NO_EVENT, NO_SITE_IN_AREA}
 
 abbrev pub ending_at : Stop → Ending
 ending_at InputFailed = input_failed
@@ -28,6 +31,7 @@ ending_at (TooManyLines lines) = too_many_lines lines
 ending_at LoadsFull = loads_full
 ending_at (NoSite site) = no_site site
 ending_at (NoEvent number) = no_event number
+ending_at NoSiteInArea = no_site_in_area
 
 -- a command that was done, or stopped
 abbrev pub ending_of : {A : Type 0} → Result A Stop → Ending
@@ -56,14 +60,14 @@ abbrev pub EndsAs : {A : Type 0} → Outcome → Result A Stop → Type 0
 EndsAs outcome answer = IsWhole (status_of answer) → ending_of answer ≡ outcome.ending
 
 -- it does all of its printout, or, if it was cut short, a front of the output; the output fails only if there is something to write
-pub record Obeys (printout : Printout) (answer : Result Unit Stop) (before after : Option (List ℕ)) : Type 0 where
+pub record Obeys (printout : Printout) (answer : Result Unit Stop) (before after : SinkView) : Type 0 where
   pub ending : IsWhole (status_of answer) → ending_of answer ≡ printout.ending
-  pub whole : IsWhole (status_of answer) → after ≡ option_map (λ bytes. bytes ++ printout.output) before
-  pub front : WritesFront before after printout.output
-  pub written : status_of answer ≡ 4 → 0 < length printout.output
+  pub whole : IsWhole (status_of answer) → after.written ≡ option_map (λ bytes. bytes ++ printout.output) before.written
+  pub front : WritesFront before.written after.written printout.output
+  pub written : status_of answer ≡ OUTPUT_FAILED → 0 < length printout.output
 
 -- the same of an outcome, with the tables
-pub record Performs (outcome : Outcome) (answer : Result Unit Stop) (before after : Option (List ℕ)) (tables_before tables_after : Option (List Row)) : Type 0 where
+pub record Performs (outcome : Outcome) (answer : Result Unit Stop) (before after : SinkView) (tables_before tables_after : Option (List Row)) : Type 0 where
   pub obeys : Obeys (printout_of outcome) answer before after
   pub tables : Keeps outcome.rows (status_of answer) tables_before tables_after
 
@@ -76,24 +80,32 @@ pub record Gives (outcome : Outcome) (answer : Result (List ℕ) Stop) (tables_b
 
 -- the statuses of a command whose body was taken
 abbrev pub IsTaken : ℕ → Type 0
-IsTaken status = (status ≡ 0) ⊎ (status ≡ 4) ⊎ (status ≡ 7) ⊎ (status ≡ 12)
+IsTaken status = (status ≡ DONE) ⊎ (status ≡ OUTPUT_FAILED) ⊎ (status ≡ NO_MEMORY) ⊎ (status ≡ NO_SITE)
 
 -- cut short while it printed: the output failed, or memory ran out
 abbrev pub IsCutShort : Stop → Type 0
-IsCutShort stop = ((ending_at stop).status ≡ 4) ⊎ ((ending_at stop).status ≡ 7)
+IsCutShort stop = ((ending_at stop).status ≡ OUTPUT_FAILED) ⊎ ((ending_at stop).status ≡ NO_MEMORY)
 
--- stopped before it printed: the office was not opened, the load not taken, the site is not registered, or an event does not stand
+-- stopped before it printed: the office was not opened, the load not taken, the site is not registered, an event does not stand, or the area has no site
 abbrev pub IsUnprinted : Stop → Type 0
 IsUnprinted stop =
     let status = (ending_at stop).status in
-    (status ≡ 5) ⊎ (status ≡ 6) ⊎ (status ≡ 7) ⊎ (status ≡ 9) ⊎ (status ≡ 11) ⊎ (status ≡ 12) ⊎ (status ≡ 13)
+    (status ≡ KEEPER_FAILED) ⊎ (status ≡ DAMAGED) ⊎ (status ≡ NO_MEMORY) ⊎ (status ≡ CONFLICT) ⊎ (status ≡ LOADS_FULL) ⊎ (status ≡ NO_SITE) ⊎ (status ≡ NO_EVENT) ⊎ (status ≡ NO_SITE_IN_AREA)
 
 -- why it ended so: a count of faults rose
-pub record HasCauses (status input_before input_after output_before output_after : ℕ) : Type 0 where
-  pub input : RisesAt 3 status input_before input_after
-  pub output : RisesAt 4 status output_before output_after
+pub record HasCauses (status : ℕ) (input_before input_after : SourceView) (output_before output_after : SinkView) : Type 0 where
+  pub input : RisesAt INPUT_FAILED status input_before.faults input_after.faults
+  pub output : RisesAt OUTPUT_FAILED status output_before.faults output_after.faults
+
+-- how much of its input a command read: at most one byte beyond the limit; all of it if the body was read to its end, within the limits; and with 10 all of it or one byte beyond the limit
+pub record HasRead (status : ℕ) (before after : Option (List ℕ)) : Type 0 where
+  pub read : List ℕ
+  pub few : length read ≤ MOST_BYTES + 1
+  pub front : before ≡ option_map (λ rest. read ++ rest) after
+  pub whole : ReadsWhole status → IsAll after []
+  pub beyond : status ≡ TOO_LARGE → IsAll after [] ⊎ (length read ≡ MOST_BYTES + 1)
 
 -- the body is beyond the limits if a command ends with 10, and within them if one that reads it ends otherwise, having read it to its end
 pub record IsMeasured (reads : Bool) (body : List ℕ) (status : ℕ) : Type 0 where
-  pub too_many : status ≡ 10 → is_within body ≡ false
+  pub too_many : status ≡ TOO_LARGE → is_within body ≡ false
   pub whole : reads ≡ true → ReadsWhole status → is_within body ≡ true

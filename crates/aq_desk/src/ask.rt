@@ -6,6 +6,7 @@ ghost use Rattle.aq_desk.specs.Command.{RisesAt, WritesNothing};
 ghost use Rattle.aq_desk.specs.Ending.{no_site};
 ghost use Rattle.aq_serve.specs.Outside.{OfTold};
 ghost use Rattle.aq_desk.specs.Stop.{Gives, IsUnprinted, Performs, status_of};
+ghost use Rattle.aq_desk.specs.declared.status.TheConstants.{DOOR_FAILED, INPUT_FAILED, KEEPER_FAILED, OUTPUT_FAILED, TOO_LARGE};
 
 use crate::office::open;
 use crate::stop::Stop;
@@ -13,9 +14,9 @@ use crate::writing::print_text;
 use aq_base::{Ask, Bytes, SiteId};
 use aq_book::Book;
 use aq_keeper::Keeper;
+use aq_office::{Answer, answer_to};
 use aq_reports::text_of;
 use aq_serve::Sink;
-use aq_service::{Answer, answer_to};
 use std::alloc::Global;
 
 /// A question about an office, whose answer is a text.
@@ -46,11 +47,17 @@ pub(crate) fn ask<Q: Question, K: Keeper, O: Sink>(
     output: &mut O,
 ) -> Result<(), Stop>
     requires { IsTrue (Q.is_asked question.now) }
-    ensures told { OfTold (told_through (K.tables keeper.old) (K.tables keeper.new)) (λ rows. Performs (ask_outcome (Q.printout question.now) rows) result (O.written output.old) (O.written output.new) (K.tables keeper.old) (K.tables keeper.new)) }
-    ensures no_input { (status_of result ≡ 3 → ⊥) × (status_of result ≡ 10 → ⊥) }
-    ensures no_door { status_of result ≡ 8 → ⊥ }
-    ensures output_failed { RisesAt 4 (status_of result) (O.faults output.old) (O.faults output.new) }
-    ensures keeper_failed { RisesAt 5 (status_of result) (K.faults keeper.old) (K.faults keeper.new) }
+    ensures told { OfTold (told_through (K.seen keeper.old).tables (K.seen keeper.new).tables)
+        (λ rows. Performs (ask_outcome (Q.printout question.now) rows) result
+        (O.seen output.old) (O.seen output.new) (K.seen keeper.old).tables
+        (K.seen keeper.new).tables) }
+    ensures no_input { (status_of result ≡ INPUT_FAILED → ⊥)
+        × (status_of result ≡ TOO_LARGE → ⊥) }
+    ensures no_door { status_of result ≡ DOOR_FAILED → ⊥ }
+    ensures output_failed { RisesAt OUTPUT_FAILED (status_of result) (O.seen output.old).faults
+        (O.seen output.new).faults }
+    ensures keeper_failed { RisesAt KEEPER_FAILED (status_of result) (K.seen keeper.old).faults
+        (K.seen keeper.new).faults }
     ensures silent { WritesNothing (status_of result) → output.new ≡ output.old }
 {
     let text = asked(alloc, question, keeper)?;
@@ -60,9 +67,12 @@ pub(crate) fn ask<Q: Question, K: Keeper, O: Sink>(
 /// The text of the answer over the office of the tables.
 fn asked<Q: Question, K: Keeper>(alloc: Global, question: &Q, keeper: &mut K) -> Result<Bytes, Stop>
     requires { IsTrue (Q.is_asked question.now) }
-    ensures told { OfTold (told_through (K.tables keeper.old) (K.tables keeper.new)) (λ rows. Gives (ask_outcome (Q.printout question.now) rows) result (K.tables keeper.old) (K.tables keeper.new)) }
+    ensures told { OfTold (told_through (K.seen keeper.old).tables (K.seen keeper.new).tables)
+        (λ rows. Gives (ask_outcome (Q.printout question.now) rows) result
+        (K.seen keeper.old).tables (K.seen keeper.new).tables) }
     ensures unprinted { IfErr result IsUnprinted }
-    ensures keeper_failed { RisesAt 5 (status_of result) (K.faults keeper.old) (K.faults keeper.new) }
+    ensures keeper_failed { RisesAt KEEPER_FAILED (status_of result) (K.seen keeper.old).faults
+        (K.seen keeper.new).faults }
 {
     let book = open(alloc, keeper)?;
     question.text(alloc, &book)

@@ -1,7 +1,8 @@
 //! The body of a load, read from a source to its end.
 ghost use Rattle.std.specs.Prelude.{◌≡◌, ◌<◌, ◌≤◌, length, vec_len, [], IfOk, IfErr, OnOk};
 ghost use Rattle.aq_rules.specs.Lines.Lines.{line_count};
-ghost use Rattle.aq_desk.specs.Body.{Extends, HasTooManyBytes, HasTooManyLines, IsBodyFault};
+ghost use Rattle.aq_desk.specs.Body.{Extends, HasTooManyBytes, HasTooManyLines, IsBodyFault, TakesFew};
+ghost use Rattle.aq_desk.specs.Stop.{HasRead, ending_at, stop_of};
 ghost use Rattle.aq_serve.specs.Outside.{IsAll};
 
 use aq_base::{Failed, MOST_BYTES, MOST_LINES};
@@ -50,10 +51,13 @@ fn read_piece<S: Source>(
     body: &mut Vec<u8>,
 ) -> Result<usize, BodyFault>
     requires { 0 < length buffer.old }
-    ensures count { IfOk result (λ n. Extends (S.left input.old) (S.left input.new) body.old.items body.new.items n) }
+    ensures count { IfOk result (λ n. Extends (S.seen input.old).left (S.seen input.new).left
+        body.old.items body.new.items n) }
     ensures within { IfOk result (λ n. n ≤ length buffer.old) }
-    ensures steady { OnOk result (S.faults input.new ≡ S.faults input.old) }
-    ensures fault { IfErr result (λ fault. IsBodyFault (S.faults input.old) (S.faults input.new) ⊥ (λ _. ⊥) fault) }
+    ensures read { TakesFew (length buffer.old) (S.seen input.old).left (S.seen input.new).left }
+    ensures steady { OnOk result ((S.seen input.new).faults ≡ (S.seen input.old).faults) }
+    ensures fault { IfErr result (λ fault. IsBodyFault (S.seen input.old).faults
+        (S.seen input.new).faults ⊥ (λ _. ⊥) fault) }
 {
     let n = input.read(buffer)?;
     body.extend_from_slice(&buffer[..n])?;
@@ -64,10 +68,14 @@ fn read_piece<S: Source>(
 fn fill<S: Source>(input: &mut S, buffer: &mut [u8], body: &mut Vec<u8>) -> Result<(), BodyFault>
     requires room { 0 < length buffer.old }
     requires empty { body.old.items ≡ [] }
-    ensures body { OnOk result (IsAll (S.left input.old) body.new.items) }
+    ensures body { OnOk result (IsAll (S.seen input.old).left body.new.items) }
     ensures few { OnOk result (vec_len body.new ≤ MOST_BYTES) }
-    ensures steady { OnOk result (S.faults input.new ≡ S.faults input.old) }
-    ensures fault { IfErr result (λ fault. IsBodyFault (S.faults input.old) (S.faults input.new) (HasTooManyBytes (S.left input.old)) (λ _. ⊥) fault) }
+    ensures read { OnOk result (HasRead 0 (S.seen input.old).left (S.seen input.new).left) }
+    ensures cut { IfErr result (λ fault. let ending = ending_at (stop_of fault) in
+        HasRead ending.status (S.seen input.old).left (S.seen input.new).left) }
+    ensures steady { OnOk result ((S.seen input.new).faults ≡ (S.seen input.old).faults) }
+    ensures fault { IfErr result (λ fault. IsBodyFault (S.seen input.old).faults
+        (S.seen input.new).faults (HasTooManyBytes (S.seen input.old).left) (λ _. ⊥) fault) }
 {
     while body.len() <= MOST_BYTES {
         let room = buffer.len().min(MOST_BYTES + 1 - body.len());
@@ -82,11 +90,16 @@ fn fill<S: Source>(input: &mut S, buffer: &mut [u8], body: &mut Vec<u8>) -> Resu
 /// Reads a source to its end, or as far as one byte beyond what a body may have. More lines than a body
 /// may have are refused, too.
 pub(crate) fn read_body<S: Source>(alloc: Global, input: &mut S) -> Result<Vec<u8>, BodyFault>
-    ensures body { IfOk result (λ body. IsAll (S.left input.old) body.items) }
+    ensures body { IfOk result (λ body. IsAll (S.seen input.old).left body.items) }
     ensures bytes { IfOk result (λ body. length body.items ≤ MOST_BYTES) }
     ensures lines { IfOk result (λ body. line_count body.items ≤ MOST_LINES) }
-    ensures steady { OnOk result (S.faults input.new ≡ S.faults input.old) }
-    ensures fault { IfErr result (λ fault. IsBodyFault (S.faults input.old) (S.faults input.new) (HasTooManyBytes (S.left input.old)) (HasTooManyLines (S.left input.old)) fault) }
+    ensures read { OnOk result (HasRead 0 (S.seen input.old).left (S.seen input.new).left) }
+    ensures cut { IfErr result (λ fault. let ending = ending_at (stop_of fault) in
+        HasRead ending.status (S.seen input.old).left (S.seen input.new).left) }
+    ensures steady { OnOk result ((S.seen input.new).faults ≡ (S.seen input.old).faults) }
+    ensures fault { IfErr result (λ fault. IsBodyFault (S.seen input.old).faults
+        (S.seen input.new).faults (HasTooManyBytes (S.seen input.old).left)
+        (HasTooManyLines (S.seen input.old).left) fault) }
 {
     let mut buffer = vec![in alloc; 0; PIECE]?;
     let mut body = Vec::new(alloc);

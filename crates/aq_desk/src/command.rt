@@ -1,19 +1,21 @@
 //! The top call: it picks the command of the words.
-ghost use Rattle.std.specs.Prelude.{◌≡◌, ◌↔◌, ◌⊎◌, ℕ, false, IsNone, IsTrue, IsSome, List, Option, map, string_bytes};
+ghost use Rattle.std.specs.Prelude.{◌≡◌, ◌↔◌, ◌⊎◌, ℕ, false, true, IsNone, IsTrue, IsSome, List, Option, map, string_bytes};
 ghost use Rattle.std.specs.Option.{option_map};
 ghost use Rattle.aq_rules.specs.Kept.Rows.{Row};
 ghost use Rattle.aq_desk.specs.Command.{IsKept, IsStatus, Keeps, RisesAt, Tells, WritesNothing, opened_rows};
 ghost use Rattle.aq_desk.specs.Ending.{no_memory};
 ghost use Rattle.aq_desk.specs.Run.{Acts, KeeperRises, Runs, hosting_for, hosting_in, reads_input, uses, uses_keeper, writes_output};
-ghost use Rattle.aq_desk.specs.Serve.{Around, Hosting, IsServed};
-ghost use Rattle.aq_desk.specs.Stop.{ending_at, status_of};
+ghost use Rattle.aq_desk.specs.Serve.{Around, Hosting, IsServed, around_of};
+ghost use Rattle.aq_desk.specs.Stop.{HasRead, ending_at, status_of};
 ghost use Rattle.aq_words.specs.Words.{command_of, is_command};
+ghost use Rattle.aq_desk.specs.declared.status.TheConstants.{DOOR_FAILED, INPUT_FAILED, KEEPER_FAILED, NO_COMMAND, NO_MEMORY, OUTPUT_FAILED};
 
 use crate::ask::ask;
 use crate::load::load;
 use crate::scan::scan;
 use crate::serve::serve;
 use crate::simulate::simulate;
+use crate::status::{DONE, NO_COMMAND};
 use crate::stop::Stop;
 use crate::writing::write_all;
 use aq_keeper::Keeper;
@@ -22,7 +24,7 @@ use aq_words::{Command, read_words};
 use std::alloc::Global;
 
 /// What is said of words that name no command: the usage text after it has a line for each command.
-const NO_COMMAND: &[u8] = b"airdv: 2 no command\n\
+const NO_COMMAND_TEXT: &[u8] = b"airdv: 2 no command\n\
 usage: airdv scan SITE DAY\n\
 usage: airdv load NUMBER\n\
 usage: airdv show STANDARD SITE YEAR\n\
@@ -30,6 +32,7 @@ usage: airdv report STANDARD YEAR\n\
 usage: airdv export SITE PARAMETER YEAR\n\
 usage: airdv whatif STANDARD SITE YEAR LIST\n\
 usage: airdv decisive STANDARD SITE YEAR\n\
+usage: airdv area STANDARD AREA YEAR\n\
 usage: airdv serve --port P --connections N\n\
 usage: airdv simulate START SITES YEARS\n";
 
@@ -54,29 +57,53 @@ pub fn run<K: Keeper, D: Door, S: Source, O: Sink, E: Sink>(
     // a count of the door rose. Tables of version 1 are migrated as the office is opened. With 3 the tables
     // are as before the run, and with 5 as before the call that failed. The message is that of the status.
     // All this is over the rows that the keeper tells, if it tells them to the end, and the bytes of the input.
-    ensures headline { Runs (command_of (map string_bytes words.now)) result (record { around = record { door = D.seen door.old; tables = K.tables keeper.old; faults = K.faults keeper.old }; left = S.left input.old; written = O.written output.old; said = E.written errors.old; unsaid = E.faults errors.old }) (record { around = record { door = D.seen door.new; tables = K.tables keeper.new; faults = K.faults keeper.new }; left = S.left input.new; written = O.written output.new; said = E.written errors.new; unsaid = E.faults errors.new }) }
+    ensures headline { Runs (command_of (map string_bytes words.now)) result
+        (record {
+          around = around_of (D.seen door.old) (K.seen keeper.old);
+          input = S.seen input.old;
+          output = O.seen output.old;
+          errors = E.seen errors.old;
+        })
+        (record {
+          around = around_of (D.seen door.new) (K.seen keeper.new);
+          input = S.seen input.new;
+          output = O.seen output.new;
+          errors = E.seen errors.new;
+        }) }
 
     ensures statuses { IsStatus result }
-    ensures no_command { (result ≡ 2) ↔ IsNone (command_of (map string_bytes words.now)) }
-    ensures input_failed { RisesAt 3 result (S.faults input.old) (S.faults input.new) }
-    ensures output_failed { RisesAt 4 result (O.faults output.old) (O.faults output.new) }
-    ensures keeper_failed { KeeperRises (hosting_for (command_of (map string_bytes words.now))) result (K.faults keeper.old) (K.faults keeper.new) }
-    ensures door_failed { RisesAt 8 result (D.seen door.old).accepts (D.seen door.new).accepts }
+    ensures no_command { (result ≡ NO_COMMAND) ↔ IsNone (command_of (map string_bytes words.now)) }
+    ensures input_failed { RisesAt INPUT_FAILED result (S.seen input.old).faults
+        (S.seen input.new).faults }
+    ensures read { uses reads_input (command_of (map string_bytes words.now)) ≡ true
+        → HasRead result (S.seen input.old).left (S.seen input.new).left }
+    ensures output_failed { RisesAt OUTPUT_FAILED result (O.seen output.old).faults
+        (O.seen output.new).faults }
+    ensures keeper_failed { KeeperRises (hosting_for
+        (command_of (map string_bytes words.now))) result (K.seen keeper.old).faults
+        (K.seen keeper.new).faults }
+    ensures door_failed { RisesAt DOOR_FAILED result (D.seen door.old).accepts
+        (D.seen door.new).accepts }
     ensures silent { WritesNothing result → output.new ≡ output.old }
 
     // What a command does not use stays as it was.
-    ensures unused_input { uses reads_input (command_of (map string_bytes words.now)) ≡ false → input.new ≡ input.old }
-    ensures unused_keeper { uses uses_keeper (command_of (map string_bytes words.now)) ≡ false → keeper.new ≡ keeper.old }
-    ensures unused_output { uses writes_output (command_of (map string_bytes words.now)) ≡ false → output.new ≡ output.old }
-    ensures unused_door { IsNone (hosting_for (command_of (map string_bytes words.now))) → door.new ≡ door.old }
-    ensures only_serve { result ≡ 8 → IsSome (hosting_for (command_of (map string_bytes words.now))) }
+    ensures unused_input { uses reads_input (command_of (map string_bytes words.now)) ≡ false
+        → input.new ≡ input.old }
+    ensures unused_keeper { uses uses_keeper (command_of (map string_bytes words.now)) ≡ false
+        → keeper.new ≡ keeper.old }
+    ensures unused_output { uses writes_output (command_of (map string_bytes words.now)) ≡ false
+        → output.new ≡ output.old }
+    ensures unused_door { IsNone (hosting_for (command_of (map string_bytes words.now))) → door.new
+        ≡ door.old }
+    ensures only_serve { result ≡ DOOR_FAILED → IsSome (hosting_for
+        (command_of (map string_bytes words.now))) }
 {
     let Some(command) = read_words(words) else {
-        let _ = write_all(errors, NO_COMMAND);
-        return 2;
+        let _ = write_all(errors, NO_COMMAND_TEXT);
+        return NO_COMMAND;
     };
     match perform(alloc, &command, keeper, door, input, output) {
-        Ok(()) => 0,
+        Ok(()) => DONE,
         Err(stop) => tell(&stop, errors),
     }
 }
@@ -84,10 +111,18 @@ pub fn run<K: Keeper, D: Door, S: Source, O: Sink, E: Sink>(
 /// Over a keeper that tells its tables to the end of a run, as those in memory do, what is said of the tables
 /// is exact: those after it, and those that are served once the office is opened.
 pub fn told_runs_are_exact()
-    ensures kept { (rows : List Row) (status : ℕ) (before after : Option (List Row)) → IsSome after → Keeps rows status before after → IsKept status → after ≡ option_map (λ _. rows) before }
-    ensures failed { (rows : List Row) (status : ℕ) (before after : Option (List Row)) → IsSome after → Keeps rows status before after → status ≡ 5 → (after ≡ before) ⊎ (after ≡ option_map opened_rows before) }
-    ensures one { (rows : List Row) (status : ℕ) (before after : Option (List Row)) → IsSome after → Keeps rows status before after → (after ≡ before) ⊎ (after ≡ option_map opened_rows before) ⊎ (after ≡ option_map (λ _. rows) before) }
-    ensures served { (n : Hosting) (rows : List Row) (status : ℕ) (before after : Around) → IsSome after.tables → (is : IsServed n rows status before after) → is.opened ≡ option_map opened_rows before.tables }
+    ensures kept { (rows : List Row) (status : ℕ) (before after : Option (List Row)) → IsSome after
+        → Keeps rows status before after → IsKept status → after ≡ option_map
+        (λ _. rows) before }
+    ensures failed { (rows : List Row) (status : ℕ) (before after : Option (List Row))
+        → IsSome after → Keeps rows status before after → status ≡ KEEPER_FAILED → (after ≡ before) ⊎
+        (after ≡ option_map opened_rows before) }
+    ensures one { (rows : List Row) (status : ℕ) (before after : Option (List Row)) → IsSome after
+        → Keeps rows status before after → (after ≡ before) ⊎
+        (after ≡ option_map opened_rows before) ⊎ (after ≡ option_map (λ _. rows) before) }
+    ensures served { (n : Hosting) (rows : List Row) (status : ℕ) (before after : Around)
+        → IsSome after.tables → (is : IsServed n rows status before after) → is.opened
+        ≡ option_map opened_rows before.tables }
 {}
 
 /// Does a command. Nothing that it does, and no status, depends on the errors stream.
@@ -101,17 +136,26 @@ pub fn perform<K: Keeper, D: Door, S: Source, O: Sink>(
 ) -> Result<(), Stop>
     requires command { IsTrue (is_command command.now) }
     requires none_open { (D.seen door.old).is_open ≡ false }
-    ensures acts { Acts command.now result (S.left input.old) (O.written output.old) (O.written output.new) (record { door = D.seen door.old; tables = K.tables keeper.old; faults = K.faults keeper.old }) (record { door = D.seen door.new; tables = K.tables keeper.new; faults = K.faults keeper.new }) }
-    ensures input_failed { RisesAt 3 (status_of result) (S.faults input.old) (S.faults input.new) }
-    ensures output_failed { RisesAt 4 (status_of result) (O.faults output.old) (O.faults output.new) }
-    ensures keeper_failed { KeeperRises (hosting_in command.now) (status_of result) (K.faults keeper.old) (K.faults keeper.new) }
-    ensures door_failed { RisesAt 8 (status_of result) (D.seen door.old).accepts (D.seen door.new).accepts }
+    ensures acts { Acts command.now result (S.seen input.old).left (O.seen output.old)
+        (O.seen output.new)
+        (around_of (D.seen door.old) (K.seen keeper.old))
+        (around_of (D.seen door.new) (K.seen keeper.new)) }
+    ensures input_failed { RisesAt INPUT_FAILED (status_of result) (S.seen input.old).faults
+        (S.seen input.new).faults }
+    ensures read { reads_input command.now ≡ true
+        → HasRead (status_of result) (S.seen input.old).left (S.seen input.new).left }
+    ensures output_failed { RisesAt OUTPUT_FAILED (status_of result) (O.seen output.old).faults
+        (O.seen output.new).faults }
+    ensures keeper_failed { KeeperRises (hosting_in command.now) (status_of result)
+        (K.seen keeper.old).faults (K.seen keeper.new).faults }
+    ensures door_failed { RisesAt DOOR_FAILED (status_of result) (D.seen door.old).accepts
+        (D.seen door.new).accepts }
     ensures silent { WritesNothing (status_of result) → output.new ≡ output.old }
     ensures unused_input { reads_input command.now ≡ false → input.new ≡ input.old }
     ensures unused_keeper { uses_keeper command.now ≡ false → keeper.new ≡ keeper.old }
     ensures unused_output { writes_output command.now ≡ false → output.new ≡ output.old }
     ensures unused_door { IsNone (hosting_in command.now) → door.new ≡ door.old }
-    ensures only_serve { status_of result ≡ 8 → IsSome (hosting_in command.now) }
+    ensures only_serve { status_of result ≡ DOOR_FAILED → IsSome (hosting_in command.now) }
 {
     match command {
         Command::Scan { site, day } => scan(alloc, *site, *day, input, output),
@@ -119,6 +163,7 @@ pub fn perform<K: Keeper, D: Door, S: Source, O: Sink>(
         Command::Ask(question) => ask(alloc, question, keeper, output),
         Command::WhatIf(question) => ask(alloc, question, keeper, output),
         Command::Decisive(question) => ask(alloc, question, keeper, output),
+        Command::Area(question) => ask(alloc, question, keeper, output),
         Command::Serve { port, connections } => serve(alloc, *port, *connections, keeper, door),
         Command::Simulate {
             start,
@@ -130,8 +175,9 @@ pub fn perform<K: Keeper, D: Door, S: Source, O: Sink>(
 
 /// Ends a program that had no memory to read its words: says so, and answers the status.
 pub fn end_without_memory<E: Sink>(errors: &mut E) -> u8
-    ensures status { result ≡ 7 }
-    ensures messages { let ending = no_memory in Tells ending.message (E.faults errors.old) (E.faults errors.new) (E.written errors.old) (E.written errors.new) }
+    ensures status { result ≡ NO_MEMORY }
+    ensures messages { let ending = no_memory in Tells ending.message (E.seen errors.old)
+        (E.seen errors.new) }
 {
     tell(&Stop::Memory, errors)
 }
@@ -139,7 +185,8 @@ pub fn end_without_memory<E: Sink>(errors: &mut E) -> u8
 /// Says what stopped a command, and answers the status.
 fn tell<E: Sink>(stop: &Stop, errors: &mut E) -> u8
     ensures status { let ending = ending_at stop.now in result ≡ ending.status }
-    ensures message { let ending = ending_at stop.now in Tells ending.message (E.faults errors.old) (E.faults errors.new) (E.written errors.old) (E.written errors.new) }
+    ensures message { let ending = ending_at stop.now in Tells ending.message (E.seen errors.old)
+        (E.seen errors.new) }
 {
     let _ = stop.write(errors);
     stop.status()

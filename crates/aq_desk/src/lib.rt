@@ -7,7 +7,7 @@
 //! - `run(alloc, words, keeper, door, input, output, errors)`: does what the words ask for, and answers
 //!   the exit status.
 //! - `perform`: does a command without the errors stream; `Stop`: what stops one, with its status.
-//! - `Command`, `read_words`, `post`, `Posted`: handed on from aq_words and aq_service.
+//! - `Command`, `read_words`, `post`, `Posted`: handed on from aq_words and aq_office.
 //! - `end_without_memory`: ends a program that had no memory for its words.
 //! - In `specs/`, what each command is: `Run`, and a module for each.
 //!
@@ -18,9 +18,11 @@
 //!   says what each connection was answered.
 //! - The causes: 2 comes exactly if the words are no command; 3, 4, 5 and 8 come only if a count of
 //!   faults rose, which else stays, but for the keeper's while `serve` answers 503; with 2, 3, 5, 6, 8,
-//!   9, 10 and 11 nothing is written on the output (`no_command`, `input_failed`, `output_failed`,
+//!   9, 10, 11, 13 and 15 nothing is written on the output (`no_command`, `input_failed`, `output_failed`,
 //!   `keeper_failed`, `door_failed`, `only_serve`, `silent`). 10 and the statuses after the input was
 //!   read are tied to its size in the headline (`measured`).
+//! - A command that reads its input reads at most one byte more than a body may have, and all of it
+//!   where it read the body to its end (`read`).
 //! - The message on the errors stream is that of the status (`tells`); without memory for the words it
 //!   is that of 7 (`end_without_memory`). No status and no output depends on that stream.
 //! - A command leaves as it was what it does not use (`unused_input`, `unused_keeper`, `unused_output`,
@@ -39,6 +41,7 @@
 //! ```
 #![tactic(auto)]
 
+mod area;
 mod ask;
 mod body;
 mod command;
@@ -48,11 +51,12 @@ mod office;
 mod scan;
 mod serve;
 mod simulate;
+mod status;
 mod stop;
 mod what_if;
 mod writing;
 
-pub use aq_service::{Posted, post};
-pub use aq_words::{Command, Decisive, WhatIf, read_words};
+pub use aq_office::{Posted, post};
+pub use aq_words::{AreaQuestion, Command, Decisive, WhatIf, read_words};
 pub use command::{end_without_memory, perform, run, told_runs_are_exact};
 pub use stop::Stop;

@@ -8,8 +8,9 @@ ghost use Rattle.aq_rules.specs.Shown.Answer.{is_load_number};
 ghost use Rattle.aq_desk.specs.Command.{RisesAt, WritesNothing};
 ghost use Rattle.aq_desk.specs.Load.{IsAnswered, IsKeptText, IsTextOf, load_answer, load_outcome};
 ghost use Rattle.aq_serve.specs.Outside.{OfTold};
-ghost use Rattle.aq_desk.specs.Stop.{Gives, HasCauses, IsMeasured, IsUnprinted, Performs, status_of};
+ghost use Rattle.aq_desk.specs.Stop.{Gives, HasCauses, HasRead, IsMeasured, IsUnprinted, Performs, status_of};
 ghost use Rattle.aq_desk.specs.declared.stop.Stop.TheVariants.{Conflict};
+ghost use Rattle.aq_desk.specs.declared.status.TheConstants.{DOOR_FAILED, INPUT_FAILED, KEEPER_FAILED, OUTPUT_FAILED, TOO_LARGE};
 
 use crate::body::read_body;
 use crate::office::open;
@@ -18,8 +19,8 @@ use crate::writing::{print_text, text_of_load};
 use aq_base::Bytes;
 use aq_book::Book;
 use aq_keeper::Keeper;
+use aq_office::{Posted, post};
 use aq_serve::{Sink, Source};
-use aq_service::{Posted, post};
 use std::alloc::Global;
 
 /// Takes the input as a numbered load over the office of the tables, and prints its sheet.
@@ -31,10 +32,17 @@ pub(crate) fn load<K: Keeper, S: Source, O: Sink>(
     output: &mut O,
 ) -> Result<(), Stop>
     requires number { IsTrue (is_load_number number) }
-    ensures told { OfTold (told_through (K.tables keeper.old) (K.tables keeper.new)) (λ rows. OfTold (S.left input.old) (λ body. Performs (load_outcome number rows body) result (O.written output.old) (O.written output.new) (K.tables keeper.old) (K.tables keeper.new) × IsMeasured true body (status_of result))) }
-    ensures causes { HasCauses (status_of result) (S.faults input.old) (S.faults input.new) (O.faults output.old) (O.faults output.new) }
-    ensures keeper_failed { RisesAt 5 (status_of result) (K.faults keeper.old) (K.faults keeper.new) }
-    ensures no_door { status_of result ≡ 8 → ⊥ }
+    ensures told { OfTold (told_through (K.seen keeper.old).tables (K.seen keeper.new).tables)
+        (λ rows. OfTold (S.seen input.old).left (λ body. Performs
+        (load_outcome number rows body) result (O.seen output.old) (O.seen output.new)
+        (K.seen keeper.old).tables (K.seen keeper.new).tables × IsMeasured true body
+        (status_of result))) }
+    ensures causes { HasCauses (status_of result) (S.seen input.old) (S.seen input.new)
+        (O.seen output.old) (O.seen output.new) }
+    ensures read { HasRead (status_of result) (S.seen input.old).left (S.seen input.new).left }
+    ensures keeper_failed { RisesAt KEEPER_FAILED (status_of result) (K.seen keeper.old).faults
+        (K.seen keeper.new).faults }
+    ensures no_door { status_of result ≡ DOOR_FAILED → ⊥ }
     ensures silent { WritesNothing (status_of result) → output.new ≡ output.old }
 {
     let body = read_body(alloc, input)?;
@@ -52,11 +60,16 @@ fn answer<K: Keeper, O: Sink>(
     requires number { IsTrue (is_load_number number) }
     requires bytes { length body.now ≤ MOST_BYTES }
     requires lines { line_count body.now ≤ MOST_LINES }
-    ensures told { OfTold (told_through (K.tables keeper.old) (K.tables keeper.new)) (λ rows. Performs (load_answer number body.now rows) result (O.written output.old) (O.written output.new) (K.tables keeper.old) (K.tables keeper.new)) }
-    ensures no_input { (status_of result ≡ 3 → ⊥) × (status_of result ≡ 10 → ⊥) }
-    ensures no_door { status_of result ≡ 8 → ⊥ }
-    ensures output_failed { RisesAt 4 (status_of result) (O.faults output.old) (O.faults output.new) }
-    ensures keeper_failed { RisesAt 5 (status_of result) (K.faults keeper.old) (K.faults keeper.new) }
+    ensures told { OfTold (told_through (K.seen keeper.old).tables (K.seen keeper.new).tables)
+        (λ rows. Performs (load_answer number body.now rows) result (O.seen output.old)
+        (O.seen output.new) (K.seen keeper.old).tables (K.seen keeper.new).tables) }
+    ensures no_input { (status_of result ≡ INPUT_FAILED → ⊥)
+        × (status_of result ≡ TOO_LARGE → ⊥) }
+    ensures no_door { status_of result ≡ DOOR_FAILED → ⊥ }
+    ensures output_failed { RisesAt OUTPUT_FAILED (status_of result) (O.seen output.old).faults
+        (O.seen output.new).faults }
+    ensures keeper_failed { RisesAt KEEPER_FAILED (status_of result) (K.seen keeper.old).faults
+        (K.seen keeper.new).faults }
     ensures silent { WritesNothing (status_of result) → output.new ≡ output.old }
 {
     let text = take(alloc, number, body, keeper)?;
@@ -68,9 +81,12 @@ fn take<K: Keeper>(alloc: Global, number: u32, body: &[u8], keeper: &mut K) -> R
     requires number { IsTrue (is_load_number number) }
     requires bytes { length body.now ≤ MOST_BYTES }
     requires lines { line_count body.now ≤ MOST_LINES }
-    ensures told { OfTold (told_through (K.tables keeper.old) (K.tables keeper.new)) (λ rows. Gives (load_answer number body.now rows) result (K.tables keeper.old) (K.tables keeper.new)) }
+    ensures told { OfTold (told_through (K.seen keeper.old).tables (K.seen keeper.new).tables)
+        (λ rows. Gives (load_answer number body.now rows) result (K.seen keeper.old).tables
+        (K.seen keeper.new).tables) }
     ensures unprinted { IfErr result IsUnprinted }
-    ensures keeper_failed { RisesAt 5 (status_of result) (K.faults keeper.old) (K.faults keeper.new) }
+    ensures keeper_failed { RisesAt KEEPER_FAILED (status_of result) (K.seen keeper.old).faults
+        (K.seen keeper.new).faults }
 {
     let book = open(alloc, keeper)?;
     let (book, posted) = post(alloc, book, keeper, number, body)?;

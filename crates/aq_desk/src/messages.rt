@@ -13,7 +13,9 @@ use aq_serve::Sink;
 
 /// Writes the place of the first damaged row, by its table's number and its index there.
 pub(crate) fn write_damaged<E: Sink>(table: u8, index: u64, errors: &mut E) -> Result<(), Failed>
-    ensures { let ending = damaged (record { table = table; index = index }) in Writes ending.message (E.written errors.old) (E.written errors.new) (E.faults errors.old) (E.faults errors.new) result }
+    ensures { let ending = damaged
+        (record { table = table; index = index }) in Writes ending.message
+        (E.seen errors.old) (E.seen errors.new) result }
 {
     write_all(errors, b"airdv: 6 damaged ")?;
     write_all(errors, table_name(table).as_bytes())?;
@@ -47,14 +49,17 @@ pub(crate) fn write_conflict<E: Sink>(
     sent: &[u8; 32],
     errors: &mut E,
 ) -> Result<(), Failed>
-    ensures { let ending = conflict number kept.now sent.now in Writes ending.message (E.written errors.old) (E.written errors.new) (E.faults errors.old) (E.faults errors.new) result }
+    ensures { let ending = conflict number kept.now sent.now in Writes ending.message
+        (E.seen errors.old) (E.seen errors.new) result }
 {
     write_counted(b"airdv: 9 load ", number as u64, b" kept ", errors)?;
     write_digests(kept, sent, errors)
 }
 
 fn write_digests<E: Sink>(kept: &[u8], sent: &[u8], errors: &mut E) -> Result<(), Failed>
-    ensures { Writes (digest_text kept.now ++ (codes " sent " ++ (digest_text sent.now ++ codes "\n"))) (E.written errors.old) (E.written errors.new) (E.faults errors.old) (E.faults errors.new) result }
+    ensures { Writes (digest_text kept.now ++
+        (codes " sent " ++ (digest_text sent.now ++ codes "\n"))) (E.seen errors.old)
+        (E.seen errors.new) result }
 {
     write_digest(kept, errors)?;
     write_all(errors, b" sent ")?;
@@ -64,14 +69,16 @@ fn write_digests<E: Sink>(kept: &[u8], sent: &[u8], errors: &mut E) -> Result<()
 
 /// Writes how many lines a body has that has too many.
 pub(crate) fn write_lines<E: Sink>(lines: u32, errors: &mut E) -> Result<(), Failed>
-    ensures { let ending = too_many_lines lines in Writes ending.message (E.written errors.old) (E.written errors.new) (E.faults errors.old) (E.faults errors.new) result }
+    ensures { let ending = too_many_lines lines in Writes ending.message (E.seen errors.old)
+        (E.seen errors.new) result }
 {
     write_counted(b"airdv: 10 ", lines as u64, b" lines\n", errors)
 }
 
 /// Writes the site that is not registered.
 pub(crate) fn write_no_site<E: Sink>(site: SiteId, errors: &mut E) -> Result<(), Failed>
-    ensures { let ending = no_site site in Writes ending.message (E.written errors.old) (E.written errors.new) (E.faults errors.old) (E.faults errors.new) result }
+    ensures { let ending = no_site site in Writes ending.message (E.seen errors.old)
+        (E.seen errors.new) result }
 {
     write_all(errors, b"airdv: 12 no site ")?;
     write_all(errors, &site_text(site))?;
@@ -80,7 +87,8 @@ pub(crate) fn write_no_site<E: Sink>(site: SiteId, errors: &mut E) -> Result<(),
 
 /// Writes the number that no event has.
 pub(crate) fn write_no_event<E: Sink>(number: u32, errors: &mut E) -> Result<(), Failed>
-    ensures { let ending = no_event number in Writes ending.message (E.written errors.old) (E.written errors.new) (E.faults errors.old) (E.faults errors.new) result }
+    ensures { let ending = no_event number in Writes ending.message (E.seen errors.old)
+        (E.seen errors.new) result }
 {
     write_counted(b"airdv: 13 no event ", number as u64, b"\n", errors)
 }
@@ -92,7 +100,8 @@ fn write_counted<E: Sink>(
     behind: &[u8],
     errors: &mut E,
 ) -> Result<(), Failed>
-    ensures { Writes ((before.now ++ decimal number) ++ behind.now) (E.written errors.old) (E.written errors.new) (E.faults errors.old) (E.faults errors.new) result }
+    ensures { Writes ((before.now ++ decimal number) ++ behind.now) (E.seen errors.old)
+        (E.seen errors.new) result }
 {
     write_all(errors, before)?;
     write_number(number, errors)?;
@@ -101,7 +110,7 @@ fn write_counted<E: Sink>(
 
 /// Writes a number.
 fn write_number<E: Sink>(number: u64, errors: &mut E) -> Result<(), Failed>
-    ensures { Writes (decimal number) (E.written errors.old) (E.written errors.new) (E.faults errors.old) (E.faults errors.new) result }
+    ensures { Writes (decimal number) (E.seen errors.old) (E.seen errors.new) result }
 {
     let last = [b'0' + (number % 10) as u8];
     if number < 10 {
@@ -113,7 +122,7 @@ fn write_number<E: Sink>(number: u64, errors: &mut E) -> Result<(), Failed>
 
 /// Writes bytes as two hexadecimal digits each.
 fn write_digest<E: Sink>(bytes: &[u8], errors: &mut E) -> Result<(), Failed>
-    ensures { Writes (digest_text bytes.now) (E.written errors.old) (E.written errors.new) (E.faults errors.old) (E.faults errors.new) result }
+    ensures { Writes (digest_text bytes.now) (E.seen errors.old) (E.seen errors.new) result }
 {
     let Some((first, rest)) = bytes.split_first() else {
         return Ok(());

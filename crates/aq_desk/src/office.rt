@@ -5,8 +5,9 @@ ghost use Rattle.aq_rules.specs.Kept.Rows.{are_office_rows};
 ghost use Rattle.aq_desk.specs.Office.{HasOpened, IsUnopened};
 
 use crate::stop::Stop;
-use aq_book::{Book, OpenFault, book_of, migrate};
+use aq_book::{Book, OpenFault, migrate};
 use aq_keeper::{Keeper, Row};
+use aq_rows::Opened;
 use aq_rules::kept::migration::{
     migrated_rows_are_an_offices, the_batch_of_a_migration_gives_the_migrated_rows,
 };
@@ -15,39 +16,49 @@ use std::alloc::Global;
 
 /// The book of the office whose rows the keeper hands out. Rows of version 1 are migrated first.
 pub(crate) fn open<K: Keeper>(alloc: Global, keeper: &mut K) -> Result<Book, Stop>
-    ensures opened { IfOk result (λ book. HasOpened book (K.tables keeper.old) (K.tables keeper.new)) }
-    ensures stopped { IfErr result (IsUnopened (K.tables keeper.old) (K.tables keeper.new) (K.faults keeper.old) (K.faults keeper.new)) }
-    ensures steady { OnOk result (K.faults keeper.new ≡ K.faults keeper.old) }
+    ensures opened { IfOk result (λ book. HasOpened book (K.seen keeper.old).tables
+        (K.seen keeper.new).tables) }
+    ensures stopped { IfErr result (IsUnopened (K.seen keeper.old).tables
+        (K.seen keeper.new).tables (K.seen keeper.old).faults (K.seen keeper.new).faults) }
+    ensures steady { OnOk result ((K.seen keeper.new).faults ≡ (K.seen keeper.old).faults) }
 {
-    let rows = keeper.read_all(alloc)?;
-    open_rows(alloc, rows.as_slice(), keeper)
+    // The rows are gone before the book fills its cells.
+    let opened = {
+        let rows = keeper.read_all(alloc)?;
+        open_rows(alloc, rows.as_slice(), keeper)?
+    };
+    Ok(Book::over(alloc, opened)?)
 }
 
-/// The book of rows that the keeper handed out. It is called again only if they are of version 1.
-fn open_rows<K: Keeper>(alloc: Global, rows: &[Row], keeper: &mut K) -> Result<Book, Stop>
-    requires { IfSome (K.tables keeper.old) (λ told. rows.now ≡ told) }
-    ensures opened { IfOk result (λ book. HasOpened book (K.tables keeper.old) (K.tables keeper.new)) }
-    ensures stopped { IfErr result (IsUnopened (K.tables keeper.old) (K.tables keeper.new) (K.faults keeper.old) (K.faults keeper.new)) }
-    ensures steady { OnOk result (K.faults keeper.new ≡ K.faults keeper.old) }
+/// The office of rows that the keeper handed out. It is called again only if they are of version 1.
+fn open_rows<K: Keeper>(alloc: Global, rows: &[Row], keeper: &mut K) -> Result<Opened, Stop>
+    requires { IfSome (K.seen keeper.old).tables (λ told. rows.now ≡ told) }
+    ensures opened { IfOk result (λ opened. HasOpened opened (K.seen keeper.old).tables
+        (K.seen keeper.new).tables) }
+    ensures stopped { IfErr result (IsUnopened (K.seen keeper.old).tables
+        (K.seen keeper.new).tables (K.seen keeper.old).faults (K.seen keeper.new).faults) }
+    ensures steady { OnOk result ((K.seen keeper.new).faults ≡ (K.seen keeper.old).faults) }
     ensures untouched { are_version_1 rows.now ≡ false → keeper.new ≡ keeper.old }
 {
     first_damaged_row_is_named();
     migrated_rows_are_an_offices();
     rows_are_those_of_their_office();
-    match book_of(alloc, rows) {
-        Ok(book) => Ok(book),
+    match aq_rows::open(alloc, rows) {
+        Ok(opened) => Ok(opened),
         Err(OpenFault::Damaged(_)) => migrate_rows(alloc, rows, keeper),
         Err(OpenFault::Memory) => Err(Stop::Memory),
     }
 }
 
-/// The book of rows that are no office's: those of version 1 are migrated by one commit.
-fn migrate_rows<K: Keeper>(alloc: Global, rows: &[Row], keeper: &mut K) -> Result<Book, Stop>
-    requires told { IfSome (K.tables keeper.old) (λ told. rows.now ≡ told) }
+/// The office of rows that are no office's: those of version 1 are migrated by one commit.
+fn migrate_rows<K: Keeper>(alloc: Global, rows: &[Row], keeper: &mut K) -> Result<Opened, Stop>
+    requires told { IfSome (K.seen keeper.old).tables (λ told. rows.now ≡ told) }
     requires no_office { are_office_rows rows.now ≡ false }
-    ensures opened { IfOk result (λ book. HasOpened book (K.tables keeper.old) (K.tables keeper.new)) }
-    ensures stopped { IfErr result (IsUnopened (K.tables keeper.old) (K.tables keeper.new) (K.faults keeper.old) (K.faults keeper.new)) }
-    ensures steady { OnOk result (K.faults keeper.new ≡ K.faults keeper.old) }
+    ensures opened { IfOk result (λ opened. HasOpened opened (K.seen keeper.old).tables
+        (K.seen keeper.new).tables) }
+    ensures stopped { IfErr result (IsUnopened (K.seen keeper.old).tables
+        (K.seen keeper.new).tables (K.seen keeper.old).faults (K.seen keeper.new).faults) }
+    ensures steady { OnOk result ((K.seen keeper.new).faults ≡ (K.seen keeper.old).faults) }
     ensures untouched { are_version_1 rows.now ≡ false → keeper.new ≡ keeper.old }
 {
     first_damaged_row_is_named();
@@ -58,5 +69,5 @@ fn migrate_rows<K: Keeper>(alloc: Global, rows: &[Row], keeper: &mut K) -> Resul
         unreachable!();
     };
     keeper.commit(alloc, migration.batch())?;
-    Ok(book_of(alloc, migration.rows())?)
+    Ok(aq_rows::open(alloc, migration.rows())?)
 }

@@ -10,16 +10,17 @@ ghost use Rattle.aq_rules.specs.Shown.Sheets.{load_sheet};
 ghost use Rattle.aq_desk.specs.Command.{after_text, printed, RisesAt, WritesNothing};
 ghost use Rattle.aq_serve.specs.Outside.{OfTold};
 ghost use Rattle.aq_desk.specs.Scan.{scan_answer, scan_outcome, sheet_or_no_site};
-ghost use Rattle.aq_desk.specs.Stop.{HasCauses, IsCutShort, IsMeasured, IsTaken, Obeys, status_of};
+ghost use Rattle.aq_desk.specs.Stop.{HasCauses, HasRead, IsCutShort, IsMeasured, IsTaken, Obeys, status_of};
+ghost use Rattle.aq_desk.specs.declared.status.TheConstants.{DOOR_FAILED, KEEPER_FAILED, OUTPUT_FAILED};
 
 use crate::body::read_body;
 use crate::stop::Stop;
 use crate::writing::print_sheet;
 use aq_base::{Ask, Day, SiteId};
 use aq_book::{Book, Staged};
+use aq_office::{Answer, answer_to};
 use aq_reports::load_sheet;
 use aq_serve::{Sink, Source};
-use aq_service::{Answer, answer_to};
 use std::alloc::Global;
 
 /// Takes the input as a load over an office of which nothing stands, and prints the reply and then the
@@ -31,10 +32,14 @@ pub(crate) fn scan<S: Source, O: Sink>(
     input: &mut S,
     output: &mut O,
 ) -> Result<(), Stop>
-    ensures told { OfTold (S.left input.old) (λ body. Obeys (scan_outcome site day body) result (O.written output.old) (O.written output.new) × IsMeasured true body (status_of result)) }
-    ensures causes { HasCauses (status_of result) (S.faults input.old) (S.faults input.new) (O.faults output.old) (O.faults output.new) }
-    ensures no_keeper { status_of result ≡ 5 → ⊥ }
-    ensures no_door { status_of result ≡ 8 → ⊥ }
+    ensures told { OfTold (S.seen input.old).left (λ body. Obeys (scan_outcome site day body)
+        result (O.seen output.old) (O.seen output.new) × IsMeasured true body
+        (status_of result)) }
+    ensures causes { HasCauses (status_of result) (S.seen input.old) (S.seen input.new)
+        (O.seen output.old) (O.seen output.new) }
+    ensures read { HasRead (status_of result) (S.seen input.old).left (S.seen input.new).left }
+    ensures no_keeper { status_of result ≡ KEEPER_FAILED → ⊥ }
+    ensures no_door { status_of result ≡ DOOR_FAILED → ⊥ }
     ensures silent { WritesNothing (status_of result) → output.new ≡ output.old }
 {
     let body = read_body(alloc, input)?;
@@ -51,9 +56,11 @@ fn answer<O: Sink>(
 ) -> Result<(), Stop>
     requires bytes { length body.now ≤ MOST_BYTES }
     requires lines { line_count body.now ≤ MOST_LINES }
-    ensures told { Obeys (scan_answer site day body.now) result (O.written output.old) (O.written output.new) }
+    ensures told { Obeys (scan_answer site day body.now) result (O.seen output.old)
+        (O.seen output.new) }
     ensures taken { IsTaken (status_of result) }
-    ensures output_failed { RisesAt 4 (status_of result) (O.faults output.old) (O.faults output.new) }
+    ensures output_failed { RisesAt OUTPUT_FAILED (status_of result) (O.seen output.old).faults
+        (O.seen output.new).faults }
 {
     // A load with this number is not kept, and its digest is not looked at.
     let book = Book::new(alloc);
@@ -71,9 +78,12 @@ fn print_staged<O: Sink>(
     output: &mut O,
 ) -> Result<(), Stop>
     requires { Fits staged book }
-    ensures told { Obeys (after_text (text_of (load_sheet staged.reply)) (sheet_or_no_site site (questions.answer (office_with staged book) (Windows site day)))) result (O.written output.old) (O.written output.new) }
+    ensures told { Obeys (after_text (text_of (load_sheet staged.reply))
+        (sheet_or_no_site site (questions.answer (office_with staged book)
+        (Windows site day)))) result (O.seen output.old) (O.seen output.new) }
     ensures taken { IsTaken (status_of result) }
-    ensures output_failed { RisesAt 4 (status_of result) (O.faults output.old) (O.faults output.new) }
+    ensures output_failed { RisesAt OUTPUT_FAILED (status_of result) (O.seen output.old).faults
+        (O.seen output.new).faults }
 {
     print_reply(alloc, &staged, output)?;
     print_taken(alloc, book, staged, site, day, output)
@@ -81,9 +91,11 @@ fn print_staged<O: Sink>(
 
 /// Prints the reply to a staged load.
 fn print_reply<O: Sink>(alloc: Global, staged: &Staged, output: &mut O) -> Result<(), Stop>
-    ensures told { Obeys (printed (text_of (load_sheet staged.now.reply))) result (O.written output.old) (O.written output.new) }
+    ensures told { Obeys (printed (text_of (load_sheet staged.now.reply))) result
+        (O.seen output.old) (O.seen output.new) }
     ensures cut { IfErr result IsCutShort }
-    ensures output_failed { RisesAt 4 (status_of result) (O.faults output.old) (O.faults output.new) }
+    ensures output_failed { RisesAt OUTPUT_FAILED (status_of result) (O.seen output.old).faults
+        (O.seen output.new).faults }
 {
     let sheet = load_sheet(alloc, staged.reply())?;
     print_sheet(alloc, &sheet, output)
@@ -99,9 +111,12 @@ fn print_taken<O: Sink>(
     output: &mut O,
 ) -> Result<(), Stop>
     requires { Fits staged book }
-    ensures told { Obeys (sheet_or_no_site site (questions.answer (office_with staged book) (Windows site day))) result (O.written output.old) (O.written output.new) }
+    ensures told { Obeys (sheet_or_no_site site
+        (questions.answer (office_with staged book) (Windows site day))) result
+        (O.seen output.old) (O.seen output.new) }
     ensures taken { IsTaken (status_of result) }
-    ensures output_failed { RisesAt 4 (status_of result) (O.faults output.old) (O.faults output.new) }
+    ensures output_failed { RisesAt OUTPUT_FAILED (status_of result) (O.seen output.old).faults
+        (O.seen output.new).faults }
 {
     let book = book.take(staged)?;
     print_windows(alloc, &book, site, day, output)
@@ -115,9 +130,12 @@ fn print_windows<O: Sink>(
     day: Day,
     output: &mut O,
 ) -> Result<(), Stop>
-    ensures told { Obeys (sheet_or_no_site site (questions.answer book.now (Windows site day))) result (O.written output.old) (O.written output.new) }
+    ensures told { Obeys (sheet_or_no_site site
+        (questions.answer book.now (Windows site day))) result (O.seen output.old)
+        (O.seen output.new) }
     ensures taken { IsTaken (status_of result) }
-    ensures output_failed { RisesAt 4 (status_of result) (O.faults output.old) (O.faults output.new) }
+    ensures output_failed { RisesAt OUTPUT_FAILED (status_of result) (O.seen output.old).faults
+        (O.seen output.new).faults }
 {
     match answer_to(alloc, book, &Ask::Windows(site, day))? {
         Answer::Sheet(sheet) => print_sheet(alloc, &sheet, output),

@@ -3,7 +3,7 @@ ghost use Rattle.std.specs.Prelude.{◌≡◌, ◌⊎◌, false};
 ghost use Rattle.aq_base.specs.Faults.{HasRisen};
 ghost use Rattle.aq_keeper.specs.Told.{told_through};
 ghost use Rattle.aq_serve.specs.Outside.{OfTold};
-ghost use Rattle.aq_desk.specs.Serve.{HasAttended, HasServed, serve_outcome};
+ghost use Rattle.aq_desk.specs.Serve.{HasAttended, HasServed, around_of, serve_outcome};
 ghost use Rattle.aq_desk.specs.Stop.{EndsAs, status_of};
 
 use crate::office::open;
@@ -23,7 +23,12 @@ pub(crate) fn serve<K: Keeper, D: Door>(
     door: &mut D,
 ) -> Result<(), Stop>
     requires none_open { (D.seen door.old).is_open ≡ false }
-    ensures served { OfTold (told_through (K.tables keeper.old) (K.tables keeper.new)) (λ rows. HasServed (record { port = port; connections = connections }) rows (status_of result) (record { door = D.seen door.old; tables = K.tables keeper.old; faults = K.faults keeper.old }) (record { door = D.seen door.new; tables = K.tables keeper.new; faults = K.faults keeper.new }) × EndsAs (serve_outcome rows) result) }
+    ensures served { OfTold (told_through (K.seen keeper.old).tables (K.seen keeper.new).tables)
+        (λ rows. HasServed (record { port = port; connections = connections }) rows
+        (status_of result)
+        (around_of (D.seen door.old) (K.seen keeper.old))
+        (around_of (D.seen door.new) (K.seen keeper.new))
+        × EndsAs (serve_outcome rows) result) }
 {
     let book = open(alloc, keeper)?;
     let mut service = OfficeService::new(alloc, book)?;
@@ -40,7 +45,9 @@ fn attend<K: Keeper, D: Door>(
     door: &mut D,
 ) -> Result<(), Stop>
     requires none_open { (D.seen door.old).is_open ≡ false }
-    ensures { HasAttended (record { port = port; connections = connections }) service.old (record { door = D.seen door.old; tables = K.tables keeper.old; faults = K.faults keeper.old }) (record { door = D.seen door.new; tables = K.tables keeper.new; faults = K.faults keeper.new }) result }
+    ensures { HasAttended (record { port = port; connections = connections }) service.old
+        (around_of (D.seen door.old) (K.seen keeper.old))
+        (around_of (D.seen door.new) (K.seen keeper.new)) result }
 {
     if door.listen(port).is_err() {
         return Err(Stop::DoorFailed);

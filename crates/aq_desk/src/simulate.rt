@@ -4,6 +4,7 @@ ghost use Rattle.aq_desk.specs.Command.{RisesAt};
 ghost use Rattle.aq_desk.specs.Simulate.{simulate_outcome};
 ghost use Rattle.aq_desk.specs.Stop.{IsCutShort, Obeys, status_of};
 ghost use Rattle.aq_rules.specs.Limits.{MOST_GENERATED_SITES, FEWEST_GENERATED_YEARS, MOST_GENERATED_YEARS};
+ghost use Rattle.aq_desk.specs.declared.status.TheConstants.{OUTPUT_FAILED};
 
 use crate::stop::Stop;
 use crate::writing::print_text;
@@ -23,9 +24,11 @@ pub(crate) fn simulate<O: Sink>(
     requires few_sites { sites ≤ MOST_GENERATED_SITES }
     requires some_years { FEWEST_GENERATED_YEARS ≤ years }
     requires few_years { years ≤ MOST_GENERATED_YEARS }
-    ensures told { Obeys (simulate_outcome start sites years) result (O.written output.old) (O.written output.new) }
+    ensures told { Obeys (simulate_outcome start sites years) result (O.seen output.old)
+        (O.seen output.new) }
     ensures cut { IfErr result IsCutShort }
-    ensures output_failed { RisesAt 4 (status_of result) (O.faults output.old) (O.faults output.new) }
+    ensures output_failed { RisesAt OUTPUT_FAILED (status_of result) (O.seen output.old).faults
+        (O.seen output.new).faults }
 {
     let text = simulation(alloc, start, sites, years)?;
     print_text(&text, output)

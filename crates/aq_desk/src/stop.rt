@@ -5,6 +5,10 @@ ghost use Rattle.aq_desk.specs.Writing.{Writes};
 
 use crate::body::BodyFault;
 use crate::messages::{write_conflict, write_damaged, write_lines, write_no_event, write_no_site};
+use crate::status::{
+    CONFLICT, DAMAGED, DOOR_FAILED, INPUT_FAILED, KEEPER_FAILED, LOADS_FULL, NO_EVENT, NO_MEMORY,
+    NO_SITE, NO_SITE_IN_AREA, OUTPUT_FAILED, TOO_LARGE,
+};
 use crate::writing::write_all;
 use aq_base::{Failed, SiteId};
 use aq_book::{OpenFault, Place};
@@ -35,6 +39,8 @@ pub enum Stop {
     NoSite(SiteId),
     /// With the first number of a list that no event has.
     NoEvent(u32),
+    /// No registered site of the area measures the pollutant.
+    NoSiteInArea,
 }
 
 impl Stop {
@@ -43,23 +49,25 @@ impl Stop {
         ensures { let ending = ending_at self.now in result ≡ ending.status }
     {
         match self {
-            Stop::InputFailed => 3,
-            Stop::OutputFailed => 4,
-            Stop::KeeperFailed => 5,
-            Stop::Damaged(_) => 6,
-            Stop::Memory => 7,
-            Stop::DoorFailed => 8,
-            Stop::Conflict { .. } => 9,
-            Stop::TooManyBytes | Stop::TooManyLines(_) => 10,
-            Stop::LoadsFull => 11,
-            Stop::NoSite(_) => 12,
-            Stop::NoEvent(_) => 13,
+            Stop::InputFailed => INPUT_FAILED,
+            Stop::OutputFailed => OUTPUT_FAILED,
+            Stop::KeeperFailed => KEEPER_FAILED,
+            Stop::Damaged(_) => DAMAGED,
+            Stop::Memory => NO_MEMORY,
+            Stop::DoorFailed => DOOR_FAILED,
+            Stop::Conflict { .. } => CONFLICT,
+            Stop::TooManyBytes | Stop::TooManyLines(_) => TOO_LARGE,
+            Stop::LoadsFull => LOADS_FULL,
+            Stop::NoSite(_) => NO_SITE,
+            Stop::NoEvent(_) => NO_EVENT,
+            Stop::NoSiteInArea => NO_SITE_IN_AREA,
         }
     }
 
     /// Writes the message. It takes no memory.
     pub(crate) fn write<E: Sink>(&self, errors: &mut E) -> Result<(), Failed>
-        ensures { let ending = ending_at self.now in Writes ending.message (E.written errors.old) (E.written errors.new) (E.faults errors.old) (E.faults errors.new) result }
+        ensures { let ending = ending_at self.now in Writes ending.message (E.seen errors.old)
+            (E.seen errors.new) result }
     {
         match self {
             Stop::InputFailed => write_all(errors, b"airdv: 3 input failed\n"),
@@ -74,6 +82,7 @@ impl Stop {
             Stop::LoadsFull => write_all(errors, b"airdv: 11 loads full\n"),
             Stop::NoSite(site) => write_no_site(*site, errors),
             Stop::NoEvent(number) => write_no_event(*number, errors),
+            Stop::NoSiteInArea => write_all(errors, b"airdv: 15 no site in area\n"),
         }
     }
 }

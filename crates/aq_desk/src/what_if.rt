@@ -85,10 +85,13 @@ fn value_as_if<L: Ledger>(
     steps: &mut Steps<L>,
 ) -> Result<DesignValue, WhatIfFault>
     requires { IsTrue (is_design_year question.now.year) }
-    ensures value { IfOk result (λ value. design_of value ≡ assuming.what_if question.now.standard book.now question.now.assumed question.now.site question.now.year) }
+    ensures value { IfOk result (λ value. design_of value
+        ≡ assuming.what_if question.now.standard book.now question.now.assumed question.now.site
+        question.now.year) }
     ensures registered { OnOk result (is_registered book.now question.now.site ≡ true) }
     ensures known { OnOk result (assuming.unknown_event book.now question.now.assumed ≡ None) }
-    ensures refused { IfErr result (IsFaultOf (is_registered book.now question.now.site) (assuming.unknown_event book.now question.now.assumed)) }
+    ensures refused { IfErr result (IsFaultOf (is_registered book.now question.now.site)
+        (assuming.unknown_event book.now question.now.assumed)) }
 {
     what_if(
         book.shelf(),
@@ -142,7 +145,8 @@ fn events_of<L: Ledger>(
     steps: &mut Steps<L>,
 ) -> Result<DecisiveEvents, WhatIfFault>
     requires { IsTrue (is_design_year question.now.year) }
-    ensures events { IfOk result (λ events. events ≡ assuming.decisive question.now.standard book.now question.now.site question.now.year) }
+    ensures events { IfOk result (λ events. events
+        ≡ assuming.decisive question.now.standard book.now question.now.site question.now.year) }
     ensures registered { OnOk result (is_registered book.now question.now.site ≡ true) }
     ensures refused { IfErr result (IsFaultOf (is_registered book.now question.now.site) None) }
 {

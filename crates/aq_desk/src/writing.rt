@@ -6,6 +6,7 @@ ghost use Rattle.aq_desk.specs.Command.{RisesAt, printed};
 ghost use Rattle.aq_desk.specs.Stop.{IsCutShort, Obeys, status_of};
 ghost use Rattle.aq_desk.specs.Writing.{Writes};
 ghost use Rattle.aq_desk.specs.declared.stop.Stop.TheVariants.{OutputFailed};
+ghost use Rattle.aq_desk.specs.declared.status.TheConstants.{OUTPUT_FAILED};
 
 use crate::stop::Stop;
 use aq_base::{Bytes, Failed, LoadReply, Memory};
@@ -15,7 +16,7 @@ use std::alloc::Global;
 
 /// Writes all bytes of a text. After `Failed` a front of them was written.
 pub(crate) fn write_all<O: Sink>(sink: &mut O, text: &[u8]) -> Result<(), Failed>
-    ensures { Writes text.now (O.written sink.old) (O.written sink.new) (O.faults sink.old) (O.faults sink.new) result }
+    ensures { Writes text.now (O.seen sink.old) (O.seen sink.new) result }
 {
     let mut count = 0;
     while count < text.len() {
@@ -26,9 +27,10 @@ pub(crate) fn write_all<O: Sink>(sink: &mut O, text: &[u8]) -> Result<(), Failed
 
 /// Prints a text on the output of a command.
 pub(crate) fn print_text<O: Sink>(text: &[u8], output: &mut O) -> Result<(), Stop>
-    ensures told { Obeys (printed text.now) result (O.written output.old) (O.written output.new) }
+    ensures told { Obeys (printed text.now) result (O.seen output.old) (O.seen output.new) }
     ensures cut { IfErr result (λ stop. stop ≡ OutputFailed) }
-    ensures output_failed { RisesAt 4 (status_of result) (O.faults output.old) (O.faults output.new) }
+    ensures output_failed { RisesAt OUTPUT_FAILED (status_of result) (O.seen output.old).faults
+        (O.seen output.new).faults }
 {
     match write_all(output, text) {
         Ok(()) => Ok(()),
@@ -38,9 +40,11 @@ pub(crate) fn print_text<O: Sink>(text: &[u8], output: &mut O) -> Result<(), Sto
 
 /// Prints a sheet on the output of a command.
 pub(crate) fn print_sheet<O: Sink>(alloc: Global, sheet: &Sheet, output: &mut O) -> Result<(), Stop>
-    ensures told { Obeys (printed (text_of sheet.now)) result (O.written output.old) (O.written output.new) }
+    ensures told { Obeys (printed (text_of sheet.now)) result (O.seen output.old)
+        (O.seen output.new) }
     ensures cut { IfErr result IsCutShort }
-    ensures output_failed { RisesAt 4 (status_of result) (O.faults output.old) (O.faults output.new) }
+    ensures output_failed { RisesAt OUTPUT_FAILED (status_of result) (O.seen output.old).faults
+        (O.seen output.new).faults }
 {
     let text = text_of(alloc, sheet)?;
     print_text(&text, output)

@@ -5,9 +5,9 @@ use Rattle.aq_desk.proofs.body.fill.Given as goal
 
 abbrev pub invariant-loop-body : goal.invariant-loop-body
 invariant-loop-body g l = record {
-  told : option_map (λ left. l.body.items ++ left) (g.S.Source.left l.input) ≡ g.S.Source.left l.fn.input;
+  told : option_map (λ left. l.body.items ++ left) (g.S.Source.seen l.input).left ≡ (g.S.Source.seen l.fn.input).left;
   few : vec_len l.body ≤ MOST_BYTES + 1;
-  steady : g.S.Source.faults l.input ≡ g.S.Source.faults l.fn.input;
+  steady : (g.S.Source.seen l.input).faults ≡ (g.S.Source.seen l.fn.input).faults;
 }
 
 abbrev pub decreases-loop-body : goal.decreases-loop-body

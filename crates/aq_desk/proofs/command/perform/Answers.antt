@@ -3,6 +3,7 @@ use Rattle.aq_desk.proofs.Causes.{keeper_kind, keeper_rises, printing, serving, 
 use Rattle.aq_desk.proofs.Printing.{cut_status}
 use Rattle.aq_desk.proofs.Serving.{serve_door, serve_keeper, serve_status}
 use Rattle.aq_desk.proofs.Unread.{stays_at}
+use Rattle.aq_desk.specs.Area.{area_printout}
 use Rattle.aq_desk.specs.Ask.{ask_outcome, ask_printout}
 use Rattle.std.specs.Prelude.{true}
 use Rattle.aq_desk.specs.Scan.{scan_outcome}
@@ -101,3 +102,14 @@ returns-in-Decisive-clause-keeper_failed g c = keeper_rises _ _ _ _ c.ask-in-Dec
 
 pub returns-in-Decisive-clause-door_failed : goal.returns-in-Decisive-clause-door_failed
 returns-in-Decisive-clause-door_failed g c = stays_at 8 _ _ c.ask-in-Decisive.ensures.no_door
+
+pub returns-in-Area-clause-acts : goal.returns-in-Area-clause-acts
+returns-in-Area-clause-acts g c =
+    printing c.args.command.now _ c.in-Area.is refl c.ask-in-Area.result _ _ _ _ _
+    (without_reading (ask_outcome (area_printout _)) _ c.ask-in-Area.result _ _ _ _ c.ask-in-Area.ensures.no_input.1 c.ask-in-Area.ensures.told)
+
+pub returns-in-Area-clause-keeper_failed : goal.returns-in-Area-clause-keeper_failed
+returns-in-Area-clause-keeper_failed g c = keeper_rises _ _ _ _ c.ask-in-Area.ensures.keeper_failed
+
+pub returns-in-Area-clause-door_failed : goal.returns-in-Area-clause-door_failed
+returns-in-Area-clause-door_failed g c = stays_at 8 _ _ c.ask-in-Area.ensures.no_door

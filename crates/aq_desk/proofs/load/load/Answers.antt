@@ -1,4 +1,5 @@
 use Rattle.aq_desk.proofs.Outcomes.{is_within-few}
+use Rattle.aq_desk.proofs.Reading.{read-on, read-stopped}
 use Rattle.aq_desk.proofs.Unread.{read_causes, read_load, unread_causes, unread_keeper, unread_load}
 use Rattle.aq_desk.proofs.load.load.Goals as goal
 
@@ -8,7 +9,7 @@ returns-in_err-body-clause-told g c =
 
 pub returns-in_err-body-clause-causes : goal.returns-in_err-body-clause-causes
 returns-in_err-body-clause-causes g c =
-    unread_causes _ _ _ _ c.in_err-body.field-0.0 c.from_residual.result c.from_residual.ensures.1 c.in_err-body.ensures.fault
+    unread_causes _ _ _ c.in_err-body.field-0.0 c.from_residual.result c.from_residual.ensures.1 c.in_err-body.ensures.fault
 
 pub returns-in_err-body-clause-keeper_failed : goal.returns-in_err-body-clause-keeper_failed
 returns-in_err-body-clause-keeper_failed g c = unread_keeper _ c.in_err-body.field-0.0 c.from_residual.result c.from_residual.ensures.1
@@ -20,3 +21,9 @@ returns-clause-told g c =
 
 pub returns-clause-causes : goal.returns-clause-causes
 returns-clause-causes g c = read_causes _ _ _ _ _ c.in_ok-body.ensures.steady c.answer.ensures.no_input.0 c.answer.ensures.output_failed
+
+pub returns-in_err-body-clause-read : goal.returns-in_err-body-clause-read
+returns-in_err-body-clause-read g c = read-stopped c.in_err-body.field-0.0 c.from_residual.result _ _ c.from_residual.ensures.1 c.in_err-body.ensures.cut
+
+pub returns-clause-read : goal.returns-clause-read
+returns-clause-read g c = read-on _ _ _ c.in_ok-body.ensures.read

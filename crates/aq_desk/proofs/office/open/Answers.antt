@@ -1,9 +1,18 @@
-use Rattle.aq_desk.proofs.Opening.{if_err, if_ok, read_opened, read_unopened}
+use Rattle.std.proofs.Common.{subst, sym}
+use Rattle.aq_rules.specs.Office.Office.{Office}
+use Rattle.aq_desk.proofs.Opening.{read_opened, stopped_unopened, unfilled}
+use Rattle.aq_desk.specs.Office.{HasOpened}
 use Rattle.aq_desk.proofs.office.open.Goals as goal
 
-pub returns-clause-opened : goal.returns-clause-opened
-returns-clause-opened g c = if_ok c.open_rows.result (λ book has. read_opened _ _ _ book c.in_ok-rows.ensures.kept has) c.open_rows.ensures.opened
+pub returns-in_err-opened-clause-stopped : goal.returns-in_err-opened-clause-stopped
+returns-in_err-opened-clause-stopped g c =
+    stopped_unopened c.from_residual-in_err-opened.result _ _ _ _ _ _ c.in_err-opened.field-0.0 c.from_residual-in_err-opened.ensures.1 c.in_ok-rows.ensures.kept c.in_ok-rows.ensures.cause c.in_err-opened.ensures.stopped
 
-pub returns-clause-stopped : goal.returns-clause-stopped
-returns-clause-stopped g c =
-    if_err c.open_rows.result (λ stop cause. read_unopened _ _ _ _ _ _ stop c.in_ok-rows.ensures.kept c.in_ok-rows.ensures.cause cause) c.open_rows.ensures.stopped
+pub returns-in_err-over-clause-stopped : goal.returns-in_err-over-clause-stopped
+returns-in_err-over-clause-stopped g c =
+    unfilled c.from_residual-in_err-over.result _ _ _ _ _ _ c.in_ok-opened.opened c.from_residual-in_err-over.ensures.1 c.in_ok-rows.ensures.kept c.in_ok-rows.ensures.cause c.in_ok-opened.ensures.opened c.in_ok-opened.ensures.steady
+
+pub returns-clause-opened : goal.returns-clause-opened
+returns-clause-opened g c =
+    subst (λ (o : Office). HasOpened o (g.K.Keeper.seen c.args.keeper.now).tables (g.K.Keeper.seen c.open_rows.new.keeper).tables) (sym c.in_ok-over.ensures)
+    (read_opened _ _ _ c.in_ok-opened.opened c.in_ok-rows.ensures.kept c.in_ok-opened.ensures.opened)

@@ -1,5 +1,5 @@
 use Rattle.std.proofs.Common.{ap, ◌∙◌}
-use Rattle.aq_service.specs.Answers.{seen}
+use Rattle.aq_office.specs.Answers.{seen}
 use Rattle.aq_desk.proofs.Outcomes.{has_windows, no_export}
 use Rattle.aq_desk.proofs.scan.print_windows.Goals as goal
 

@@ -1,5 +1,6 @@
 use Rattle.std.proofs.Common.{arith}
 use Rattle.aq_desk.proofs.Outcomes.{is_within-few}
+use Rattle.aq_desk.proofs.Reading.{read-on, read-stopped}
 use Rattle.aq_desk.proofs.Unread.{read_causes, read_scan, unread_causes, unread_status, unread_told}
 use Rattle.aq_desk.proofs.scan.scan.Goals as goal
 
@@ -9,7 +10,7 @@ returns-in_err-body-clause-told g c =
 
 pub returns-in_err-body-clause-causes : goal.returns-in_err-body-clause-causes
 returns-in_err-body-clause-causes g c =
-    unread_causes _ _ _ _ c.in_err-body.field-0.0 c.from_residual.result c.from_residual.ensures.1 c.in_err-body.ensures.fault
+    unread_causes _ _ _ c.in_err-body.field-0.0 c.from_residual.result c.from_residual.ensures.1 c.in_err-body.ensures.fault
 
 pub returns-clause-told : goal.returns-clause-told
 returns-clause-told g c =
@@ -30,3 +31,9 @@ returns-in_err-body-clause-no_keeper g c = unread_status c.in_err-body.field-0.0
 
 pub returns-clause-no_keeper : goal.returns-clause-no_keeper
 returns-clause-no_keeper g c = let taken = c.answer.ensures.taken in λ five. omega (arith, taken, five)
+
+pub returns-in_err-body-clause-read : goal.returns-in_err-body-clause-read
+returns-in_err-body-clause-read g c = read-stopped c.in_err-body.field-0.0 c.from_residual.result _ _ c.from_residual.ensures.1 c.in_err-body.ensures.cut
+
+pub returns-clause-read : goal.returns-clause-read
+returns-clause-read g c = read-on _ _ _ c.in_ok-body.ensures.read

@@ -1,5 +1,5 @@
 use Rattle.std.proofs.Common.{ap, ◌∙◌}
-use Rattle.aq_service.specs.Answers.{seen}
+use Rattle.aq_office.specs.Answers.{seen}
 use Rattle.aq_desk.proofs.Asking.{has_site, no_load}
 use Rattle.aq_desk.proofs.ask.AskQuestion.text.Goals as goal
 
