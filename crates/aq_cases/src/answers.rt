@@ -231,20 +231,28 @@ fn places(word: &str) -> Result<u8, Trouble>
 
 /// `START SITES YEARS LOAD LINE`: a line of a generated load, by its number from 0, or `none`.
 fn generated(alloc: Global, arguments: &str) -> Result<String, Trouble> {
+    let Some((load, place)) = arguments.rsplit_once(' ') else {
+        return Err(NOT_SO);
+    };
+    let place = count(place)?;
+    match generated_load(alloc, load)? {
+        Some(body) => line_at(alloc, &body, place),
+        None => text(alloc, "none"),
+    }
+}
+
+/// `START SITES YEARS LOAD`: a generated load, if there is one of that number.
+pub(crate) fn generated_load(alloc: Global, arguments: &str) -> Result<Option<Vec<u8>>, Trouble> {
     let (start, rest) = cut(arguments);
     let (sites, rest) = cut(rest);
-    let (years, rest) = cut(rest);
-    let (load, place) = cut(rest);
-    let (start, load, place) = (count(start)?, count(load)?, count(place)?);
+    let (years, load) = cut(rest);
+    let (start, load) = (count(start)?, count(load)?);
     let sites = count_within(sites, 1, MOST_GENERATED_SITES)?;
     let years = count_within(years, FEWEST_GENERATED_YEARS, MOST_GENERATED_YEARS)?;
     if load > 1_000 {
         return Err(NOT_SO);
     }
-    match generate(alloc, start, sites, years, load as u32)? {
-        Some(body) => line_at(alloc, &body, place),
-        None => text(alloc, "none"),
-    }
+    Ok(generate(alloc, start, sites, years, load as u32)?)
 }
 
 /// A line of a text by its number.

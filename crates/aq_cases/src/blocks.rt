@@ -1,4 +1,5 @@
 //! The lines of a block, as bytes: a line stands for itself, or for many by an expansion.
+use crate::answers::generated_load;
 use crate::dates::{date_text, day_after, day_in, day_name, hour_after, hour_in};
 use crate::spelling::write_line;
 use crate::trouble::Trouble;
@@ -24,6 +25,7 @@ pub fn write_block_line(alloc: Global, line: &str, out: &mut Vec<u8>) -> Result<
         "count" => write_counted(alloc, rest, out),
         "days" => write_days(alloc, rest, out),
         "hours" => write_hours(alloc, rest, out),
+        "generated" => write_generated(alloc, rest, out),
         _ => Err(Trouble::Wrong("no such expansion")),
     }
 }
@@ -92,6 +94,15 @@ fn write_hours(alloc: Global, rest: &str, out: &mut Vec<u8>) -> Result<(), Troub
         };
         write_filled(alloc, line, &fields, out)?;
     }
+    Ok(())
+}
+
+/// `@generated START SITES YEARS LOAD`
+fn write_generated(alloc: Global, rest: &str, out: &mut Vec<u8>) -> Result<(), Trouble> {
+    let Some(load) = generated_load(alloc, rest)? else {
+        return Err(Trouble::Wrong("no such load"));
+    };
+    out.extend_from_slice(&load)?;
     Ok(())
 }
 

@@ -89,6 +89,8 @@ pub enum Subject {
 #[derive(Clone, Copy, PartialEq, Eq)]
 pub enum Extent {
     Whole,
+    /// What the run before wrote there, in place of the wanted text.
+    Again,
     Start,
     End,
     /// Lines that are all among its lines.

@@ -13,7 +13,7 @@ pub fn difference(
     found: &[u8],
 ) -> Result<Option<String>, Memory> {
     match extent {
-        Extent::Whole => {
+        Extent::Whole | Extent::Again => {
             if wanted == found {
                 return Ok(None);
             }

@@ -31,7 +31,8 @@
 //! - `output`, `errors`, a block: what has to be written there. `replies`, a block: what has to be written
 //!   on the connection above. `tables`, a block: the rows that the keeper has to have after the run. A word
 //!   after them says less: that it `starts` or `ends` so, that it `has` each of these lines, `lacks` all of
-//!   them, or `contains` each of them somewhere. What a run does not speak of is not compared.
+//!   them, or `contains` each of them somewhere. `output again` is that of the run before. What a run does not
+//!   speak of is not compared.
 //! - `input`, `output`, `errors`, `door` or `transfer`, with `fails at NUMBERS`: these calls fail. Of the
 //!   door `listen` and `accept` are counted, and of a transfer `read` and `write`.
 //! - `output`, `errors` or `connection`, with `has room for NUMBER`: so many bytes can be written there.
@@ -44,6 +45,7 @@
 //! - `@days DAY COUNT STEP LINE`, for so many days from `YYYY-MM-DD` on, each so many after the one before,
 //!   where `{date}` is `YYYYMMDD`, `{day}` is `YYYY-MM-DD`, and `{n}` counts from 0.
 //! - `@hours DAY TIME COUNT LINE`, for so many hours from `HH:00` of a day on, where `{time}` is `HH:00`.
+//! - `@generated START SITES YEARS LOAD`, for all lines of the generated load of that number.
 use crate::blocks::write_block_line;
 use crate::case::{Case, Extent, Failing, Given, Place, Room, Run, Subject, Wanted};
 use crate::trouble::Trouble;
@@ -347,6 +349,7 @@ fn open_wanted(alloc: Global, run: &mut Run, word: &str, rest: &str) -> Result<B
     };
     let extent = match rest {
         "" => Extent::Whole,
+        "again" if subject == Subject::Output => Extent::Again,
         "starts" => Extent::Start,
         "ends" => Extent::End,
         "has" => Extent::Lines,

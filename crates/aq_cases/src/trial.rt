@@ -84,17 +84,23 @@ fn try_runs<K: Keeper>(
     keeper: &mut K,
 ) -> Result<Option<String>, Memory> {
     let mut number = 0u32;
+    let mut before = Vec::new(alloc);
     for run in runs {
         number = number.saturating_add(1);
-        if let Some(found) = try_run(alloc, run, keeper)? {
+        if let Some(found) = try_run(alloc, run, keeper, &mut before)? {
             return Ok(Some(format!(in alloc; "run {number}: {found}")?));
         }
     }
     Ok(None)
 }
 
-/// The first difference of a run.
-fn try_run<K: Keeper>(alloc: Global, run: Run, keeper: &mut K) -> Result<Option<String>, Memory> {
+/// The first difference of a run. What the run before wrote on the output gives way to what this one does.
+fn try_run<K: Keeper>(
+    alloc: Global,
+    run: Run,
+    keeper: &mut K,
+    before: &mut Vec<u8>,
+) -> Result<Option<String>, Memory> {
     let Run {
         words,
         given,
@@ -111,10 +117,11 @@ fn try_run<K: Keeper>(alloc: Global, run: Run, keeper: &mut K) -> Result<Option<
         return Ok(Some(format!(in alloc; "status {found}, wanted {status}: {told}")?));
     }
     for one in &wanted {
-        if let Some(found) = compare(alloc, one, &outcome, keeper)? {
+        if let Some(found) = compare(alloc, one, &outcome, before, keeper)? {
             return Ok(Some(found));
         }
     }
+    *before = outcome.output;
     Ok(None)
 }
 
@@ -175,11 +182,17 @@ fn compare<K: Keeper>(
     alloc: Global,
     wanted: &Wanted,
     outcome: &Outcome,
+    before: &[u8],
     keeper: &mut K,
 ) -> Result<Option<String>, Memory> {
     let (extent, text) = (wanted.extent, wanted.text.as_slice());
     match wanted.subject {
         Subject::Output => {
+            let text = if extent == Extent::Again {
+                before
+            } else {
+                text
+            };
             let found = difference(alloc, extent, text, &outcome.output)?;
             told(alloc, "output", found)
         }
