@@ -1,5 +1,5 @@
 -- The changes at the keys that a load touched are those at all keys.
-use Rattle.std.proofs.Common.{◌≡◌, ℕ, Bool, true, false, cond, ◌++◌, Option, Some, None, is_some, List, [], ◌∷◌, map, refl, ap, sym, subst, ◌∙◌}
+use Rattle.std.proofs.Common.{◌≡◌, ℕ, Bool, true, false, cond, ◌++◌, Option, Some, None, is_some, unwrap_or, List, [], ◌∷◌, map, refl, ap, sym, subst, ◌∙◌}
 use Rattle.std.specs.Prelude.{filter, option_map}
 use Rattle.std.specs.List.{cons_option, filter_map}
 use Rattle.std.proofs.lemmas.Bool.{and_from, and_parts}
@@ -173,10 +173,10 @@ observations-same rows changes are =
 -- ---- the whole
 
 pub batch-is : (staged : StagedLoad) (records : List OfficeRecord) (observations : List (ObsKey × Observation)) → IsStagedOn records observations staged → rises record_rank records ≡ true
-    → (start middle end : List OfficeChange) → start ≡ [] → middle ≡ start ++ filter_map (record_change_at records staged.records) (map key_of staged.touched)
+    → (start middle end : List OfficeChange) → start ≡ [] → middle ≡ start ++ filter_map (record_change_at records (unwrap_or staged.records records)) (map key_of staged.touched)
     → end ≡ middle ++ filter_map (observation_change_at observations (with_changes staged.changes observations)) (either_keys (keys_in staged.changes.dropped) (keys_in staged.changes.left))
     → AreChangesOf records observations staged end
 unfolding changes_between
 batch-is staged records observations on rising start middle end none first second loads =
-    let of_records = first ∙ ap (λ (l : List OfficeChange). l ++ filter_map (record_change_at records staged.records) (map key_of staged.touched)) none ∙ records-same records staged.records staged.touched rising on.touched in
+    let of_records = first ∙ ap (λ (l : List OfficeChange). l ++ filter_map (record_change_at records (unwrap_or staged.records records)) (map key_of staged.touched)) none ∙ records-same records (unwrap_or staged.records records) staged.touched rising on.touched in
     second ∙ (λ i. of_records i ++ observations-same observations staged.changes on.changes i)

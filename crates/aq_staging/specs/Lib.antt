@@ -2,6 +2,7 @@
 pub mod OfficeView
 pub mod Changes
 pub mod Overlay
+pub mod LateCopy
 pub mod Identity
 pub mod Staged
 pub mod Refusals

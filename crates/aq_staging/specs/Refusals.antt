@@ -35,8 +35,12 @@ IsAsBefore Memory old new = Unit {0}
 
 -- the office as a load's lines leave it so far
 abbrev pub office_in : Staging → Office
-office_in staging = office_of staging.registry staging.observations.standing
+office_in staging = office_of staging.records.standing staging.observations.standing
+
+-- the office before the load
+abbrev pub office_before : Staging → Office
+office_before staging = office_of staging.records.before staging.observations.before
 
 -- what a line changes is noted: the touched records stay those of the load, whatever stood before it
 abbrev pub AreNoted : Staging → Staging → Type 0
-AreNoted old new = (before : List OfficeRecord) → AreTouched before old.registry old.touched → AreTouched before new.registry new.touched
+AreNoted old new = (before : List OfficeRecord) → AreTouched before old.records.standing old.touched → AreTouched before new.records.standing new.touched

@@ -11,6 +11,7 @@ ghost use Rattle.aq_rules.specs.Office.Office.{key_of, record_rank, rises};
 use crate::change::{OfficeChange, observation_change, record_change};
 use crate::changes::Changes;
 use crate::keys::EitherKeys;
+use crate::late_copy::registry_after;
 use crate::list::OfficeChanges;
 use crate::staged::Staged;
 use aq_base::{Memory, OfficeKey};
@@ -34,7 +35,8 @@ impl Staged {
         ensures { IfOk result (AreChangesOf registry.now shelf.now self.now) }
     {
         let mut changes = OfficeChanges::new(alloc);
-        add_records(&mut changes, &self.touched, registry, &self.registry)?;
+        let after = registry_after(&self.registry, registry);
+        add_records(&mut changes, &self.touched, registry, after)?;
         add_observations(&mut changes, &self.changes, shelf)?;
         Ok(changes)
     }

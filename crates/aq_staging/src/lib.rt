@@ -1,5 +1,5 @@
-//! A load, staged beside an office: its lines are taken in their order, on records of its own and on
-//! observations with its changes, and what stood before is not touched.
+//! A load, staged beside an office: its lines are taken in their order, on observations with its changes and
+//! on a copy of the records that its first line of the office makes, and what stood before is not touched.
 //!
 //! # What it has
 //!
@@ -9,7 +9,7 @@
 //!   kept has none.
 //! - `Staged::reply`, `identity`: the reply to the load, and under what it is kept.
 //! - `Staged::changes`: what the load changes, as `OfficeChanges`, a list of `OfficeChange`.
-//! - `Staged::onto(shelf)`: what stands after the load, as a `Taken`.
+//! - `Staged::onto(shelf)`: what stands after the load, as a `Taken`; `registry_after`: the records then.
 //!
 //! # What it promises
 //!
@@ -17,8 +17,9 @@
 //!   (`stage_load`, `Staged::reply`).
 //! - What it changes of the records and observations are the changes that the book names, in their
 //!   order, with none for a row that is the same (`changes`).
-//! - What is taken has the records that were staged, and the observations with the changes; after want
-//!   of memory the shelf is gone (`onto`).
+//! - What is taken has the records that were staged, if they may differ from those before the load, and the
+//!   observations with the changes; after want of memory the shelf is gone (`onto`).
+//! - A load without a line of the office copies no record (`LateCopy`).
 //!
 //! # An example
 //!
@@ -27,7 +28,8 @@
 //! let staged = stage_load(alloc, &registry, &shelf, identity, body)?;
 //! if staged.reply().refused == 0 {
 //!     let changes = staged.changes(alloc, &registry, &shelf)?;
-//!     let Taken { registry, shelf, .. } = staged.onto(shelf)?;
+//!     let Taken { registry: after, shelf, .. } = staged.onto(shelf)?;
+//!     let registry = after.unwrap_or(registry);
 //! }
 //! ```
 #![tactic(auto)]
@@ -37,6 +39,7 @@ mod change;
 mod changes;
 mod identity;
 mod keys;
+mod late_copy;
 mod list;
 mod load;
 mod overlay;
@@ -47,6 +50,7 @@ mod touched;
 
 pub use change::OfficeChange;
 pub use identity::LoadIdentity;
+pub use late_copy::registry_after;
 pub use list::OfficeChanges;
 pub use load::stage_load;
 pub use staged::{Staged, Taken};

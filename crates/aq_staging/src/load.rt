@@ -1,7 +1,7 @@
 //! A load's lines, taken in their order beside the office.
 ghost use Rattle.std.specs.Prelude.{◌≡◌, ◌≤◌, ◌++◌, length, IfOk, OnOk};
 ghost use Rattle.aq_staging.specs.Identity.{number_in};
-ghost use Rattle.aq_staging.specs.Refusals.{office_in, AreNoted};
+ghost use Rattle.aq_staging.specs.Refusals.{office_before, office_in, AreNoted};
 ghost use Rattle.aq_staging.specs.Staged.{after_lines, IsStagedOn};
 ghost use Rattle.aq_rules.specs.Limits.{MOST_BYTES};
 ghost use Rattle.aq_rules.specs.Lines.Lines.{body_lines};
@@ -19,8 +19,9 @@ use aq_shelf::Shelf;
 use std::alloc::Global;
 
 /// What the lines of a body make of an office of these records and observations, which are not changed.
-/// A body has at most 8,388,608 bytes. It costs a copy of the records, and for each line some searches of
-/// them, of the observations, and of those that the lines before it changed.
+/// A body has at most 8,388,608 bytes. It costs for each line some searches of the records, of the
+/// observations, and of those that the lines before it changed; a load with a line of the office costs a copy
+/// of the records besides.
 pub fn stage_load(
     alloc: Global,
     registry: &Registry,
@@ -34,7 +35,7 @@ pub fn stage_load(
     ensures staged_on { IfOk result (IsStagedOn registry.now shelf.now) }
     ensures office { IfOk result (λ staged. after_lines staged (office_of registry.now shelf.now) ≡ after_all (office_of registry.now shelf.now) (body_lines body.now)) }
 {
-    let mut staging = Staging::new(alloc, registry, shelf)?;
+    let mut staging = Staging::new(alloc, registry, shelf);
     let mut refused = Vec::new(alloc);
     let mut taken = 0;
     for line in lines_of(body) {
@@ -44,7 +45,7 @@ pub fn stage_load(
     let number = number_in(identity);
     let reply = reply_of(alloc, number, count_lines(body), taken, &refused)?;
     Ok(Staged {
-        registry: staging.registry,
+        registry: staging.records.into_copy(),
         touched: staging.touched,
         changes: staging.observations.into_changes(),
         identity,
@@ -61,7 +62,7 @@ fn take_line(
 ) -> Result<(), Memory>
     ensures office { OnOk result (office_in staging.new ≡ after (office_in staging.old) text.now) }
     ensures refused { OnOk result (refused.new.items ≡ refused.old.items ++ listed_for number (refusal (office_in staging.old) text.now)) }
-    ensures before { staging.new.observations.before ≡ staging.old.observations.before }
+    ensures before { office_before staging.new ≡ office_before staging.old }
     ensures touched { OnOk result (AreNoted staging.old staging.new) }
 {
     match staging.take(text) {

@@ -10,11 +10,11 @@ use aq_registry::{Records, Registry};
 use aq_shelf::Shelf;
 use std::marker::Model;
 
-/// What a load makes of an office, held beside it: the records after it, those that its lines put or
-/// dropped, the observations that it changed, under what it is kept, if it is, and its reply.
+/// What a load makes of an office, held beside it: the records after it, if it may have changed one, those
+/// that its lines put or dropped, the observations that it changed, under what it is kept, if it is, and its reply.
 #[derive(Drop)]
 pub struct Staged {
-    pub(crate) registry: Registry,
+    pub(crate) registry: Option<Registry>,
     pub(crate) touched: Records,
     pub(crate) changes: Changes,
     pub(crate) identity: Option<LoadIdentity>,
@@ -62,11 +62,11 @@ impl Staged {
     }
 }
 
-/// What stands after a load: the records and the observations, and of the load under what it is kept, if it
-/// is, and its reply.
+/// What stands after a load: the records, if it may have changed one, the observations, and of the load under
+/// what it is kept, if it is, and its reply.
 #[derive(Drop)]
 pub struct Taken {
-    pub registry: Registry,
+    pub registry: Option<Registry>,
     pub shelf: Shelf,
     pub identity: Option<LoadIdentity>,
     pub reply: LoadReply,

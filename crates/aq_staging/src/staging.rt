@@ -1,7 +1,8 @@
-//! The office while a load is staged: a registry of the load's own, and the observations.
+//! The office while a load is staged: the records, and the observations.
 ghost use Rattle.std.specs.Prelude.{◌≡◌};
 ghost use Rattle.aq_rules.specs.Office.Refusal.{kept_at};
 
+use crate::late_copy::LateCopy;
 use crate::overlay::{Overlay, OverlayFault};
 use crate::touched::note;
 use aq_base::{
@@ -17,7 +18,7 @@ use std::alloc::Global;
 /// An office as a load's lines leave it so far. What stood before the load is not touched.
 #[derive(Drop)]
 pub(crate) struct Staging<'a> {
-    pub(crate) registry: Registry,
+    pub(crate) records: LateCopy<'a>,
     /// Under each key of which the lines put, changed or dropped a record, one such record.
     pub(crate) touched: Records,
     pub(crate) observations: Overlay<'a>,
@@ -60,9 +61,9 @@ impl From<OverlayFault> for Refusal {
 }
 
 impl<'a> Staging<'a> {
-    ghost use Rattle.std.specs.Prelude.{◌≡◌, ℕ, None, true, false, IfErr, IfOk, IsTrue, OnErr, OnOk};
+    ghost use Rattle.std.specs.Prelude.{◌≡◌, ℕ, None, true, false, IfErr, IsTrue, OnErr, OnOk};
     ghost use Rattle.aq_base.specs.Values.{HasValueInRange};
-    ghost use Rattle.aq_staging.specs.Refusals.{office_in, AreNoted, IsAsBefore, IsRefusal};
+    ghost use Rattle.aq_staging.specs.Refusals.{office_before, office_in, AreNoted, IsAsBefore, IsRefusal};
     ghost use Rattle.aq_staging.specs.Touched.{AreTouched};
     ghost use Rattle.aq_rules.specs.Lines.Canonical.{is_office_line};
     ghost use Rattle.aq_rules.specs.Lines.RdForm.{Put as PutSample, Delete as DeleteSample};
@@ -75,22 +76,17 @@ impl<'a> Staging<'a> {
     ghost use Rattle.aq_rd.specs.Tags.{has_office_tag};
     ghost use Rattle.aq_staging.specs.OfficeView.{office_of};
 
-    /// An office of these records and observations, of which no line was taken yet. It costs a copy of
-    /// the records.
-    pub(crate) fn new(
-        alloc: Global,
-        registry: &Registry,
-        shelf: &'a Shelf,
-    ) -> Result<Staging<'a>, Memory>
-        ensures office { IfOk result (λ staging. office_in staging ≡ office_of registry.now shelf.now) }
-        ensures before { IfOk result (λ staging. staging.observations.before ≡ shelf.now) }
-        ensures touched { IfOk result (λ staging. AreTouched registry.now staging.registry staging.touched) }
+    /// An office of these records and observations, of which no line was taken yet. It takes no memory.
+    pub(crate) fn new(alloc: Global, registry: &'a Registry, shelf: &'a Shelf) -> Staging<'a>
+        ensures office { office_in result ≡ office_of registry.now shelf.now }
+        ensures before { office_before result ≡ office_of registry.now shelf.now }
+        ensures touched { AreTouched registry.now result.records.standing result.touched }
     {
-        Ok(Staging {
-            registry: registry.copy()?,
+        Staging {
+            records: LateCopy::new(registry),
             touched: Records::new(alloc),
             observations: Overlay::new(alloc, shelf),
-        })
+        }
     }
 
     /// Takes a line, and notes what it touched. After a refusal nothing is changed.
@@ -100,7 +96,7 @@ impl<'a> Staging<'a> {
         ensures refused { IfErr result (IsRefusal (refusal (office_in self.old) line.now)) }
         ensures unchanged { IfErr result (λ refusal. IsAsBefore refusal self.old self.new) }
         ensures touched { OnOk result (AreNoted self.old self.new) }
-        ensures before { self.new.observations.before ≡ self.old.observations.before }
+        ensures before { office_before self.new ≡ office_before self.old }
     {
         if has_office_tag(line) {
             self.take_record(line)
@@ -117,7 +113,7 @@ impl<'a> Staging<'a> {
         ensures refused { IfErr result (IsRefusal (refusal (office_in self.old) line.now)) }
         ensures unchanged { IfErr result (λ refusal. IsAsBefore refusal self.old self.new) }
         ensures touched { OnOk result (AreNoted self.old self.new) }
-        ensures before { self.new.observations.before ≡ self.old.observations.before }
+        ensures before { office_before self.new ≡ office_before self.old }
     {
         match read_office(line) {
             Ok(line) => self.apply_record(line),
@@ -133,7 +129,7 @@ impl<'a> Staging<'a> {
         ensures refused { IfErr result (IsRefusal (refusal (office_in self.old) line.now)) }
         ensures unchanged { IfErr result (λ refusal. IsAsBefore refusal self.old self.new) }
         ensures touched { OnOk result (AreNoted self.old self.new) }
-        ensures before { self.new.observations.before ≡ self.old.observations.before }
+        ensures before { office_before self.new ≡ office_before self.old }
     {
         match read_rd(line) {
             Ok(line) => self.apply_sample(&line),
@@ -149,9 +145,9 @@ impl<'a> Staging<'a> {
         ensures refused { IfErr result (IsRefusal (broken (office_in self.old) (OfOffice line))) }
         ensures unchanged { IfErr result (λ refusal. IsAsBefore refusal self.old self.new) }
         ensures touched { OnOk result (AreNoted self.old self.new) }
-        ensures before { self.new.observations.before ≡ self.old.observations.before }
+        ensures before { office_before self.new ≡ office_before self.old }
     {
-        match self.registry.apply(line) {
+        match self.records.apply(line) {
             Ok(changes) => match note(&mut self.touched, &changes) {
                 Ok(()) => Ok(()),
                 Err(Memory) => Err(Refusal::Memory),
@@ -170,7 +166,7 @@ impl<'a> Staging<'a> {
             IfErr result (IsRefusal (broken (office_in self.old) value)) }
         ensures unchanged { IfErr result (λ refusal. IsAsBefore refusal self.old self.new) }
         ensures touched { OnOk result (AreNoted self.old self.new) }
-        ensures before { self.new.observations.before ≡ self.old.observations.before }
+        ensures before { office_before self.new ≡ office_before self.old }
     {
         match line {
             RdLine::Put {
@@ -188,7 +184,8 @@ impl<'a> Staging<'a> {
     fn duration(&self, monitor: &MonitorId) -> Option<Duration>
         ensures { result ≡ duration_at (office_in self.now) monitor.now }
     {
-        match self.registry.get(OfficeKey::Monitor { id: *monitor })? {
+        let key = OfficeKey::Monitor { id: *monitor };
+        match self.records.standing().get(key)? {
             OfficeRecord::Monitor { duration, .. } => Some(duration),
             _ => None,
         }
@@ -212,7 +209,7 @@ impl<'a> Staging<'a> {
             IfErr result (IsRefusal (broken (office_in self.old) value)) }
         ensures unchanged { IfErr result (λ refusal. IsAsBefore refusal self.old self.new) }
         ensures touched { OnOk result (AreNoted self.old self.new) }
-        ensures before { self.new.observations.before ≡ self.old.observations.before }
+        ensures before { office_before self.new ≡ office_before self.old }
     {
         let Some(registered) = self.duration(monitor) else {
             return Err(Refusal::Broken(Rule::UnknownMonitor));
@@ -240,7 +237,7 @@ impl<'a> Staging<'a> {
             IfErr result (IsRefusal (broken (office_in self.old) value)) }
         ensures unchanged { IfErr result (λ refusal. IsAsBefore refusal self.old self.new) }
         ensures touched { OnOk result (AreNoted self.old self.new) }
-        ensures before { self.new.observations.before ≡ self.old.observations.before }
+        ensures before { office_before self.new ≡ office_before self.old }
     {
         let Some(registered) = self.duration(monitor) else {
             return Err(Refusal::Broken(Rule::UnknownMonitor));

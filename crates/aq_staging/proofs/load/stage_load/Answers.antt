@@ -1,12 +1,15 @@
-use Rattle.std.proofs.Common.{rules, ◌≡◌, ◌≤◌, sym, List, length, ap, subst, ◌∙◌, arith}
+use Rattle.std.proofs.Common.{rules, ◌≡◌, ◌≤◌, sym, unwrap_or, List, length, ap, subst, ◌∙◌, arith}
 use Rattle.aq_base.specs.declared.observation.ObsKey.{ObsKey}
 use Rattle.aq_base.specs.declared.observation.Observation.{Observation}
+use Rattle.aq_base.specs.declared.office.OfficeRecord.{OfficeRecord}
 use Rattle.aq_rules.specs.Limits.{MOST_OBSERVATIONS}
 use Rattle.aq_rules.specs.Lines.Lines.{body_lines}
 use Rattle.aq_rules.specs.Office.Load.{refusals}
+use Rattle.aq_rules.specs.Office.Office.{Office}
 use Rattle.aq_staging.specs.Changes.{with_changes, AreChanges}
 use Rattle.aq_staging.specs.Refusals.{office_in}
 use Rattle.aq_staging.specs.OfficeView.{office_of}
+use Rattle.aq_staging.specs.Touched.{AreTouched}
 use Rattle.aq_staging.proofs.LoadLaws.{all_refused, after_all_lines, few_refused, next_refused, reply_for-same}
 use Rattle.aq_staging.proofs.StageLemmas.{staged-office}
 use Rattle.aq_staging.proofs.load.stage_load.Goals as goal
@@ -20,7 +23,7 @@ reply_of-requires c =
 
 pub returns-clause-office : goal.returns-clause-office
 returns-clause-office c =
-    staged-office c.loop-line.staging c.into_changes.result c.args.identity c.in_ok-reply.reply c.args.registry.now c.args.shelf.now c.loop-line.invariant.before c.into_changes.ensures.standing
+    staged-office c.loop-line.staging c.into_copy.result c.into_changes.result c.args.identity c.in_ok-reply.reply c.args.registry.now c.args.shelf.now c.loop-line.invariant.before c.into_copy.ensures c.into_changes.ensures.standing
     ∙ after_all_lines _ _ _ c.in-None.ensures.steps.0 c.loop-line.invariant.office
 
 pub returns-clause-reply : goal.returns-clause-reply
@@ -35,10 +38,12 @@ returns-clause-reply c =
 
 pub returns-clause-staged_on : goal.returns-clause-staged_on
 returns-clause-staged_on c = record {
-  touched = c.loop-line.invariant.touched;
-  changes = subst (λ (rows : List (ObsKey × Observation)). AreChanges rows c.into_changes.result) c.loop-line.invariant.before c.into_changes.ensures.changes;
+  touched =
+      subst (λ (after : List OfficeRecord). AreTouched c.args.registry.now after c.loop-line.staging.touched)
+      (sym c.into_copy.ensures ∙ ap (λ (o : Office). unwrap_or c.into_copy.result o.records) c.loop-line.invariant.before) c.loop-line.invariant.touched;
+  changes = subst (λ (o : Office). AreChanges o.observations c.into_changes.result) c.loop-line.invariant.before c.into_changes.ensures.changes;
   few =
-      subst (λ (rows : List (ObsKey × Observation)). length (with_changes c.into_changes.result rows) ≤ MOST_OBSERVATIONS) c.loop-line.invariant.before
+      subst (λ (o : Office). length (with_changes c.into_changes.result o.observations) ≤ MOST_OBSERVATIONS) c.loop-line.invariant.before
       (subst (λ (rows : List (ObsKey × Observation)). length rows ≤ MOST_OBSERVATIONS) (sym c.into_changes.ensures.standing) c.into_changes.ensures.few);
 }
 
