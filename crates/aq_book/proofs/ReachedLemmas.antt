@@ -1,6 +1,6 @@
 -- The changes of a load, the cells that they mark, and the office without its loads.
 use Rattle.std.proofs.Common.{◌≡◌, ℕ, Bool, true, false, ◌+◌, ◌<◌, cond, ◌&&◌, ◌||◌, List, [], ◌∷◌, ◌++◌, map, length, drop, get_or, arith, refl, ap, sym, ◌∙◌, inl, inr, ◌⊎◌}
-use Rattle.std.specs.Prelude.{Option, Some, None, is_none}
+use Rattle.std.specs.Prelude.{Option, Some, None, is_none, unwrap_or}
 use Rattle.std.specs.List.{cons_option, filter_map, list_any}
 use Rattle.std.proofs.lemmas.Bool.{false≢true}
 use Rattle.std.proofs.lemmas.List.{append-nil, drop_more}
@@ -156,7 +156,7 @@ rest-is changes i x within is = ap changes_in (drop_more changes i x within ∙ 
 
 -- the changes of a load, as those between the two offices without their loads
 pub changes-are : (records after : List OfficeRecord) (rows later : List (ObsKey × Observation)) (load : StagedLoad) (changes : List OfficeChange)
-    → after ≡ load.records → later ≡ with_changes load.changes rows → AreChangesOf records rows load changes
+    → after ≡ unwrap_or load.records records → later ≡ with_changes load.changes rows → AreChangesOf records rows load changes
     → changes ≡ record_changes (office_of records rows) (office_of after later) ++ observation_changes (office_of records rows) (office_of after later)
 unfolding changes_between
 changes-are records after rows later load changes records_are rows_are of =

@@ -1,5 +1,5 @@
 -- The office that a staged load stands for.
-use Rattle.std.proofs.Common.{◌≡◌, ℕ, zero, suc, ◌≤◌, ◌⊎◌, inl, inr, arith, Option, List, length, ap, sym, subst, ◌∙◌}
+use Rattle.std.proofs.Common.{◌≡◌, ℕ, zero, suc, ◌≤◌, ◌⊎◌, inl, inr, arith, Option, unwrap_or, List, length, ap, sym, subst, ◌∙◌}
 use Rattle.aq_base.specs.declared.observation.ObsKey.{ObsKey}
 use Rattle.aq_base.specs.declared.observation.Observation.{Observation}
 use Rattle.aq_base.specs.declared.office.OfficeRecord.{OfficeRecord}
@@ -59,7 +59,7 @@ module _ (staged : StagedLoad) (office : Office) (old : List OfficeRecord) (rows
   room-after fits =
       subst (λ (o : Office). length (with_changes staged.changes o.observations) ≤ MOST_OBSERVATIONS) (sym view) fits.valid.few_observations
 
-  module _ (records : List OfficeRecord) (records_are : records ≡ staged.records) (new : List (ObsKey × Observation)) (new_is : new ≡ with_changes staged.changes rows)
+  module _ (records : List OfficeRecord) (records_are : records ≡ unwrap_or staged.records old) (new : List (ObsKey × Observation)) (new_is : new ≡ with_changes staged.changes rows)
       (identity : Option LoadIdentity) (identity_is : identity ≡ staged.identity) (reply : LoadReply) (reply_is : reply ≡ staged.reply)
       (kept : List StoredLoad) (kept_is : kept ≡ kept_under identity reply loads) where
     -- the shelf after the changes, the records of the load, and the loads with it

@@ -20,7 +20,7 @@ use aq_rows::{Loads, digest_is_32_bytes};
 use aq_rules::kept::reach::what_reads_a_changed_row_is_in_reach;
 use aq_rules::office::valid_load::{an_office_of_nothing_is_valid, loads_leave_the_office_valid};
 use aq_shelf::Shelf;
-use aq_staging::{LoadIdentity, Staged, stage_load};
+use aq_staging::{LoadIdentity, Staged, registry_after, stage_load};
 use std::alloc::Global;
 use std::marker::Model;
 
@@ -113,9 +113,9 @@ impl Book {
     }
 
     /// What a load makes of the book, which is not changed. The number is that of a new load, or 0, the
-    /// number of a load that is not kept. A body has at most 8,388,608 bytes and 120,000 lines. It costs a
-    /// copy of the records, and for each line some searches of them, of the observations, and of those that
-    /// the lines before it changed.
+    /// number of a load that is not kept. A body has at most 8,388,608 bytes and 120,000 lines. It costs for
+    /// each line some searches of the records, of the observations, and of those that the lines before it
+    /// changed; a load with a line of the office costs a copy of the records besides.
     pub fn stage(
         &self,
         alloc: Global,
@@ -164,16 +164,17 @@ impl Book {
         let taken = staged.onto(self.shelf)?;
         let loads = with_load(self.loads, taken.identity, taken.reply)?;
         let mut cells = self.cells;
+        let after = registry_after(&taken.registry, &self.registry);
         bring_up(
             self.alloc,
             &mut cells,
             &changes,
             &self.registry,
-            &taken.registry,
+            after,
             &taken.shelf,
         )?;
         Ok(Book {
-            registry: taken.registry,
+            registry: taken.registry.unwrap_or(self.registry),
             shelf: taken.shelf,
             loads,
             cells,

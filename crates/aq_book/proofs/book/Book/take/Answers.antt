@@ -1,6 +1,8 @@
-use Rattle.std.proofs.Common.{◌∙◌, sym, subst}
+use Rattle.std.proofs.Common.{◌∙◌, Option, List, unwrap_or, ap, sym, subst}
+use Rattle.aq_base.specs.declared.office.OfficeRecord.{OfficeRecord}
 use Rattle.aq_rules.specs.Office.Office.{Office}
 use Rattle.aq_series.specs.OfficeView.{office_of}
+use Rattle.aq_ozone_cells.specs.FilledDays.{AreKept}
 use Rattle.aq_staging.specs.Staged.{IsStagedOn}
 use Rattle.aq_book.proofs.ReachedLemmas.{changes-are, loadless, none-amiss, reached-by}
 use Rattle.aq_book.proofs.StageLemmas.{room-after, taken-office, valid-after}
@@ -18,42 +20,48 @@ onto-requires c =
 
 pub bring_up-requires-clause-drops : goal.bring_up-requires-clause-drops
 bring_up-requires-clause-drops c =
-    none-amiss (office_of c.self.inside.registry c.self.inside.shelf) (office_of c.in_ok-taken.taken.registry c.in_ok-taken.taken.shelf) c.in_ok-changes.changes
-    (changes-are c.self.inside.registry c.in_ok-taken.taken.registry c.self.inside.shelf c.in_ok-taken.taken.shelf c.args.staged c.in_ok-changes.changes
-    c.in_ok-taken.ensures.records c.in_ok-taken.ensures.observations c.in_ok-changes.ensures)
+    let records_are = c.registry_after-after.ensures ∙ ap (λ (o : Option (List OfficeRecord)). unwrap_or o c.self.inside.registry) c.in_ok-taken.ensures.records in
+    none-amiss (office_of c.self.inside.registry c.self.inside.shelf) (office_of c.registry_after-after.result.now c.in_ok-taken.taken.shelf) c.in_ok-changes.changes
+    (changes-are c.self.inside.registry c.registry_after-after.result.now c.self.inside.shelf c.in_ok-taken.taken.shelf c.args.staged c.in_ok-changes.changes
+    records_are c.in_ok-taken.ensures.observations c.in_ok-changes.ensures)
 
 pub bring_up-requires-clause-others : goal.bring_up-requires-clause-others
 bring_up-requires-clause-others c cell out =
+    let records_are = c.registry_after-after.ensures ∙ ap (λ (o : Option (List OfficeRecord)). unwrap_or o c.self.inside.registry) c.in_ok-taken.ensures.records in
     let before = office_of c.self.inside.registry c.self.inside.shelf in
-    let after = office_of c.in_ok-taken.taken.registry c.in_ok-taken.taken.shelf in
+    let after = office_of c.registry_after-after.result.now c.in_ok-taken.taken.shelf in
     let valid =
     valid-after c.args.staged c.args.self c.self.inside.registry c.self.inside.shelf c.self.inside.loads c.self.view_is
-    c.in_ok-taken.taken.registry c.in_ok-taken.ensures.records c.in_ok-taken.taken.shelf c.in_ok-taken.ensures.observations c.in_ok-taken.taken.identity c.in_ok-taken.ensures.identity
+    c.registry_after-after.result.now records_are c.in_ok-taken.taken.shelf c.in_ok-taken.ensures.observations c.in_ok-taken.taken.identity c.in_ok-taken.ensures.identity
     c.in_ok-taken.taken.reply c.in_ok-taken.ensures.reply c.in_ok-loads.loads c.in_ok-loads.ensures c.requires
     in
     let are =
-    changes-are c.self.inside.registry c.in_ok-taken.taken.registry c.self.inside.shelf c.in_ok-taken.taken.shelf c.args.staged c.in_ok-changes.changes
-    c.in_ok-taken.ensures.records c.in_ok-taken.ensures.observations c.in_ok-changes.ensures
+    changes-are c.self.inside.registry c.registry_after-after.result.now c.self.inside.shelf c.in_ok-taken.taken.shelf c.args.staged c.in_ok-changes.changes
+    records_are c.in_ok-taken.ensures.observations c.in_ok-changes.ensures
     in
     c.cells_out_of_reach_are_those_of_the_office_after_it.ensures before after c.self.inside.cells cell
     (loadless c.self.inside.registry c.self.inside.shelf c.self.inside.loads c.self.invariant.office)
-    (loadless c.in_ok-taken.taken.registry c.in_ok-taken.taken.shelf c.in_ok-loads.loads valid)
+    (loadless c.registry_after-after.result.now c.in_ok-taken.taken.shelf c.in_ok-loads.loads valid)
     c.self.invariant.cells_kept
     (λ ozone.
-    reached-by c.self.inside.registry c.in_ok-taken.taken.registry c.self.inside.shelf c.in_ok-taken.taken.shelf c.in_ok-changes.changes are cell
+    reached-by c.self.inside.registry c.registry_after-after.result.now c.self.inside.shelf c.in_ok-taken.taken.shelf c.in_ok-changes.changes are cell
     (c.what_reads_a_changed_row_is_in_reach.ensures before after cell) ∙ out ozone c.self.inside.shelf)
 
 pub invariant_of-result : goal.invariant_of-result
-invariant_of-result c = record {
-  office =
-      valid-after c.args.staged c.args.self c.self.inside.registry c.self.inside.shelf c.self.inside.loads c.self.view_is
-      c.in_ok-taken.taken.registry c.in_ok-taken.ensures.records c.in_ok-taken.taken.shelf c.in_ok-taken.ensures.observations c.in_ok-taken.taken.identity c.in_ok-taken.ensures.identity
-      c.in_ok-taken.taken.reply c.in_ok-taken.ensures.reply c.in_ok-loads.loads c.in_ok-loads.ensures c.requires;
-  cells_kept = c.in_ok-bring_up.ensures;
-}
+invariant_of-result c =
+    let records_are = c.unwrap_or.ensures ∙ ap (λ (o : Option (List OfficeRecord)). unwrap_or o c.self.inside.registry) c.in_ok-taken.ensures.records in
+    record {
+      office =
+          valid-after c.args.staged c.args.self c.self.inside.registry c.self.inside.shelf c.self.inside.loads c.self.view_is
+          c.unwrap_or.result records_are c.in_ok-taken.taken.shelf c.in_ok-taken.ensures.observations c.in_ok-taken.taken.identity c.in_ok-taken.ensures.identity
+          c.in_ok-taken.taken.reply c.in_ok-taken.ensures.reply c.in_ok-loads.loads c.in_ok-loads.ensures c.requires;
+      cells_kept =
+          subst (λ (records : List OfficeRecord). AreKept (office_of records c.in_ok-taken.taken.shelf) c.bring_up.new.cells) (c.registry_after-after.ensures ∙ sym c.unwrap_or.ensures) c.in_ok-bring_up.ensures;
+    }
 
 pub returns : goal.returns
 returns c =
+    let records_are = c.unwrap_or.ensures ∙ ap (λ (o : Option (List OfficeRecord)). unwrap_or o c.self.inside.registry) c.in_ok-taken.ensures.records in
     taken-office c.args.staged c.args.self c.self.inside.registry c.self.inside.shelf c.self.inside.loads c.self.view_is
-    c.in_ok-taken.taken.registry c.in_ok-taken.ensures.records c.in_ok-taken.taken.shelf c.in_ok-taken.ensures.observations c.in_ok-taken.taken.identity c.in_ok-taken.ensures.identity
+    c.unwrap_or.result records_are c.in_ok-taken.taken.shelf c.in_ok-taken.ensures.observations c.in_ok-taken.taken.identity c.in_ok-taken.ensures.identity
     c.in_ok-taken.taken.reply c.in_ok-taken.ensures.reply c.in_ok-loads.loads c.in_ok-loads.ensures
