@@ -41,7 +41,8 @@ impl<R: Read> Source for Reading<R> {
         ensures cause { HasCause self.old.faults self.new.faults result }
 
         // The bytes that the reader gave are those that are answered, and no other.
-        ensures passed { ReadConsumes (R.remaining self.old.reader) (R.remaining self.new.reader) result buffer.new }
+        ensures passed { ReadConsumes (R.remaining self.old.reader)
+            (R.remaining self.new.reader) result buffer.new }
         ensures faults { self.new.faults ≡ faults_after self.old.faults result }
     {
         match read_from(&mut self.reader, buffer) {
@@ -57,7 +58,8 @@ impl<R: Read> Source for Reading<R> {
 /// One read, made again if a signal interrupts it.
 pub(crate) fn read_from<R: Read>(reader: &mut R, buffer: &mut [u8]) -> Result<usize, Failed>
     ensures within { IfOk result (λ n. n ≤ length buffer.new) }
-    ensures passed { ReadConsumes (R.remaining reader.old) (R.remaining reader.new) result buffer.new }
+    ensures passed { ReadConsumes (R.remaining reader.old)
+        (R.remaining reader.new) result buffer.new }
 {
     for _ in 0..MOST_TRIES {
         match reader.read(buffer) {
@@ -99,7 +101,8 @@ impl<W: Write> Sink for Writing<W> {
         ensures cause { HasCause self.old.faults self.new.faults result }
 
         // The bytes that are answered as taken reached the writer, and no other.
-        ensures passed { WriteAppends (W.contents self.old.writer) (W.contents self.new.writer) result piece.now }
+        ensures passed { WriteAppends (W.contents self.old.writer)
+            (W.contents self.new.writer) result piece.now }
         ensures faults { self.new.faults ≡ faults_after self.old.faults result }
     {
         match write_to(&mut self.writer, piece) {

@@ -63,7 +63,16 @@ impl<N: Net + Clock + Drop> TcpDoor<N> {
 
     /// A door that does not listen yet.
     pub fn new(net: N) -> TcpDoor<N>
-        ensures { result ≡ record { net = net; listener = None; stream = None; deadlines = record { request = None; reply = None }; accepts = 0; reads = 0; writes = 0 } }
+        ensures { result ≡
+            record {
+              net = net;
+              listener = None;
+              stream = None;
+              deadlines = record { request = None; reply = None };
+              accepts = 0;
+              reads = 0;
+              writes = 0;
+            } }
     {
         TcpDoor {
             net,
@@ -106,13 +115,18 @@ impl<N: Net + Clock + Drop> Door for TcpDoor<N> {
     }
 
     fn accept(&mut self) -> Result<bool, Failed>
-        requires listens { is_some (option_map (λ listening. listening.0) self.old.listener) ≡ true }
+        requires listens { is_some (option_map (λ listening. listening.0) self.old.listener)
+            ≡ true }
         requires none_open { is_some self.old.stream ≡ false }
-        ensures accepted { IfOk result (λ is_there. IsAccepted is_there (⟦<TcpDoor<N> as Door>⟧.seen self.old) (⟦<TcpDoor<N> as Door>⟧.seen self.new)) }
+        ensures accepted { IfOk result
+            (λ is_there. IsAccepted is_there (⟦<TcpDoor<N> as Door>⟧.seen self.old)
+            (⟦<TcpDoor<N> as Door>⟧.seen self.new)) }
         ensures none { OnErr result (is_some self.new.stream ≡ false) }
-        ensures listens { option_map (λ listening. listening.0) self.new.listener ≡ option_map (λ listening. listening.0) self.old.listener }
+        ensures listens { option_map (λ listening. listening.0) self.new.listener
+            ≡ option_map (λ listening. listening.0) self.old.listener }
         ensures cause { HasCause self.old.accepts self.new.accepts result }
-        ensures transfers { HasSameTransfers (⟦<TcpDoor<N> as Door>⟧.seen self.old) (⟦<TcpDoor<N> as Door>⟧.seen self.new) }
+        ensures transfers { HasSameTransfers (⟦<TcpDoor<N> as Door>⟧.seen self.old)
+            (⟦<TcpDoor<N> as Door>⟧.seen self.new) }
 
         // Connections come as long as the port is listened on: a failure is never told as their end.
         ensures more { IfOk result (λ is_there. is_there ≡ true) }
@@ -137,13 +151,19 @@ impl<N: Net + Clock + Drop> Door for TcpDoor<N> {
 
     fn read(&mut self, buffer: &mut [u8]) -> Result<usize, Failed>
         requires open { is_some self.old.stream ≡ true }
-        ensures moved { IfOk result (λ n. Reads (⟦<TcpDoor<N> as Door>⟧.seen self.old) (⟦<TcpDoor<N> as Door>⟧.seen self.new) buffer.new n) }
+        ensures moved { IfOk result
+            (λ n. Reads (⟦<TcpDoor<N> as Door>⟧.seen self.old)
+            (⟦<TcpDoor<N> as Door>⟧.seen self.new) buffer.new n) }
         ensures cause { HasCause self.old.reads self.new.reads result }
-        ensures door { IsSameDoor (⟦<TcpDoor<N> as Door>⟧.seen self.old) (⟦<TcpDoor<N> as Door>⟧.seen self.new) }
+        ensures door { IsSameDoor (⟦<TcpDoor<N> as Door>⟧.seen self.old)
+            (⟦<TcpDoor<N> as Door>⟧.seen self.new) }
         ensures writes { self.new.writes ≡ self.old.writes }
 
         // The bytes that the connection gave are those that are answered, and no other.
-        ensures passed { ReadConsumes (option_and_then (λ stream. N.Stream.remaining stream) self.old.stream) (option_and_then (λ stream. N.Stream.remaining stream) self.new.stream) result buffer.new }
+        ensures passed { ReadConsumes
+            (option_and_then (λ stream. N.Stream.remaining stream) self.old.stream)
+            (option_and_then (λ stream. N.Stream.remaining stream) self.new.stream)
+            result buffer.new }
         ensures faults { self.new.reads ≡ faults_after self.old.reads result }
     {
         let got = match &mut self.stream {
@@ -158,13 +178,19 @@ impl<N: Net + Clock + Drop> Door for TcpDoor<N> {
 
     fn write(&mut self, piece: &[u8]) -> Result<usize, Failed>
         requires open { is_some self.old.stream ≡ true }
-        ensures moved { IfOk result (λ n. Writes (⟦<TcpDoor<N> as Door>⟧.seen self.old) (⟦<TcpDoor<N> as Door>⟧.seen self.new) piece.now n) }
+        ensures moved { IfOk result
+            (λ n. Writes (⟦<TcpDoor<N> as Door>⟧.seen self.old)
+            (⟦<TcpDoor<N> as Door>⟧.seen self.new) piece.now n) }
         ensures cause { HasCause self.old.writes self.new.writes result }
-        ensures door { IsSameDoor (⟦<TcpDoor<N> as Door>⟧.seen self.old) (⟦<TcpDoor<N> as Door>⟧.seen self.new) }
+        ensures door { IsSameDoor (⟦<TcpDoor<N> as Door>⟧.seen self.old)
+            (⟦<TcpDoor<N> as Door>⟧.seen self.new) }
         ensures reads { self.new.reads ≡ self.old.reads }
 
         // The bytes that are answered as taken reached the connection, and no other.
-        ensures passed { WriteAppends (option_and_then (λ stream. N.Stream.contents stream) self.old.stream) (option_and_then (λ stream. N.Stream.contents stream) self.new.stream) result piece.now }
+        ensures passed { WriteAppends
+            (option_and_then (λ stream. N.Stream.contents stream) self.old.stream)
+            (option_and_then (λ stream. N.Stream.contents stream) self.new.stream)
+            result piece.now }
         ensures faults { self.new.writes ≡ faults_after self.old.writes result }
     {
         let taken = match &mut self.stream {
@@ -229,7 +255,8 @@ fn read_in_time<C: Clock, S: Read + OpenStream>(
     buffer: &mut [u8],
 ) -> Result<usize, Failed>
     ensures within { IfOk result (λ n. n ≤ length buffer.new) }
-    ensures passed { ReadConsumes (S.remaining stream.old) (S.remaining stream.new) result buffer.new }
+    ensures passed { ReadConsumes (S.remaining stream.old)
+        (S.remaining stream.new) result buffer.new }
 {
     let now = clock.monotonic().map_err(|_| Failed)?;
     let begins = Duration::from_secs(IDLE);

@@ -31,7 +31,8 @@ impl MemoryKeeper {
     /// fails at the calls with these numbers, counted from 1 over both methods.
     pub fn new(tables: Vec<Row>, failing: Vec<u64>) -> MemoryKeeper
         requires { keys_rise (map row_key tables.items) ≡ true }
-        ensures { result ≡ record { tables = tables.items; failing = failing.items; calls = 0; faults = 0 } }
+        ensures { result ≡
+            record { tables = tables.items; failing = failing.items; calls = 0; faults = 0 } }
     {
         MemoryKeeper {
             tables: Tables::of(tables),
@@ -44,7 +45,11 @@ impl MemoryKeeper {
     /// Counts a call, and answers whether it is to fail.
     fn is_to_fail(&mut self) -> bool
         ensures listed { result ≡ is_listed self.old.failing (next self.old.calls) }
-        ensures state { self.new ≡ record self.old { calls = next self.old.calls; faults = if result then next self.old.faults else self.old.faults } }
+        ensures state { self.new ≡
+            record self.old {
+              calls = next self.old.calls;
+              faults = if result then next self.old.faults else self.old.faults;
+            } }
         ensures risen { result ≡ true → HasRisen self.old.faults self.new.faults }
     {
         self.calls = self.calls.saturating_add(1);

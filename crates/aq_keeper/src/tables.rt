@@ -152,7 +152,8 @@ fn cut_at(rows: &mut Vec<Row>, later: &mut Vec<Row>, key: KeyView<'_>)
     requires room { vec_len rows.old + vec_len later.old ≤ vec_capacity rows.old }
     requires later_room { vec_len rows.old + vec_len later.old ≤ vec_capacity later.old }
     requires rise { Rise (keys_of_rows (rows.old.items ++ reverse later.old.items)) }
-    ensures whole { rows.new.items ++ reverse later.new.items ≡ rows.old.items ++ reverse later.old.items }
+    ensures whole { rows.new.items ++ reverse later.new.items ≡ rows.old.items
+        ++ reverse later.old.items }
     ensures before { AreBefore (key_seen key.entry) rows.new.items }
     ensures later { StartsFrom (key_seen key.entry) (reverse later.new.items) }
     ensures count { vec_len rows.new + vec_len later.new ≡ vec_len rows.old + vec_len later.old }
@@ -168,7 +169,8 @@ fn cut_at(rows: &mut Vec<Row>, later: &mut Vec<Row>, key: KeyView<'_>)
 fn move_later(rows: &mut Vec<Row>, later: &mut Vec<Row>, key: KeyView<'_>)
     requires room { vec_len rows.old + vec_len later.old ≤ vec_capacity later.old }
     requires rise { Rise (keys_of_rows rows.old.items) }
-    ensures whole { rows.new.items ++ reverse later.new.items ≡ rows.old.items ++ reverse later.old.items }
+    ensures whole { rows.new.items ++ reverse later.new.items ≡ rows.old.items
+        ++ reverse later.old.items }
     ensures before { AreBefore (key_seen key.entry) rows.new.items }
     ensures moved { StartsFrom (key_seen key.entry) (drop (length rows.new.items) rows.old.items) }
     ensures count { vec_len rows.new + vec_len later.new ≡ vec_len rows.old + vec_len later.old }
@@ -186,9 +188,12 @@ fn move_later(rows: &mut Vec<Row>, later: &mut Vec<Row>, key: KeyView<'_>)
 /// Takes the last row if it does not come before a key.
 fn next_later(rows: &mut Vec<Row>, key: KeyView<'_>) -> Option<Row>
     requires { Rise (keys_of_rows rows.old.items) }
-    ensures some { IfSome result (λ row. (rows.old.items ≡ rows.new.items ++ row ∷ []) × (key_before (row_key row) (key_seen key.entry) ≡ false)) }
-    ensures none { IfNone result ((rows.new.items ≡ rows.old.items) × AreBefore (key_seen key.entry) rows.old.items) }
-    ensures count { MatchOption result (vec_len rows.new ≡ vec_len rows.old) (λ _. vec_len rows.new + 1 ≡ vec_len rows.old) }
+    ensures some { IfSome result (λ row. (rows.old.items ≡ rows.new.items ++ row ∷ [])
+        × (key_before (row_key row) (key_seen key.entry) ≡ false)) }
+    ensures none { IfNone result
+        ((rows.new.items ≡ rows.old.items) × AreBefore (key_seen key.entry) rows.old.items) }
+    ensures count { MatchOption result (vec_len rows.new ≡ vec_len rows.old)
+        (λ _. vec_len rows.new + 1 ≡ vec_len rows.old) }
     ensures capacity { vec_capacity rows.new ≡ vec_capacity rows.old }
 {
     let is_earlier = comes_before(rows.last()?.key(), key);
@@ -199,7 +204,8 @@ fn next_later(rows: &mut Vec<Row>, key: KeyView<'_>) -> Option<Row>
 fn move_earlier(rows: &mut Vec<Row>, later: &mut Vec<Row>, key: KeyView<'_>)
     requires room { vec_len rows.old + vec_len later.old ≤ vec_capacity rows.old }
     requires before { AreBefore (key_seen key) rows.old.items }
-    ensures whole { rows.new.items ++ reverse later.new.items ≡ rows.old.items ++ reverse later.old.items }
+    ensures whole { rows.new.items ++ reverse later.new.items ≡ rows.old.items
+        ++ reverse later.old.items }
     ensures before { AreBefore (key_seen key.entry) rows.new.items }
     ensures later { StartsFrom (key_seen key.entry) (reverse later.new.items) }
     ensures count { vec_len rows.new + vec_len later.new ≡ vec_len rows.old + vec_len later.old }
@@ -216,9 +222,12 @@ fn move_earlier(rows: &mut Vec<Row>, later: &mut Vec<Row>, key: KeyView<'_>)
 
 /// Takes the next of the later rows, which stand last first, if it comes before a key.
 fn next_earlier(later: &mut Vec<Row>, key: KeyView<'_>) -> Option<Row>
-    ensures some { IfSome result (λ row. (reverse later.old.items ≡ row ∷ reverse later.new.items) × (key_before (row_key row) (key_seen key.entry) ≡ true)) }
-    ensures none { IfNone result ((later.new.items ≡ later.old.items) × StartsFrom (key_seen key.entry) (reverse later.old.items)) }
-    ensures count { MatchOption result (vec_len later.new ≡ vec_len later.old) (λ _. vec_len later.new + 1 ≡ vec_len later.old) }
+    ensures some { IfSome result (λ row. (reverse later.old.items ≡ row ∷ reverse later.new.items)
+        × (key_before (row_key row) (key_seen key.entry) ≡ true)) }
+    ensures none { IfNone result ((later.new.items ≡ later.old.items)
+        × StartsFrom (key_seen key.entry) (reverse later.old.items)) }
+    ensures count { MatchOption result (vec_len later.new ≡ vec_len later.old)
+        (λ _. vec_len later.new + 1 ≡ vec_len later.old) }
     ensures capacity { vec_capacity later.new ≡ vec_capacity later.old }
 {
     let row = later.last()?;
@@ -235,9 +244,11 @@ fn make(rows: &mut Vec<Row>, later: &mut Vec<Row>, change: RowChange)
     requires rise { Rise (keys_of_rows (rows.old.items ++ reverse later.old.items)) }
     requires before { AreBefore (changed_key change) rows.old.items }
     requires later { StartsFrom (changed_key change) (reverse later.old.items) }
-    ensures made { rows.new.items ++ reverse later.new.items ≡ with_row_change (rows.old.items ++ reverse later.old.items) change }
+    ensures made { rows.new.items ++ reverse later.new.items
+        ≡ with_row_change (rows.old.items ++ reverse later.old.items) change }
     ensures rise { Rise (keys_of_rows (rows.new.items ++ reverse later.new.items)) }
-    ensures count { vec_len rows.new + vec_len later.new ≤ vec_len rows.old + vec_len later.old + 1 }
+    ensures count { vec_len rows.new + vec_len later.new ≤ vec_len rows.old + vec_len later.old
+        + 1 }
     ensures capacity { vec_capacity rows.old ≤ vec_capacity rows.new }
     ensures later_capacity { vec_capacity later.new ≡ vec_capacity later.old }
 {
@@ -260,7 +271,8 @@ fn put(rows: &mut Vec<Row>, change: RowChange)
 
 /// Drops the next of the later rows, which stand last first, if it has a key.
 fn drop_same(later: &mut Vec<Row>, key: KeyView<'_>)
-    ensures rest { reverse later.new.items ≡ without_first (key_seen key.entry) (reverse later.old.items) }
+    ensures rest { reverse later.new.items
+        ≡ without_first (key_seen key.entry) (reverse later.old.items) }
     ensures len { vec_len later.new ≤ vec_len later.old }
     ensures capacity { vec_capacity later.new ≡ vec_capacity later.old }
 {

@@ -22,7 +22,9 @@ fn talk<K, V: Service<K>, D: Door>(
 ) -> Result<End, Memory>
     requires open { (D.seen door.old).is_open ≡ true }
     requires room { 0 < length piece.old }
-    ensures { Talks 0 (record { door = D.seen door.old; service = V.seen service.old keeper.old }) (record { door = D.seen door.new; service = V.seen service.new keeper.new }) input.old result }
+    ensures { Talks 0 (record { door = D.seen door.old; service = V.seen service.old keeper.old })
+        (record { door = D.seen door.new; service = V.seen service.new keeper.new })
+        input.old result }
 {
     let mut served = 0;
     'requests: loop {
@@ -42,7 +44,8 @@ pub(crate) fn converse<K, V: Service<K>, D: Door>(
     door: &mut D,
 ) -> Result<End, Memory>
     requires open { (D.seen door.old).is_open ≡ true }
-    ensures { Talks 0 (record { door = D.seen door.old; service = V.seen service.old keeper.old }) (record { door = D.seen door.new; service = V.seen service.new keeper.new }) [] result }
+    ensures { Talks 0 (record { door = D.seen door.old; service = V.seen service.old keeper.old })
+        (record { door = D.seen door.new; service = V.seen service.new keeper.new }) [] result }
 {
     let mut piece = match vec![in alloc; 0; PIECE] {
         Ok(piece) => piece,

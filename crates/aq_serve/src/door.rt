@@ -25,7 +25,8 @@ pub trait Door {
     fn accept(&mut self) -> Result<bool, Failed>
         requires listens { is_some (seen self.old).listens ≡ true }
         requires none_open { (seen self.old).is_open ≡ false }
-        ensures accepted { IfOk result (λ is_there. IsAccepted is_there (seen self.old) (seen self.new)) }
+        ensures accepted { IfOk result
+            (λ is_there. IsAccepted is_there (seen self.old) (seen self.new)) }
         ensures failed { OnErr result ((seen self.new).wire ≡ (seen self.old).wire) }
         ensures none { OnErr result ((seen self.new).is_open ≡ false) }
         ensures listens { (seen self.new).listens ≡ (seen self.old).listens }

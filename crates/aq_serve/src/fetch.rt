@@ -48,7 +48,8 @@ fn fetch_head<D: Door>(
 ) -> Result<HeadStep, FetchFault>
     requires open { (D.seen door.old).is_open ≡ true }
     requires room { 0 < length piece.old }
-    ensures fetched { Fetches (λ step. IsHeadBy step (D.seen door.new) input.new) (D.seen door.old) (D.seen door.new) input.old input.new result }
+    ensures fetched { Fetches (λ step. IsHeadBy step (D.seen door.new) input.new) (D.seen door.old)
+        (D.seen door.new) input.old input.new result }
     ensures piece { length piece.new ≡ length piece.old }
 {
     steps_are_bounded();
@@ -77,7 +78,8 @@ fn fetch_body<D: Door>(
     requires open { (D.seen door.old).is_open ≡ true }
     requires room { 0 < length piece.old }
     requires stands { IsHeadStep input.old (WholeHead (head_in input.old head.now)) }
-    ensures fetched { Fetches (λ step. IsRequestBy step (D.seen door.new) input.new) (D.seen door.old) (D.seen door.new) input.old input.new result }
+    ensures fetched { Fetches (λ step. IsRequestBy step (D.seen door.new) input.new)
+        (D.seen door.old) (D.seen door.new) input.old input.new result }
     ensures piece { length piece.new ≡ length piece.old }
 {
     steps_stay();
@@ -102,7 +104,8 @@ pub(crate) fn fetch<D: Door>(
 ) -> Result<HeadStep, FetchFault>
     requires open { (D.seen door.old).is_open ≡ true }
     requires room { 0 < length piece.old }
-    ensures fetched { Fetches (λ step. IsRequestBy step (D.seen door.new) input.new) (D.seen door.old) (D.seen door.new) input.old input.new result }
+    ensures fetched { Fetches (λ step. IsRequestBy step (D.seen door.new) input.new)
+        (D.seen door.old) (D.seen door.new) input.old input.new result }
     ensures piece { length piece.new ≡ length piece.old }
 {
     let step = match fetch_head(alloc, door, piece, input) {

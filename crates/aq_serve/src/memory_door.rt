@@ -94,7 +94,9 @@ impl MemoryDoor {
 
     /// The bytes that were written on a connection, counted from 0, if there is one.
     pub fn written(&self, connection: usize) -> Option<&[u8]>
-        ensures { option_map (λ bytes. bytes.now) result ≡ option_map (λ (line : LineState). line.written) (slice_get self.now.lines connection) }
+        ensures { option_map (λ bytes. bytes.now) result
+            ≡ option_map (λ (line : LineState). line.written)
+            (slice_get self.now.lines connection) }
     {
         match self.lines.get(connection) {
             Some(line) => Some(line.written()),
@@ -105,7 +107,11 @@ impl MemoryDoor {
     /// Counts a call of `listen` or `accept`, and answers whether it is to fail.
     fn fails_to_accept(&mut self) -> bool
         ensures listed { result ≡ fails_to_accept self.old }
-        ensures state { self.new ≡ record self.old { accept_calls = next self.old.accept_calls; accepts = if result then next self.old.accepts else self.old.accepts } }
+        ensures state { self.new ≡
+            record self.old {
+              accept_calls = next self.old.accept_calls;
+              accepts = if result then next self.old.accepts else self.old.accepts;
+            } }
         ensures risen { result ≡ true → HasRisen self.old.accepts self.new.accepts }
     {
         self.accept_calls = self.accept_calls.saturating_add(1);
@@ -119,7 +125,8 @@ impl MemoryDoor {
     /// Counts a call of `read` or `write`, and answers whether it is to fail.
     fn fails_to_transfer(&mut self) -> bool
         ensures listed { result ≡ fails_to_transfer self.old }
-        ensures state { self.new ≡ record self.old { transfer_calls = next self.old.transfer_calls } }
+        ensures state { self.new ≡
+            record self.old { transfer_calls = next self.old.transfer_calls } }
     {
         self.transfer_calls = self.transfer_calls.saturating_add(1);
         self.failing_transfers.contains(&self.transfer_calls)
@@ -131,7 +138,9 @@ fn lines_of(
     connections: Vec<Vec<u8>>,
     room: usize,
 ) -> Result<Vec<MemoryLine>, Memory>
-    ensures { IfOk result (λ lines. lines.items ≡ map (λ bytes. record { left = bytes.items; written = []; room = room }) connections.items) }
+    ensures { IfOk result (λ lines. lines.items ≡
+        map (λ bytes. record { left = bytes.items; written = []; room = room })
+        connections.items) }
 {
     let mut lines = Vec::new(alloc);
     for input in connections {
@@ -170,7 +179,8 @@ impl Door for MemoryDoor {
     fn accept(&mut self) -> Result<bool, Failed>
         requires listens { is_some self.old.listens ≡ true }
         requires none_open { self.old.is_open ≡ false }
-        ensures accepted { IfOk result (λ is_there. IsAccepted is_there (view_of self.old) (view_of self.new)) }
+        ensures accepted { IfOk result
+            (λ is_there. IsAccepted is_there (view_of self.old) (view_of self.new)) }
         ensures failed { OnErr result ((view_of self.new).wire ≡ (view_of self.old).wire) }
         ensures none { OnErr result (self.new.is_open ≡ false) }
         ensures listens { self.new.listens ≡ self.old.listens }
@@ -195,7 +205,8 @@ impl Door for MemoryDoor {
 
     fn read(&mut self, buffer: &mut [u8]) -> Result<usize, Failed>
         requires open { self.old.is_open ≡ true }
-        ensures moved { IfOk result (λ n. Reads (view_of self.old) (view_of self.new) buffer.new n) }
+        ensures moved { IfOk result
+            (λ n. Reads (view_of self.old) (view_of self.new) buffer.new n) }
         ensures failed { OnErr result ((view_of self.new).wire ≡ (view_of self.old).wire) }
         ensures cause { HasCause self.old.reads self.new.reads result }
         ensures door { IsSameDoor (view_of self.old) (view_of self.new) }
@@ -214,14 +225,17 @@ impl Door for MemoryDoor {
 
     fn write(&mut self, piece: &[u8]) -> Result<usize, Failed>
         requires open { self.old.is_open ≡ true }
-        ensures moved { IfOk result (λ n. Writes (view_of self.old) (view_of self.new) piece.now n) }
+        ensures moved { IfOk result
+            (λ n. Writes (view_of self.old) (view_of self.new) piece.now n) }
         ensures failed { OnErr result ((view_of self.new).wire ≡ (view_of self.old).wire) }
         ensures cause { HasCause self.old.writes self.new.writes result }
         ensures door { IsSameDoor (view_of self.old) (view_of self.new) }
         ensures reads { self.new.reads ≡ self.old.reads }
 
         // It fails exactly at the listed calls, and if a piece with bytes finds no room.
-        ensures listed { IsErr result ↔ IsTrue (fails_to_transfer self.old || finds_no_room (current self.old) piece.now) }
+        ensures listed { IsErr result
+            ↔ IsTrue (fails_to_transfer self.old
+            || finds_no_room (current self.old) piece.now) }
         ensures calls { CountsTransfer self.old self.new }
     {
         let fails = self.fails_to_transfer();

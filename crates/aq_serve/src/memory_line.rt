@@ -30,7 +30,8 @@ impl MemoryLine {
 
     /// A connection with these bytes, and room for so many written ones, which it takes at once.
     pub(crate) fn new(alloc: Global, input: Vec<u8>, room: usize) -> Result<MemoryLine, Memory>
-        ensures { IfOk result (λ line. line ≡ record { left = input.items; written = []; room = room }) }
+        ensures { IfOk result (λ line. line ≡
+            record { left = input.items; written = []; room = room }) }
     {
         Ok(MemoryLine {
             input,
@@ -71,7 +72,8 @@ impl MemoryLine {
     pub(crate) fn room_for(&self, piece: &[u8]) -> usize
         ensures within { result ≤ length piece.now }
         ensures room { length self.now.written + result ≤ self.now.room }
-        ensures none { finds_no_room self.now piece.now ≡ ((result == 0) && nat_lt 0 (length piece.now)) }
+        ensures none { finds_no_room self.now piece.now
+            ≡ ((result == 0) && nat_lt 0 (length piece.now)) }
     {
         piece.len().min(self.room - self.written.len())
     }

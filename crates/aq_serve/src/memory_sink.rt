@@ -32,7 +32,8 @@ impl MemorySink {
     /// A sink with this room, which it takes at once, and that fails at the calls with these numbers,
     /// counted from 1.
     pub fn new(alloc: Global, room: u32, failing: Vec<u64>) -> Result<MemorySink, Memory>
-        ensures { IfOk result (λ sink. sink ≡ record { written = []; room = room; failing = failing.items; calls = 0; faults = 0 }) }
+        ensures { IfOk result (λ sink. sink ≡
+            record { written = []; room = room; failing = failing.items; calls = 0; faults = 0 }) }
     {
         let room = room as usize;
         Ok(MemorySink {
@@ -62,12 +63,15 @@ impl Sink for MemorySink {
     ghost seen = { λ sink. record { written = Some sink.written; faults = sink.faults } };
 
     fn write(&mut self, piece: &[u8]) -> Result<usize, Failed>
-        ensures taken { IfOk result (λ n. Takes (Some self.old.written) (Some self.new.written) piece.now n) }
+        ensures taken { IfOk result
+            (λ n. Takes (Some self.old.written) (Some self.new.written) piece.now n) }
         ensures failed { OnErr result (self.new.written ≡ self.old.written) }
         ensures cause { HasCause self.old.faults self.new.faults result }
 
         // It fails exactly at the listed calls, and if a piece with bytes finds no room.
-        ensures listed { IsErr result ↔ IsTrue (is_listed self.old.failing (next self.old.calls) || finds_no_room self.old piece.now) }
+        ensures listed { IsErr result
+            ↔ IsTrue (is_listed self.old.failing (next self.old.calls)
+            || finds_no_room self.old piece.now) }
         ensures faults { self.new.faults ≡ faults_after self.old.faults result }
         ensures calls { self.new.calls ≡ next self.old.calls }
         ensures kept { self.new.failing ≡ self.old.failing }

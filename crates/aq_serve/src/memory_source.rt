@@ -29,7 +29,8 @@ impl MemorySource {
 
     /// A source of these bytes, which fails at the calls with these numbers, counted from 1.
     pub fn new(bytes: Vec<u8>, failing: Vec<u64>) -> MemorySource
-        ensures { result ≡ record { left = bytes.items; failing = failing.items; calls = 0; faults = 0 } }
+        ensures { result ≡
+            record { left = bytes.items; failing = failing.items; calls = 0; faults = 0 } }
     {
         MemorySource {
             bytes,
@@ -50,7 +51,8 @@ impl Source for MemorySource {
     ghost seen = { λ source. record { left = Some source.left; faults = source.faults } };
 
     fn read(&mut self, buffer: &mut [u8]) -> Result<usize, Failed>
-        ensures moved { IfOk result (λ n. Moves (Some self.old.left) (Some self.new.left) buffer.new n) }
+        ensures moved { IfOk result
+            (λ n. Moves (Some self.old.left) (Some self.new.left) buffer.new n) }
         ensures failed { OnErr result (self.new.left ≡ self.old.left) }
         ensures cause { HasCause self.old.faults self.new.faults result }
 

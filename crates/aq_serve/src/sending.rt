@@ -52,7 +52,9 @@ fn error_body(alloc: Global, status: u16) -> Result<Vec<u8>, Memory>
 /// The reply with an error, the methods that a 405 allows, and whether it ends the connection.
 pub fn error_reply(alloc: Global, status: u16, allow: &[u8], close: bool) -> Result<Vec<u8>, Memory>
     requires { IsTrue (is_reply_status status) }
-    ensures { IfOk result (λ bytes. bytes.items ≡ reply_text (record { status = status; allow = allow.now; close = close; body = error_body status })) }
+    ensures { IfOk result (λ bytes. bytes.items
+        ≡ reply_text
+        (record { status = status; allow = allow.now; close = close; body = error_body status })) }
 {
     let body = error_body(alloc, status)?;
     reply_bytes(alloc, status, allow, close, &body)

@@ -26,6 +26,10 @@ pub trait Service<K> {
         close: bool,
     ) -> Result<Vec<u8>, Memory>
         requires short { length body.now ≤ MOST_BYTES }
-        ensures answered { IfOk result (λ reply. Answers verb target.now body.now close reply.items (seen self.old keeper.old) (seen self.new keeper.new)) }
-        ensures lost { OnErr result (Loses verb target.now body.now (seen self.old keeper.old) (seen self.new keeper.new)) };
+        ensures answered { IfOk result
+            (λ reply. Answers verb target.now body.now close reply.items
+            (seen self.old keeper.old) (seen self.new keeper.new)) }
+        ensures lost { OnErr result
+            (Loses verb target.now body.now (seen self.old keeper.old)
+            (seen self.new keeper.new)) };
 }

@@ -20,7 +20,9 @@ fn serve_next<K, V: Service<K>, D: Door>(
 ) -> Result<bool, ServeFault>
     requires listens { is_some (D.seen door.old).listens ≡ true }
     requires none_open { (D.seen door.old).is_open ≡ false }
-    ensures { ServesNext (record { door = D.seen door.old; service = V.seen service.old keeper.old }) (record { door = D.seen door.new; service = V.seen service.new keeper.new }) result }
+    ensures { ServesNext
+        (record { door = D.seen door.old; service = V.seen service.old keeper.old })
+        (record { door = D.seen door.new; service = V.seen service.new keeper.new }) result }
 {
     match door.accept() {
         Ok(true) => {}
@@ -48,7 +50,9 @@ pub fn serve<K, V: Service<K>, D: Door>(
 ) -> Result<(), ServeFault>
     requires listens { is_some (D.seen door.old).listens ≡ true }
     requires none_open { (D.seen door.old).is_open ≡ false }
-    ensures { Serves connections (record { door = D.seen door.old; service = V.seen service.old keeper.old }) (record { door = D.seen door.new; service = V.seen service.new keeper.new }) result }
+    ensures { Serves connections
+        (record { door = D.seen door.old; service = V.seen service.old keeper.old })
+        (record { door = D.seen door.new; service = V.seen service.new keeper.new }) result }
 {
     let mut left = connections;
     while left > 0 {

@@ -45,8 +45,12 @@ fn answer<K, V: Service<K>>(
 ) -> Result<Reply, Memory>
     requires whole { IsWholeRequest input.now head.now }
     requires few { served < MOST_REQUESTS }
-    ensures answered { IfOk result (λ reply. Replies served input.now reply.bytes.items reply.used reply.closes (V.seen service.old keeper.old) (V.seen service.new keeper.new)) }
-    ensures lost { OnErr result (RepliesNot served input.now (V.seen service.old keeper.old) (V.seen service.new keeper.new)) }
+    ensures answered { IfOk result
+        (λ reply. Replies served input.now reply.bytes.items reply.used reply.closes
+        (V.seen service.old keeper.old) (V.seen service.new keeper.new)) }
+    ensures lost { OnErr result
+        (RepliesNot served input.now (V.seen service.old keeper.old)
+        (V.seen service.new keeper.new)) }
 {
     steps_stay();
     steps_are_bounded();
@@ -88,8 +92,10 @@ fn send<D: Door>(door: &mut D, reply: &[u8], closes: bool) -> Option<End>
 fn refuse<D: Door>(alloc: Global, door: &mut D, status: u16) -> Result<Option<End>, Memory>
     requires open { (D.seen door.old).is_open ≡ true }
     requires status { IsTrue (is_reply_status status) }
-    ensures { (served : ℕ) (input now : List ℕ) (service : Standing) → ((more : List ℕ) → IsStep (input ++ more) (Refuse status))
-        → TakesTurn served (record { door = D.seen door.old; service = service }) (record { door = D.seen door.new; service = service }) input now result }
+    ensures { (served : ℕ) (input now : List ℕ) (service : Standing)
+        → ((more : List ℕ) → IsStep (input ++ more) (Refuse status))
+        → TakesTurn served (record { door = D.seen door.old; service = service })
+        (record { door = D.seen door.new; service = service }) input now result }
 {
     match error_reply(alloc, status, b"", true) {
         Ok(reply) => Ok(send(door, &reply, true)),
@@ -110,7 +116,10 @@ fn serve_request<K, V: Service<K>, D: Door>(
     requires open { (D.seen door.old).is_open ≡ true }
     requires whole { IsWholeRequest input.old head.now }
     requires few { served < MOST_REQUESTS }
-    ensures { TakesTurn served (record { door = D.seen door.old; service = V.seen service.old keeper.old }) (record { door = D.seen door.new; service = V.seen service.new keeper.new }) input.old input.new result }
+    ensures { TakesTurn served
+        (record { door = D.seen door.old; service = V.seen service.old keeper.old })
+        (record { door = D.seen door.new; service = V.seen service.new keeper.new })
+        input.old input.new result }
 {
     match answer(alloc, service, keeper, input.as_slice(), head, served) {
         Ok(reply) => {
@@ -135,7 +144,10 @@ pub(crate) fn take_turn<K, V: Service<K>, D: Door>(
     requires open { (D.seen door.old).is_open ≡ true }
     requires room { 0 < length piece.old }
     requires few { served < MOST_REQUESTS }
-    ensures turn { TakesTurn served (record { door = D.seen door.old; service = V.seen service.old keeper.old }) (record { door = D.seen door.new; service = V.seen service.new keeper.new }) input.old input.new result }
+    ensures turn { TakesTurn served
+        (record { door = D.seen door.old; service = V.seen service.old keeper.old })
+        (record { door = D.seen door.new; service = V.seen service.new keeper.new })
+        input.old input.new result }
     ensures piece { length piece.new ≡ length piece.old }
 {
     steps_stay();

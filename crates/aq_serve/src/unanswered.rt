@@ -73,7 +73,8 @@ impl Unanswered {
 // Puts a piece after the bytes from a start on.
 fn push_behind(bytes: &mut Vec<u8>, start: usize, piece: &[u8]) -> Result<(), Memory>
     requires { start ≤ length bytes.old.items }
-    ensures rest { OnOk result (drop start bytes.new.items ≡ drop start bytes.old.items ++ piece.now) }
+    ensures rest { OnOk result
+        (drop start bytes.new.items ≡ drop start bytes.old.items ++ piece.now) }
     ensures more { length bytes.old.items ≤ length bytes.new.items }
 {
     bytes.extend_from_slice(piece)?;
