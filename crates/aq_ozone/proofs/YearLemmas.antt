@@ -9,20 +9,17 @@ use Rattle.std.proofs.lemmas.List.Sorted.{IsPermutation-to_front}
 use Rattle.std.proofs.lemmas.List.Sums.{count_by-le-length, sum_by-cons, sum_by-le-sum_by, sum_by_push}
 use Rattle.std.proofs.lemmas.Bool.Decides.{nat_tests}
 use Rattle.aq_base.specs.Calendar.{year_first, days_in_year}
-use Rattle.aq_base.specs.Site.{Site}
 use Rattle.aq_rules.specs.Kept.Summaries.{KeepsOzoneYear}
 use Rattle.aq_rules.specs.Lists.{ranked, ranked_in}
-use Rattle.aq_rules.specs.Office.Office.{Office}
-use Rattle.aq_rules.specs.Office.Season.{Season, season_of, is_in_season}
-use Rattle.aq_rules.specs.Ozone.OzoneDay.{ozone_day}
-use Rattle.aq_rules.specs.Ozone.OzoneYear.{OzoneYear, counts_as_valid, days_of, ozone_days, ozone_year, ranked_maximum}
-use Rattle.aq_registry.specs.Registry.{office_with}
+use Rattle.aq_rules.specs.Office.Season.{Season, is_in_season}
+use Rattle.aq_rules.specs.Ozone.OzoneYear.{OzoneYear, days_of, ranked_maximum}
+use Rattle.aq_rules.specs.Ozone.SiteHour.{Cell}
 use Rattle.aq_series.specs.Samples.{IsOzone}
 use Rattle.aq_ozone.specs.declared.ozone_year.DayOfYear.{DayOfYear}
 use Rattle.aq_ozone.specs.declared.ozone_year.YearTally.{YearTally}
 use Rattle.aq_ozone.specs.declared.top_four.TopFour.{TopFour}
 use Rattle.aq_ozone.specs.FourGreatest.{four_of}
-use Rattle.aq_ozone.specs.YearDays.{day_in, maxima_of, IsTallyOf}
+use Rattle.aq_ozone.specs.YearDays.{counts_by, day_in, maxima_of, ozone_day_by, ozone_year_by, IsTallyOf}
 use Rattle.aq_ozone.proofs.RangeLemmas.{Ozones, fourth_range}
 
 -- ---- one more day
@@ -126,15 +123,15 @@ count_map {X} {Y} p f (x ∷ list) =
     ∙ ap (λ (n : ℕ). cond (p (f x)) 1 0 + n) (count_map p f list)
     ∙ sym (sum_by-cons (λ (y : X). cond (p (f y)) 1 0) x list)
 
-module _ (office : Office) (site : Site) (season : Season) where
-  maxima_are : (days : List ℕ) → maxima_of (map (day_in office site season) days) ≡ filter_map ranked_maximum (map (ozone_day office site) days)
+module _ (cell_at : ℕ → Option Cell) (approves : ℕ → Bool) (season : Season) where
+  maxima_are : (days : List ℕ) → maxima_of (map (day_in cell_at approves season) days) ≡ filter_map ranked_maximum (map (ozone_day_by cell_at) days)
   maxima_are [] = refl
-  maxima_are (day ∷ days) = ap (λ (l : List ℤ). cons_option (ranked_maximum (ozone_day office site day)) l) (maxima_are days)
+  maxima_are (day ∷ days) = ap (λ (l : List ℤ). cons_option (ranked_maximum (ozone_day_by cell_at day)) l) (maxima_are days)
 
-  valid_few : (days : List ℕ) → count_by (λ (day : ℕ). is_in_season season day && counts_as_valid office site day) days ≤ count_by (λ (day : ℕ). is_in_season season day) days
+  valid_few : (days : List ℕ) → count_by (λ (day : ℕ). is_in_season season day && counts_by cell_at approves day) days ≤ count_by (λ (day : ℕ). is_in_season season day) days
   valid_few days =
-      sum_by-le-sum_by (λ (day : ℕ). cond (is_in_season season day && counts_as_valid office site day) 1 0) (λ (day : ℕ). cond (is_in_season season day) 1 0) days
-      (λ day. by_tests (is_in_season season day) (counts_as_valid office site day))
+      sum_by-le-sum_by (λ (day : ℕ). cond (is_in_season season day && counts_by cell_at approves day) 1 0) (λ (day : ℕ). cond (is_in_season season day) 1 0) days
+      (λ day. by_tests (is_in_season season day) (counts_by cell_at approves day))
     where
       by_tests : (a b : Bool) → cond (a && b) 1 0 ≤ cond a 1 0
       by_tests true true = omega arith
@@ -164,60 +161,58 @@ abbrev pub year_of : YearTally → OzoneYear
 year_of tally = record { season_days = tally.season_days; season_valid = tally.season_valid; ranked = tally.ranked; fourth = tally.top.fourth }
 
 -- the tally of the days of a year
-pub record IsYearTally (office : Office) (site : Site) (year first count : ℕ) (season : Season) (tally : YearTally) : Type 0 where
+pub record IsYearTally (cell_at : ℕ → Option Cell) (approves : ℕ → Bool) (season : Season) (year first count : ℕ) (of : Season) (tally : YearTally) : Type 0 where
   pub first_day : first ≡ year_first year
   pub all_days : count ≡ days_in_year year
-  pub season_is : season ≡ season_of office.records site year
-  pub tally_is : IsTallyOf (map (day_in office site season) (range_with_len first count)) tally
+  pub season_is : of ≡ season
+  pub tally_is : IsTallyOf (map (day_in cell_at approves of) (range_with_len first count)) tally
 
-pub year_is : (office : Office) (site : Site) (year first count : ℕ) (season : Season) (tally : YearTally) → IsYearTally office site year first count season tally → year_of tally ≡ ozone_year office site year
-unfolding ozone_year ozone_days days_of
-year_is office site year first count season tally is =
-    let numbers = range_with_len first count in
-    let numbers_are : numbers ≡ range_with_len (year_first year) (days_in_year year) = λ i. range_with_len (is.first_day i) (is.all_days i) in
-    let tally_is = is.tally_is in
-    let season_days : tally.season_days ≡ count_by (λ (day : ℕ). is_in_season (season_of office.records site year) day) (range_with_len (year_first year) (days_in_year year)) =
-    tally_is.season_days ∙ count_map (λ (d : DayOfYear). d.in_season) (day_in office site season) numbers
-    ∙ (λ i. count_by (λ (day : ℕ). is_in_season (is.season_is i) day) (numbers_are i)) in
-    let season_valid : tally.season_valid ≡ count_by (λ (day : ℕ). is_in_season (season_of office.records site year) day && counts_as_valid office site day) (range_with_len (year_first year) (days_in_year year)) =
-    tally_is.season_valid ∙ count_map (λ (d : DayOfYear). d.counted) (day_in office site season) numbers
-    ∙ (λ i. count_by (λ (day : ℕ). is_in_season (is.season_is i) day && counts_as_valid office site day) (numbers_are i)) in
-    let maxima : maxima_of (map (day_in office site season) numbers) ≡ filter_map ranked_maximum (map (ozone_day office site) (range_with_len (year_first year) (days_in_year year))) =
-    maxima_are office site season numbers ∙ ap (λ (l : List ℕ). filter_map ranked_maximum (map (ozone_day office site) l)) numbers_are in
-    let values = maxima_of (map (day_in office site season) numbers) in
-    let many : tally.ranked ≡ length (ranked (filter_map ranked_maximum (map (ozone_day office site) (range_with_len (year_first year) (days_in_year year))))) =
-    tally_is.ranked_maxima ∙ sym (length_ranked values) ∙ ap (λ (l : List ℤ). length (ranked l)) maxima in
-    let fourth : tally.top.fourth ≡ slice_get (ranked (filter_map ranked_maximum (map (ozone_day office site) (range_with_len (year_first year) (days_in_year year))))) 3 =
-    ap (λ (t : TopFour). t.fourth) tally_is.top ∙ ap (λ (l : List ℤ). slice_get (ranked l) 3) maxima in
-    λ i. record { season_days = season_days i; season_valid = season_valid i; ranked = many i; fourth = fourth i }
+module _ (cell_at : ℕ → Option Cell) (approves : ℕ → Bool) (season : Season) (year first count : ℕ) (of : Season) (tally : YearTally) (is : IsYearTally cell_at approves season year first count of tally) where
+  abbrev numbers : List ℕ
+  numbers = range_with_len first count
 
--- the season is the same whatever was observed
-season_days_of : (office : Office) (site : Site) (year : ℕ) → (ozone_year office site year).season_days ≡ (ozone_year (office_with office.records) site year).season_days
-unfolding ozone_year
-season_days_of office site year = refl
+  numbers_are : numbers ≡ days_of year
+  unfolding days_of
+  numbers_are = λ i. range_with_len (is.first_day i) (is.all_days i)
 
-pub year_keeps : (office : Office) (site : Site) (year first count : ℕ) (season : Season) (tally : YearTally) → IsYearTally office site year first count season tally → count ≤ 366
-    → KeepsOzoneYear (ozone_year (office_with office.records) site year) → KeepsOzoneYear (year_of tally)
-year_keeps office site year first count season tally is most keeps =
-    let numbers = range_with_len first count in
-    let values = maxima_of (map (day_in office site season) numbers) in
-    let same : tally.season_days ≡ (ozone_year (office_with office.records) site year).season_days =
-    ap (λ (y : OzoneYear). y.season_days) (year_is office site year first count season tally is) ∙ season_days_of office site year in
-    let are_few = few (day_in office site season) first count tally is.tally_is in
-    let fourth : tally.top.fourth ≡ slice_get (ranked values) 3 = ap (λ (t : TopFour). t.fourth) is.tally_is.top in
-    record {
-      some_season = omega (arith, same, keeps.some_season);
-      season_days = omega (arith, same, keeps.season_days);
-      season_valid =
-          omega (
-            arith,
-            is.tally_is.season_days,
-            is.tally_is.season_valid,
-            valid_few office site season numbers,
-            count_map (λ (d : DayOfYear). d.in_season) (day_in office site season) numbers,
-            count_map (λ (d : DayOfYear). d.counted) (day_in office site season) numbers,
-          );
-      ranked = omega (arith, are_few.ranked, most);
-      fourth = ap (λ (o : Option ℤ). is_some o) fourth ∙ fourth_there (ranked values) ∙ ap (λ (n : ℕ). nat_le 4 n) (length_ranked values ∙ sym is.tally_is.ranked_maxima);
-      fourth_in_range = rw fourth (fourth_range values is.tally_is.ozone);
-    }
+  season_days_are : tally.season_days ≡ count_by (λ (day : ℕ). is_in_season season day) (days_of year)
+  season_days_are =
+      is.tally_is.season_days ∙ count_map (λ (d : DayOfYear). d.in_season) (day_in cell_at approves of) numbers
+      ∙ (λ i. count_by (λ (day : ℕ). is_in_season (is.season_is i) day) (numbers_are i))
+
+  pub year_is : year_of tally ≡ ozone_year_by cell_at approves season year
+  unfolding ozone_year_by
+  year_is =
+      let season_valid : tally.season_valid ≡ count_by (λ (day : ℕ). is_in_season season day && counts_by cell_at approves day) (days_of year) =
+      is.tally_is.season_valid ∙ count_map (λ (d : DayOfYear). d.counted) (day_in cell_at approves of) numbers
+      ∙ (λ i. count_by (λ (day : ℕ). is_in_season (is.season_is i) day && counts_by cell_at approves day) (numbers_are i)) in
+      let maxima : maxima_of (map (day_in cell_at approves of) numbers) ≡ filter_map ranked_maximum (map (ozone_day_by cell_at) (days_of year)) =
+      maxima_are cell_at approves of numbers ∙ ap (λ (l : List ℕ). filter_map ranked_maximum (map (ozone_day_by cell_at) l)) numbers_are in
+      let values = maxima_of (map (day_in cell_at approves of) numbers) in
+      let many : tally.ranked ≡ length (ranked (filter_map ranked_maximum (map (ozone_day_by cell_at) (days_of year)))) =
+      is.tally_is.ranked_maxima ∙ sym (length_ranked values) ∙ ap (λ (l : List ℤ). length (ranked l)) maxima in
+      let fourth : tally.top.fourth ≡ slice_get (ranked (filter_map ranked_maximum (map (ozone_day_by cell_at) (days_of year)))) 3 =
+      ap (λ (t : TopFour). t.fourth) is.tally_is.top ∙ ap (λ (l : List ℤ). slice_get (ranked l) 3) maxima in
+      λ i. record { season_days = season_days_are i; season_valid = season_valid i; ranked = many i; fourth = fourth i }
+
+  pub year_keeps : count ≤ 366 → 1 ≤ count_by (is_in_season season) (days_of year) → KeepsOzoneYear (year_of tally)
+  year_keeps most some =
+      let values = maxima_of (map (day_in cell_at approves of) numbers) in
+      let are_few = few (day_in cell_at approves of) first count tally is.tally_is in
+      let fourth : tally.top.fourth ≡ slice_get (ranked values) 3 = ap (λ (t : TopFour). t.fourth) is.tally_is.top in
+      record {
+        some_season = omega (arith, season_days_are, some);
+        season_days = omega (arith, are_few.season_days, most);
+        season_valid =
+            omega (
+              arith,
+              is.tally_is.season_days,
+              is.tally_is.season_valid,
+              valid_few cell_at approves of numbers,
+              count_map (λ (d : DayOfYear). d.in_season) (day_in cell_at approves of) numbers,
+              count_map (λ (d : DayOfYear). d.counted) (day_in cell_at approves of) numbers,
+            );
+        ranked = omega (arith, are_few.ranked, most);
+        fourth = ap (λ (o : Option ℤ). is_some o) fourth ∙ fourth_there (ranked values) ∙ ap (λ (n : ℕ). nat_le 4 n) (length_ranked values ∙ sym is.tally_is.ranked_maxima);
+        fourth_in_range = rw fourth (fourth_range values is.tally_is.ozone);
+      }

@@ -1,23 +1,22 @@
 //! The ozone year of a site (40 CFR Part 50, Appendix U, 3(e) and 4(b)).
 ghost use Rattle.std.specs.Prelude.{◌≡◌, ◌+◌, ◌*◌, ◌≤◌, List, IfSome};
+ghost use Rattle.aq_rules.specs.Ozone.EightHour.{window_by};
 ghost use Rattle.aq_rules.specs.Ozone.OzoneDay as ozone_day;
 ghost use Rattle.aq_rules.specs.Ozone.OzoneYear.{ozone_year, ranked_maximum};
 ghost use Rattle.aq_base.specs.declared.day.TheConstants.{FIRST_YEAR, LAST_YEAR};
-ghost use Rattle.aq_base.specs.declared.observation.ObsKey.{ObsKey};
-ghost use Rattle.aq_base.specs.declared.observation.Observation.{Observation};
 ghost use Rattle.aq_ozone.specs.DayHours.{AreNetOzone};
-ghost use Rattle.aq_ozone.specs.YearDays.{day_in};
+ghost use Rattle.aq_ozone.specs.YearDays.{day_in, ozone_year_by};
 ghost use Rattle.aq_series.specs.OfficeView.{office_of};
 ghost use Rattle.aq_series.specs.Samples.{IsOzone};
 
 use crate::days::Days;
 use crate::eight_hour::DayWindows;
 use crate::ozone_day::{OzoneDay, day_of_windows};
+use crate::source::{AtSite, OzoneSource};
 use crate::top_four::TopFour;
-use aq_base::{Day, FIRST_YEAR, LAST_YEAR, Pollutant, SiteId, Steps};
+use aq_base::{Day, FIRST_YEAR, LAST_YEAR, SiteId, Steps};
 use aq_cal::year_span;
 use aq_registry::Registry;
-use aq_rules::kept::summaries::ozone_years_keep_their_facts;
 use aq_rules::lists::ranking_forgets_the_order;
 use aq_shelf::Shelf;
 use aq_verdict::OzoneYear;
@@ -28,6 +27,7 @@ use std::sync::ledger::Ledger;
 /// 3(e) and 4(b)). The maxima of all valid days of the year are ranked, in season or not. The call reads
 /// each calendar day of the year and the day after it once, eight days together: at most 200 steps a day.
 /// The year is 1990 to 2059.
+#[tactic(auto, unfolding(crate::specs::YearDays::ozone_year_by, aq_rules::specs::Ozone::OzoneYear::ozone_year, aq_rules::specs::Ozone::OzoneYear::ozone_days, aq_rules::specs::Ozone::OzoneDay::ozone_day, aq_rules::specs::Ozone::OzoneDay::windows, aq_rules::specs::Ozone::EightHour::window))]
 pub fn year<L: Ledger>(
     shelf: &Shelf,
     registry: &Registry,
@@ -40,17 +40,32 @@ pub fn year<L: Ledger>(
     ensures year { result ≡ ozone_year (office_of registry.now shelf.now) site year }
     ensures steps { steps.new ≤ steps.old + 200 * 367 }
 {
-    ozone_years_keep_their_facts();
-    // The proof learns that the records are those of a valid office.
-    let _ = registry.next_poc(site, Pollutant::Ozone, 0);
+    let at = AtSite {
+        shelf,
+        registry,
+        site,
+    };
+    year_of(&at, year, steps)
+}
+
+/// The ozone year of what is read as one site, by the same rules, in at most 200 steps a day for each site.
+/// The year is 1990 to 2059.
+pub fn year_of<S: OzoneSource, L: Ledger>(source: &S, year: u16, steps: &mut Steps<L>) -> OzoneYear
+    requires first { FIRST_YEAR ≤ year }
+    requires last { year ≤ LAST_YEAR }
+    ensures year { result
+        ≡ ozone_year_by (S.cell_at source.now) (S.approves source.now)
+        (S.season_of source.now year) year }
+    ensures steps { steps.new ≤ steps.old + 200 * 367 * S.sites }
+{
     let (first, days) = year_span(year);
-    let season = registry.season(site, year);
+    let season = source.season(year);
     let mut so_far = YearTally::new();
-    let mut walk = Days::new(shelf, registry, site, first, steps);
+    let mut walk = Days::starting(source, first, steps);
     for count in 0..days {
         let day = Day::new(first.number() + count);
-        let windows = walk.next(shelf, registry, site, steps);
-        so_far = so_far.with(day_of_year(registry, site, &season, day, &windows));
+        let windows = walk.next_of(source, steps);
+        so_far = so_far.with(day_of_year(source, &season, day, &windows));
     }
     OzoneYear::new(
         so_far.season_days,
@@ -71,23 +86,23 @@ struct DayOfYear {
 
 /// A day in a season's year, by its averages. An approval is looked up if the day is not valid by its
 /// hours.
-#[tactic(auto, unfolding(aq_rules::specs::Ozone::OzoneDay::ozone_day))]
-fn day_of_year(
-    registry: &Registry,
-    site: SiteId,
+fn day_of_year<S: OzoneSource>(
+    source: &S,
     season: &(Day, Day),
     day: Day,
     windows: &DayWindows,
 ) -> DayOfYear
     requires { AreNetOzone windows.now }
-    ensures day { (rows : List (ObsKey × Observation)) → windows.now ≡ ozone_day.windows (office_of registry.now rows) site day → result ≡ day_in (office_of registry.now rows) site (record { first = season.now.0; last = season.now.1 }) day }
+    ensures day { windows.now ≡ ozone_day.windows_by (window_by (S.cell_at source.now)) day
+        → result ≡ day_in (S.cell_at source.now) (S.approves source.now)
+        (record { first = season.now.0; last = season.now.1 }) day }
     ensures range { IfSome result.maximum (λ value. IsOzone value) }
 {
     let ozone = day_of_windows(windows);
     let in_season = season.0 <= day && day <= season.1;
     DayOfYear {
         in_season,
-        counted: in_season && (ozone.valid || registry.is_approved(site, day)),
+        counted: in_season && (ozone.valid || source.is_approved(day)),
         maximum: ranked_maximum(&ozone),
     }
 }

@@ -1,19 +1,18 @@
 //! The 8-hour averages of a day of a site (40 CFR Part 50, Appendix U, 3(b)).
-ghost use Rattle.std.specs.Prelude.{◌≡◌, ℕ, ◌+◌, ◌*◌, ◌<◌, ◌≤◌, IfSome, length};
-ghost use Rattle.aq_base.specs.Site.{Site};
-ghost use Rattle.aq_rules.specs.Office.Office.{Office};
-ghost use Rattle.aq_rules.specs.Ozone.EightHour.{row_of};
+ghost use Rattle.std.specs.Prelude.{◌≡◌, ℕ, ◌+◌, ◌*◌, ◌<◌, ◌≤◌, Option, IfSome, length};
+ghost use Rattle.aq_rules.specs.Ozone.EightHour.{row_of, window_by};
 ghost use Rattle.aq_rules.specs.Ozone.OzoneDay as ozone_day;
-ghost use Rattle.aq_ozone.specs.DayHours.{cells_in, AreNetOzone};
+ghost use Rattle.aq_rules.specs.Ozone.SiteHour as site_hour;
+ghost use Rattle.aq_ozone.specs.DayHours.{cells_in, within_profile, AreNetOzone};
 ghost use Rattle.aq_ozone.specs.DayHours as hours;
-ghost use Rattle.aq_series.specs.DayStates.{hour_at};
 ghost use Rattle.aq_series.specs.OfficeView.{office_of};
 ghost use Rattle.aq_series.specs.Samples.{AreOzone, IsOzone};
 
 use crate::eight_hour::{DayWindows, WINDOWS, WindowRow, average};
+use crate::source::{AtSite, OzoneSource};
 use aq_base::{Day, Hour, LAST_HOUR, SiteId, Steps};
 use aq_registry::Registry;
-use aq_series::{Cell, site_hour};
+use aq_series::Cell;
 use aq_shelf::Shelf;
 use std::sync::ledger::Ledger;
 
@@ -21,7 +20,7 @@ use std::sync::ledger::Ledger;
 pub const FIRST_START: u32 = 7;
 
 /// The averages of a day read so many hours.
-pub(crate) const DAY_HOURS: usize = 24;
+pub const DAY_HOURS: usize = 24;
 
 /// Each average is of so many.
 pub const WINDOW_HOURS: usize = 8;
@@ -29,6 +28,7 @@ pub const WINDOW_HOURS: usize = 8;
 /// The seventeen 8-hour averages of a day of a site, from that of 07:00 on, each net of the excluded
 /// hours, and full. The call reads each of the day's 24 hours (07:00 to 06:00 of the next day) once: at
 /// most 192 steps.
+#[tactic(auto, unfolding(aq_rules::specs::Ozone::OzoneDay::windows, aq_rules::specs::Ozone::EightHour::window))]
 pub fn day_windows<L: Ledger>(
     shelf: &Shelf,
     registry: &Registry,
@@ -40,13 +40,34 @@ pub fn day_windows<L: Ledger>(
     ensures range { AreNetOzone result }
     ensures steps { steps.new ≤ steps.old + 192 }
 {
-    windows_of(&day_hours(shelf, registry, site, day, steps))
+    let at = AtSite {
+        shelf,
+        registry,
+        site,
+    };
+    windows_on(&at, day, steps)
+}
+
+/// The seventeen 8-hour averages of a day of what is read as one site, by the same rules. The call reads
+/// each of the day's 24 hours (07:00 to 06:00 of the next day) once: at most 192 steps for each site.
+pub fn windows_on<S: OzoneSource, L: Ledger>(
+    source: &S,
+    day: Day,
+    steps: &mut Steps<L>,
+) -> DayWindows
+    ensures windows { result ≡ ozone_day.windows_by (window_by (S.cell_at source.now)) day }
+    ensures range { AreNetOzone result }
+    ensures steps { steps.new ≤ steps.old + 192 * S.sites }
+{
+    windows_of(&day_hours(source, day, steps))
 }
 
 /// The seventeen averages of the hours that they read, from that of 07:00 on.
-pub(crate) fn windows_of(cells: &[Option<Cell>; DAY_HOURS]) -> DayWindows
+pub fn windows_of(cells: &[Option<Cell>; DAY_HOURS]) -> DayWindows
     requires { AreOzone cells.now }
-    ensures windows { (office : Office) (site : Site) (day : ℕ) → cells.now ≡ hours.day_hours office site day → result ≡ ozone_day.windows office site day }
+    ensures windows { (cell_at : ℕ → Option site_hour.Cell) (day : ℕ)
+        → cells.now ≡ hours.day_hours cell_at day
+        → result ≡ ozone_day.windows_by (window_by cell_at) day }
     ensures range { AreNetOzone result }
 {
     let hours = &cells[..];
@@ -63,22 +84,20 @@ pub(crate) fn windows_of(cells: &[Option<Cell>; DAY_HOURS]) -> DayWindows
     DayWindows::new(rows)
 }
 
-/// What the site has for each hour that the averages of a day read.
-fn day_hours<L: Ledger>(
-    shelf: &Shelf,
-    registry: &Registry,
-    site: SiteId,
+/// What is read has for each hour that the averages of a day read.
+fn day_hours<S: OzoneSource, L: Ledger>(
+    source: &S,
     day: Day,
     steps: &mut Steps<L>,
 ) -> [Option<Cell>; DAY_HOURS]
-    ensures hours { result ≡ hours.day_hours (office_of registry.now shelf.now) site day }
+    ensures hours { result ≡ hours.day_hours (S.cell_at source.now) day }
     ensures ozone { AreOzone result }
-    ensures steps { steps.new ≤ steps.old + 192 }
+    ensures steps { steps.new ≤ steps.old + 192 * S.sites }
 {
     let first = 24 * u32::from(day.number()) + FIRST_START;
     let mut hours = [None; DAY_HOURS];
     for i in 0..DAY_HOURS {
-        hours[i] = hour_at(shelf, registry, site, first + i as u32, steps);
+        hours[i] = hour_at(source, first + i as u32, steps);
     }
     hours
 }
@@ -90,7 +109,10 @@ pub(crate) fn hours_of(
 ) -> [Option<Cell>; DAY_HOURS]
     requires today { AreOzone today.now }
     requires tomorrow { AreOzone tomorrow.now }
-    ensures hours { (office : Office) (site : Site) (day : ℕ) → today.now ≡ hours.calendar_hours office site day → tomorrow.now ≡ hours.calendar_hours office site (day + 1) → result ≡ hours.day_hours office site day }
+    ensures hours { (cell_at : ℕ → Option site_hour.Cell) (day : ℕ)
+        → today.now ≡ hours.calendar_hours cell_at day
+        → tomorrow.now ≡ hours.calendar_hours cell_at (day + 1)
+        → result ≡ hours.day_hours cell_at day }
     ensures ozone { AreOzone result }
 {
     let first = FIRST_START as usize;
@@ -105,20 +127,14 @@ pub(crate) fn hours_of(
     hours
 }
 
-/// What the site has for an hour, by the hour's number: none past the profile.
-fn hour_at<L: Ledger>(
-    shelf: &Shelf,
-    registry: &Registry,
-    site: SiteId,
-    hour: u32,
-    steps: &mut Steps<L>,
-) -> Option<Cell>
-    ensures value { result ≡ hour_at (office_of registry.now shelf.now) site hour }
+/// What is read has for an hour, by the hour's number: none past the profile.
+fn hour_at<S: OzoneSource, L: Ledger>(source: &S, hour: u32, steps: &mut Steps<L>) -> Option<Cell>
+    ensures value { result ≡ within_profile (S.cell_at source.now) hour }
     ensures ozone { IfSome result (λ cell. IsOzone cell.value) }
-    ensures steps { steps.new ≤ steps.old + 8 }
+    ensures steps { steps.new ≤ steps.old + 8 * S.sites }
 {
     if hour <= LAST_HOUR {
-        site_hour(shelf, registry, site, Hour::new(hour), steps)
+        source.hour(Hour::new(hour), steps)
     } else {
         None
     }

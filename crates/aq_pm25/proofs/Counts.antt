@@ -4,17 +4,10 @@ use Rattle.std.specs.Prelude.{is_some, option_map, count_by, filter}
 use Rattle.std.specs.List.{filter_map, cons_option, list_any, range_with_len}
 use Rattle.std.specs.Option.{option_and_then, option_map_or, option_or}
 use Rattle.std.proofs.lemmas.List.Sums.{sum_by-cons}
-use Rattle.aq_base.specs.Site.{Site}
-use Rattle.aq_base.specs.declared.monitor.Pollutant.TheVariants.{Pm25}
-use Rattle.aq_rules.specs.Office.Office.{Office, IsOffice}
-use Rattle.aq_rules.specs.Office.Questions.{makeup_of}
-use Rattle.aq_rules.specs.Office.Schedule.{is_scheduled}
 use Rattle.aq_rules.specs.Ozone.SiteHour.{Cell}
-use Rattle.aq_rules.specs.Particles.ParticleDay.{site_day}
-use Rattle.aq_rules.specs.Particles.QuarterCounts.{Makeup, credits, gives_credit, makeup_by}
-use Rattle.aq_registry.specs.Registry.{office_with}
+use Rattle.aq_rules.specs.Particles.QuarterCounts.{Makeup, days_of_quarter}
 use Rattle.aq_pm25.specs.QuarterDays.{credited, is_makeup_day}
-use Rattle.aq_pm25.proofs.Makeups.{HoldsSpan, as_makeup, look, makeups-are}
+use Rattle.aq_pm25.specs.SiteDays.{SiteDays, as_makeup, credits_by, gives_credit_by, makeups_by}
 
 count_cons : {X : Type 0} (p : X → Bool) (x : X) (xs : List X) → count_by p (x ∷ xs) ≡ cond (p x) 1 0 + count_by p xs
 count_cons {X} p x xs = sum_by-cons (λ (y : X). cond (p y) 1 0) x xs
@@ -46,12 +39,9 @@ length-passing {X} p g h (x ∷ xs) = by_test (g x) refl (length-passing p g h x
     by_test true is rest = let one = ap (λ (b : Bool). cond b 1 0 + count_by p (filter g xs)) (h x is) in omega (arith, rest, count_cons p x (filter g xs), one)
     by_test false is rest = rest
 
-module _ (office : Office) (site : Site) where
-  abbrev scheduled : ℕ → Bool
-  scheduled day = is_scheduled office.records site Pm25 day
-
+module _ (site_days : SiteDays) (makeup_for : ℕ → Option ℕ) where
   abbrev between : ℕ → ℕ → Bool
-  between missed makeup = list_any (is_scheduled office.records site Pm25) (range_with_len (missed + 1) (makeup - missed))
+  between missed makeup = list_any site_days.schedules (range_with_len (missed + 1) (makeup - missed))
 
   -- ---- one day, for a test that a missing sample does not pass
 
@@ -62,8 +52,11 @@ module _ (office : Office) (site : Site) where
     nothing : one None ≡ 0
     nothing = ap (λ b. cond b 1 0) none
 
-    abbrev credit : ℕ → ℕ → Bool
-    credit missed makeup = gives_credit office site (as_makeup missed makeup) && passes (site_day office site Pm25 makeup)
+    abbrev credit : Makeup → Bool
+    credit m = gives_credit_by site_days m && passes (site_days.cell_on m.makeup)
+
+    abbrev look : ℕ → Option Makeup
+    look day = option_map (as_makeup day) (makeup_for day)
 
     -- s: the missed day is scheduled; cell: its sample; u: the make-up day is scheduled; made: its sample; w: a week later; t: a day between is scheduled
     by_makeup : (s : Bool) (cell : Option Cell) (u : Bool) (made : Option Cell) (w t : Bool)
@@ -81,52 +74,47 @@ module _ (office : Office) (site : Site) where
     by_makeup true None false (Some c) false true = omega (arith, nothing)
     by_makeup true None false (Some c) false false = omega (arith, nothing)
 
-    by_look : (day : ℕ) (s : Bool) (cell : Option Cell) (found : Option ℕ) → scheduled day ≡ s → site_day office site Pm25 day ≡ cell
-        → one (cond s (option_or cell (option_and_then (λ makeup. cond (is_makeup_day office.records site day makeup) (site_day office site Pm25 makeup) None) found)) None)
-        ≡ cond s (one cell) 0 + cond (option_map_or (λ (m : Makeup). gives_credit office site m && passes (site_day office site Pm25 m.makeup)) (option_map (as_makeup day) found) false) 1 0
+    by_look : (day : ℕ) (s : Bool) (cell : Option Cell) (found : Option ℕ) → site_days.schedules day ≡ s → site_days.cell_on day ≡ cell
+        → one (cond s (option_or cell (option_and_then (λ makeup. cond (is_makeup_day site_days day makeup) (site_days.cell_on makeup) None) found)) None)
+        ≡ cond s (one cell) 0 + cond (option_map_or credit (option_map (as_makeup day) found) false) 1 0
     by_look day false cell None si ci = nothing
     by_look day true None None si ci = omega (arith, nothing)
     by_look day true (Some c) None si ci = omega arith
     by_look day s cell (Some makeup) si ci =
-        by_makeup s cell (scheduled makeup) (site_day office site Pm25 makeup) (makeup == day + 7) (between day makeup)
-        ∙ (λ i. cond s (one cell) 0 + cond (((((sym si i && not (is_some (sym ci i))) && not (scheduled makeup)) && is_some (site_day office site Pm25 makeup)) && (not (between day makeup) || (makeup == day + 7))) && passes (site_day office site Pm25 makeup)) 1 0)
+        by_makeup s cell (site_days.schedules makeup) (site_days.cell_on makeup) (makeup == day + 7) (between day makeup)
+        ∙ (λ i. cond s (one cell) 0 + cond (((((sym si i && not (is_some (sym ci i))) && not (site_days.schedules makeup)) && is_some (site_days.cell_on makeup)) && (not (between day makeup) || (makeup == day + 7))) && passes (site_days.cell_on makeup)) 1 0)
 
-    of_day : (day : ℕ) → one (credited office site day)
-        ≡ cond (scheduled day) (one (site_day office site Pm25 day)) 0
-        + cond (option_map_or (λ (m : Makeup). gives_credit office site m && passes (site_day office site Pm25 m.makeup)) (look office.records site 0 day) false) 1 0
-    of_day day = by_look day (scheduled day) (site_day office site Pm25 day) (makeup_of office.records site day) refl refl
+    of_day : (day : ℕ) → one (credited site_days makeup_for day)
+        ≡ cond (site_days.schedules day) (one (site_days.cell_on day)) 0 + cond (option_map_or credit (look day) false) 1 0
+    of_day day = by_look day (site_days.schedules day) (site_days.cell_on day) (makeup_for day) refl refl
 
     both_tests : (s p : Bool) → ◌≡◌ {A = ℕ} (cond s (cond p 1 0) 0) (cond (s && p) 1 0)
     both_tests true p = refl
     both_tests false p = refl
 
-    of_days : (days : List ℕ) → count_by (λ d. passes (credited office site d)) days
-        ≡ count_by (λ d. scheduled d && passes (site_day office site Pm25 d)) days
-        + count_by (λ d. option_map_or (λ (m : Makeup). gives_credit office site m && passes (site_day office site Pm25 m.makeup)) (look office.records site 0 d) false) days
+    of_days : (days : List ℕ) → count_by (λ d. passes (credited site_days makeup_for d)) days
+        ≡ count_by (λ d. site_days.schedules d && passes (site_days.cell_on d)) days + count_by (λ d. option_map_or credit (look d) false) days
     of_days [] = refl
     of_days (d ∷ days) =
         omega (
           arith,
           of_day d,
-          both_tests (scheduled d) (passes (site_day office site Pm25 d)),
+          both_tests (site_days.schedules d) (passes (site_days.cell_on d)),
           of_days days,
-          count_cons (λ e. passes (credited office site e)) d days,
-          count_cons (λ e. scheduled e && passes (site_day office site Pm25 e)) d days,
-          count_cons (λ e. option_map_or (λ (m : Makeup). gives_credit office site m && passes (site_day office site Pm25 m.makeup)) (look office.records site 0 e) false) d days,
+          count_cons (λ e. passes (credited site_days makeup_for e)) d days,
+          count_cons (λ e. site_days.schedules e && passes (site_days.cell_on e)) d days,
+          count_cons (λ e. option_map_or credit (look e) false) d days,
         )
 
     -- ---- the quarter
 
-    pub counted-in : (quarter first many : ℕ) → IsOffice (office_with office.records) → HoldsSpan quarter first many
-        → count_by (λ d. passes (credited office site d)) (range_with_len first many)
-        ≡ count_by (λ d. passes (site_day office site Pm25 d)) (filter scheduled (range_with_len first many))
-        + count_by (λ (m : Makeup). passes (site_day office site Pm25 m.makeup)) (credits office site quarter)
-    unfolding credits
-    counted-in quarter first many valid holds =
-        let days = range_with_len first many in
-        let test : Makeup → Bool = λ m. passes (site_day office site Pm25 m.makeup) in
-        let made = count-both test (gives_credit office site) (filter_map (makeup_by site quarter) office.records)
-        ∙ ap (count_by (λ (m : Makeup). gives_credit office site m && test m)) (makeups-are office.records site quarter first many valid holds)
-        ∙ count_given (λ (m : Makeup). gives_credit office site m && test m) (look office.records site quarter) days in
-        let own = count-both (λ d. passes (site_day office site Pm25 d)) scheduled days in
+    pub counted-in : (quarter : ℕ) → count_by (λ d. passes (credited site_days makeup_for d)) (days_of_quarter quarter)
+        ≡ count_by (λ d. passes (site_days.cell_on d)) (filter site_days.schedules (days_of_quarter quarter))
+        + count_by (λ (m : Makeup). passes (site_days.cell_on m.makeup)) (credits_by site_days makeup_for quarter)
+    unfolding credits_by
+    counted-in quarter =
+        let days = days_of_quarter quarter in
+        let test : Makeup → Bool = λ m. passes (site_days.cell_on m.makeup) in
+        let made = count-both test (gives_credit_by site_days) (makeups_by makeup_for quarter) ∙ count_given credit look days in
+        let own = count-both (λ d. passes (site_days.cell_on d)) site_days.schedules days in
         of_days days ∙ (λ i. sym own i + sym made i)

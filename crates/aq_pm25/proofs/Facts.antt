@@ -1,37 +1,27 @@
 -- What is kept of a quarter is what its days give together, and it keeps its facts.
 use Rattle.std.proofs.Common.{◌≡◌, ℕ, ◌+◌, ◌≤◌, Bool, true, false, not, cond, ◌&&◌, Some, None, Option, List, [], ◌∷◌, length, map, refl, ap, sym, subst, ◌∙◌, arith}
 use Rattle.std.specs.Prelude.{ℤ, is_some, count_by, filter, IsTrue}
-use Rattle.std.specs.List.{filter_map, cons_option, range_with_len}
+use Rattle.std.specs.List.{filter_map, cons_option}
 use Rattle.std.specs.Option.{option_and_then, option_or}
 use Rattle.std.proofs.lemmas.Bool.{and_parts}
-use Rattle.std.proofs.lemmas.List.FromFn.{length-range_with_len}
 use Rattle.std.proofs.lemmas.List.Sums.{count_by-le-length, length-filter, sum_by-cons}
-use Rattle.aq_base.specs.Calendar.{days_in_quarter, quarter_first}
-use Rattle.aq_base.specs.Site.{Site}
+use Rattle.aq_base.specs.Calendar.{days_in_quarter}
 use Rattle.aq_base.specs.declared.monitor.Pollutant.TheVariants.{Pm25}
-use Rattle.aq_base.specs.declared.observation.ObsKey.{ObsKey}
-use Rattle.aq_base.specs.declared.observation.Observation.{Observation}
-use Rattle.aq_base.specs.declared.office.OfficeRecord.{OfficeRecord}
 use Rattle.aq_rules.specs.Kept.Summaries.{is_value, KeepsPmQuarter, PmQuarter, summary_of_quarter}
 use Rattle.aq_rules.specs.Lists.{greatest, least, total}
-use Rattle.aq_rules.specs.Office.Office.{IsOffice, Office}
-use Rattle.aq_rules.specs.Office.Schedule.{is_scheduled}
 use Rattle.aq_rules.specs.Ozone.SiteHour.{Cell}
-use Rattle.aq_rules.specs.Particles.ParticleDay.{net_day, site_day, unless_excluded}
-use Rattle.aq_rules.specs.Particles.QuarterCounts.{Makeup, credits, days_of_quarter, gives_credit, is_in_time, is_kept, is_sampled, makeup_by, pm25_quarter, quarter_counts, quarter_values}
+use Rattle.aq_rules.specs.Particles.ParticleDay.{unless_excluded}
+use Rattle.aq_rules.specs.Particles.QuarterCounts.{Makeup, QuarterDays, days_of_quarter, in_time_by}
 use Rattle.aq_rules.proofs.Elements.{Every}
-use Rattle.aq_rules.proofs.Pm10Facts.{count-implied, quarter_days}
+use Rattle.aq_rules.proofs.Pm10Facts.{count-implied, length-days, quarter_days}
 use Rattle.aq_rules.proofs.Pm25Facts.{greatest-there, least-there, no-sum, sum-within}
 use Rattle.aq_rules.proofs.ValueRange.{IfValueTo, InRangeTo, greatest-in_range, least-in_range, to_test}
-use Rattle.aq_registry.specs.Registry.{office_with}
-use Rattle.aq_series.specs.OfficeView.{office_of}
 use Rattle.aq_pm25.specs.QuarterDays.{credited, day_in, makeup_cell, summary_of, values_of, IsQuarterOf, IsTallyOf}
 use Rattle.aq_pm25.specs.QuarterValues.{top_after, AreParticles}
+use Rattle.aq_pm25.specs.SiteDays.{AreApart, SiteDays, credits_by, gives_credit_by, is_sampled_by, makeups_by, net_by, quarter_by}
 use Rattle.aq_pm25.specs.declared.quarter_days.DayOfQuarter.{DayOfQuarter}
 use Rattle.aq_pm25.specs.declared.quarters.QuarterTally.{QuarterTally}
 use Rattle.aq_pm25.proofs.Counts.{count-both, counted-in, length-passing}
-use Rattle.aq_pm25.proofs.MakeupDays.{made-fit}
-use Rattle.aq_pm25.proofs.Makeups.{HoldsSpan}
 
 count_cons : {X : Type 0} (p : X → Bool) (x : X) (xs : List X) → count_by p (x ∷ xs) ≡ cond (p x) 1 0 + count_by p xs
 count_cons {X} p x xs = sum_by-cons (λ (y : X). cond (p y) 1 0) x xs
@@ -77,75 +67,69 @@ value_test : (o : Option ℤ) → IfValueTo 99999 o → IsTrue (is_value Pm25 o)
 value_test None h = refl
 value_test (Some v) h = to_test 99999 v h
 
-module _ (records : List OfficeRecord) (rows : List (ObsKey × Observation)) (site : Site) (quarter : ℕ) (valid : IsOffice (office_with records)) (holds : HoldsSpan quarter (quarter_first quarter) (days_in_quarter quarter)) where
-  abbrev office : Office
-  office = office_of records rows
-
+module _ (site_days : SiteDays) (makeup_for : ℕ → Option ℕ) (quarter : ℕ) where
   abbrev days : List ℕ
-  days = range_with_len (quarter_first quarter) (days_in_quarter quarter)
-
-  abbrev scheduled : ℕ → Bool
-  scheduled day = is_scheduled records site Pm25 day
+  days = days_of_quarter quarter
 
   abbrev kept : ℕ → Bool
-  kept day = is_kept office site Pm25 day
+  kept day = is_some (net_by site_days day)
 
   abbrev net : Option Cell → Bool
   net cell = is_some (option_and_then unless_excluded cell)
 
+  abbrev credits : List Makeup
+  credits = credits_by site_days makeup_for quarter
+
+  abbrev this_quarter : QuarterDays
+  this_quarter = quarter_by site_days makeup_for quarter
+
   -- ---- the counts
 
-  credit_sampled : (m : Makeup) → gives_credit office site m ≡ true → is_sampled office site Pm25 m.makeup ≡ true
-  credit_sampled m h = (and_parts _ (is_sampled office site Pm25 m.makeup) (and_parts _ (is_in_time office site m) h).0).1
+  credit_sampled : (m : Makeup) → gives_credit_by site_days m ≡ true → is_sampled_by site_days m.makeup ≡ true
+  credit_sampled m h = (and_parts _ (is_sampled_by site_days m.makeup) (and_parts _ (in_time_by site_days.schedules m) h).0).1
 
-  credit_unscheduled : (m : Makeup) → gives_credit office site m ≡ true → not (scheduled m.makeup) ≡ true
+  credit_unscheduled : (m : Makeup) → gives_credit_by site_days m ≡ true → not (site_days.schedules m.makeup) ≡ true
   credit_unscheduled m h =
-      let c = and_parts _ (is_sampled office site Pm25 m.makeup) (and_parts _ (is_in_time office site m) h).0 in
-      (and_parts _ (not (scheduled m.makeup)) c.0).1
+      let c = and_parts _ (is_sampled_by site_days m.makeup) (and_parts _ (in_time_by site_days.schedules m) h).0 in
+      (and_parts _ (not (site_days.schedules m.makeup)) c.0).1
 
-  creditable_is : count_by (λ d. is_some (credited office site d)) days ≡ count_by (is_sampled office site Pm25) (filter scheduled days) + length (credits office site quarter)
-  unfolding credits
+  creditable_is : count_by (λ d. is_some (credited site_days makeup_for d)) days ≡ count_by (is_sampled_by site_days) (filter site_days.schedules days) + length credits
+  unfolding credits_by
   creditable_is =
-      counted-in office site is_some refl quarter (quarter_first quarter) (days_in_quarter quarter) valid holds
-      ∙ ap (λ n. count_by (is_sampled office site Pm25) (filter scheduled days) + n)
-      (sym (length-passing (λ (m : Makeup). is_sampled office site Pm25 m.makeup) (gives_credit office site) credit_sampled (filter_map (makeup_by site quarter) records)))
+      counted-in site_days makeup_for is_some refl quarter
+      ∙ ap (λ n. count_by (is_sampled_by site_days) (filter site_days.schedules days) + n)
+      (sym (length-passing (λ (m : Makeup). is_sampled_by site_days m.makeup) (gives_credit_by site_days) credit_sampled (makeups_by makeup_for quarter)))
 
-  counted_is : count_by (λ d. net (credited office site d)) days ≡ count_by kept (filter scheduled days) + count_by (λ (m : Makeup). kept m.makeup) (credits office site quarter)
-  counted_is = counted-in office site net refl quarter (quarter_first quarter) (days_in_quarter quarter) valid holds
+  counted_is : count_by (λ d. net (credited site_days makeup_for d)) days ≡ count_by kept (filter site_days.schedules days) + count_by (λ (m : Makeup). kept m.makeup) credits
+  counted_is = counted-in site_days makeup_for net refl quarter
 
-  values_are : (ds : List ℕ) → values_of (map (day_in office site) ds) ≡ filter_map (net_day office site Pm25) ds
+  values_are : (ds : List ℕ) → values_of (map (day_in site_days makeup_for) ds) ≡ filter_map (net_by site_days) ds
   values_are [] = refl
-  values_are (d ∷ ds) = ap (cons_option (net_day office site Pm25 d)) (values_are ds)
+  values_are (d ∷ ds) = ap (cons_option (net_by site_days d)) (values_are ds)
 
-  module _ (before : List ℤ) (tally : QuarterTally) (is : IsTallyOf before (map (day_in office site) (days_of_quarter quarter)) tally) where
-    of_days : IsTallyOf before (map (day_in office site) days) tally
-    unfolding days_of_quarter
-    of_days = is
+  module _ (before : List ℤ) (tally : QuarterTally) (is : IsTallyOf before (map (day_in site_days makeup_for) days) tally) where
+    scheduled_days_are : tally.scheduled ≡ count_by site_days.schedules days
+    scheduled_days_are = is.scheduled ∙ count_map (λ (d : DayOfQuarter). d.scheduled) (day_in site_days makeup_for) days
 
-    scheduled_days_are : tally.scheduled ≡ count_by scheduled days
-    scheduled_days_are = of_days.scheduled ∙ count_map (λ (d : DayOfQuarter). d.scheduled) (day_in office site) days
+    creditable_days_are : tally.creditable ≡ count_by (λ d. is_some (credited site_days makeup_for d)) days
+    creditable_days_are = is.creditable ∙ count_map (λ (d : DayOfQuarter). d.creditable) (day_in site_days makeup_for) days
 
-    creditable_days_are : tally.creditable ≡ count_by (λ d. is_some (credited office site d)) days
-    creditable_days_are = of_days.creditable ∙ count_map (λ (d : DayOfQuarter). d.creditable) (day_in office site) days
+    counted_days_are : tally.counted ≡ count_by (λ d. net (credited site_days makeup_for d)) days
+    counted_days_are = is.counted ∙ count_map (λ (d : DayOfQuarter). d.counted) (day_in site_days makeup_for) days
 
-    counted_days_are : tally.counted ≡ count_by (λ d. net (credited office site d)) days
-    counted_days_are = of_days.counted ∙ count_map (λ (d : DayOfQuarter). d.counted) (day_in office site) days
-
-    quarter-values : values_of (map (day_in office site) (days_of_quarter quarter)) ≡ quarter_values office site Pm25 quarter
-    unfolding days_of_quarter quarter_values
+    quarter-values : values_of (map (day_in site_days makeup_for) days) ≡ this_quarter.values
     quarter-values = values_are days
 
-    summary-is : summary_of tally ≡ summary_of_quarter (pm25_quarter office site quarter)
-    unfolding quarter_counts days_of_quarter
+    summary-is : summary_of tally ≡ summary_of_quarter this_quarter
     summary-is =
-        let a : tally.scheduled ≡ length (filter scheduled days) = scheduled_days_are ∙ sym (length-filter scheduled days) in
-        let b : tally.creditable ≡ count_by (is_sampled office site Pm25) (filter scheduled days) + length (credits office site quarter) = creditable_days_are ∙ creditable_is in
-        let c : tally.counted ≡ count_by kept (filter scheduled days) + count_by (λ (m : Makeup). kept m.makeup) (credits office site quarter) = counted_days_are ∙ counted_is in
+        let a : tally.scheduled ≡ length (filter site_days.schedules days) = scheduled_days_are ∙ sym (length-filter site_days.schedules days) in
+        let b : tally.creditable ≡ count_by (is_sampled_by site_days) (filter site_days.schedules days) + length credits = creditable_days_are ∙ creditable_is in
+        let c : tally.counted ≡ count_by kept (filter site_days.schedules days) + count_by (λ (m : Makeup). kept m.makeup) credits = counted_days_are ∙ counted_is in
         let values = is.values in
-        let d : tally.values.count ≡ length (quarter_values office site Pm25 quarter) = values.count ∙ ap length quarter-values in
-        let e : tally.values.sum ≡ total (quarter_values office site Pm25 quarter) = values.sum ∙ ap total quarter-values in
-        let f : tally.values.least ≡ least (quarter_values office site Pm25 quarter) = values.least_is ∙ ap least quarter-values in
-        let g : tally.values.greatest ≡ greatest (quarter_values office site Pm25 quarter) = values.greatest_is ∙ ap greatest quarter-values in
+        let d : tally.values.count ≡ length this_quarter.values = values.count ∙ ap length quarter-values in
+        let e : tally.values.sum ≡ total this_quarter.values = values.sum ∙ ap total quarter-values in
+        let f : tally.values.least ≡ least this_quarter.values = values.least_is ∙ ap least quarter-values in
+        let g : tally.values.greatest ≡ greatest this_quarter.values = values.greatest_is ∙ ap greatest quarter-values in
         λ i. record { scheduled = a i; creditable = b i; counted = c i; net_days = d i; sum = e i; least = f i; greatest = g i }
 
     -- ---- the facts
@@ -171,70 +155,75 @@ module _ (records : List OfficeRecord) (rows : List (ObsKey × Observation)) (si
         by_net true = omega arith
         by_net false = omega arith
 
-    kept_credits_few : count_by (λ (m : Makeup). kept m.makeup) (credits office site quarter) ≤ count_by (λ d. kept d && not (scheduled d)) days
-    unfolding credits
-    kept_credits_few =
-        let made = filter_map (makeup_by site quarter) records in
-        let both : Makeup → Bool = λ m. gives_credit office site m && kept m.makeup in
-        let fits = made-fit records site quarter (quarter_first quarter) (days_in_quarter quarter) valid holds both (λ d. kept d && not (scheduled d)) passes in
-        omega (arith, count-both (λ (m : Makeup). kept m.makeup) (gives_credit office site) made, length-filter both made, fits)
-      where
-        joined : (a b : Bool) → a ≡ true → b ≡ true → (a && b) ≡ true
-        joined true true h k = refl
-        joined true false h k = k
-        joined false b h k = h
+    module _ (apart : AreApart quarter credits) where
+      kept_credits_few : count_by (λ (m : Makeup). kept m.makeup) credits ≤ count_by (λ d. kept d && not (site_days.schedules d)) days
+      unfolding credits_by
+      kept_credits_few =
+          let made = makeups_by makeup_for quarter in
+          let free : Makeup → Bool = λ m. kept m.makeup && not (site_days.schedules m.makeup) in
+          omega (
+            arith,
+            count-both (λ (m : Makeup). kept m.makeup) (gives_credit_by site_days) made,
+            count-implied (λ m. gives_credit_by site_days m && kept m.makeup) (λ m. gives_credit_by site_days m && free m) passes made,
+            count-both free (gives_credit_by site_days) made,
+            apart (λ d. kept d && not (site_days.schedules d)),
+          )
+        where
+          joined : (a b c : Bool) → (a && b) ≡ true → c ≡ true → (a && (b && c)) ≡ true
+          joined true true true h k = refl
+          joined true true false h k = k
+          joined true false c h k = h
+          joined false b c h k = h
 
-        passes : (m : Makeup) → (gives_credit office site m && kept m.makeup) ≡ true → (kept m.makeup && not (scheduled m.makeup)) ≡ true
-        passes m h =
-            let parts = and_parts (gives_credit office site m) (kept m.makeup) h in
-            joined (kept m.makeup) (not (scheduled m.makeup)) parts.1 (credit_unscheduled m parts.0)
+          passes : (m : Makeup) → (gives_credit_by site_days m && kept m.makeup) ≡ true → (gives_credit_by site_days m && (kept m.makeup && not (site_days.schedules m.makeup))) ≡ true
+          passes m h = joined (gives_credit_by site_days m) (kept m.makeup) (not (site_days.schedules m.makeup)) h (credit_unscheduled m (and_parts (gives_credit_by site_days m) (kept m.makeup) h).0)
 
-    facts-kept : KeepsPmQuarter (summary_of_quarter (pm25_quarter office site quarter))
-    facts-kept =
-        let values = quarter_values office site Pm25 quarter in
-        let every : Every (InRangeTo 99999) values = every_of values (subst AreParticles quarter-values is.values.range) in
-        let many : length days ≡ days_in_quarter quarter = length-range_with_len (quarter_first quarter) (days_in_quarter quarter) in
-        let most = (quarter_days quarter).1 in
-        let number : length (values_of (map (day_in office site) days)) ≡ count_by kept days = ap length (values_are days) ∙ length_given (net_day office site Pm25) days in
-        let summary = summary-is in
-        let S = summary_of_quarter (pm25_quarter office site quarter) in
-        let scheduled_at : S.scheduled ≡ count_by scheduled days = ap (λ (q : PmQuarter). q.scheduled) (sym summary) ∙ scheduled_days_are in
-        let creditable_at : S.creditable ≡ count_by (λ d. is_some (credited office site d)) days = ap (λ (q : PmQuarter). q.creditable) (sym summary) ∙ creditable_days_are in
-        let counted_at : S.counted ≡ count_by (λ d. net (credited office site d)) days = ap (λ (q : PmQuarter). q.counted) (sym summary) ∙ counted_days_are in
-        let net_at : S.net_days ≡ count_by kept days = ap (λ (q : PmQuarter). q.net_days) (sym summary) ∙ of_days.values.count ∙ number in
-        record {
-          counted = omega (arith, counted_at, creditable_at, count-implied (λ d. net (credited office site d)) (λ d. is_some (credited office site d)) (λ d. kept_sampled (credited office site d)) days);
-          creditable =
-              omega (
-                arith,
-                creditable_at,
-                scheduled_at,
-                count-implied (λ d. is_some (credited office site d)) scheduled (λ d. scheduled_some (scheduled d) (option_or (site_day office site Pm25 d) (makeup_cell office site d))) days,
-              );
-          scheduled = omega (arith, scheduled_at, count_by-le-length scheduled days, many, most);
-          counted_net = omega (arith, counted_at, counted_is, net_at, kept_credits_few, count-both kept scheduled days, split_days scheduled kept days);
-          net_days =
-              omega (
-                arith,
-                net_at,
-                scheduled_at,
-                creditable_at,
-                many,
-                most,
-                room_of kept scheduled (λ d. is_some (credited office site d)) (λ d. one_room (scheduled d) (site_day office site Pm25 d) (makeup_cell office site d)) days,
-              );
-          some_least = least-there values;
-          some_greatest = greatest-there values;
-          least_in_range = value_test (least values) (least-in_range 99999 values every);
-          greatest_in_range = value_test (greatest values) (greatest-in_range 99999 values every);
-          sum_within = sum-within (pm25_quarter office site quarter);
-          no_sum = no-sum values;
-        }
+      facts-kept : KeepsPmQuarter (summary_of_quarter this_quarter)
+      facts-kept =
+          let values = this_quarter.values in
+          let every : Every (InRangeTo 99999) values = every_of values (subst AreParticles quarter-values is.values.range) in
+          let many : length days ≡ days_in_quarter quarter = length-days quarter in
+          let most = (quarter_days quarter).1 in
+          let number : length (values_of (map (day_in site_days makeup_for) days)) ≡ count_by kept days = ap length (values_are days) ∙ length_given (net_by site_days) days in
+          let summary = summary-is in
+          let S = summary_of_quarter this_quarter in
+          let scheduled_at : S.scheduled ≡ count_by site_days.schedules days = ap (λ (q : PmQuarter). q.scheduled) (sym summary) ∙ scheduled_days_are in
+          let creditable_at : S.creditable ≡ count_by (λ d. is_some (credited site_days makeup_for d)) days = ap (λ (q : PmQuarter). q.creditable) (sym summary) ∙ creditable_days_are in
+          let counted_at : S.counted ≡ count_by (λ d. net (credited site_days makeup_for d)) days = ap (λ (q : PmQuarter). q.counted) (sym summary) ∙ counted_days_are in
+          let net_at : S.net_days ≡ count_by kept days = ap (λ (q : PmQuarter). q.net_days) (sym summary) ∙ is.values.count ∙ number in
+          record {
+            counted = omega (arith, counted_at, creditable_at, count-implied (λ d. net (credited site_days makeup_for d)) (λ d. is_some (credited site_days makeup_for d)) (λ d. kept_sampled (credited site_days makeup_for d)) days);
+            creditable =
+                omega (
+                  arith,
+                  creditable_at,
+                  scheduled_at,
+                  count-implied (λ d. is_some (credited site_days makeup_for d)) site_days.schedules (λ d. scheduled_some (site_days.schedules d) (option_or (site_days.cell_on d) (makeup_cell site_days makeup_for d))) days,
+                );
+            scheduled = omega (arith, scheduled_at, count_by-le-length site_days.schedules days, many, most);
+            counted_net = omega (arith, counted_at, counted_is, net_at, kept_credits_few, count-both kept site_days.schedules days, split_days site_days.schedules kept days);
+            net_days =
+                omega (
+                  arith,
+                  net_at,
+                  scheduled_at,
+                  creditable_at,
+                  many,
+                  most,
+                  room_of kept site_days.schedules (λ d. is_some (credited site_days makeup_for d)) (λ d. one_room (site_days.schedules d) (site_days.cell_on d) (makeup_cell site_days makeup_for d)) days,
+                );
+            some_least = least-there values;
+            some_greatest = greatest-there values;
+            least_in_range = value_test (least values) (least-in_range 99999 values every);
+            greatest_in_range = value_test (greatest values) (greatest-in_range 99999 values every);
+            sum_within = sum-within this_quarter;
+            no_sum = no-sum values;
+          }
 
-    pub quarter-is : IsQuarterOf office site quarter before tally
-    quarter-is = record {
-      summary = summary-is;
-      facts = subst KeepsPmQuarter (sym summary-is) facts-kept;
-      top = is.values.top ∙ ap (top_after before) quarter-values;
-      range = subst AreParticles quarter-values is.values.range;
-    }
+      pub quarter-is : IsQuarterOf this_quarter before tally
+      quarter-is = record {
+        summary = summary-is;
+        facts = subst KeepsPmQuarter (sym summary-is) facts-kept;
+        top = is.values.top ∙ ap (top_after before) quarter-values;
+        range = subst AreParticles quarter-values is.values.range;
+      }

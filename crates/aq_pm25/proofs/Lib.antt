@@ -1,4 +1,4 @@
--- Lemmas on the days of a quarter, and on the greatest values.
+-- Lemmas on the days of a quarter and what is read as one site, and on the greatest values.
 pub mod Greatest
 pub mod Makeups
 pub mod Counts
@@ -7,3 +7,4 @@ pub mod DayTallies
 pub mod MakeupDays
 pub mod Facts
 pub mod Years
+pub mod OneSite

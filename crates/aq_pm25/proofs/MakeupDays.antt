@@ -21,7 +21,8 @@ use Rattle.aq_rules.proofs.Pm25Counts.{is_record-of}
 use Rattle.aq_rules.proofs.Spans.{fit, on}
 use Rattle.aq_rules.proofs.ValidRecords.{site_is}
 use Rattle.aq_registry.specs.Registry.{office_with}
-use Rattle.aq_pm25.proofs.Makeups.{HoldsSpan, as_makeup}
+use Rattle.aq_pm25.specs.SiteDays.{as_makeup}
+use Rattle.aq_pm25.proofs.Makeups.{HoldsSpan}
 
 count_cons : {X : Type 0} (p : X → Bool) (x : X) (xs : List X) → count_by p (x ∷ xs) ≡ cond (p x) 1 0 + count_by p xs
 count_cons {X} p x xs = sum_by-cons (λ (y : X). cond (p y) 1 0) x xs
@@ -118,6 +119,9 @@ module _ (records : List OfficeRecord) (site : Site) (quarter first many : ℕ) 
     one_makeup : count_by (makes_up_on site d) records ≤ 1
     one_makeup = elim (none_or_one records valid.records_alone) [ inl none ↦ omega (arith, none) | inr few ↦ few ]
 
+  pub made-once : (d : ℕ) → count_by (λ (m : Makeup). m.makeup == d) (filter_map (makeup_by site quarter) records) ≤ 1
+  made-once d = omega (arith, made_few d records, one_makeup d)
+
   -- ---- so those whose make-up day passes a test are no more than such days
 
   pub made-fit : (g : Makeup → Bool) (p : ℕ → Bool) → ((m : Makeup) → g m ≡ true → p m.makeup ≡ true)
@@ -128,7 +132,7 @@ module _ (records : List OfficeRecord) (site : Site) (quarter first many : ℕ) 
       fit (λ (m : Makeup). m.makeup) p first many (filter g made)
       (within (filter g made) every)
       (passing (filter g made) every)
-      (λ d. omega (arith, count-filter (λ (m : Makeup). m.makeup == d) g made, made_few d records, one_makeup d))
+      (λ d. omega (arith, count-filter (λ (m : Makeup). m.makeup == d) g made, made-once d))
     where
       within : (ms : List Makeup) → Every (λ (m : Makeup). InSpan m × (g m ≡ true)) ms → Every InSpan ms
       within [] every = tt

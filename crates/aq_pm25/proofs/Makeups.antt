@@ -20,11 +20,9 @@ use Rattle.aq_rules.specs.Particles.QuarterCounts.{Makeup, makeup_by}
 use Rattle.aq_rules.proofs.Pm25Counts.{is_record-of}
 use Rattle.aq_registry.specs.Registry.{makeup_in, office_with}
 use Rattle.aq_registry.proofs.QuestionLemmas.{makeup_found}
+use Rattle.aq_pm25.specs.SiteDays.{as_makeup}
 use Rattle.aq_series.proofs.MonitorDay.{in_range, rising_range}
 use Rattle.aq_series.proofs.Rising.{found, found-given, found-under, rising-given, rising-under, same_list}
-
-abbrev pub as_makeup : ℕ → ℕ → Makeup
-as_makeup missed makeup = record { missed = missed; makeup = makeup }
 
 -- the row of a rank has it, and fits the office
 row_fits : (office : Office) (key : List ℕ) (rs : List OfficeRecord) (r : OfficeRecord) → row_at record_rank key rs ≡ Some r → list_all (fits_records office) rs ≡ true
@@ -127,6 +125,24 @@ module _ (records : List OfficeRecord) (site : Site) (quarter : ℕ) where
       let low : nat_le missed LAST_DAY ≡ true = (and_parts (is_site other) (is_day missed) key.0).1 in
       grind (arith, nat_tests, low, at)
   last_day day r same is = cc
+
+  -- the record of a missed day that has a make-up sample
+  pub makeup-record : (day makeup : ℕ) → IsOffice (office_with records) → makeup_of records site day ≡ Some makeup → is_record (MakeupRecord site day makeup) ≡ true
+  makeup-record day makeup valid is = by_row (row_at record_rank (day_key day) records) refl (sym (makeup_found records site day) ∙ is)
+    where
+      by_record : (r : OfficeRecord) → is_same (record_rank r) (day_key day) ≡ true → is_record r ≡ true → makeup_in r ≡ Some makeup → is_record (MakeupRecord site day makeup) ≡ true
+      by_record (MakeupRecord other missed made) same fits given =
+          let parts = regroup (other.state == site.state) (other.county == site.county) (other.number == site.number) (missed == day) same in
+          let at = same_number missed day parts.1 in
+          let one : made ≡ makeup = cc in
+          (λ i. is_record (MakeupRecord (sym (same_site other site parts.0) i) (sym at i) (sym one i))) ∙ fits
+      by_record r same fits given = cc
+
+      by_row : (o : Option OfficeRecord) → row_at record_rank (day_key day) records ≡ o → option_and_then makeup_in o ≡ Some makeup → is_record (MakeupRecord site day makeup) ≡ true
+      by_row None at given = cc
+      by_row (Some r) at given =
+          let parts = row_fits (office_with records) (day_key day) records r at valid.records_fit in
+          by_record r parts.0 (is_record-of site quarter (office_with records) r parts.1) given
 
   module _ (first many : ℕ) (valid : IsOffice (office_with records)) (holds : HoldsSpan quarter first many) where
     quarter_test : (day : ℕ) → day ≤ LAST_DAY → (quarter_of day == quarter) ≡ (nat_le first day && nat_lt day (first + many))

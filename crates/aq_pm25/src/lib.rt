@@ -8,6 +8,8 @@
 //!   greatest of the values that are not excluded.
 //! - `year(shelf, registry, site, year, steps)`: a year, as a `PmYear`: its four quarters and its eight
 //!   greatest values that are not excluded. The year is 1990 to 2059.
+//! - `Pm25Days`, `Pm25Source`: the days of what is read as one site, and its make-up samples; `year_of`:
+//!   the year of any source; `gives_credit`: whether a sample makes up for a missed day.
 //! - `rank_of(counted)`: the rank of the 98th percentile among so many samples, 1 to 400 (of
 //!   aq_verdict).
 //!
@@ -16,6 +18,8 @@
 //! - A site's quarters and years are the book's: scheduled, creditable and counted samples, make-up
 //!   samples with them, the values that are not excluded, and the eight greatest of a year (`quarter`,
 //!   `year`).
+//! - Of any source a year is that of its days, schedule and make-up samples by the rules of a site
+//!   (`year_of`), and whether a sample gives credit is the book's (`gives_credit`).
 //! - The rank is that of Table 1 of Appendix N, 4.5, first for 1 to 50 samples, second to 100, and so on
 //!   (`rank_of`).
 //!
@@ -34,6 +38,9 @@
 mod quarter_days;
 mod quarter_values;
 mod quarters;
+mod source;
 
 pub use aq_verdict::rank_of;
-pub use quarters::{quarter, year};
+pub use quarter_days::gives_credit;
+pub use quarters::{quarter, year, year_of};
+pub use source::{MOST_DAYS, Pm25Days, Pm25Source};

@@ -2,20 +2,18 @@
 ghost use Rattle.std.specs.Prelude.{◌≡◌, ◌≤◌, ◌<◌};
 ghost use Rattle.aq_base.specs.Calendar.{quarter_number};
 ghost use Rattle.aq_base.specs.declared.day.TheConstants.{FIRST_YEAR, LAST_YEAR};
-ghost use Rattle.aq_rules.specs.Kept.Summaries.{pm25_summary, summary_of_quarter};
-ghost use Rattle.aq_rules.specs.Office.Office.{IsOffice};
+ghost use Rattle.aq_rules.specs.Kept.Summaries.{pm25_summary, summary_of_quarter, summary_of_year};
 ghost use Rattle.aq_rules.specs.Particles.QuarterCounts.{pm25_quarter};
-ghost use Rattle.aq_registry.specs.Registry.{office_with};
 ghost use Rattle.aq_series.specs.OfficeView.{office_of};
 ghost use Rattle.aq_pm25.specs.QuarterDays.{IsQuarterOf};
+ghost use Rattle.aq_pm25.specs.SiteDays.{quarter_by, year_by};
 
 use crate::quarter_days::{DayOfQuarter, day_of_quarter};
 use crate::quarter_values::QuarterValues;
+use crate::source::{AtSite, Pm25Source};
 use aq_base::{Day, FIRST_YEAR, Pollutant, Quarter, SiteId, Steps};
 use aq_cal::{a_quarter_holds_the_days_of_its_span, quarter_span};
 use aq_registry::Registry;
-use aq_rules::kept::summaries::pm25_quarters_keep_their_facts;
-use aq_series::site_days;
 use aq_shelf::Shelf;
 use aq_verdict::{PmQuarter, PmYear, TopEight};
 use std::sync::ledger::Ledger;
@@ -33,8 +31,15 @@ pub fn quarter<L: Ledger>(
 ) -> PmQuarter
     ensures { result ≡ summary_of_quarter (pm25_quarter (office_of registry.now shelf.now) site quarter) }
 {
-    let top = TopEight::new();
-    tally_of(shelf, registry, &site, quarter, top, steps).quarter()
+    a_quarter_holds_the_days_of_its_span();
+    // The proof learns that the records are those of a valid office.
+    let _ = registry.next_poc(site, Pollutant::Pm25, 0);
+    let at = AtSite {
+        shelf,
+        registry,
+        site,
+    };
+    tally_of(&at, quarter, TopEight::new(), steps).quarter()
 }
 
 /// A site's PM2.5 year: its four quarters and its eight greatest values that are not excluded, downwards,
@@ -50,16 +55,32 @@ pub fn year<L: Ledger>(
     requires last { year ≤ LAST_YEAR }
     ensures { result ≡ pm25_summary (office_of registry.now shelf.now) site year }
 {
-    pm25_quarters_keep_their_facts();
-    let site = &site;
+    a_quarter_holds_the_days_of_its_span();
+    // The proof learns that the records are those of a valid office.
+    let _ = registry.next_poc(site, Pollutant::Pm25, 0);
+    let at = AtSite {
+        shelf,
+        registry,
+        site,
+    };
+    year_of(&at, year, steps)
+}
+
+/// The PM2.5 year of what is read as one site, by the same rules. The year is 1990 to 2059.
+pub fn year_of<S: Pm25Source, L: Ledger>(source: &S, year: u16, steps: &mut Steps<L>) -> PmYear
+    requires first { FIRST_YEAR ≤ year }
+    requires last { year ≤ LAST_YEAR }
+    ensures { result
+        ≡ summary_of_year (year_by (S.site_days source.now) (S.makeup_for source.now) year) }
+{
     let top = TopEight::new();
-    let a = tally_of(shelf, registry, site, part_of(year, 0), top, steps);
+    let a = tally_of(source, part_of(year, 0), top, steps);
     let first = a.quarter();
-    let b = tally_of(shelf, registry, site, part_of(year, 1), a.values.top, steps);
+    let b = tally_of(source, part_of(year, 1), a.values.top, steps);
     let second = b.quarter();
-    let c = tally_of(shelf, registry, site, part_of(year, 2), b.values.top, steps);
+    let c = tally_of(source, part_of(year, 2), b.values.top, steps);
     let third = c.quarter();
-    let d = tally_of(shelf, registry, site, part_of(year, 3), c.values.top, steps);
+    let d = tally_of(source, part_of(year, 3), c.values.top, steps);
     PmYear::new([first, second, third, d.quarter()], d.values.top)
 }
 
@@ -75,27 +96,23 @@ fn part_of(year: u16, part: u16) -> Quarter
 
 /// What the days of a quarter give together, whose values join the greatest of the quarters before it in
 /// its year.
-fn tally_of<L: Ledger>(
-    shelf: &Shelf,
-    registry: &Registry,
-    site: &SiteId,
+fn tally_of<S: Pm25Source, L: Ledger>(
+    source: &S,
     quarter: Quarter,
     top: TopEight,
     steps: &mut Steps<L>,
 ) -> QuarterTally
-    ensures quarter { IsQuarterOf (office_of registry.now shelf.now) site.now quarter top result }
-    ensures valid { IsOffice (office_with registry.now) }
+    ensures { IsQuarterOf
+        (quarter_by (S.site_days source.now) (S.makeup_for source.now) quarter) top result }
 {
-    a_quarter_holds_the_days_of_its_span();
-    // The proof learns that the records are those of a valid office.
-    let _ = registry.next_poc(*site, Pollutant::Pm25, 0);
+    source.makeups_lie_apart(quarter);
     let (first, days) = quarter_span(quarter);
-    let cells = site_days(shelf, registry, *site, first, days, steps);
+    let cells = source.days(first, days, steps);
     let mut so_far = QuarterTally::new(top);
     for count in 0..days {
         let day = Day::new(first.number() + u16::from(count));
         let cell = cells[usize::from(count)];
-        so_far = so_far.with(day_of_quarter(shelf, registry, site, day, cell, steps));
+        so_far = so_far.with(day_of_quarter(source, day, cell, steps));
     }
     so_far
 }

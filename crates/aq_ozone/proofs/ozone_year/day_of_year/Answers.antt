@@ -7,6 +7,6 @@ use Rattle.aq_ozone.proofs.RangeLemmas.{maximum_range}
 use Rattle.aq_ozone.proofs.ozone_year.day_of_year.Goals as goal
 
 pub returns-clause-range : goal.returns-clause-range
-returns-clause-range c =
+returns-clause-range g c =
     subst (λ (o : Option ℤ). IfSome o (λ (value : ℤ). IsOzone value)) (sym (c.ranked_maximum.ensures ∙ ap (λ (day : OzoneDay). ranked_maximum day) c.day_of_windows-ozone.ensures))
     (maximum_range c.args.windows.now c.requires)

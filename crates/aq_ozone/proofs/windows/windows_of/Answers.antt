@@ -5,9 +5,9 @@ use Rattle.aq_ozone.proofs.RangeLemmas.{rows_range}
 use Rattle.aq_ozone.proofs.windows.windows_of.Goals as goal
 
 pub returns-clause-windows : goal.returns-clause-windows
-returns-clause-windows c office site day is =
+returns-clause-windows c cell_at day is =
     let all : c.loop-i.i ≡ 17 = omega (arith, c.loop-i-test.false, c.loop-i.auto.i-end) in
-    c.new.ensures ∙ rows_are office site day c.loop-i.i c.args.cells.now c.loop-i.rows all is (omega (arith, c.loop-i.invariant.many, all)) c.loop-i.invariant.rows
+    c.new.ensures ∙ rows_are cell_at day c.loop-i.i c.args.cells.now c.loop-i.rows all is (omega (arith, c.loop-i.invariant.many, all)) c.loop-i.invariant.rows
 
 pub returns-clause-range : goal.returns-clause-range
 returns-clause-range c =

@@ -1,7 +1,6 @@
 use Rattle.std.proofs.Common.{◌≡◌, ◌+◌, ◌<◌, List, map, subst, ◌∙◌, arith}
 use Rattle.std.specs.List.{range_with_len}
 use Rattle.aq_rules.specs.Particles.QuarterCounts.{days_of_quarter}
-use Rattle.aq_series.specs.OfficeView.{office_of}
 use Rattle.aq_pm25.specs.QuarterDays.{day_in, IsTallyOf}
 use Rattle.aq_pm25.specs.declared.quarter_days.DayOfQuarter.{DayOfQuarter}
 use Rattle.aq_pm25.proofs.DayTallies.{days-more, few}
@@ -27,7 +26,7 @@ with-so_far-requires-clause-sum g c = c.loop-count.invariant.sum
 
 pub loop-count-preserved : goal.loop-count-preserved
 loop-count-preserved g c =
-    let day = day_in (office_of c.args.registry.now c.args.shelf.now) c.args.site.now in
+    let day = day_in (g.S.Pm25Days.site_days c.args.source.now) (g.S.Pm25Source.makeup_for c.args.source.now) in
     let first = c.quarter_span-first.result.0 in
     let at : first + c.loop-count.count ≡ c.new-day.result = omega (arith, c.new-day.ensures, c.number.ensures.value, c.from.ensures) in
     record {
@@ -38,14 +37,15 @@ loop-count-preserved g c =
       sum = c.with-so_far.ensures.sum;
     }
 
-pub returns-clause-quarter : goal.returns-clause-quarter
+pub returns : goal.returns
 unfolding days_of_quarter
-returns-clause-quarter g c =
-    let day = day_in (office_of c.args.registry.now c.args.shelf.now) c.args.site.now in
+returns g c =
+    let site_days = g.S.Pm25Days.site_days c.args.source.now in
+    let makeup_for = g.S.Pm25Source.makeup_for c.args.source.now in
     let all : c.loop-count.count ≡ c.quarter_span-first.result.1 = omega (arith, c.loop-count-test.false, c.loop-count.auto.count-end) in
     let tally =
     subst (λ (days : List DayOfQuarter). IsTallyOf c.args.top days c.loop-count.so_far)
-    (λ i. map day (range_with_len (c.quarter_span-first.ensures.first i) ((all ∙ c.quarter_span-first.ensures.days) i)))
+    (λ i. map (day_in site_days makeup_for) (range_with_len (c.quarter_span-first.ensures.first i) ((all ∙ c.quarter_span-first.ensures.days) i)))
     c.loop-count.invariant.tally
     in
-    quarter-is c.args.registry.now c.args.shelf.now c.args.site.now c.args.quarter c.next_poc.ensures.valid (c.a_quarter_holds_the_days_of_its_span.ensures c.args.quarter) c.args.top c.loop-count.so_far tally
+    quarter-is site_days makeup_for c.args.quarter c.args.top c.loop-count.so_far tally c.makeups_lie_apart.ensures
