@@ -1,6 +1,6 @@
 pub mod StageLemmas
 pub mod BatchLemmas
-pub mod CellYears
+pub mod KeptCells
 pub mod OzoneLemmas
 pub mod Loadless
 pub mod LoadlessAnswers

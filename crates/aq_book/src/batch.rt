@@ -20,7 +20,8 @@ pub(crate) fn batch_of(
     identity: Option<LoadIdentity>,
     reply: &LoadReply,
 ) -> Result<RowChanges, Memory>
-    ensures { IfOk result (λ batch. batch ≡ map row_change changes.now ++ map row_change (own_change identity reply.now)) }
+    ensures { IfOk result (λ batch. batch ≡ map row_change changes.now
+        ++ map row_change (own_change identity reply.now)) }
 {
     let mut batch = RowChanges::new(alloc);
     add_changes(alloc, &mut batch, changes.as_slice())?;
@@ -61,7 +62,8 @@ fn add_load(
     identity: Option<LoadIdentity>,
     reply: &LoadReply,
 ) -> Result<(), Memory>
-    ensures { OnOk result (batch.new ≡ batch.old ++ map row_change (own_change identity reply.now)) }
+    ensures { OnOk result (batch.new ≡ batch.old
+        ++ map row_change (own_change identity reply.now)) }
 {
     if let Some(identity) = identity {
         let row = Row::load(load_row(alloc, identity.number, &identity.digest, reply)?);

@@ -100,7 +100,8 @@ impl Book {
 
     /// The reply to the load with a number, if one stands. It takes no memory.
     pub fn reply_of(&self, number: u32) -> Option<&LoadReply>
-        ensures { option_map (λ reply. reply.now) result ≡ option_map reply_in (load_at self.now number) }
+        ensures { option_map (λ reply. reply.now) result
+            ≡ option_map reply_in (load_at self.now number) }
     {
         self.loads.reply_of(number)
     }
@@ -127,7 +128,8 @@ impl Book {
         requires bytes { length body.now ≤ MOST_BYTES }
         requires lines { line_count body.now ≤ MOST_LINES }
         ensures reply { IfOk result (λ staged. staged.reply ≡ reply self.now number body.now) }
-        ensures office { IfOk result (λ staged. office_with staged self.now ≡ load self.now number digest body.now) }
+        ensures office { IfOk result
+            (λ staged. office_with staged self.now ≡ load self.now number digest body.now) }
         ensures fits { IfOk result (λ staged. Fits staged self.now) }
         ensures staged { IfOk result (IsStageOf self.now number digest body.now) }
     {
@@ -144,7 +146,9 @@ impl Book {
     /// or three searches for each record and observation that the load touched.
     pub fn batch(&self, alloc: Global, staged: &Staged) -> Result<RowChanges, Memory>
         requires { IsStagedOn self.now.records self.now.observations staged.now }
-        ensures { IfOk result (λ batch. (number : ℕ) (digest body : List ℕ) → IsStageOf self.now number digest body staged.now → batch ≡ row_batch self.now number digest body) }
+        ensures { IfOk result (λ batch. (number : ℕ) (digest body : List ℕ)
+            → IsStageOf self.now number digest body staged.now
+            → batch ≡ row_batch self.now number digest body) }
     {
         let changes = staged.changes(alloc, &self.registry, &self.shelf)?;
         let batch = batch_of(alloc, &changes, staged.identity(), staged.reply())?;

@@ -50,7 +50,8 @@ impl Book {
     ) -> Result<DesignValue, UnknownSite>
         requires first { FIRST_YEAR + 2 ≤ year }
         requires last { year ≤ LAST_YEAR }
-        ensures value { IfOk result (λ value. design_of value ≡ designs.design_value standard self.now site year) }
+        ensures value { IfOk result
+            (λ value. design_of value ≡ designs.design_value standard self.now site year) }
         ensures registered { is_ok result ≡ is_registered self.now site }
         ensures steps { standard ≡ Ozone2015 → steps.new ≤ steps.old }
     {

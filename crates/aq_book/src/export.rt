@@ -34,8 +34,10 @@ pub(crate) fn shown_of(
 ) -> Result<ShownRows, Memory>
     requires first { FIRST_YEAR ≤ year }
     requires last { year ≤ LAST_YEAR }
-    requires registered { IsTrue (list_all (fits_monitors (office_of registry.now shelf.now)) shelf.now) }
-    ensures { IfOk result (λ rows. rows ≡ exports.shown_of (office_of registry.now shelf.now) site pollutant year) }
+    requires registered { IsTrue
+        (list_all (fits_monitors (office_of registry.now shelf.now)) shelf.now) }
+    ensures { IfOk result (λ rows. rows
+        ≡ exports.shown_of (office_of registry.now shelf.now) site pollutant year) }
 {
     counted::<Brand>(alloc, shelf, registry, site, pollutant, year, Blank::new(1))
 }
@@ -52,11 +54,13 @@ fn counted<L: Ledger>(
 ) -> Result<ShownRows, Memory>
     requires first { FIRST_YEAR ≤ year }
     requires last { year ≤ LAST_YEAR }
-    requires registered { IsTrue (list_all (fits_monitors (office_of registry.now shelf.now)) shelf.now) }
+    requires registered { IsTrue
+        (list_all (fits_monitors (office_of registry.now shelf.now)) shelf.now) }
     requires name { blank.name ≡ L.name }
     requires parts { blank.parts ≡ L.parts }
     requires some { 0 < L.parts }
-    ensures { IfOk result (λ rows. rows ≡ exports.shown_of (office_of registry.now shelf.now) site pollutant year) }
+    ensures { IfOk result (λ rows. rows
+        ≡ exports.shown_of (office_of registry.now shelf.now) site pollutant year) }
 {
     let mut steps = Steps::<L>::new(blank);
     of_monitors(alloc, shelf, registry, site, pollutant, year, &mut steps)
@@ -74,8 +78,10 @@ fn of_monitors<L: Ledger>(
 ) -> Result<ShownRows, Memory>
     requires first { FIRST_YEAR ≤ year }
     requires last { year ≤ LAST_YEAR }
-    requires registered { IsTrue (list_all (fits_monitors (office_of registry.now shelf.now)) shelf.now) }
-    ensures { IfOk result (λ rows. rows ≡ exports.shown_of (office_of registry.now shelf.now) site pollutant year) }
+    requires registered { IsTrue
+        (list_all (fits_monitors (office_of registry.now shelf.now)) shelf.now) }
+    ensures { IfOk result (λ rows. rows
+        ≡ exports.shown_of (office_of registry.now shelf.now) site pollutant year) }
 {
     // The proof learns that the observations are in order.
     let _ = shelf.count();
@@ -105,7 +111,9 @@ fn add_days<L: Ledger>(
     steps: &mut Steps<L>,
 ) -> Result<(), Memory>
     requires { days ≤ 366 }
-    ensures { OnOk result (rows.new ≡ rows.old ++ map (shown_at registry.now monitor.now) (observations_in monitor.now (24 * first) (24 * days) shelf.now)) }
+    ensures { OnOk result (rows.new ≡ rows.old
+        ++ map (shown_at registry.now monitor.now)
+        (observations_in monitor.now (24 * first) (24 * days) shelf.now)) }
 {
     let start = Hour::new(24 * u32::from(first.number()));
     let mut span = shelf.span(*monitor, start, 24 * u32::from(days), steps);

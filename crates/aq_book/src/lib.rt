@@ -32,7 +32,8 @@
 //!   of the site is registered, or for want of memory where its answer takes some.
 //! - Each ozone cell that is kept is the office's, in every book (the invariant of `Book`): a load that is
 //!   taken brings up to date what reads one of its changes, before it or after it. So an ozone year, a
-//!   design value and a report of ozone make no step (`ozone_year`, `design_value`, `report`).
+//!   design value and a report of ozone make no step (`ozone_year`, `design_value`, `report`), and a day's
+//!   windows are those of the hours that are kept (`windows`).
 //! - The report of a standard has the sites with a monitor of its pollutant, in rising order, each with
 //!   its whole design value (`report`).
 //!

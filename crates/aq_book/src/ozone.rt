@@ -26,7 +26,8 @@ pub(crate) fn days_of_year<L: Ledger>(
 ) -> Result<OzoneDays, Memory>
     requires first { FIRST_YEAR ≤ year }
     requires last { year ≤ LAST_YEAR }
-    ensures days { IfOk result (λ days. days ≡ years.ozone_days (office_of registry.now shelf.now) site year) }
+    ensures days { IfOk result
+        (λ days. days ≡ years.ozone_days (office_of registry.now shelf.now) site year) }
     ensures steps { steps.new ≤ steps.old + 200 * 367 }
 {
     let (first, count) = year_span(year);

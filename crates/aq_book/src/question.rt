@@ -18,7 +18,8 @@ use crate::fault::{AskFault, UnknownSite};
 use crate::ozone::{OzoneDays, days_of_year};
 use aq_base::{Day, Pollutant, SiteId, Steps};
 use aq_design::Years;
-use aq_ozone::{DayWindows, day_windows};
+use aq_ozone::DayWindows;
+use aq_ozone_cells::kept_numbers_are_those_of_the_office;
 use aq_verdict::{OzoneYear, Pm10Year, PmYear};
 use std::alloc::Global;
 use std::sync::ledger::Ledger;
@@ -31,8 +32,8 @@ impl Book {
         self.shelf.count()
     }
 
-    /// The seventeen 8-hour averages of a day of a site (40 CFR Part 50, Appendix U, 3(b)), in at most
-    /// 192 steps. It takes no memory.
+    /// The seventeen 8-hour averages of a day of a site (40 CFR Part 50, Appendix U, 3(b)), from the hours
+    /// that are kept. It takes no memory and makes none of the 192 steps that it may.
     pub fn windows<L: Ledger>(
         &self,
         site: SiteId,
@@ -43,8 +44,11 @@ impl Book {
         ensures registered { is_ok result ≡ is_registered self.now site }
         ensures steps { steps.new ≤ steps.old + 192 }
     {
+        kept_numbers_are_those_of_the_office();
+        // The hours are kept, so no step is made.
+        let _ = steps;
         self.find(site)?;
-        Ok(day_windows(&self.shelf, &self.registry, site, day, steps))
+        Ok(self.cells.windows(site, day))
     }
 
     /// The first and the last day of the ozone season of a site and year (40 CFR Part 50, Appendix U,
@@ -52,7 +56,8 @@ impl Book {
     pub fn season(&self, site: SiteId, year: u16) -> Result<(Day, Day), UnknownSite>
         requires first { FIRST_YEAR ≤ year }
         requires last { year ≤ LAST_YEAR }
-        ensures season { IfOk result (λ season. season ≡ days_of (seasons.season_of self.now.records site year)) }
+        ensures season { IfOk result
+            (λ season. season ≡ days_of (seasons.season_of self.now.records site year)) }
         ensures registered { is_ok result ≡ is_registered self.now site }
     {
         self.find(site)?;
@@ -62,7 +67,8 @@ impl Book {
     /// Whether an ozone day of a site counts as valid by approval (40 CFR Part 50, Appendix U, 4(c)), by
     /// two searches of the records. It takes no memory.
     pub fn is_approved(&self, site: SiteId, day: Day) -> Result<bool, UnknownSite>
-        ensures approved { IfOk result (λ approved. approved ≡ approvals.is_approved self.now.records site day) }
+        ensures approved { IfOk result
+            (λ approved. approved ≡ approvals.is_approved self.now.records site day) }
         ensures registered { is_ok result ≡ is_registered self.now site }
     {
         self.find(site)?;

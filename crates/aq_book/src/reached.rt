@@ -34,7 +34,10 @@ pub(crate) fn bring_up(
     shelf: &Shelf,
 ) -> Result<(), Memory>
     requires drops { list_any (is_amiss before.now) changes.now ≡ false }
-    requires others { (cell : Cell) → (is_of_ozone cell ≡ true → (rows : List (ObsKey × Observation)) → list_any (reads_change before.now after.now rows cell) changes.now ≡ false) → IsCellOf (office_of after.now shelf.now) cells.old cell }
+    requires others { (cell : Cell)
+        → (is_of_ozone cell ≡ true → (rows : List (ObsKey × Observation))
+        → list_any (reads_change before.now after.now rows cell) changes.now ≡ false)
+        → IsCellOf (office_of after.now shelf.now) cells.old cell }
     ensures { OnOk result (AreKept (office_of after.now shelf.now) cells.new) }
 {
     let mut dirty = marked(alloc, changes.as_slice(), before, after)?;
@@ -49,7 +52,8 @@ fn counted<L: Ledger>(
     registry: &Registry,
     blank: Blank,
 ) -> Result<(), Memory>
-    requires others { (cell : Cell) → holds_cell dirty.old cell ≡ false → IsCellOf (office_of registry.now shelf.now) cells.old cell }
+    requires others { (cell : Cell) → holds_cell dirty.old cell ≡ false
+        → IsCellOf (office_of registry.now shelf.now) cells.old cell }
     requires name { blank.name ≡ L.name }
     requires parts { blank.parts ≡ L.parts }
     requires some { 0 < L.parts }
@@ -67,7 +71,9 @@ fn marked(
     after: &Registry,
 ) -> Result<Dirty, Memory>
     requires { list_any (is_amiss before.now) (changes_in changes.now) ≡ false }
-    ensures { IfOk result (λ dirty. (rows : List (ObsKey × Observation)) (cell : Cell) → is_of_ozone cell ≡ true → list_any (reads_change before.now after.now rows cell) (changes_in changes.now) ≡ true → holds_cell dirty cell ≡ true) }
+    ensures { IfOk result (λ dirty. (rows : List (ObsKey × Observation)) (cell : Cell)
+        → is_of_ozone cell ≡ true → list_any (reads_change before.now after.now rows cell)
+        (changes_in changes.now) ≡ true → holds_cell dirty cell ≡ true) }
 {
     let mut dirty = Dirty::new(alloc);
     for change in changes {
@@ -94,7 +100,8 @@ fn mark(
 /// does not say which cells read it.
 fn change_of(before: &Registry, change: &StagedChange) -> OfficeChange
     requires { is_amiss before.now (change_in change.now) ≡ false }
-    ensures { (rows : List (ObsKey × Observation)) → row_of result ≡ Some (changed_row (office_of before.now rows) (change_in change.now)) }
+    ensures { (rows : List (ObsKey × Observation)) → row_of result
+        ≡ Some (changed_row (office_of before.now rows) (change_in change.now)) }
 {
     match change {
         StagedChange::PutRecord(row) => OfficeChange::Record(RecordChange {

@@ -31,7 +31,9 @@ impl Book {
     ) -> Result<SiteValues, Memory>
         requires first { FIRST_YEAR + 2 ≤ year }
         requires last { year ≤ LAST_YEAR }
-        ensures values { IfOk result (λ values. map valued_in values ≡ map (valued standard self.now year) (sites_with self.now (standards.pollutant_of standard))) }
+        ensures values { IfOk result (λ values. map valued_in values
+            ≡ map (valued standard self.now year)
+            (sites_with self.now (standards.pollutant_of standard))) }
         ensures few { IfOk result (λ values. length values ≤ MOST_SITES) }
         ensures steps { standard ≡ Ozone2015 → steps.new ≤ steps.old }
     {

@@ -105,7 +105,8 @@ pub(crate) fn migration_batch(alloc: Global, rows: &[Row]) -> Result<RowChanges,
 }
 
 fn add_drops(batch: &mut RowChanges, rows: &[Row]) -> Result<(), Memory>
-    ensures { OnOk result (batch.new ≡ batch.old ++ map (λ row. DropRow (row_key row)) (filter is_first rows.now)) }
+    ensures { OnOk result (batch.new ≡ batch.old
+        ++ map (λ row. DropRow (row_key row)) (filter is_first rows.now)) }
 {
     for row in rows {
         if let RowContent::Observation(row) = &row.content {
@@ -116,7 +117,8 @@ fn add_drops(batch: &mut RowChanges, rows: &[Row]) -> Result<(), Memory>
 }
 
 fn add_puts(alloc: Global, batch: &mut RowChanges, rows: &[Row]) -> Result<(), Memory>
-    ensures { OnOk result (batch.new ≡ batch.old ++ map (λ row. PutRow (migrated_row row)) (filter is_first rows.now)) }
+    ensures { OnOk result (batch.new ≡ batch.old
+        ++ map (λ row. PutRow (migrated_row row)) (filter is_first rows.now)) }
 {
     for row in rows {
         if let RowContent::Observation(row) = &row.content {

@@ -1,18 +1,23 @@
--- A day of a site that is given another content, among the days that are kept.
-use Rattle.std.proofs.Common.{◌≡◌, ℕ, ◌/◌, ◌%◌, ◌-◌, Bool, true, false, cond, ◌&&◌, List, get_or, refl, sym, ap, ◌∙◌, arith}
-use Rattle.std.specs.Prelude.{Option, Some, None, ◌==◌, is_some, option_map, unwrap_or}
+-- A day of a site that is given another content, among the days that are kept; and the hours of a day and the one after it.
+use Rattle.std.proofs.Common.{◌≡◌, ℕ, zero, suc, ◌+◌, ◌*◌, ◌/◌, ◌%◌, ◌-◌, ◌<◌, ◌≤◌, Bool, true, false, cond, ◌&&◌, List, map, get_or, refl, sym, ap, ◌∙◌, arith}
+use Rattle.std.specs.Prelude.{Option, Some, None, ◌≢◌, ◌==◌, is_some, nat_le, option_map, unwrap_or, IfSome}
+use Rattle.std.specs.List.{range_with_len}
 use Rattle.std.specs.BTreeMap.{is_at}
 use Rattle.std.specs.Map.{lookup}
 use Rattle.std.proofs.lemmas.Bool.Decides.{nat_tests}
 use Rattle.std.proofs.lemmas.Bool.{false≢true}
 use Rattle.aq_base.specs.Site.{Site}
+use Rattle.aq_base.specs.declared.day.TheConstants.{LAST_HOUR}
 use Rattle.aq_rules.specs.Office.Monitors.{is_same_site}
+use Rattle.aq_rules.specs.Ozone.SiteHour.{Cell}
+use Rattle.aq_series.specs.Samples.{AreOzone, IsOzone}
+use Rattle.aq_ozone.specs.DayHours.{within_profile}
 use Rattle.aq_ozone_cells.specs.declared.kept_days.DayCells.{DayCells}
 use Rattle.aq_ozone_cells.specs.declared.kept_days.KeptAverage.{KeptAverage}
 use Rattle.aq_ozone_cells.specs.declared.kept_days.KeptHour.{KeptHour}
 use Rattle.aq_ozone_cells.specs.declared.site_key.SiteKey.{SiteKey}
-use Rattle.aq_ozone_cells.specs.KeptDays.{average_at, average_in, cell_of, day_at, empty_day, held_at, hour_at, hour_in, is_kept_start, no_average}
-use Rattle.aq_ozone_cells.specs.OzoneCells.{Cells}
+use Rattle.aq_ozone_cells.specs.KeptDays.{average_at, average_in, cell_of, day_at, empty_day, held_at, hour_at, hour_in, hour_of_two, is_kept_start, no_average}
+use Rattle.aq_ozone_cells.specs.OzoneCells.{hour_in_profile, Cells}
 use Rattle.aq_ozone_cells.specs.SiteKeys.{key_cmp, site_key}
 use Rattle.aq_ozone_cells.proofs.SiteNumbers.{named, same-key}
 
@@ -109,3 +114,27 @@ average-of-day days site day start kept is lies = ap (λ (d : DayCells). average
 pub no-cells : (found : Option DayCells) → is_some found ≡ false → unwrap_or found empty_day ≡ empty_day
 no-cells None none = refl
 no-cells (Some cells) none = absurd (false≢true (sym none))
+
+-- ---- the hours of a day and the one after it
+
+module _ (cells : Cells) (site : Site) (day : ℕ) (today tomorrow : DayCells) (is : today ≡ day_at cells site day) (next : tomorrow ≡ day_at cells site (day + 1)) where
+  pub of-two : (hour : ℕ) → 24 * day ≤ hour → hour < 24 * day + 48 → hour_of_two today tomorrow day hour ≡ hour_in_profile cells site hour
+  unfolding hour_at
+  of-two hour low high = ap (λ (d : DayCells). cond (nat_le hour LAST_HOUR) (hour_in d hour) None) (by (hour / 24 == day) refl)
+    where
+      by : (b : Bool) → (hour / 24 == day) ≡ b → cond b today tomorrow ≡ day_at cells site (hour / 24)
+      by true same =
+          let lies : day ≡ hour / 24 = grind (arith, nat_tests) in
+          is ∙ ap (day_at cells site) lies
+      by false other =
+          let apart : hour / 24 ≢ day = grind (arith, nat_tests) in
+          let lies : day + 1 ≡ hour / 24 = omega (arith, low, high, apart) in
+          next ∙ ap (day_at cells site) lies
+
+pub hours-ozone : (f : ℕ → Option Cell) → ((hour : ℕ) → IfSome (f hour) (λ (cell : Cell). IsOzone cell.value)) → (a n : ℕ) → AreOzone (map (within_profile f) (range_with_len a n))
+hours-ozone f each a zero = tt
+hours-ozone f each a (suc n) = (by (nat_le a LAST_HOUR), hours-ozone f each (a + 1) n)
+  where
+    by : (b : Bool) → IfSome (cond b (f a) None) (λ (cell : Cell). IsOzone cell.value)
+    by true = each a
+    by false = tt

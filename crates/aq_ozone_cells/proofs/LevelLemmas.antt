@@ -11,11 +11,12 @@ use Rattle.aq_rules.specs.Lists.{greatest, ranked}
 use Rattle.aq_rules.specs.Office.Approval.{is_approved}
 use Rattle.aq_rules.specs.Office.Office.{Office}
 use Rattle.aq_rules.specs.Office.Season.{is_in_season, season_of}
-use Rattle.aq_rules.specs.Ozone.EightHour.{WindowRow, eight_hours, row_of, window}
-use Rattle.aq_rules.specs.Ozone.OzoneDay.{ozone_day, starts_of, windows}
+use Rattle.aq_rules.specs.Ozone.EightHour.{WindowRow, eight_hours, row_of, window, window_by}
+use Rattle.aq_rules.specs.Ozone.OzoneDay.{ozone_day, starts_of, windows, windows_by}
 use Rattle.aq_rules.specs.Ozone.OzoneYear.{days_of, fourth_of, ozone_days, ozone_year, ranked_maximum}
 use Rattle.aq_rules.specs.Ozone.SiteHour.{Cell, site_hour}
 use Rattle.aq_rules.specs.Standards.{is_above, level_of}
+use Rattle.aq_ozone.proofs.DayLemmas.{same_in_range}
 use Rattle.aq_ozone_cells.specs.KeptDays.{average_at, averages_of, held_at, hour_at}
 use Rattle.aq_ozone_cells.specs.OzoneCells.{average_of_hours, counts, day_from, day_of_averages, held_day, is_day_of, ozone_day_of, row_with, year_of_days, AreHeldBy, Cells}
 use Rattle.aq_ozone_cells.specs.YearTallies.{maximum_of}
@@ -48,6 +49,15 @@ pub average-is : (office : Office) (cells : Cells) (site : Site) (start : ℕ)
 unfolding average_of_hours window eight_hours
 average-is office cells site start same =
     ap (λ (l : List Cell). averages_of (row_of l)) (hours-same (hour_at cells site) (site_hour office site) LAST_HOUR start 8 same)
+
+pub windows-are : (office : Office) (cells : Cells) (site : Site) (day : ℕ)
+    → ((hour : ℕ) → hour_number day 7 ≤ hour → hour < hour_number day 7 + 24 → hour ≤ LAST_HOUR → hour_at cells site hour ≡ site_hour office site hour)
+    → windows_by (window_by (hour_at cells site)) day ≡ windows office site day
+unfolding windows window starts_of eight_hours
+windows-are office cells site day same =
+    same_in_range (window_by (hour_at cells site)) (window office site) (hour_number day 7) 17
+    (λ start low high. ap row_of (hours-same (hour_at cells site) (site_hour office site) LAST_HOUR start 8
+    (λ hour from to within. same hour (omega (arith, low, from)) (omega (arith, high, to)) within)))
 
 -- ---- a day and its averages
 

@@ -1,8 +1,9 @@
 -- What is kept of the days of sites: the values of their hours, their averages, and what each day gives its year.
 use Rattle.std.specs.BTreeMap.{is_at}
 use Rattle.std.specs.Map.{lookup}
-use Rattle.std.specs.Prelude.{ℕ, ◌/◌, ◌%◌, ◌-◌, Bool, false, nat_le, if◌then◌else◌, List, replicate, get_or, Option, None, option_map, unwrap_or}
+use Rattle.std.specs.Prelude.{ℕ, ◌/◌, ◌%◌, ◌-◌, ◌==◌, Bool, false, nat_le, if◌then◌else◌, List, replicate, get_or, Option, None, option_map, unwrap_or}
 use Rattle.aq_base.specs.Site.{Site}
+use Rattle.aq_base.specs.declared.day.TheConstants.{LAST_HOUR}
 use Rattle.aq_rules.specs.Ozone.EightHour.{WindowRow}
 use Rattle.aq_rules.specs.Ozone.SiteHour.{Cell}
 use Rattle.aq_ozone_cells.specs.declared.kept_days.DayCells.{DayCells}
@@ -39,6 +40,11 @@ empty_day = record { hours = replicate 24 None; averages = replicate 17 no_avera
 -- what a day has for one of its hours
 abbrev pub hour_in : DayCells → ℕ → Option Cell
 hour_in day hour = option_map cell_of (get_or day.hours (hour % 24) None)
+
+-- what a day and the one after it have for an hour of theirs, by its number: none past the profile
+abbrev pub hour_of_two : DayCells → DayCells → ℕ → ℕ → Option Cell
+hour_of_two today tomorrow day hour =
+    if nat_le hour LAST_HOUR then hour_in (if hour / 24 == day then today else tomorrow) hour else None
 
 -- a day's averages are those that start at 07:00 to 23:00
 abbrev pub is_kept_start : ℕ → Bool

@@ -98,7 +98,7 @@ impl DayCells {
     }
 
     /// The value of an hour of the day.
-    fn hour(&self, hour: u32) -> Option<Cell>
+    pub(crate) fn hour(&self, hour: u32) -> Option<Cell>
         ensures { result ≡ hour_in self.now hour }
     {
         match &self.hours[(hour % 24) as usize] {

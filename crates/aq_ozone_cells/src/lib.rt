@@ -4,7 +4,7 @@
 //!
 //! # What it has
 //!
-//! - [`OzoneCells`]: the cells. `hour` and `year` answer; `change_hour`, `settle_window`, `settle_day`
+//! - [`OzoneCells`]: the cells. `hour`, `windows` and `year` answer; `change_hour`, `settle_window`, `settle_day`
 //!   and `settle_year` change one level each, from the one below, and `fill_day` puts a day's hours in.
 //! - [`filled`]: the cells of an office, made from its records and observations.
 //! - [`settle`]: brings the cells that wait in a `Dirty` of aq_dirty up to date with the office after a
@@ -25,6 +25,8 @@
 //! - Each call changes what it says and nothing else, in at most 16, 4, 4 and 732 steps (`change_hour`,
 //!   `settle_window`, `settle_day`, `settle_year`); a year is answered from its tallies, without a step,
 //!   and is that of the days that are held (`year`).
+//! - A day's averages are those of the hours that are kept, by two searches and without a step
+//!   (`windows`).
 //! - The cells that are filled are the office's (`filled`). If all cells that do not wait are the
 //!   office's, then all are, once those that wait are settled (`settle`).
 //! - What a change does not reach is as the office after it has it

@@ -4,6 +4,8 @@ ghost use Rattle.aq_base.specs.Calendar.{year_of};
 ghost use Rattle.aq_base.specs.Site.{Site};
 ghost use Rattle.aq_base.specs.declared.day.TheConstants.{FIRST_YEAR, LAST_DAY, LAST_YEAR};
 ghost use Rattle.aq_rules.specs.Office.Monitors.{is_same_site};
+ghost use Rattle.aq_rules.specs.Ozone.EightHour.{window_by};
+ghost use Rattle.aq_rules.specs.Ozone.OzoneDay.{windows_by};
 ghost use Rattle.aq_series.specs.Samples.{AreOzone, IsOzone};
 ghost use Rattle.aq_ozone_cells.specs.FilledDays.{day_average, IsEmptyDay};
 ghost use Rattle.aq_ozone_cells.specs.KeptDays.{average_at, held_at, hour_at, is_kept_start, no_average, no_day};
@@ -12,10 +14,11 @@ ghost use Rattle.aq_ozone_cells.specs.OzoneCells.{average_of_hours, day_from, is
 use crate::filled_days::fill_day;
 use crate::held_days::{season_days, settle_days};
 use crate::kept_days::KeptDays;
-use crate::kept_window::average_of_hours;
+use crate::kept_window::{average_of_hours, day_hours};
 use crate::year_tallies::YearTallies;
 use aq_base::{Day, FIRST_YEAR, Hour, LAST_YEAR, Memory, Pollutant, SiteId, Steps};
 use aq_cal::year_span;
+use aq_ozone::{DayWindows, windows_of};
 use aq_registry::Registry;
 use aq_rules::kept::summaries::ozone_years_keep_their_facts;
 use aq_series::Cell;
@@ -64,6 +67,14 @@ impl OzoneCells {
         ensures { result ≡ hour_at self.now site hour }
     {
         self.days.hour(site, hour)
+    }
+
+    /// The seventeen averages of a day's hours that are kept, net and full (40 CFR Part 50, Appendix U,
+    /// 3(b)), by two searches. It takes no memory and makes no step.
+    pub fn windows(&self, site: SiteId, day: Day) -> DayWindows
+        ensures { result ≡ windows_by (window_by (hour_at self.now site)) day }
+    {
+        windows_of(&day_hours(&self.days, site, day))
     }
 
     /// The hour `old`, which is kept, goes out, and `new` comes in: in the hour, and so among the eight

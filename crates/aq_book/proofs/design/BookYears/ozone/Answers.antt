@@ -4,7 +4,7 @@ use Rattle.aq_base.specs.declared.day.TheConstants.{LAST_DAY}
 use Rattle.aq_rules.specs.Office.Office.{Office}
 use Rattle.aq_rules.specs.Ozone.OzoneYear.{ozone_year}
 use Rattle.aq_series.specs.OfficeView.{office_of}
-use Rattle.aq_book.proofs.CellYears.{days-held}
+use Rattle.aq_book.proofs.KeptCells.{days-held}
 use Rattle.aq_book.proofs.LoadlessAnswers.{ozone_year_is}
 use Rattle.aq_book.proofs.design.BookYears.ozone.Goals as goal
 
