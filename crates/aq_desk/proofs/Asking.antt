@@ -75,6 +75,7 @@ module _ (rows : List Row) (before after : Option (List Row)) (keeps : (status :
   unanswered-gives printout stops.Memory cause = cut_gives (leaving rows printout) stops.Memory before after (λ kept. omega (arith, kept)) (keeps 7 (λ three. omega (arith, three)))
   unanswered-gives printout (stops.NoSite site) cause = unwritten-gives printout (stops.NoSite site) cause (λ three. omega (arith, three))
   unanswered-gives printout (stops.NoEvent number) cause = unwritten-gives printout (stops.NoEvent number) cause (λ three. omega (arith, three))
+  unanswered-gives printout (stops.NoCombination site) cause = unwritten-gives printout (stops.NoCombination site) cause (λ three. omega (arith, three))
   unanswered-gives printout stops.NoSiteInArea cause = unwritten-gives printout stops.NoSiteInArea cause (λ three. omega (arith, three))
   unanswered-gives printout stops.InputFailed cause = absurd cause
   unanswered-gives printout stops.OutputFailed cause = absurd cause
@@ -109,6 +110,7 @@ unanswered-unprinted : (printout : Printout) (stop : Stop) → IsUnanswered prin
 unanswered-unprinted printout stops.Memory cause = (grind arith, (λ five. omega (arith, five)))
 unanswered-unprinted printout (stops.NoSite site) cause = (grind arith, (λ five. omega (arith, five)))
 unanswered-unprinted printout (stops.NoEvent number) cause = (grind arith, (λ five. omega (arith, five)))
+unanswered-unprinted printout (stops.NoCombination site) cause = (grind arith, (λ five. omega (arith, five)))
 unanswered-unprinted printout stops.NoSiteInArea cause = (grind arith, (λ five. omega (arith, five)))
 unanswered-unprinted printout stops.InputFailed cause = absurd cause
 unanswered-unprinted printout stops.OutputFailed cause = absurd cause

@@ -18,7 +18,7 @@ use Rattle.aq_desk.specs.Stop.{EndsAs, IsMeasured, Obeys, Performs, ending_of, s
 use Rattle.aq_words.specs.declared.words.Command.{Command}
 use Rattle.aq_words.specs.declared.words.Command.TheVariants.{Serve}
 use Rattle.aq_desk.specs.declared.stop.Stop.{Stop}
-use Rattle.aq_desk.specs.declared.stop.Stop.TheVariants.{InputFailed, OutputFailed, KeeperFailed, DoorFailed, Damaged, Memory, Conflict, TooManyBytes, TooManyLines, LoadsFull, NoSite, NoEvent, NoSiteInArea}
+use Rattle.aq_desk.specs.declared.stop.Stop.TheVariants.{InputFailed, OutputFailed, KeeperFailed, DoorFailed, Damaged, Memory, Conflict, TooManyBytes, TooManyLines, LoadsFull, NoSite, NoEvent, NoCombination, NoSiteInArea}
 
 whole-0 : IsWhole 0
 whole-0 = grind arith
@@ -41,6 +41,9 @@ whole-12 = grind arith
 whole-13 : IsWhole 13
 whole-13 = grind arith
 
+whole-14 : IsWhole 14
+whole-14 = grind arith
+
 whole-15 : IsWhole 15
 whole-15 = grind arith
 
@@ -59,6 +62,7 @@ message-is outcome (Err (TooManyLines lines)) ends = ap (λ ending. ending.messa
 message-is outcome (Err LoadsFull) ends = ap (λ ending. ending.message) (ends whole-11)
 message-is outcome (Err (NoSite site)) ends = ap (λ ending. ending.message) (ends whole-12)
 message-is outcome (Err (NoEvent number)) ends = ap (λ ending. ending.message) (ends whole-13)
+message-is outcome (Err (NoCombination site)) ends = ap (λ ending. ending.message) (ends whole-14)
 message-is outcome (Err NoSiteInArea) ends = ap (λ ending. ending.message) (ends whole-15)
 
 performs_follows : (outcome : Outcome) (answer : Result Unit Stop) (before after : SinkView) (tables_before tables_after : Option (List Row)) → Performs outcome answer before after tables_before tables_after → Follows outcome (status_of answer) before after tables_before tables_after

@@ -7,6 +7,7 @@ pub mod Opening
 pub mod Posting
 pub mod Asking
 pub mod Assuming
+pub mod Joining
 pub mod Areas
 pub mod Serving
 pub mod TableNames

@@ -23,7 +23,7 @@ use Rattle.aq_desk.specs.Office.{HasOpened, IsOpened, IsUnopened, over_damage, o
 use Rattle.aq_serve.specs.Outside.{IsAll, OfTold}
 use Rattle.aq_desk.specs.Stop.{Gives, IsUnprinted, ending_at, status_of, stop_of_book}
 use Rattle.aq_desk.specs.declared.stop.Stop.{Stop}
-use Rattle.aq_desk.specs.declared.stop.Stop.TheVariants.{InputFailed, OutputFailed, KeeperFailed, DoorFailed, Damaged, Memory, Conflict, TooManyBytes, TooManyLines, LoadsFull, NoSite, NoEvent, NoSiteInArea}
+use Rattle.aq_desk.specs.declared.stop.Stop.TheVariants.{InputFailed, OutputFailed, KeeperFailed, DoorFailed, Damaged, Memory, Conflict, TooManyBytes, TooManyLines, LoadsFull, NoSite, NoEvent, NoCombination, NoSiteInArea}
 
 -- ---- rows that are opened
 
@@ -156,6 +156,7 @@ read_unopened before read after m k n (TooManyLines lines) stays steady cause = 
 read_unopened before read after m k n LoadsFull stays steady cause = absurd cause
 read_unopened before read after m k n (NoSite site) stays steady cause = absurd cause
 read_unopened before read after m k n (NoEvent number) stays steady cause = absurd cause
+read_unopened before read after m k n (NoCombination site) stays steady cause = absurd cause
 read_unopened before read after m k n NoSiteInArea stays steady cause = absurd cause
 
 pub stopped_unopened : {A : Type 0} (answer : Result A Stop) (before read after : Option (List Row)) (m k n : ℕ) (stop : Stop) → IsErrAnd answer (λ why. why ≡ stop)
@@ -236,6 +237,7 @@ unopened-gives before after m n (TooManyLines lines) next cause = absurd cause
 unopened-gives before after m n LoadsFull next cause = absurd cause
 unopened-gives before after m n (NoSite site) next cause = absurd cause
 unopened-gives before after m n (NoEvent number) next cause = absurd cause
+unopened-gives before after m n (NoCombination site) next cause = absurd cause
 unopened-gives before after m n NoSiteInArea next cause = absurd cause
 
 pub unopened_gives : (before after : Option (List Row)) (m n : ℕ) (stop : Stop) (next : Office → Outcome) (answer : Result (List ℕ) Stop) → IsErrAnd answer (λ why. why ≡ stop) → IsUnopened before after m n stop → OfTold (told_through before after) (λ rows. Gives (over_office rows next) answer before after)
@@ -260,6 +262,7 @@ unopened-fault before after m n (TooManyLines lines) cause = absurd cause
 unopened-fault before after m n LoadsFull cause = absurd cause
 unopened-fault before after m n (NoSite site) cause = absurd cause
 unopened-fault before after m n (NoEvent number) cause = absurd cause
+unopened-fault before after m n (NoCombination site) cause = absurd cause
 unopened-fault before after m n NoSiteInArea cause = absurd cause
 
 pub fault-unprinted : (m n : ℕ) (stop : Stop) → IsFault m n (ending_at stop).status → IsUnprinted stop

@@ -7,7 +7,7 @@ use Rattle.aq_rules.specs.Office.Office.{Office}
 use Rattle.aq_rules.specs.Shown.Answer.{Answer, OfSheet, OfExport, NoSite, NoLoad, answer}
 use Rattle.aq_rules.specs.Shown.Sheet.{text_of}
 use Rattle.aq_desk.specs.Command.{Outcome, Printout, leaving, printed, unwritten}
-use Rattle.aq_desk.specs.Ending.{Ending, no_command, no_event, no_site, no_site_in_area}
+use Rattle.aq_desk.specs.Ending.{Ending, no_combination, no_command, no_event, no_site, no_site_in_area}
 use Rattle.aq_desk.specs.Office.{over_office}
 use Rattle.aq_desk.specs.declared.stop.Stop.{Stop}
 use Rattle.aq_desk.specs.declared.stop.Stop.TheVariants as stops
@@ -38,10 +38,11 @@ HasSite (Value standard site year) = ⊤
 HasSite (Export site pollutant year) = ⊤
 HasSite _ = ⊥
 
--- why an answer is not printed: the site is not registered, no event has a number, the area has no site, or memory ran out
+-- why an answer is not printed: the site is not registered, no event has a number, no site is joined to the site, the area has no site, or memory ran out
 abbrev pub IsUnanswered : Printout → Stop → Type 0
 IsUnanswered printout stops.Memory = ⊤
 IsUnanswered printout (stops.NoSite site) = printout ≡ unwritten (no_site site)
 IsUnanswered printout (stops.NoEvent number) = printout ≡ unwritten (no_event number)
+IsUnanswered printout (stops.NoCombination site) = printout ≡ unwritten (no_combination site)
 IsUnanswered printout stops.NoSiteInArea = printout ≡ unwritten no_site_in_area
 IsUnanswered printout _ = ⊥

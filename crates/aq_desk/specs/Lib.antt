@@ -8,6 +8,7 @@ pub mod Scan
 pub mod Load
 pub mod Ask
 pub mod WhatIf
+pub mod Combined
 pub mod Area
 pub mod Serve
 pub mod Simulate

@@ -8,6 +8,7 @@ use Rattle.aq_words.specs.declared.words.Command.TheVariants.{Scan, Load, WhatIf
 use Rattle.aq_words.specs.declared.words.Command.TheVariants as command
 use Rattle.aq_desk.specs.Area.{area_printout}
 use Rattle.aq_desk.specs.Ask.{ask_outcome, ask_printout}
+use Rattle.aq_desk.specs.Combined.{combined_printout}
 use Rattle.aq_desk.specs.Command.{Follows, Outcome, Tells, leaving, message_for, unwritten}
 use Rattle.aq_desk.specs.Ending.{no_command}
 use Rattle.aq_desk.specs.Load.{load_outcome}
@@ -27,6 +28,7 @@ outcome_of (Load number) rows body = load_outcome number rows body
 outcome_of (command.Ask ask) rows body = ask_outcome (ask_printout ask) rows
 outcome_of (WhatIf question) rows body = ask_outcome (what_if_printout question) rows
 outcome_of (Decisive question) rows body = ask_outcome (decisive_printout question) rows
+outcome_of (command.Combined question) rows body = ask_outcome (combined_printout question) rows
 outcome_of (command.Area question) rows body = ask_outcome (area_printout question) rows
 outcome_of (Serve port connections) rows body = serve_outcome rows
 outcome_of (Simulate start sites years) rows body = leaving rows (simulate_outcome start sites years)
@@ -44,6 +46,7 @@ reads_input (Load number) = true
 reads_input (command.Ask ask) = false
 reads_input (WhatIf question) = false
 reads_input (Decisive question) = false
+reads_input (command.Combined question) = false
 reads_input (command.Area question) = false
 reads_input (Serve port connections) = false
 reads_input (Simulate start sites years) = false
@@ -54,6 +57,7 @@ uses_keeper (Load number) = true
 uses_keeper (command.Ask ask) = true
 uses_keeper (WhatIf question) = true
 uses_keeper (Decisive question) = true
+uses_keeper (command.Combined question) = true
 uses_keeper (command.Area question) = true
 uses_keeper (Serve port connections) = true
 uses_keeper (Simulate start sites years) = false
@@ -64,6 +68,7 @@ writes_output (Load number) = true
 writes_output (command.Ask ask) = true
 writes_output (WhatIf question) = true
 writes_output (Decisive question) = true
+writes_output (command.Combined question) = true
 writes_output (command.Area question) = true
 writes_output (Serve port connections) = false
 writes_output (Simulate start sites years) = true
@@ -80,6 +85,7 @@ hosting_in (Load number) = None
 hosting_in (command.Ask ask) = None
 hosting_in (WhatIf question) = None
 hosting_in (Decisive question) = None
+hosting_in (command.Combined question) = None
 hosting_in (command.Area question) = None
 hosting_in (Serve port connections) = Some (record { port = port; connections = connections })
 hosting_in (Simulate start sites years) = None

@@ -32,6 +32,7 @@ usage: airdv report STANDARD YEAR\n\
 usage: airdv export SITE PARAMETER YEAR\n\
 usage: airdv whatif STANDARD SITE YEAR LIST\n\
 usage: airdv decisive STANDARD SITE YEAR\n\
+usage: airdv combined STANDARD SITE YEAR\n\
 usage: airdv area STANDARD AREA YEAR\n\
 usage: airdv serve --port P --connections N\n\
 usage: airdv simulate START SITES YEARS\n";
@@ -115,8 +116,8 @@ pub fn told_runs_are_exact()
         → Keeps rows status before after → IsKept status → after ≡ option_map
         (λ _. rows) before }
     ensures failed { (rows : List Row) (status : ℕ) (before after : Option (List Row))
-        → IsSome after → Keeps rows status before after → status ≡ KEEPER_FAILED → (after ≡ before) ⊎
-        (after ≡ option_map opened_rows before) }
+        → IsSome after → Keeps rows status before after → status ≡ KEEPER_FAILED
+        → (after ≡ before) ⊎ (after ≡ option_map opened_rows before) }
     ensures one { (rows : List Row) (status : ℕ) (before after : Option (List Row)) → IsSome after
         → Keeps rows status before after → (after ≡ before) ⊎
         (after ≡ option_map opened_rows before) ⊎ (after ≡ option_map (λ _. rows) before) }
@@ -163,6 +164,7 @@ pub fn perform<K: Keeper, D: Door, S: Source, O: Sink>(
         Command::Ask(question) => ask(alloc, question, keeper, output),
         Command::WhatIf(question) => ask(alloc, question, keeper, output),
         Command::Decisive(question) => ask(alloc, question, keeper, output),
+        Command::Combined(question) => ask(alloc, question, keeper, output),
         Command::Area(question) => ask(alloc, question, keeper, output),
         Command::Serve { port, connections } => serve(alloc, *port, *connections, keeper, door),
         Command::Simulate {

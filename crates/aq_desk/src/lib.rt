@@ -18,7 +18,7 @@
 //!   says what each connection was answered.
 //! - The causes: 2 comes exactly if the words are no command; 3, 4, 5 and 8 come only if a count of
 //!   faults rose, which else stays, but for the keeper's while `serve` answers 503; with 2, 3, 5, 6, 8,
-//!   9, 10, 11, 13 and 15 nothing is written on the output (`no_command`, `input_failed`, `output_failed`,
+//!   9, 10, 11, 13, 14 and 15 nothing is written on the output (`no_command`, `input_failed`, `output_failed`,
 //!   `keeper_failed`, `door_failed`, `only_serve`, `silent`). 10 and the statuses after the input was
 //!   read are tied to its size in the headline (`measured`).
 //! - A command that reads its input reads at most one byte more than a body may have, and all of it
@@ -44,6 +44,7 @@
 mod area;
 mod ask;
 mod body;
+mod combined;
 mod command;
 mod load;
 mod messages;
@@ -57,6 +58,7 @@ mod what_if;
 mod writing;
 
 pub use aq_office::{Posted, post};
-pub use aq_words::{AreaQuestion, Command, Decisive, WhatIf, read_words};
+pub use aq_words::{AreaQuestion, Combined, Command, Decisive, WhatIf, read_words};
 pub use command::{end_without_memory, perform, run, told_runs_are_exact};
+pub use status::statuses_are_these_numbers;
 pub use stop::Stop;

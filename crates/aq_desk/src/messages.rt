@@ -2,7 +2,8 @@
 ghost use Rattle.std.specs.Prelude.{◌≡◌, ◌<◌, ◌++◌, codes, decimal};
 ghost use Rattle.aq_rules.specs.Kept.RowChanges.{table_name};
 ghost use Rattle.aq_rules.specs.Shown.OtherSheets.{digest_text};
-ghost use Rattle.aq_desk.specs.Ending.{conflict, damaged, no_event, no_site, too_many_lines};
+ghost use Rattle.aq_rules.specs.Shown.Sheet.{site_text};
+ghost use Rattle.aq_desk.specs.Ending.{conflict, damaged, no_combination, no_event, no_site, too_many_lines};
 ghost use Rattle.aq_desk.specs.Writing.{Writes};
 
 use crate::writing::write_all;
@@ -80,7 +81,23 @@ pub(crate) fn write_no_site<E: Sink>(site: SiteId, errors: &mut E) -> Result<(),
     ensures { let ending = no_site site in Writes ending.message (E.seen errors.old)
         (E.seen errors.new) result }
 {
-    write_all(errors, b"airdv: 12 no site ")?;
+    write_site(b"airdv: 12 no site ", site, errors)
+}
+
+/// Writes the site to which none is joined.
+pub(crate) fn write_no_combination<E: Sink>(site: SiteId, errors: &mut E) -> Result<(), Failed>
+    ensures { let ending = no_combination site in Writes ending.message (E.seen errors.old)
+        (E.seen errors.new) result }
+{
+    write_site(b"airdv: 14 no combination ", site, errors)
+}
+
+/// Writes a site behind a text, to the end of a line.
+fn write_site<E: Sink>(before: &[u8], site: SiteId, errors: &mut E) -> Result<(), Failed>
+    ensures { Writes ((before.now ++ site_text site) ++ codes "\n") (E.seen errors.old)
+        (E.seen errors.new) result }
+{
+    write_all(errors, before)?;
     write_all(errors, &site_text(site))?;
     write_all(errors, b"\n")
 }

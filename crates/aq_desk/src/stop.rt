@@ -4,10 +4,12 @@ ghost use Rattle.aq_desk.specs.Stop.{ending_at};
 ghost use Rattle.aq_desk.specs.Writing.{Writes};
 
 use crate::body::BodyFault;
-use crate::messages::{write_conflict, write_damaged, write_lines, write_no_event, write_no_site};
+use crate::messages::{
+    write_conflict, write_damaged, write_lines, write_no_combination, write_no_event, write_no_site,
+};
 use crate::status::{
-    CONFLICT, DAMAGED, DOOR_FAILED, INPUT_FAILED, KEEPER_FAILED, LOADS_FULL, NO_EVENT, NO_MEMORY,
-    NO_SITE, NO_SITE_IN_AREA, OUTPUT_FAILED, TOO_LARGE,
+    CONFLICT, DAMAGED, DOOR_FAILED, INPUT_FAILED, KEEPER_FAILED, LOADS_FULL, NO_COMBINATION,
+    NO_EVENT, NO_MEMORY, NO_SITE, NO_SITE_IN_AREA, OUTPUT_FAILED, TOO_LARGE,
 };
 use crate::writing::write_all;
 use aq_base::{Failed, SiteId};
@@ -39,6 +41,8 @@ pub enum Stop {
     NoSite(SiteId),
     /// With the first number of a list that no event has.
     NoEvent(u32),
+    /// With the site to which none is joined.
+    NoCombination(SiteId),
     /// No registered site of the area measures the pollutant.
     NoSiteInArea,
 }
@@ -60,6 +64,7 @@ impl Stop {
             Stop::LoadsFull => LOADS_FULL,
             Stop::NoSite(_) => NO_SITE,
             Stop::NoEvent(_) => NO_EVENT,
+            Stop::NoCombination(_) => NO_COMBINATION,
             Stop::NoSiteInArea => NO_SITE_IN_AREA,
         }
     }
@@ -82,6 +87,7 @@ impl Stop {
             Stop::LoadsFull => write_all(errors, b"airdv: 11 loads full\n"),
             Stop::NoSite(site) => write_no_site(*site, errors),
             Stop::NoEvent(number) => write_no_event(*number, errors),
+            Stop::NoCombination(site) => write_no_combination(*site, errors),
             Stop::NoSiteInArea => write_all(errors, b"airdv: 15 no site in area\n"),
         }
     }

@@ -11,6 +11,8 @@ use Rattle.aq_base.specs.declared.ask.Ask.{Ask}
 use Rattle.aq_base.specs.declared.ask.Ask.TheVariants.{Value, Report, Export}
 use Rattle.aq_base.specs.declared.assumed.Assumed.{Assumed}
 use Rattle.aq_base.specs.declared.assumed.TheConstants.{MOST_ASSUMED}
+use Rattle.aq_base.specs.declared.standard.Standard.{Standard}
+use Rattle.aq_base.specs.declared.standard.Standard.TheVariants.{Pm10Of1987}
 use Rattle.aq_rules.specs.Limits.{LAST_EVENT_NUMBER, LAST_LOAD_NUMBER, MOST_GENERATED_SITES, FEWEST_GENERATED_YEARS, MOST_GENERATED_YEARS}
 use Rattle.aq_rules.specs.Lines.Spellings.{◌>>=◌, digits_in, parameter_in, truth_in, year_in}
 use Rattle.aq_rules.specs.Shown.Answer.{is_design_year, is_load_number}
@@ -121,6 +123,22 @@ decisive_of (standard ∷ site ∷ year ∷ []) = do
   last ← design_year year
   Some (Decisive (record { standard = named; site = at; year = last }))
 decisive_of _ = None
+
+-- ---- `combined STANDARD SITE YEAR`
+
+-- a standard of whose pollutant sites are combined: not PM10
+abbrev pub if_combined : Standard → Option Standard
+if_combined Pm10Of1987 = None
+if_combined standard = Some standard
+
+unfoldable pub combined_of : List (List ℕ) → Option Command
+combined_of (standard ∷ site ∷ year ∷ []) = do
+  read ← standard_word standard
+  named ← if_combined read
+  at ← site_word site
+  last ← design_year year
+  Some (command.Combined (record { standard = named; site = at; year = last }))
+combined_of _ = None
 
 -- ---- `area STANDARD AREA YEAR`
 
@@ -246,10 +264,11 @@ command_in name words =
     else (if bytes_eq name (codes "export") then export_of words
     else (if bytes_eq name (codes "whatif") then what_if_of words
     else (if bytes_eq name (codes "decisive") then decisive_of words
+    else (if bytes_eq name (codes "combined") then combined_of words
     else (if bytes_eq name (codes "area") then area_of words
     else (if bytes_eq name (codes "serve") then serve_of words
     else (if bytes_eq name (codes "simulate") then simulate_of words
-    else None)))))))))
+    else None))))))))))
 
 -- the command of the words, which are all required, and none more
 abbrev pub command_of : List (List ℕ) → Option Command
@@ -270,6 +289,7 @@ is_command (Load number) = is_load_number number
 is_command (command.Ask ask) = is_question ask
 is_command (WhatIf question) = is_design_year question.year
 is_command (Decisive question) = is_design_year question.year
+is_command (command.Combined question) = is_design_year question.year
 is_command (command.Area question) = is_design_year question.year
 is_command (Serve port connections) = true
 is_command (Simulate start sites years) = nat_le 1 sites && nat_le sites MOST_GENERATED_SITES && nat_le FEWEST_GENERATED_YEARS years && nat_le years MOST_GENERATED_YEARS

@@ -3,7 +3,7 @@
 //! # What it has
 //!
 //! - `Command`: what the program is asked to do, with sites, days, standards and numbers as values;
-//!   `WhatIf` and `Decisive`: two of its questions.
+//!   `WhatIf`, `Decisive`, `Combined` and `AreaQuestion`: four of its questions.
 //! - `read_words(words)`: the command that the words name, the program's name left out, or `None`.
 //!
 //! # What it promises
@@ -24,4 +24,4 @@
 
 mod words;
 
-pub use words::{AreaQuestion, Command, Decisive, WhatIf, read_words};
+pub use words::{AreaQuestion, Combined, Command, Decisive, WhatIf, read_words};

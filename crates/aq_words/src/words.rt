@@ -3,7 +3,7 @@ ghost use Rattle.std.specs.Prelude.{◌≡◌, ◌≤◌, ◌∷◌, map, string
 ghost use Rattle.std.specs.Option.{option_map};
 ghost use Rattle.aq_rules.specs.Limits.{FEWEST_GENERATED_YEARS, MOST_GENERATED_YEARS};
 ghost use Rattle.aq_rules.specs.Shown.Answer.{is_design_year};
-ghost use Rattle.aq_words.specs.Words.{area_of, area_word, assumed_in, assumed_list, between_commas, command_of, county_word, decisive_of, is_command, design_year, load_of, option_of, pair_of, scan_of, serve_of, served_by, show_of, simulate_of, sites_word, start_in, report_of, export_of, what_if_of, years_in};
+ghost use Rattle.aq_words.specs.Words.{area_of, area_word, assumed_in, assumed_list, between_commas, combined_of, command_of, county_word, decisive_of, is_command, design_year, load_of, option_of, pair_of, scan_of, serve_of, served_by, show_of, simulate_of, sites_word, start_in, report_of, export_of, if_combined, what_if_of, years_in};
 ghost use Rattle.aq_words.specs.Commas.{behind_comma};
 
 use aq_base::{
@@ -30,6 +30,8 @@ pub enum Command {
     WhatIf(WhatIf),
     /// Answers for the office of the tables which events decide a verdict.
     Decisive(Decisive),
+    /// Answers for the office of the tables what a site and the one that is joined to it have together.
+    Combined(Combined),
     /// Answers for the office of the tables whether an area meets a standard, since when, and how much
     /// the next year may bring.
     Area(AreaQuestion),
@@ -53,6 +55,15 @@ pub struct WhatIf {
 /// three years that end with the year.
 #[derive(Clone, Copy, Debug, PartialEq, Eq)]
 pub struct Decisive {
+    pub standard: Standard,
+    pub site: SiteId,
+    pub year: u16,
+}
+
+/// A question for the design value of a standard for a site and the one that is joined to it, and the
+/// three years that end with the year. The standard is not that of PM10.
+#[derive(Clone, Copy, Debug, PartialEq, Eq)]
+pub struct Combined {
     pub standard: Standard,
     pub site: SiteId,
     pub year: u16,
@@ -209,6 +220,34 @@ fn decisive_events(words: &[String]) -> Option<Command>
         site,
         year,
     }))
+}
+
+#[tactic(auto, unfolding(crate::specs::Words::combined_of))]
+fn combination(words: &[String]) -> Option<Command>
+    ensures command { result ≡ combined_of (map string_bytes words.now) }
+    ensures range { IfSome result (λ command. IsTrue (is_command command)) }
+{
+    let [standard, site, year] = words else {
+        return None;
+    };
+    let standard = if_combined(standard_word(standard.as_bytes())?)?;
+    let site = site_word(site.as_bytes())?;
+    let year = design_year(year.as_bytes())?;
+    Some(Command::Combined(Combined {
+        standard,
+        site,
+        year,
+    }))
+}
+
+/// A standard of whose pollutant sites are combined: not PM10.
+fn if_combined(standard: Standard) -> Option<Standard>
+    ensures { result ≡ if_combined standard }
+{
+    match standard {
+        Standard::Pm10Of1987 => None,
+        _ => Some(standard),
+    }
 }
 
 #[tactic(auto, unfolding(crate::specs::Words::area_of))]
@@ -406,6 +445,7 @@ pub fn read_words(words: &[String]) -> Option<Command>
         "export" => export(words),
         "whatif" => what_if(words),
         "decisive" => decisive_events(words),
+        "combined" => combination(words),
         "area" => area(words),
         "serve" => serve(words),
         "simulate" => simulate(words),

@@ -1,4 +1,4 @@
-use Rattle.std.proofs.Common.{◌≡◌, sym, ap, ◌∙◌}
+use Rattle.std.proofs.Common.{sym, ap, ◌∙◌}
 use Rattle.aq_area.specs.AreaRows.{site_values}
 use Rattle.aq_rules.specs.Areas.AreaValue.{AreaYear}
 use Rattle.aq_desk.proofs.Areas.{area-in, no-site, some-site}

@@ -1,4 +1,4 @@
-use Rattle.std.proofs.Common.{◌≡◌, ◌+◌, ◌∷◌, ◌++◌, [], List, Option, drop, true, false, sym, ap, ◌∙◌, append_assoc, rules}
+use Rattle.std.proofs.Common.{◌+◌, ◌∷◌, ◌++◌, [], List, Option, drop, true, false, sym, ap, ◌∙◌, append_assoc, rules}
 use Rattle.std.specs.Prelude.{ℤ}
 use Rattle.aq_base.specs.Site.{Site}
 use Rattle.aq_base.specs.declared.standard.Verdict.{Verdict}

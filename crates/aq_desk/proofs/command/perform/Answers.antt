@@ -5,6 +5,7 @@ use Rattle.aq_desk.proofs.Serving.{serve_door, serve_keeper, serve_status}
 use Rattle.aq_desk.proofs.Unread.{stays_at}
 use Rattle.aq_desk.specs.Area.{area_printout}
 use Rattle.aq_desk.specs.Ask.{ask_outcome, ask_printout}
+use Rattle.aq_desk.specs.Combined.{combined_printout}
 use Rattle.std.specs.Prelude.{true}
 use Rattle.aq_desk.specs.Scan.{scan_outcome}
 use Rattle.aq_desk.specs.WhatIf.{decisive_printout, what_if_printout}
@@ -113,3 +114,14 @@ returns-in-Area-clause-keeper_failed g c = keeper_rises _ _ _ _ c.ask-in-Area.en
 
 pub returns-in-Area-clause-door_failed : goal.returns-in-Area-clause-door_failed
 returns-in-Area-clause-door_failed g c = stays_at 8 _ _ c.ask-in-Area.ensures.no_door
+
+pub returns-in-Combined-clause-acts : goal.returns-in-Combined-clause-acts
+returns-in-Combined-clause-acts g c =
+    printing c.args.command.now _ c.in-Combined.is refl c.ask-in-Combined.result _ _ _ _ _
+    (without_reading (ask_outcome (combined_printout _)) _ c.ask-in-Combined.result _ _ _ _ c.ask-in-Combined.ensures.no_input.1 c.ask-in-Combined.ensures.told)
+
+pub returns-in-Combined-clause-keeper_failed : goal.returns-in-Combined-clause-keeper_failed
+returns-in-Combined-clause-keeper_failed g c = keeper_rises _ _ _ _ c.ask-in-Combined.ensures.keeper_failed
+
+pub returns-in-Combined-clause-door_failed : goal.returns-in-Combined-clause-door_failed
+returns-in-Combined-clause-door_failed g c = stays_at 8 _ _ c.ask-in-Combined.ensures.no_door

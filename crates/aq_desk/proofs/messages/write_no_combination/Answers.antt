@@ -1,0 +1,5 @@
+use Rattle.aq_desk.proofs.Telling.{combination_message, writes_same}
+use Rattle.aq_desk.proofs.messages.write_no_combination.Goals as goal
+
+pub returns : goal.returns
+returns g c = writes_same _ _ _ _ c.write_site.result (combination_message c.args.site) c.write_site.ensures
