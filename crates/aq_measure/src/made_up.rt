@@ -1,6 +1,7 @@
 //! A site whose monitors and hours are made up.
-ghost use Rattle.std.specs.Prelude.{◌≡◌, ◌<◌, ◌≤◌, IsTrue};
+ghost use Rattle.std.specs.Prelude.{◌≡◌, ◌+◌, ◌<◌, ◌≤◌, IsTrue};
 ghost use Rattle.aq_base.specs.Values.{HasValueInRange};
+ghost use Rattle.aq_base.specs.declared.day.TheConstants.{LAST_HOUR};
 ghost use Rattle.aq_base.specs.declared.office.OfficeLine.TheVariants.{Put};
 ghost use Rattle.aq_rules.specs.Lines.Canonical.{is_office_line};
 ghost use Rattle.aq_rules.specs.Office.Office.{is_site};
@@ -19,6 +20,13 @@ pub const LAST: u16 = 2024;
 /// A site has at most this many monitors.
 pub const MOST_MONITORS: u8 = 8;
 
+/// The first hour of the three years, and the one after the last.
+#[derive(Clone, Copy)]
+pub struct Hours {
+    pub first: u32,
+    pub end: u32,
+}
+
 /// Registers so many monitors of hours whose values count, and puts a value for each hour of three years at
 /// each of them.
 pub fn fill(
@@ -31,11 +39,39 @@ pub fn fill(
     requires site { IsTrue (is_site site) }
     requires most { monitors ≤ MOST_MONITORS }
 {
+    fill_between(shelf, registry, site, pollutant, monitors, three_years())
+}
+
+/// The same for each of some hours.
+pub fn fill_between(
+    shelf: &mut Shelf,
+    registry: &mut Registry,
+    site: SiteId,
+    pollutant: Pollutant,
+    monitors: u8,
+    hours: Hours,
+) -> Result<(), Memory>
+    requires site { IsTrue (is_site site) }
+    requires most { monitors ≤ MOST_MONITORS }
+    requires profile { hours.end ≤ LAST_HOUR + 1 }
+{
     for poc in 1..monitors + 1 {
         put(registry, registered(site, pollutant, poc))?;
-        fill_hours(shelf, site, pollutant, poc)?;
+        fill_hours(shelf, site, pollutant, poc, hours)?;
     }
     Ok(())
+}
+
+/// The hours of the three years.
+pub fn three_years() -> Hours
+    ensures { result.end ≤ LAST_HOUR + 1 }
+{
+    let (first, _) = year_span(LAST - 2);
+    let (last, days) = year_span(LAST);
+    Hours {
+        first: 24 * u32::from(first.number()),
+        end: 24 * (u32::from(last.number()) + u32::from(days)),
+    }
 }
 
 /// Has every day scheduled for PM2.5 from the first one on.
@@ -96,12 +132,11 @@ fn fill_hours(
     site: SiteId,
     pollutant: Pollutant,
     poc: u8,
-) -> Result<(), Memory> {
-    let (first, _) = year_span(LAST - 2);
-    let (last, days) = year_span(LAST);
-    let from = 24 * u32::from(first.number());
-    let to = 24 * (u32::from(last.number()) + u32::from(days));
-    for number in from..to {
+    hours: Hours,
+) -> Result<(), Memory>
+    requires { hours.end ≤ LAST_HOUR + 1 }
+{
+    for number in hours.first..hours.end {
         let key = ObsKey {
             monitor: MonitorId {
                 site,

@@ -11,6 +11,9 @@
 //!   `value`, its design value; `list`, that with the first 64 events concurred in; `one`, that with event
 //!   94 concurred in; `decisive`, the events that decide; `elsewhere`, these with a hundred further events
 //!   elsewhere.
+//! - `combined STANDARD-WHERE RUNS` computes the design value of a site that has moved, for
+//!   `bench/combined`: of ozone or of PM2.5, with all hours at one site, before the move at the one and then
+//!   at the other, or all at both (`ozone-one`, `ozone-moved`, `ozone-both`, `pm25-one` and so on).
 //! - `commit FILE` reads all rows of a file of the tables and commits a year of hours to it, for
 //!   `bench/load`; `journal FILE` does so with a journal in the working folder, for `bench/journal`.
 //! - `fixed PORT CONNECTIONS` answers each HTTP request of so many connections with the bytes that stand
@@ -38,15 +41,17 @@ mod counts;
 mod designs;
 mod fixed;
 mod made_up;
+mod moved;
 mod particles;
 mod questions;
 mod smoke;
 
-use aq_base::MOST_BYTES;
+use aq_base::{MOST_BYTES, Standard};
 use commits::{CommitTimes, journal_times, table_times};
 use counts::{bars_in, fields_in};
 use designs::ozone_designs;
 use made_up::MOST_MONITORS;
+use moved::{Where, moved_designs};
 use particles::pm25_designs;
 use questions::{Question, ask};
 use std::io::{ErrorKind, Read};
@@ -68,6 +73,9 @@ fn main(rt: HostRuntime) -> io::Result<()> {
         }
         if word.as_str() == "whatif" {
             return print_answers(&rt, monitors, runs);
+        }
+        if word.as_str() == "combined" {
+            return print_moved(&rt, monitors, runs);
         }
         let (Ok(monitors), Ok(runs)) = (monitors.parse::<u8>(), runs.parse::<u32>()) else {
             return Err(refused);
@@ -159,6 +167,29 @@ fn print_answers(rt: &HostRuntime, question: &str, runs: &str) -> io::Result<()>
         "values {}\nmet {}\nunmet {}\nevents {}\nnumbers {}",
         answers.values, answers.met, answers.unmet, answers.events, answers.numbers
     )
+}
+
+/// Computes the design value of a moved site so many times and prints the sum.
+fn print_moved(rt: &HostRuntime, what: &str, runs: &str) -> io::Result<()> {
+    let refused = io::Error::from(ErrorKind::InvalidInput);
+    let (Some((pollutant, hours)), Ok(runs)) = (what.split_once('-'), runs.parse::<u32>()) else {
+        return Err(refused);
+    };
+    let standard = match pollutant {
+        "ozone" => Standard::Ozone2015,
+        "pm25" => Standard::Annual2024,
+        _ => return Err(refused),
+    };
+    let hours = match hours {
+        "one" => Where::OneSite,
+        "moved" => Where::Moved,
+        "both" => Where::Both,
+        _ => return Err(refused),
+    };
+    let Ok(sum) = moved_designs(rt.alloc(), standard, hours, runs) else {
+        return Err(io::Error::from(ErrorKind::OutOfMemory));
+    };
+    println!(rt; "values {sum}")
 }
 
 /// Prints how many rows stood in a file, and the microseconds that the reading and the commit took.
