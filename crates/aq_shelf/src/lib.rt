@@ -6,9 +6,8 @@
 //!
 //! - `Shelf::new`, `count`: an empty shelf, and how many observations stand.
 //! - `Shelf::insert`, `update`, `remove`: put an observation, change one, take one away.
-//! - `Shelf::get`, `at`: the observation of a key; `at` counts the look-up as one step.
-//! - `Shelf::span`: the observations of a monitor in some hours from one on, as a `Span`; it counts its
-//!   steps.
+//! - `Shelf::at`: the observation of a key.
+//! - `Shelf::span`: the observations of a monitor in some hours from one on, as a `Span`.
 //! - `Shelf::rows`: all of them, in order, as `Rows`.
 //! - `ShelfFault` and `NotThere`: why a call is refused.
 //!
@@ -20,7 +19,9 @@
 //!   want of memory; `update` and `remove` refuse exactly if the key does not stand, take no memory, and
 //!   answer what stood. After any refusal the shelf is as before.
 //! - A change of one key leaves what stands at every other (clause `keys`).
-//! - A look-up that is counted is one step, a span one and one more for each observation.
+//! - What stands is read by `at`, `span` and `rows` alone, and each counts its steps: a look-up one, a
+//!   span one and one more for each observation, a walk one for each. `update` and `remove` count none:
+//!   they answer what stood at the key that they change.
 //!
 //! # An example
 //!

@@ -130,16 +130,7 @@ impl Shelf {
         Ok(before)
     }
 
-    /// The observation at a key, if one stands there.
-    pub fn get(&self, key: &ObsKey) -> Option<Observation>
-        ensures content { result ≡ content_at key.now self.now }
-        ensures range { IfSome result (HasValueInRange key.now.monitor.pollutant) }
-        ensures shelf { IsShelf self.now }
-    {
-        find(&self.stretches, key)
-    }
-
-    /// The observation at a key, if one stands there, in one step.
+    /// The observation at a key, if one stands there, in one step. It takes no memory.
     pub fn at<L: Ledger>(&self, key: ObsKey, steps: &mut Steps<L>) -> Option<Observation>
         ensures content { result ≡ content_at key self.now }
         ensures range { IfSome result (HasValueInRange key.monitor.pollutant) }
@@ -147,7 +138,7 @@ impl Shelf {
         ensures shelf { IsShelf self.now }
     {
         steps.tick();
-        self.get(&key)
+        find(&self.stretches, &key)
     }
 
     /// The monitor's observations that start in the `hours` hours from `from` on, in order, each with
@@ -180,11 +171,14 @@ impl Shelf {
         )
     }
 
-    /// All observations that stand, in rising order of keys.
-    pub fn rows(&self) -> Rows<'_>
+    /// All observations that stand, in rising order of keys. The call makes one step for each of them,
+    /// however many are then asked for. It takes no memory.
+    pub fn rows<L: Ledger>(&self, steps: &mut Steps<L>) -> Rows<'_>
         ensures rows { result ≡ self.now }
+        ensures steps { steps.new ≡ steps.old + length result }
         ensures shelf { IsShelf self.now }
     {
+        steps.add(self.count as usize);
         Rows::new(self.stretches.iter())
     }
 }

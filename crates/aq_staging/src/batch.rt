@@ -14,6 +14,7 @@ use crate::keys::EitherKeys;
 use crate::late_copy::registry_after;
 use crate::list::OfficeChanges;
 use crate::staged::Staged;
+use crate::uncounted::{content_at, rows_of};
 use aq_base::{Memory, OfficeKey};
 use aq_registry::{Records, Registry};
 use aq_shelf::Shelf;
@@ -66,8 +67,8 @@ fn add_observations(
     requires { AreChanges shelf.now staged.now }
     ensures { OnOk result (changes.new ≡ changes.old ++ filter_map (observation_change_at shelf.now (with_changes staged.now shelf.now)) (either_keys (keys_in staged.now.dropped) (keys_in staged.now.left))) }
 {
-    for key in EitherKeys::new(staged.dropped.rows(), staged.left.rows()) {
-        let change = observation_change(&key, &shelf.get(&key), &staged.at(shelf, &key));
+    for key in EitherKeys::new(rows_of(&staged.dropped), rows_of(&staged.left)) {
+        let change = observation_change(&key, &content_at(shelf, &key), &staged.at(shelf, &key));
         add(changes, change)?;
     }
     Ok(())

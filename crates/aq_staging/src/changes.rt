@@ -6,6 +6,7 @@ ghost use Rattle.aq_rules.specs.Limits.{MOST_OBSERVATIONS};
 ghost use Rattle.aq_rules.specs.Office.Office.{observation_numbers, observation_rank, with_row, without_row};
 ghost use Rattle.aq_shelf.specs.Standing.{content_at, IsShelf};
 
+use crate::uncounted::{content_at, rows_of};
 use aq_base::{Memory, ObsKey, Observation};
 use aq_shelf::{Shelf, ShelfFault};
 use std::alloc::Global;
@@ -36,8 +37,8 @@ impl Changes {
         ensures range { IfSome result (HasValueInRange key.now.monitor.pollutant) }
         ensures shelf { IsShelf shelf.now }
     {
-        let before = shelf.get(key)?;
-        match self.dropped.get(key) {
+        let before = content_at(shelf, key)?;
+        match content_at(&self.dropped, key) {
             Some(_) => None,
             None => Some(before),
         }
@@ -47,7 +48,7 @@ impl Changes {
     pub(crate) fn at(&self, shelf: &Shelf, key: &ObsKey) -> Option<Observation>
         ensures { result ≡ content_at key.now (with_changes self.now shelf.now) }
     {
-        match self.left.get(key) {
+        match content_at(&self.left, key) {
             Some(content) => Some(content),
             None => self.kept(shelf, key),
         }
@@ -93,7 +94,7 @@ impl Changes {
 fn drop_rows(shelf: &mut Shelf, dropped: &Shelf)
     ensures { shelf.new ≡ without_rows dropped.now shelf.old }
 {
-    for (key, _) in dropped.rows() {
+    for (key, _) in rows_of(dropped) {
         let _ = take_row(shelf, &key);
     }
 }
@@ -112,7 +113,7 @@ fn put_rows(shelf: &mut Shelf, left: &Shelf) -> Result<(), Memory>
     requires { length (with_rows left.now shelf.old) ≤ MOST_OBSERVATIONS }
     ensures { OnOk result (shelf.new ≡ with_rows left.now shelf.old) }
 {
-    for (key, content) in left.rows() {
+    for (key, content) in rows_of(left) {
         put_row(shelf, &key, &content)?;
     }
     Ok(())

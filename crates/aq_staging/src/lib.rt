@@ -47,6 +47,7 @@ mod reply;
 mod staged;
 mod staging;
 mod touched;
+mod uncounted;
 
 pub use change::OfficeChange;
 pub use identity::LoadIdentity;

@@ -1,6 +1,4 @@
-use Rattle.std.proofs.Common.{◌≡◌, ◌++◌, map}
-use Rattle.aq_rows.specs.OfficeRows.{observation_row}
 use Rattle.aq_rows.proofs.office_rows.add_observations.Given as goal
 
-abbrev pub invariant-loop-key : goal.invariant-loop-key
-invariant-loop-key l = l.rows ++ map observation_row l.key-iterator ≡ l.fn.rows ++ map observation_row l.fn.shelf
+abbrev pub ghosts-counted : goal.ghosts-counted
+ghosts-counted a = record { name = a.blank.name; parts = a.blank.parts }
