@@ -13,7 +13,7 @@ use Rattle.aq_dirty.specs.Marked.{IsWithin}
 use Rattle.aq_dirty.specs.Reach.{day_reading}
 use Rattle.aq_dirty.specs.Spans.{covers, holds}
 
-or_cases : (a b : Bool) → (a || b) ≡ true → (a ≡ true) ⊎ (b ≡ true)
+pub or_cases : (a b : Bool) → (a || b) ≡ true → (a ≡ true) ⊎ (b ≡ true)
 or_cases true b h = inl refl
 or_cases false b h = inr h
 

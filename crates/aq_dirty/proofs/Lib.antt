@@ -5,7 +5,15 @@ pub mod Dropped
 pub mod Ranges
 pub mod Years
 pub mod Reached
-pub mod NextDesignation
+pub mod NextStart
 pub mod Marks
 pub mod Bounds
 pub mod Members
+-- Lemmas on days, quarters and strata, and what of them a change marks.
+pub mod Along
+pub mod DaySteps
+pub mod StratumStarts
+pub mod StratumSpans
+pub mod ParticleRows
+pub mod ParticleMarks
+pub mod ParticleMembers

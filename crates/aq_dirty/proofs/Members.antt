@@ -36,7 +36,7 @@ module _ (test : Cell → Bool) (cell : Site → ℕ → Cell) where
       ∙ (λ i. list_any (λ (span : Span). any-map test (cell span.site) (from_to span.first span.last) i) spans)
 
   -- none, if the test passes for no such cell
-  in_none : (spans : List Span) → ((site : Site) (n : ℕ) → test (cell site n) ≡ false) → list_any test (cells_in_spans cell spans) ≡ false
+  pub in_none : (spans : List Span) → ((site : Site) (n : ℕ) → test (cell site n) ≡ false) → list_any test (cells_in_spans cell spans) ≡ false
   in_none spans other =
       in_spans spans
       ∙ (λ i. list_any (λ (span : Span). list_any (λ n. other span.site n i) (from_to span.first span.last)) spans)
@@ -44,7 +44,7 @@ module _ (test : Cell → Bool) (cell : Site → ℕ → Cell) where
       ∙ any-false spans
 
   -- the number of a site, if the test passes for its cell alone
-  in_one : (site : Site) (number : ℕ) (spans : List Span) → ((other : Site) (n : ℕ) → test (cell other n) ≡ ((number == n) && is_same_site site other))
+  pub in_one : (site : Site) (number : ℕ) (spans : List Span) → ((other : Site) (n : ℕ) → test (cell other n) ≡ ((number == n) && is_same_site site other))
       → list_any test (cells_in_spans cell spans) ≡ holds site number spans
   in_one site number spans own =
       in_spans spans

@@ -33,7 +33,7 @@ module _ (test : Cell → Bool) (site : Site) (hour : ℕ) where
       || any-map test (OzoneDayCell site) (days_reading hour) i)
       || any-map test (λ day. OzoneYearCell site (year_of day)) (days_reading hour) i)
 
-or_false : (a : Bool) → (a || false) ≡ a
+pub or_false : (a : Bool) → (a || false) ≡ a
 or_false true = refl
 or_false false = refl
 
@@ -81,7 +81,7 @@ one_hour (PmYearCell other year) site h = parts (is_same_cell (PmYearCell other 
 
 -- ---- those that read one of several hours
 
-turned : (a b same other : Bool) → same ≡ other → ((a && b) && same) ≡ (other && a && b)
+pub turned : (a b same other : Bool) → same ≡ other → ((a && b) && same) ≡ (other && a && b)
 turned a b same other e = both a b same ∙ ap (λ s. s && a && b) e
   where
     both : (a b s : Bool) → ((a && b) && s) ≡ (s && a && b)

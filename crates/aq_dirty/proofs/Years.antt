@@ -18,7 +18,7 @@ year_next year h =
 some_days : (year : ℕ) → 0 < days_in_year year
 some_days year = elim (year % 4 == 0) as (λ b. 0 < cond b 366 365) [ true ↦ omega arith | false ↦ omega arith ]
 
-year_step : (d : ℕ) → d < LAST_DAY → (year_of (d + 1) ≡ year_of d) ⊎ (year_of (d + 1) ≡ year_of d + 1)
+pub year_step : (d : ℕ) → d < LAST_DAY → (year_of (d + 1) ≡ year_of d) ⊎ (year_of (d + 1) ≡ year_of d + 1)
 year_step d h =
     let y = year_of d in
     let low : FIRST_YEAR ≤ y = (date_is d (omega arith)).year_low in

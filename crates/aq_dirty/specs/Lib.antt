@@ -1,3 +1,5 @@
 pub mod Spans
 pub mod Marked
 pub mod Reach
+pub mod ParticleReach
+pub mod Particles

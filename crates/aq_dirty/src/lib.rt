@@ -1,26 +1,33 @@
-//! The dirty set: the cells that a change of an office's rows reaches, held until each is brought up to
-//! date. A cell is a number that is kept of an office beside its rows: an hour, an average, a day or a
-//! year of a site. The set holds those of ozone, as spans of hours, days and years.
+//! The dirty sets: the cells that a change of an office's rows reaches, held until each is brought up to
+//! date. A cell is a number that is kept of an office beside its rows: an hour, an average, a day, a
+//! stratum, a quarter or a year of a site. One set holds those of ozone and one those of PM2.5 and PM10,
+//! as spans of hours, days, quarters and years.
 //!
 //! # What it has
 //!
 //! - `CellName`: a cell, by what it is of.
 //! - `OfficeChange`: what became of one observation or record.
-//! - `Dirty::new`, `mark`: an empty set; the cells that a change reaches are added.
+//! - `Dirty::new`, `mark`: an empty set; the ozone cells that a change reaches are added.
 //! - `Dirty::holds`, `is_of_season`: whether a cell is held, and whether a season or an approval of a
 //!   year was marked.
 //! - `Dirty::next`, `settle`: the next cell, of the lowest level; it is dropped once it is up to date.
 //! - `Dirty::first_hours`, `settle_hours`: the same for the first hours, as an `HourSpan`.
+//! - `DirtyParticles`: the same for the cells of particles, with `is_of_schedule`, `first_days`,
+//!   `settle_days` and `DaySpan`.
+//! - `stratum_first`: the first day of the stratum that holds a day.
 //!
 //! # What it promises
 //!
-//! - After a change is marked, the ozone cells that are held are those that were held and those that the
-//!   book's table names for the changed row, and no others; after want of memory they are those of
-//!   before.
+//! - After a change is marked, the cells that are held are those that were held and those that the book's
+//!   table names for the changed row, and no others; after want of memory they are those of before.
 //! - The next cell is of the lowest level: hours come before averages, these before days, and these
-//!   before years. There is none exactly if no cell is held.
-//! - Settling the next cell, or the first hours, drops those cells alone, and takes no memory.
-//! - The cells that are held are those of a list (`the_cells_held_are_a_list`).
+//!   before years; days of particles come before strata, these before quarters, and these before years.
+//!   There is none exactly if no cell is held.
+//! - Settling the next cell, or the first hours or days, drops those cells alone, and takes no memory.
+//! - A year is of a season, and a quarter of a schedule, exactly if a marked change is one that the book's
+//!   table names for it. So a day that changes leaves its year and its quarter at no step.
+//! - The cells that are held are those of a list (`the_cells_held_are_a_list`,
+//!   `the_particle_cells_held_are_a_list`).
 //!
 //! # An example
 //!
@@ -38,11 +45,17 @@ mod cell_name;
 mod change;
 mod dirty;
 mod marking;
+mod particle_marking;
+mod particle_reach;
+mod particles;
 mod reach;
 mod spans;
+mod strata;
 #[cfg(test)]
 mod tests;
 
 pub use cell_name::CellName;
 pub use change::OfficeChange;
 pub use dirty::{Dirty, HourSpan, the_cells_held_are_a_list};
+pub use particles::{DaySpan, DirtyParticles, the_particle_cells_held_are_a_list};
+pub use strata::stratum_first;

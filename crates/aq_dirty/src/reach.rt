@@ -121,7 +121,12 @@ fn reach_of_hours(pollutant: Pollutant, site: SiteId, first: Hour, last: Hour) -
 
 /// The last day of the designation of a site and pollutant that starts on a day, be there one or not: the
 /// day before the next one, found by one search of the map.
-fn last_day_designated(registry: &Registry, site: SiteId, pollutant: Pollutant, from: Day) -> Day
+pub(crate) fn last_day_designated(
+    registry: &Registry,
+    site: SiteId,
+    pollutant: Pollutant,
+    from: Day,
+) -> Day
     ensures { result ≡ table.last_day_designated registry.now site pollutant from }
 {
     // For the proof: the records are those of a valid office.

@@ -2,7 +2,7 @@
 ghost use Rattle.std.specs.Prelude.{◌<◌};
 
 use super::*;
-use aq_base::{Day, Hour, Memory, MonitorId, ObsKey, OfficeRecord, Pollutant, SiteId};
+use aq_base::{Day, Hour, Memory, MonitorId, ObsKey, OfficeRecord, Pollutant, Quarter, SiteId};
 use aq_registry::{RecordChange, Registry};
 use std::alloc::Global;
 use std::test::Fail;
@@ -124,5 +124,83 @@ fn records_wait_with_what_reads_them(rt: HostRuntime) -> Result<(), Fail> {
     assert!(rt; dirty.is_of_season(site, 2024));
     let cells = settled(&mut dirty);
     assert!(rt; cells[0] == (4, 2024) && cells[1] == (0, 0));
+    Ok(())
+}
+
+/// The level and the number of a cell of particles: days, strata, quarters and years.
+fn particle_level(cell: &CellName) -> (u8, u32) {
+    match cell {
+        CellName::PmDay(_, _, day) => (1, u32::from(day.number())),
+        CellName::Stratum(_, first) => (2, u32::from(first.number())),
+        CellName::Quarter(_, _, quarter) => (3, u32::from(quarter.number())),
+        CellName::PmYear(_, year) => (4, u32::from(*year)),
+        _ => (0, 0),
+    }
+}
+
+/// The first four particle cells that wait, in the order in which they are brought up to date.
+fn settled_particles(dirty: &mut DirtyParticles) -> [(u8, u32); 4] {
+    let mut cells = [(0, 0); 4];
+    for place in 0..4 {
+        if let Some(cell) = dirty.next() {
+            cells[place] = particle_level(&cell);
+            dirty.settle(cell);
+        }
+    }
+    cells
+}
+
+/// What waits of particles after one change in an office without records.
+fn marked_particles(alloc: Global, change: OfficeChange) -> Result<DirtyParticles, Memory> {
+    let registry = Registry::new(alloc);
+    let mut dirty = DirtyParticles::new(alloc);
+    dirty.mark(&registry, &change)?;
+    Ok(dirty)
+}
+
+/// Without a schedule a stratum has six days, so 8 July 2024 (day 12,607) lies in the one from 7 July.
+#[test]
+fn a_pm10_sample_waits_with_its_stratum_and_its_quarter(rt: HostRuntime) -> Result<(), Fail> {
+    let site = SiteId::new(6, 37, 1103).ok_or(Memory)?;
+    let key = ObsKey {
+        monitor: MonitorId {
+            site,
+            pollutant: Pollutant::Pm10,
+            poc: 1,
+        },
+        hour: Hour::new(24 * 12_607),
+    };
+    let change = OfficeChange::Observation {
+        key,
+        old: None,
+        new: None,
+    };
+    let mut dirty = marked_particles(rt.alloc(), change)?;
+    assert!(rt; !dirty.is_of_schedule(site, Pollutant::Pm10, Quarter::new(138)));
+    let cells = settled_particles(&mut dirty);
+    assert!(rt; cells == [(1, 12_607), (2, 12_606), (3, 138), (0, 0)]);
+    Ok(())
+}
+
+/// A schedule from 1 October 2059 (day 25,475) on reaches the last quarter, and the strata that it had: the
+/// second one starts on 7 October.
+#[test]
+fn a_schedule_waits_with_the_strata_of_its_quarters(rt: HostRuntime) -> Result<(), Fail> {
+    let site = SiteId::new(6, 37, 1103).ok_or(Memory)?;
+    let schedule = OfficeRecord::Schedule {
+        site,
+        pollutant: Pollutant::Pm10,
+        from: Day::new(25_475),
+        interval: 3,
+        anchor: Day::new(0),
+    };
+    let change = OfficeChange::Record(RecordChange {
+        old: None,
+        new: Some(schedule),
+    });
+    let mut dirty = marked_particles(rt.alloc(), change)?;
+    assert!(rt; dirty.is_of_schedule(site, Pollutant::Pm10, Quarter::new(279)));
+    let cells = settled_particles(&mut dirty);
+    assert!(rt; cells == [(2, 25_475), (2, 25_481), (2, 25_487), (2, 25_493)]);
     Ok(())
 }

@@ -3,7 +3,7 @@ use Rattle.aq_base.specs.declared.office.OfficeKey.TheVariants.{Primary as Prima
 use Rattle.aq_rules.specs.Kept.Reach.{last_day_before}
 use Rattle.aq_rules.specs.Office.Questions.{following}
 use Rattle.aq_dirty.specs.Reach.{start_in}
-use Rattle.aq_dirty.proofs.NextDesignation.{last_designated}
+use Rattle.aq_dirty.proofs.NextStart.{last_designated}
 use Rattle.aq_dirty.proofs.reach.last_day_designated.Goals as goal
 
 pub returns-in-Some : goal.returns-in-Some

@@ -1,0 +1,20 @@
+use Rattle.std.proofs.Common.{◌≡◌, ◌∙◌, ◌-◌, ap, sym, Some}
+use Rattle.aq_base.specs.declared.office.OfficeKey.TheVariants.{Schedule as ScheduleKey}
+use Rattle.aq_rules.specs.Kept.Reach.{last_day_before}
+use Rattle.aq_rules.specs.Office.Questions.{following}
+use Rattle.aq_dirty.specs.ParticleReach.{schedule_start_in}
+use Rattle.aq_dirty.proofs.NextStart.{last_scheduled}
+use Rattle.aq_dirty.proofs.particle_reach.last_day_scheduled.Goals as goal
+
+pub returns-in-Some : goal.returns-in-Some
+returns-in-Some c =
+    let found : c.schedule_start_in.result ≡ schedule_start_in c.args.site c.args.pollutant (following c.args.registry.now (Some (ScheduleKey c.args.site c.args.pollutant c.args.from))) =
+    c.schedule_start_in.ensures ∙ ap (schedule_start_in c.args.site c.args.pollutant) c.following.ensures in
+    let next : c.new.result ≡ last_day_before (Some c.in-Some.next) = c.new.ensures ∙ c.saturating_sub.ensures ∙ ap (λ n. n - 1) c.number.ensures.value in
+    next ∙ ap last_day_before (sym c.in-Some.is ∙ found) ∙ last_scheduled c.args.site c.args.pollutant c.args.from c.args.registry.now c.next_poc.ensures.valid.keys_rise.records
+
+pub returns-in-None : goal.returns-in-None
+returns-in-None c =
+    let found : c.schedule_start_in.result ≡ schedule_start_in c.args.site c.args.pollutant (following c.args.registry.now (Some (ScheduleKey c.args.site c.args.pollutant c.args.from))) =
+    c.schedule_start_in.ensures ∙ ap (schedule_start_in c.args.site c.args.pollutant) c.following.ensures in
+    c.new-in-None.ensures ∙ ap last_day_before (sym c.in-None.is ∙ found) ∙ last_scheduled c.args.site c.args.pollutant c.args.from c.args.registry.now c.next_poc.ensures.valid.keys_rise.records
