@@ -10,7 +10,7 @@ use crate::either::of_either;
 use crate::pair::Pair;
 use aq_base::{Day, Pollutant, Quarter, SiteId, Steps};
 use aq_cal::a_quarter_holds_the_days_of_its_span;
-use aq_pm25::{MOST_DAYS, Pm25Days, Pm25Source, gives_credit, year_of};
+use aq_pm25::{MOST_DAYS, Pm25Days, Pm25Schedule, Pm25Source, gives_credit, year_of};
 use aq_series::{Cell, site_day, site_days};
 use aq_verdict::PmYear;
 use std::sync::ledger::Ledger;
@@ -31,11 +31,18 @@ impl<'s, 'r> Pair<'s, 'r> {
     }
 }
 
-impl<'s, 'r> Pm25Days for Pair<'s, 'r> {
+impl<'s, 'r> Pm25Schedule for Pair<'s, 'r> {
     ghost use Rattle.aq_combine.specs.Pairs.{days_of, office_in, pair_in};
 
     ghost site_days = { λ pair. days_of (office_in pair) (pair_in pair) };
 
+    fn is_scheduled(&self, day: Day) -> bool {
+        self.registry
+            .is_scheduled(self.in_force(day), Pollutant::Pm25, day)
+    }
+}
+
+impl<'s, 'r> Pm25Days for Pair<'s, 'r> {
     fn day<L: Ledger>(&self, day: Day, steps: &mut Steps<L>) -> Option<Cell> {
         if self.is_before(day) {
             return self.pm25_on(self.site, day, steps);
@@ -62,11 +69,6 @@ impl<'s, 'r> Pm25Days for Pair<'s, 'r> {
         }
         let joined = site_days(self.shelf, self.registry, self.joined, first, count, steps);
         of_either(&site, &joined, u32::from(number), u32::from(from))
-    }
-
-    fn is_scheduled(&self, day: Day) -> bool {
-        self.registry
-            .is_scheduled(self.in_force(day), Pollutant::Pm25, day)
     }
 }
 

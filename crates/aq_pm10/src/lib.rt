@@ -9,6 +9,8 @@
 //!   sixtieths.
 //! - `year(shelf, registry, site, year, steps)`: the four quarters of a year, as a `Pm10Year`. The year
 //!   is 1990 to 2059.
+//! - `quarter_in(year, part)`: a quarter of a year, by its part from 0 to 3; `exceeds`: whether a value
+//!   exceeds 150 µg/m3; `STRATUM_DAYS`: how many days a stratum has at most.
 //!
 //! # What it promises
 //!
@@ -29,4 +31,5 @@
 mod site_quarter;
 mod strata;
 
-pub use site_quarter::{quarter, year};
+pub use site_quarter::{quarter, quarter_in, year};
+pub use strata::{STRATUM_DAYS, exceeds};

@@ -76,8 +76,8 @@ pub fn year<L: Ledger>(
     Pm10Year::new([first, second, third, fourth])
 }
 
-/// A quarter of a year, from 0 for the first one to 3.
-fn quarter_in(year: u16, part: u16) -> Quarter
+/// The quarter that is a part of a year, 1990 to 2059, from 0 for the first one to 3.
+pub fn quarter_in(year: u16, part: u16) -> Quarter
     requires first { FIRST_YEAR ≤ year }
     requires last { year ≤ LAST_YEAR }
     requires part { part < 4 }

@@ -7,13 +7,13 @@ ghost use Rattle.aq_pm10.specs.StrataSoFar.{IsStratumOf, AreTotalsOf, AreStrataO
 use aq_rules::particles::pm10::exceedances_and_their_estimates;
 
 /// A stratum has so many days at most.
-const STRATUM_DAYS: u16 = 6;
+pub const STRATUM_DAYS: u16 = 6;
 
 /// The least value, in tenths of a µg/m3, that exceeds 150 µg/m3 once it is rounded to the nearest 10.
 const LEAST_EXCEEDING: i32 = 1550;
 
 /// Whether a value in tenths of a µg/m3 exceeds 150 µg/m3 (Appendix K, 1.0(b) and 2.1).
-pub(crate) fn exceeds(value: i32) -> bool
+pub fn exceeds(value: i32) -> bool
     ensures { result ≡ exceeds value }
 {
     exceedances_and_their_estimates();

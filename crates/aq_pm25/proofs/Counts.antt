@@ -75,7 +75,7 @@ module _ (site_days : SiteDays) (makeup_for : ℕ → Option ℕ) where
     by_makeup true None false (Some c) false false = omega (arith, nothing)
 
     by_look : (day : ℕ) (s : Bool) (cell : Option Cell) (found : Option ℕ) → site_days.schedules day ≡ s → site_days.cell_on day ≡ cell
-        → one (cond s (option_or cell (option_and_then (λ makeup. cond (is_makeup_day site_days day makeup) (site_days.cell_on makeup) None) found)) None)
+        → one (cond s (option_or cell (option_and_then (λ makeup. cond (is_makeup_day site_days.schedules day makeup) (site_days.cell_on makeup) None) found)) None)
         ≡ cond s (one cell) 0 + cond (option_map_or credit (option_map (as_makeup day) found) false) 1 0
     by_look day false cell None si ci = nothing
     by_look day true None None si ci = omega (arith, nothing)

@@ -7,7 +7,7 @@ use Rattle.std.proofs.lemmas.Bool.{and_parts}
 use Rattle.std.proofs.lemmas.List.Sums.{count_by-le-length, length-filter, sum_by-cons}
 use Rattle.aq_base.specs.Calendar.{days_in_quarter}
 use Rattle.aq_base.specs.declared.monitor.Pollutant.TheVariants.{Pm25}
-use Rattle.aq_rules.specs.Kept.Summaries.{is_value, KeepsPmQuarter, PmQuarter, summary_of_quarter}
+use Rattle.aq_rules.specs.Kept.Summaries.{is_value, KeepsPmQuarter, summary_of_quarter}
 use Rattle.aq_rules.specs.Lists.{greatest, least, total}
 use Rattle.aq_rules.specs.Ozone.SiteHour.{Cell}
 use Rattle.aq_rules.specs.Particles.ParticleDay.{unless_excluded}
@@ -93,15 +93,103 @@ module _ (site_days : SiteDays) (makeup_for : ℕ → Option ℕ) (quarter : ℕ
       let c = and_parts _ (is_sampled_by site_days m.makeup) (and_parts _ (in_time_by site_days.schedules m) h).0 in
       (and_parts _ (not (site_days.schedules m.makeup)) c.0).1
 
-  creditable_is : count_by (λ d. is_some (credited site_days makeup_for d)) days ≡ count_by (is_sampled_by site_days) (filter site_days.schedules days) + length credits
+  pub creditable_is : count_by (λ d. is_some (credited site_days makeup_for d)) days ≡ count_by (is_sampled_by site_days) (filter site_days.schedules days) + length credits
   unfolding credits_by
   creditable_is =
       counted-in site_days makeup_for is_some refl quarter
       ∙ ap (λ n. count_by (is_sampled_by site_days) (filter site_days.schedules days) + n)
       (sym (length-passing (λ (m : Makeup). is_sampled_by site_days m.makeup) (gives_credit_by site_days) credit_sampled (makeups_by makeup_for quarter)))
 
-  counted_is : count_by (λ d. net (credited site_days makeup_for d)) days ≡ count_by kept (filter site_days.schedules days) + count_by (λ (m : Makeup). kept m.makeup) credits
+  pub counted_is : count_by (λ d. net (credited site_days makeup_for d)) days ≡ count_by kept (filter site_days.schedules days) + count_by (λ (m : Makeup). kept m.makeup) credits
   counted_is = counted-in site_days makeup_for net refl quarter
+
+  -- ---- the facts
+
+  scheduled_some : (s : Bool) (o : Option Cell) → is_some (cond s o None) ≡ true → s ≡ true
+  scheduled_some true o h = refl
+  scheduled_some false o h = h
+
+  one_room : (s : Bool) (cell made : Option Cell) → cond (net cell) 1 0 + cond s 1 0 ≤ 1 + cond (is_some (cond s (option_or cell made) None)) 1 0
+  one_room true None made = by_some (is_some made)
+    where
+      by_some : (b : Bool) → 0 + 1 ≤ 1 + cond b 1 0
+      by_some true = omega arith
+      by_some false = omega arith
+  one_room true (Some c) made = by_net (net (Some c))
+    where
+      by_net : (b : Bool) → cond b 1 0 + 1 ≤ 1 + 1
+      by_net true = omega arith
+      by_net false = omega arith
+  one_room false cell made = by_net (net cell)
+    where
+      by_net : (b : Bool) → cond b 1 0 + 0 ≤ 1 + 0
+      by_net true = omega arith
+      by_net false = omega arith
+
+  module _ (apart : AreApart quarter credits) (particles : AreParticles this_quarter.values) where
+    kept_credits_few : count_by (λ (m : Makeup). kept m.makeup) credits ≤ count_by (λ d. kept d && not (site_days.schedules d)) days
+    unfolding credits_by
+    kept_credits_few =
+        let made = makeups_by makeup_for quarter in
+        let free : Makeup → Bool = λ m. kept m.makeup && not (site_days.schedules m.makeup) in
+        omega (
+          arith,
+          count-both (λ (m : Makeup). kept m.makeup) (gives_credit_by site_days) made,
+          count-implied (λ m. gives_credit_by site_days m && kept m.makeup) (λ m. gives_credit_by site_days m && free m) passes made,
+          count-both free (gives_credit_by site_days) made,
+          apart (λ d. kept d && not (site_days.schedules d)),
+        )
+      where
+        joined : (a b c : Bool) → (a && b) ≡ true → c ≡ true → (a && (b && c)) ≡ true
+        joined true true true h k = refl
+        joined true true false h k = k
+        joined true false c h k = h
+        joined false b c h k = h
+
+        passes : (m : Makeup) → (gives_credit_by site_days m && kept m.makeup) ≡ true → (gives_credit_by site_days m && (kept m.makeup && not (site_days.schedules m.makeup))) ≡ true
+        passes m h = joined (gives_credit_by site_days m) (kept m.makeup) (not (site_days.schedules m.makeup)) h (credit_unscheduled m (and_parts (gives_credit_by site_days m) (kept m.makeup) h).0)
+
+    pub quarter-keeps : KeepsPmQuarter (summary_of_quarter this_quarter)
+    quarter-keeps =
+        let values = this_quarter.values in
+        let every : Every (InRangeTo 99999) values = every_of values particles in
+        let many : length days ≡ days_in_quarter quarter = length-days quarter in
+        let most = (quarter_days quarter).1 in
+        let S = summary_of_quarter this_quarter in
+        let scheduled_at : S.scheduled ≡ count_by site_days.schedules days = length-filter site_days.schedules days in
+        let creditable_at : S.creditable ≡ count_by (λ d. is_some (credited site_days makeup_for d)) days = sym creditable_is in
+        let counted_at : S.counted ≡ count_by (λ d. net (credited site_days makeup_for d)) days = sym counted_is in
+        let net_at : S.net_days ≡ count_by kept days = length_given (net_by site_days) days in
+        record {
+          counted = omega (arith, counted_at, creditable_at, count-implied (λ d. net (credited site_days makeup_for d)) (λ d. is_some (credited site_days makeup_for d)) (λ d. kept_sampled (credited site_days makeup_for d)) days);
+          creditable =
+              omega (
+                arith,
+                creditable_at,
+                scheduled_at,
+                count-implied (λ d. is_some (credited site_days makeup_for d)) site_days.schedules (λ d. scheduled_some (site_days.schedules d) (option_or (site_days.cell_on d) (makeup_cell site_days makeup_for d))) days,
+              );
+          scheduled = omega (arith, scheduled_at, count_by-le-length site_days.schedules days, many, most);
+          counted_net = omega (arith, counted_at, counted_is, net_at, kept_credits_few, count-both kept site_days.schedules days, split_days site_days.schedules kept days);
+          net_days =
+              omega (
+                arith,
+                net_at,
+                scheduled_at,
+                creditable_at,
+                many,
+                most,
+                room_of kept site_days.schedules (λ d. is_some (credited site_days makeup_for d)) (λ d. one_room (site_days.schedules d) (site_days.cell_on d) (makeup_cell site_days makeup_for d)) days,
+              );
+          some_least = least-there values;
+          some_greatest = greatest-there values;
+          least_in_range = value_test (least values) (least-in_range 99999 values every);
+          greatest_in_range = value_test (greatest values) (greatest-in_range 99999 values every);
+          sum_within = sum-within this_quarter;
+          no_sum = no-sum values;
+        }
+
+  -- ---- what its days give together
 
   values_are : (ds : List ℕ) → values_of (map (day_in site_days makeup_for) ds) ≡ filter_map (net_by site_days) ds
   values_are [] = refl
@@ -132,98 +220,12 @@ module _ (site_days : SiteDays) (makeup_for : ℕ → Option ℕ) (quarter : ℕ
         let g : tally.values.greatest ≡ greatest this_quarter.values = values.greatest_is ∙ ap greatest quarter-values in
         λ i. record { scheduled = a i; creditable = b i; counted = c i; net_days = d i; sum = e i; least = f i; greatest = g i }
 
-    -- ---- the facts
-
-    scheduled_some : (s : Bool) (o : Option Cell) → is_some (cond s o None) ≡ true → s ≡ true
-    scheduled_some true o h = refl
-    scheduled_some false o h = h
-
-    one_room : (s : Bool) (cell made : Option Cell) → cond (net cell) 1 0 + cond s 1 0 ≤ 1 + cond (is_some (cond s (option_or cell made) None)) 1 0
-    one_room true None made = by_some (is_some made)
-      where
-        by_some : (b : Bool) → 0 + 1 ≤ 1 + cond b 1 0
-        by_some true = omega arith
-        by_some false = omega arith
-    one_room true (Some c) made = by_net (net (Some c))
-      where
-        by_net : (b : Bool) → cond b 1 0 + 1 ≤ 1 + 1
-        by_net true = omega arith
-        by_net false = omega arith
-    one_room false cell made = by_net (net cell)
-      where
-        by_net : (b : Bool) → cond b 1 0 + 0 ≤ 1 + 0
-        by_net true = omega arith
-        by_net false = omega arith
-
-    module _ (apart : AreApart quarter credits) where
-      kept_credits_few : count_by (λ (m : Makeup). kept m.makeup) credits ≤ count_by (λ d. kept d && not (site_days.schedules d)) days
-      unfolding credits_by
-      kept_credits_few =
-          let made = makeups_by makeup_for quarter in
-          let free : Makeup → Bool = λ m. kept m.makeup && not (site_days.schedules m.makeup) in
-          omega (
-            arith,
-            count-both (λ (m : Makeup). kept m.makeup) (gives_credit_by site_days) made,
-            count-implied (λ m. gives_credit_by site_days m && kept m.makeup) (λ m. gives_credit_by site_days m && free m) passes made,
-            count-both free (gives_credit_by site_days) made,
-            apart (λ d. kept d && not (site_days.schedules d)),
-          )
-        where
-          joined : (a b c : Bool) → (a && b) ≡ true → c ≡ true → (a && (b && c)) ≡ true
-          joined true true true h k = refl
-          joined true true false h k = k
-          joined true false c h k = h
-          joined false b c h k = h
-
-          passes : (m : Makeup) → (gives_credit_by site_days m && kept m.makeup) ≡ true → (gives_credit_by site_days m && (kept m.makeup && not (site_days.schedules m.makeup))) ≡ true
-          passes m h = joined (gives_credit_by site_days m) (kept m.makeup) (not (site_days.schedules m.makeup)) h (credit_unscheduled m (and_parts (gives_credit_by site_days m) (kept m.makeup) h).0)
-
-      facts-kept : KeepsPmQuarter (summary_of_quarter this_quarter)
-      facts-kept =
-          let values = this_quarter.values in
-          let every : Every (InRangeTo 99999) values = every_of values (subst AreParticles quarter-values is.values.range) in
-          let many : length days ≡ days_in_quarter quarter = length-days quarter in
-          let most = (quarter_days quarter).1 in
-          let number : length (values_of (map (day_in site_days makeup_for) days)) ≡ count_by kept days = ap length (values_are days) ∙ length_given (net_by site_days) days in
-          let summary = summary-is in
-          let S = summary_of_quarter this_quarter in
-          let scheduled_at : S.scheduled ≡ count_by site_days.schedules days = ap (λ (q : PmQuarter). q.scheduled) (sym summary) ∙ scheduled_days_are in
-          let creditable_at : S.creditable ≡ count_by (λ d. is_some (credited site_days makeup_for d)) days = ap (λ (q : PmQuarter). q.creditable) (sym summary) ∙ creditable_days_are in
-          let counted_at : S.counted ≡ count_by (λ d. net (credited site_days makeup_for d)) days = ap (λ (q : PmQuarter). q.counted) (sym summary) ∙ counted_days_are in
-          let net_at : S.net_days ≡ count_by kept days = ap (λ (q : PmQuarter). q.net_days) (sym summary) ∙ is.values.count ∙ number in
-          record {
-            counted = omega (arith, counted_at, creditable_at, count-implied (λ d. net (credited site_days makeup_for d)) (λ d. is_some (credited site_days makeup_for d)) (λ d. kept_sampled (credited site_days makeup_for d)) days);
-            creditable =
-                omega (
-                  arith,
-                  creditable_at,
-                  scheduled_at,
-                  count-implied (λ d. is_some (credited site_days makeup_for d)) site_days.schedules (λ d. scheduled_some (site_days.schedules d) (option_or (site_days.cell_on d) (makeup_cell site_days makeup_for d))) days,
-                );
-            scheduled = omega (arith, scheduled_at, count_by-le-length site_days.schedules days, many, most);
-            counted_net = omega (arith, counted_at, counted_is, net_at, kept_credits_few, count-both kept site_days.schedules days, split_days site_days.schedules kept days);
-            net_days =
-                omega (
-                  arith,
-                  net_at,
-                  scheduled_at,
-                  creditable_at,
-                  many,
-                  most,
-                  room_of kept site_days.schedules (λ d. is_some (credited site_days makeup_for d)) (λ d. one_room (site_days.schedules d) (site_days.cell_on d) (makeup_cell site_days makeup_for d)) days,
-                );
-            some_least = least-there values;
-            some_greatest = greatest-there values;
-            least_in_range = value_test (least values) (least-in_range 99999 values every);
-            greatest_in_range = value_test (greatest values) (greatest-in_range 99999 values every);
-            sum_within = sum-within this_quarter;
-            no_sum = no-sum values;
-          }
-
-      pub quarter-is : IsQuarterOf this_quarter before tally
-      quarter-is = record {
-        summary = summary-is;
-        facts = subst KeepsPmQuarter (sym summary-is) facts-kept;
-        top = is.values.top ∙ ap (top_after before) quarter-values;
-        range = subst AreParticles quarter-values is.values.range;
-      }
+    pub quarter-is : AreApart quarter credits → IsQuarterOf this_quarter before tally
+    quarter-is apart =
+        let range = subst AreParticles quarter-values is.values.range in
+        record {
+          summary = summary-is;
+          facts = subst KeepsPmQuarter (sym summary-is) (quarter-keeps apart range);
+          top = is.values.top ∙ ap (top_after before) quarter-values;
+          range = range;
+        }

@@ -116,7 +116,7 @@ module _ (records : List OfficeRecord) (site : Site) (quarter first many : ℕ) 
             let first_is : count_by (makes_up_on site d) (r ∷ rs) ≡ 0 + count_by (makes_up_on site d) rs = count_cons (makes_up_on site d) r rs ∙ ap (λ b. cond b 1 0 + count_by (makes_up_on site d) rs) e in
             inl (omega (arith, first_is, none))
 
-    one_makeup : count_by (makes_up_on site d) records ≤ 1
+    pub one_makeup : count_by (makes_up_on site d) records ≤ 1
     one_makeup = elim (none_or_one records valid.records_alone) [ inl none ↦ omega (arith, none) | inr few ↦ few ]
 
   pub made-once : (d : ℕ) → count_by (λ (m : Makeup). m.makeup == d) (filter_map (makeup_by site quarter) records) ≤ 1

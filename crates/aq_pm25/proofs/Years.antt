@@ -40,11 +40,11 @@ most-days quarter part is few = by_part part few (days-are quarter (quarter_year
     by_part (suc (suc (suc zero))) low sum = omega (arith, sum)
     by_part (suc (suc (suc (suc n)))) low sum = absurd (omega (arith, low))
 
-all_in_range : (values : List ℤ) → Every (InRangeTo 99999) values → list_all (is_in_range Pm25) values ≡ true
+pub all_in_range : (values : List ℤ) → Every (InRangeTo 99999) values → list_all (is_in_range Pm25) values ≡ true
 all_in_range [] every = refl
 all_in_range (v ∷ vs) every = let h = to_test 99999 v every.0 in rw h (all_in_range vs every.1)
 
-all_four : (P : PmQuarter → Type 0) (a b c d : PmQuarter) → P a → P b → P c → P d → All P (a ∷ b ∷ c ∷ d ∷ [])
+pub all_four : (P : PmQuarter → Type 0) (a b c d : PmQuarter) → P a → P b → P c → P d → All P (a ∷ b ∷ c ∷ d ∷ [])
 all_four P a b c d pa pb pc pd =
     All-cons P a (b ∷ c ∷ d ∷ []) pa (All-cons P b (c ∷ d ∷ []) pb (All-cons P c (d ∷ []) pc (All-cons P d [] pd (All-nil P))))
 

@@ -12,15 +12,15 @@ use Rattle.aq_pm25.specs.declared.quarter_days.DayOfQuarter.{DayOfQuarter}
 use Rattle.aq_pm25.specs.declared.quarters.QuarterTally.{QuarterTally}
 
 -- a day on which a sample may make up for a missed day: not scheduled, and before the next scheduled day or exactly a week later
-abbrev pub is_makeup_day : SiteDays → ℕ → ℕ → Bool
-is_makeup_day days missed makeup =
-    not (days.schedules makeup)
-    && ((makeup == missed + 7) || not (list_any days.schedules (range_with_len (missed + 1) (makeup - missed))))
+abbrev pub is_makeup_day : (ℕ → Bool) → ℕ → ℕ → Bool
+is_makeup_day schedules missed makeup =
+    not (schedules makeup)
+    && ((makeup == missed + 7) || not (list_any schedules (range_with_len (missed + 1) (makeup - missed))))
 
 -- the sample that makes up for a missed day
 abbrev pub makeup_cell : SiteDays → (ℕ → Option ℕ) → ℕ → Option Cell
 makeup_cell days makeup_for missed =
-    option_and_then (λ makeup. if is_makeup_day days missed makeup then days.cell_on makeup else None) (makeup_for missed)
+    option_and_then (λ makeup. if is_makeup_day days.schedules missed makeup then days.cell_on makeup else None) (makeup_for missed)
 
 -- the creditable sample of a scheduled day: its own, else one that makes up for it
 abbrev pub credited : SiteDays → (ℕ → Option ℕ) → ℕ → Option Cell

@@ -8,8 +8,10 @@
 //!   greatest of the values that are not excluded.
 //! - `year(shelf, registry, site, year, steps)`: a year, as a `PmYear`: its four quarters and its eight
 //!   greatest values that are not excluded. The year is 1990 to 2059.
-//! - `Pm25Days`, `Pm25Source`: the days of what is read as one site, and its make-up samples; `year_of`:
-//!   the year of any source; `gives_credit`: whether a sample makes up for a missed day.
+//! - `Pm25Schedule`, `Pm25Days`, `Pm25Source`: the schedule of what is read as one site, its days, and its
+//!   make-up samples; `year_of`: the year of any source; `gives_credit`: whether a sample makes up for a
+//!   missed day; `is_makeup_day`: whether a sample of a day may.
+//! - `part_of(year, part)`: a quarter of a year, by its part from 0 to 3.
 //! - `rank_of(counted)`: the rank of the 98th percentile among so many samples, 1 to 400 (of
 //!   aq_verdict).
 //!
@@ -41,6 +43,6 @@ mod quarters;
 mod source;
 
 pub use aq_verdict::rank_of;
-pub use quarter_days::gives_credit;
-pub use quarters::{quarter, year, year_of};
-pub use source::{MOST_DAYS, Pm25Days, Pm25Source};
+pub use quarter_days::{gives_credit, is_makeup_day};
+pub use quarters::{part_of, quarter, year, year_of};
+pub use source::{MOST_DAYS, Pm25Days, Pm25Schedule, Pm25Source};

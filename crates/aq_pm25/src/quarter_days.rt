@@ -6,7 +6,7 @@ ghost use Rattle.aq_series.specs.DayCells.{IsParticle};
 ghost use Rattle.aq_pm25.specs.QuarterDays.{credited, day_in, is_makeup_day, makeup_cell};
 ghost use Rattle.aq_pm25.specs.SiteDays.{as_makeup, gives_credit_by};
 
-use crate::source::{Pm25Days, Pm25Source};
+use crate::source::{Pm25Days, Pm25Schedule, Pm25Source};
 use aq_base::{Day, Steps};
 use aq_series::Cell;
 use std::sync::ledger::Ledger;
@@ -107,16 +107,17 @@ pub fn gives_credit<D: Pm25Days, L: Ledger>(
         && source.day(makeup, steps).is_some()
 }
 
-/// Whether a day is one on which a sample may make up for a missed day.
-fn is_makeup_day<D: Pm25Days>(source: &D, missed: Day, makeup: Day) -> bool
-    ensures { result ≡ is_makeup_day (D.site_days source.now) missed makeup }
+/// Whether a day is one on which a sample may make up for a missed day: not scheduled, and before the next
+/// scheduled day or exactly a week later (40 CFR Part 50, Appendix N, 1.0(c)).
+pub fn is_makeup_day<D: Pm25Schedule>(source: &D, missed: Day, makeup: Day) -> bool
+    ensures { result ≡ is_makeup_day (D.site_days source.now).schedules missed makeup }
 {
     !source.is_scheduled(makeup)
         && (makeup.number() == missed.number() + 7 || !is_scheduled_between(source, missed, makeup))
 }
 
 /// Whether a day after the missed one is scheduled, to the make-up day at the latest.
-fn is_scheduled_between<D: Pm25Days>(source: &D, missed: Day, makeup: Day) -> bool
+fn is_scheduled_between<D: Pm25Schedule>(source: &D, missed: Day, makeup: Day) -> bool
     ensures { result ≡ list_any (D.site_days source.now).schedules
         (range_with_len (missed + 1) (makeup - missed)) }
 {

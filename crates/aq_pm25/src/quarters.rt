@@ -84,8 +84,8 @@ pub fn year_of<S: Pm25Source, L: Ledger>(source: &S, year: u16, steps: &mut Step
     PmYear::new([first, second, third, d.quarter()], d.values.top)
 }
 
-/// The quarter that is a part of a year, from 0 for the first one to 3.
-fn part_of(year: u16, part: u16) -> Quarter
+/// The quarter that is a part of a year, 1990 to 2059, from 0 for the first one to 3.
+pub fn part_of(year: u16, part: u16) -> Quarter
     requires first { FIRST_YEAR ≤ year }
     requires last { year ≤ LAST_YEAR }
     requires part { part < 4 }

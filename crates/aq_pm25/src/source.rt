@@ -14,15 +14,22 @@ use std::sync::ledger::Ledger;
 /// The longest quarter has as many days.
 pub const MOST_DAYS: usize = 92;
 
-/// The days of what is read as one site: a site, or several that stand for one another. Values are in
-/// tenths of a µg/m3. It takes no memory.
-pub trait Pm25Days {
+/// The schedule of what is read as one site: a site, or several that stand for one another.
+pub trait Pm25Schedule {
     /// What it has for a day, and which days are scheduled.
     ghost site_days: { Self → SiteDays };
 
+    /// Whether a day is scheduled (40 CFR 58.12).
+    fn is_scheduled(&self, day: Day) -> bool
+        ensures { result ≡ (site_days self.now).schedules day };
+}
+
+/// The days of what is read as one site, with its schedule. Values are in tenths of a µg/m3. It takes no
+/// memory.
+pub trait Pm25Days: Pm25Schedule {
     /// What it has for a day (40 CFR Part 50, Appendix N, 3.0).
     fn day<L: Ledger>(&self, day: Day, steps: &mut Steps<L>) -> Option<Cell>
-        ensures value { result ≡ (site_days self.now).cell_on day }
+        ensures value { result ≡ (Self.site_days self.now).cell_on day }
         ensures range { IfSome result (λ cell. IsParticle cell.value) };
 
     /// What it has for so many days from the first one on.
@@ -36,12 +43,8 @@ pub trait Pm25Days {
         requires in_profile { first + count ≤ LAST_DAY + 1 }
         ensures many { length result ≡ 92 }
         ensures days { (k : ℕ) → k < count
-            → get_or result k None ≡ (site_days self.now).cell_on (first + k) }
+            → get_or result k None ≡ (Self.site_days self.now).cell_on (first + k) }
         ensures range { (k : ℕ) → IfSome (get_or result k None) (λ cell. IsParticle cell.value) };
-
-    /// Whether a day is scheduled (40 CFR 58.12).
-    fn is_scheduled(&self, day: Day) -> bool
-        ensures { result ≡ (site_days self.now).schedules day };
 }
 
 /// Such days with their make-up samples.
@@ -68,12 +71,18 @@ pub(crate) struct AtSite<'a> {
     pub(crate) site: SiteId,
 }
 
-impl<'a> Pm25Days for AtSite<'a> {
+impl<'a> Pm25Schedule for AtSite<'a> {
     ghost use Rattle.aq_pm25.specs.SiteDays.{days_at};
     ghost use Rattle.aq_series.specs.OfficeView.{office_of};
 
     ghost site_days = { λ at. days_at (office_of at.registry.now at.shelf.now) at.site };
 
+    fn is_scheduled(&self, day: Day) -> bool {
+        self.registry.is_scheduled(self.site, Pollutant::Pm25, day)
+    }
+}
+
+impl<'a> Pm25Days for AtSite<'a> {
     fn day<L: Ledger>(&self, day: Day, steps: &mut Steps<L>) -> Option<Cell> {
         site_day(
             self.shelf,
@@ -92,10 +101,6 @@ impl<'a> Pm25Days for AtSite<'a> {
         steps: &mut Steps<L>,
     ) -> [Option<Cell>; MOST_DAYS] {
         site_days(self.shelf, self.registry, self.site, first, count, steps)
-    }
-
-    fn is_scheduled(&self, day: Day) -> bool {
-        self.registry.is_scheduled(self.site, Pollutant::Pm25, day)
     }
 }
 

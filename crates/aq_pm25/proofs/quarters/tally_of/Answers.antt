@@ -26,7 +26,7 @@ with-so_far-requires-clause-sum g c = c.loop-count.invariant.sum
 
 pub loop-count-preserved : goal.loop-count-preserved
 loop-count-preserved g c =
-    let day = day_in (g.S.Pm25Days.site_days c.args.source.now) (g.S.Pm25Source.makeup_for c.args.source.now) in
+    let day = day_in (g.S.Pm25Schedule.site_days c.args.source.now) (g.S.Pm25Source.makeup_for c.args.source.now) in
     let first = c.quarter_span-first.result.0 in
     let at : first + c.loop-count.count ≡ c.new-day.result = omega (arith, c.new-day.ensures, c.number.ensures.value, c.from.ensures) in
     record {
@@ -40,7 +40,7 @@ loop-count-preserved g c =
 pub returns : goal.returns
 unfolding days_of_quarter
 returns g c =
-    let site_days = g.S.Pm25Days.site_days c.args.source.now in
+    let site_days = g.S.Pm25Schedule.site_days c.args.source.now in
     let makeup_for = g.S.Pm25Source.makeup_for c.args.source.now in
     let all : c.loop-count.count ≡ c.quarter_span-first.result.1 = omega (arith, c.loop-count-test.false, c.loop-count.auto.count-end) in
     let tally =
