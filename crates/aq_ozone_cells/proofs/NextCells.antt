@@ -1,20 +1,19 @@
 -- The cell that is next, and those that wait behind it.
-use Rattle.std.proofs.Common.{◌≡◌, ℕ, ◌+◌, ◌<◌, Bool, true, false, ◌&&◌, not, List, [], ◌∷◌, refl, ap, sym, subst, ◌∙◌, arith}
-use Rattle.std.specs.Prelude.{Option, Some, None, sum_by}
-use Rattle.std.specs.List.{list_any}
+use Rattle.std.proofs.Common.{◌≡◌, ℕ, ◌≤◌, Bool, true, false, ◌&&◌, not, List, [], ◌∷◌, refl, ap, sym, subst, ◌∙◌, arith}
+use Rattle.std.specs.Prelude.{Option, Some, None}
 use Rattle.std.proofs.lemmas.Bool.{false≢true}
 use Rattle.aq_base.specs.Site.{Site}
+use Rattle.aq_base.specs.declared.day.TheConstants.{LAST_DAY}
 use Rattle.aq_rules.proofs.CellsOnce.{cell-same}
 use Rattle.aq_rules.specs.Kept.Cells.{CellName as Cell, HourCell, WindowCell, OzoneDayCell, OzoneYearCell, is_same_cell}
-use Rattle.aq_rules.specs.Kept.Reach.{each_once}
 use Rattle.aq_rules.specs.Office.Office.{Office}
-use Rattle.aq_dirty.specs.Marked.{cells_of, first_or, holds_cell, named, next_in, Marked}
+use Rattle.aq_dirty.specs.Marked.{first_or, holds_cell, named, next_in, Marked}
 use Rattle.aq_dirty.specs.Spans.{holds}
 use Rattle.aq_dirty.specs.declared.cell_name.CellName.{CellName}
 use Rattle.aq_dirty.specs.declared.cell_name.CellName.TheVariants.{Hour, Window, OzoneDay, OzoneYear, PmDay, Stratum, Quarter, PmYear}
 use Rattle.aq_dirty.specs.declared.spans.Span.{Span}
 use Rattle.aq_ozone_cells.specs.OzoneCells.{Cells}
-use Rattle.aq_ozone_cells.specs.Settling.{AreBelow, CellsStay, IsAverageOf, IsBroughtUp, IsCellOf, IsHourOf}
+use Rattle.aq_ozone_cells.specs.Settling.{AreBelow, CellsStay, HasMaximumOf, IsAverageOf, IsBroughtUp, IsCellOf, IsHourOf}
 
 -- the level of a cell
 abbrev level : Cell → ℕ
@@ -46,6 +45,10 @@ module _ (office : Office) (cells : Cells) (marked : Marked) (others : (cell : C
   unfolding IsCellOf
   averages-are none site start = others (WindowCell site start) (none-held marked.windows site start none)
 
+  days-are : marked.days ≡ [] → (site : Site) (day : ℕ) → day ≤ LAST_DAY → HasMaximumOf office cells site day
+  unfolding IsCellOf
+  days-are none site day = others (OzoneDayCell site day) (none-held marked.days site day none)
+
   -- the cells below the next one are the office's
   pub below-next : (cell : CellName) → Some (named cell) ≡ next_in marked → AreBelow office cells (named cell)
   unfolding AreBelow
@@ -56,7 +59,8 @@ module _ (office : Office) (cells : Cells) (marked : Marked) (others : (cell : C
       averages-are (first-none WindowCell marked.windows _ (OzoneDayCell site day) later (λ s n e. omega (arith, e))).0
   below-next (OzoneYear site year) is =
       let later = (first-none HourCell marked.hours _ (OzoneYearCell site year) is (λ s n e. omega (arith, e))).1 in
-      averages-are (first-none WindowCell marked.windows _ (OzoneYearCell site year) later (λ s n e. omega (arith, e))).0
+      let averages = first-none WindowCell marked.windows _ (OzoneYearCell site year) later (λ s n e. omega (arith, e)) in
+      (averages-are averages.0, days-are (first-none OzoneDayCell marked.days _ (OzoneYearCell site year) averages.1 (λ s n e. omega (arith, e))).0)
   below-next (PmDay site pollutant day) is = tt
   below-next (Stratum site first) is = tt
   below-next (Quarter site pollutant quarter) is = tt
@@ -74,19 +78,6 @@ module _ (office : Office) (cells : Cells) (marked : Marked) (others : (cell : C
       by true true held same none = subst (IsCellOf office after) (cell-same cell other same) up.now
       by true false held same none = absurd (false≢true (sym none))
 
--- one cell fewer waits
-pub fewer : (marked left : Marked) (cell : Cell)
-    → ((steps : Cell → ℕ) (one : Cell) (all rest : List Cell) → list_any (is_same_cell one) all ≡ true
-    → ((other : Cell) → list_any (is_same_cell other) rest ≡ (list_any (is_same_cell other) all && not (is_same_cell one other)))
-    → sum_by steps (each_once all) ≡ steps one + sum_by steps (each_once rest))
-    → ((m : Marked) (c : Cell) → list_any (is_same_cell c) (cells_of m) ≡ holds_cell m c)
-    → holds_cell marked cell ≡ true → ((other : Cell) → holds_cell left other ≡ (holds_cell marked other && not (is_same_cell cell other)))
-    → sum_by (λ (_ : Cell). 1) (each_once (cells_of left)) < sum_by (λ (_ : Cell). 1) (each_once (cells_of marked))
-fewer marked left cell less list held drops =
-    let one = less (λ (_ : Cell). 1) cell (cells_of marked) (cells_of left) (list marked cell ∙ held)
-    (λ other. list left other ∙ drops other ∙ ap (λ b. b && not (is_same_cell cell other)) (sym (list marked other))) in
-    omega (arith, one)
-
 -- ---- the cell that is brought up to date
 
 module _ (office : Office) (cells : Cells) (cell : CellName) (below : AreBelow office cells (named cell)) where
@@ -98,7 +89,8 @@ module _ (office : Office) (cells : Cells) (cell : CellName) (below : AreBelow o
   unfolding AreBelow
   below-day site day is = subst (λ c. AreBelow office cells (named c)) is below
 
-  pub below-year : (site : Site) (year : ℕ) → cell ≡ OzoneYear site year → (other : Site) (start : ℕ) → IsAverageOf office cells other start
+  pub below-year : (site : Site) (year : ℕ) → cell ≡ OzoneYear site year
+      → ((other : Site) (start : ℕ) → IsAverageOf office cells other start) × ((other : Site) (day : ℕ) → day ≤ LAST_DAY → HasMaximumOf office cells other day)
   unfolding AreBelow
   below-year site year is = subst (λ c. AreBelow office cells (named c)) is below
 

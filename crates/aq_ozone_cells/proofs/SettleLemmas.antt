@@ -1,5 +1,5 @@
 -- The days of a year, brought up to date one by one.
-use Rattle.std.proofs.Common.{◌≡◌, ℕ, suc, ◌+◌, Bool, true, false, cond, ◌&&◌, List, [], ◌∷◌, map, refl, ap, sym, ◌∙◌, arith}
+use Rattle.std.proofs.Common.{◌≡◌, ℕ, suc, ◌+◌, ◌<◌, Bool, true, false, cond, ◌&&◌, List, [], ◌∷◌, map, refl, ap, sym, ◌∙◌, arith}
 use Rattle.std.specs.Prelude.{◌==◌, None, IfSome, count_by}
 use Rattle.std.specs.List.{range_with_len}
 use Rattle.std.proofs.lemmas.Bool.Decides.{nat_tests}
@@ -10,7 +10,7 @@ use Rattle.aq_rules.specs.Ozone.OzoneDay.{day_of_windows, starts_of}
 use Rattle.aq_series.specs.Samples.{IsOzone}
 use Rattle.aq_ozone.specs.DayHours.{AreNetOzone}
 use Rattle.aq_ozone_cells.specs.KeptDays.{average_at, held_at, hour_at}
-use Rattle.aq_ozone_cells.specs.OzoneCells.{counts, day_from, day_of_averages, is_among, row_with, AreSettled, Cells}
+use Rattle.aq_ozone_cells.specs.OzoneCells.{counts, day_from, day_of_averages, is_among, row_with, AreHeldAlready, AreSettled, Cells}
 use Rattle.aq_ozone_cells.specs.YearTallies.{maximum_of}
 use Rattle.aq_ozone_cells.specs.declared.kept_days.HeldDay.{HeldDay}
 use Rattle.aq_ozone_cells.specs.declared.kept_days.KeptAverage.{KeptAverage}
@@ -71,6 +71,16 @@ settled-more records start now after site first count day at so_far held is days
       hours = λ other hour. hours other hour ∙ so_far.hours other hour;
       averages = λ other number. averages other number ∙ so_far.averages other number;
     }
+
+-- the next day gives its year what it should already, if each day did at first
+pub already-now : (records : List OfficeRecord) (start now : Cells) (site : Site) (first count at day : ℕ) → first + at ≡ day → at < count
+    → AreSettled records start now site first at → AreHeldAlready records start site first count → held_at now site day ≡ day_from records now site day
+already-now records start now site first count at day is more so_far already =
+    let off : is_among first at day ≡ false = grind (arith, nat_tests, is) in
+    so_far.days site day
+    ∙ ap (λ b. cond b (day_from records start site day) (held_at start site day)) (ap (λ b. is_same_site site site && b) off ∙ never (is_same_site site site))
+    ∙ already day (omega (arith, is)) (omega (arith, is, more))
+    ∙ sym (day-same records start now site day so_far.averages)
 
 -- one day from itself on
 pub day-alone : (b : Bool) (day number : ℕ) → (b && is_among day 1 number) ≡ (b && (day == number))

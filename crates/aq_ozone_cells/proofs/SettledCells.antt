@@ -1,9 +1,9 @@
 -- Which cells are the office's, once one of them is brought up to date.
-use Rattle.std.proofs.Common.{◌≡◌, ℕ, ◌%◌, ◌≤◌, Bool, true, false, cond, ◌&&◌, refl, ap, sym, subst, ◌∙◌, arith}
-use Rattle.std.specs.Prelude.{◌==◌, Option, nat_le}
+use Rattle.std.proofs.Common.{◌≡◌, ℕ, ◌+◌, ◌%◌, ◌<◌, ◌≤◌, Bool, true, false, cond, ◌&&◌, refl, ap, sym, subst, ◌∙◌, arith}
+use Rattle.std.specs.Prelude.{◌==◌, Option, nat_le, nat_lt}
 use Rattle.std.proofs.lemmas.Bool.{and_parts}
 use Rattle.std.proofs.lemmas.Bool.Decides.{nat_tests}
-use Rattle.aq_base.specs.Calendar.{year_of}
+use Rattle.aq_base.specs.Calendar.{days_in_year, year_first, year_of}
 use Rattle.aq_base.specs.Site.{Site}
 use Rattle.aq_base.specs.declared.day.TheConstants.{FIRST_YEAR, LAST_DAY, LAST_HOUR, LAST_YEAR}
 use Rattle.aq_cal.proofs.Within.{year_holds}
@@ -200,6 +200,29 @@ pub year-inside : (day : ℕ) → day ≤ LAST_DAY → (FIRST_YEAR ≤ year_of d
 year-inside day within =
     let it = in_year day within in
     (omega (arith, it.year), omega (arith, it.year, it.few))
+
+-- the days of a year are held already as their averages have them, if they have their maxima and count as they should
+pub year-already : (office : Office) (cells : Cells) (site : Site) (year : ℕ) → FIRST_YEAR ≤ year
+    → ((other : Site) (start : ℕ) → IsAverageOf office cells other start) → ((other : Site) (day : ℕ) → day ≤ LAST_DAY → HasMaximumOf office cells other day)
+    → IsCellOf office cells (OzoneYearCell site year) → (day : ℕ) → day ≤ LAST_DAY → is_day_of year day ≡ true → held_at cells site day ≡ day_from office.records cells site day
+unfolding IsCellOf held_day
+year-already office cells site year low below days of day within is =
+    let parts = days site day within in
+    let ends = and_parts (nat_le (year_first year) day) (nat_lt day (year_first year + days_in_year year)) is in
+    let from : year_first year ≤ day = grind (arith, nat_tests, ends.0) in
+    let to : day < year_first year + days_in_year year = grind (arith, nat_tests, ends.1) in
+    let counted = of day within ((year_holds year day low within).1 (from, to)) in
+    let held : held_at cells site day ≡ held_day office site day = λ i. record {
+      valid = parts.valid i;
+      counted = (counted ∙ ap (λ (b : Bool). counts office.records site day b) parts.valid) i;
+      maximum = parts.maximum i;
+    } in
+    held
+    ∙ sym (day-is office cells site day
+    (λ start low high.
+    let profile : start ≤ LAST_HOUR = omega (arith, low, high, within) in
+    let kept : nat_le 7 (start % 24) ≡ true = grind (arith, nat_tests, low, high) in
+    below site start profile kept))
 
 -- ---- all cells
 

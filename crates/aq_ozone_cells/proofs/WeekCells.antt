@@ -1,19 +1,14 @@
 -- Cells of weeks that are filled, while others wait.
 use Rattle.std.proofs.Common.{◌≡◌, ℕ, ◌+◌, ◌-◌, ◌/◌, ◌<◌, ◌≤◌, Bool, true, false, ◌&&◌, ◌||◌, ◌⊎◌, List, [], ◌∷◌, ◌++◌, refl, sym, ap, ◌∙◌, arith, inl, inr}
-use Rattle.std.specs.Prelude.{Some, nat_le, nat_lt}
+use Rattle.std.specs.Prelude.{Some}
 use Rattle.std.specs.List.{list_any}
 use Rattle.std.proofs.lemmas.Bool.{false≢true}
-use Rattle.std.proofs.lemmas.Bool.Decides.{nat_tests}
 use Rattle.std.proofs.lemmas.List.Folds.{list_any-append}
 use Rattle.aq_base.specs.Site.{Site}
 use Rattle.aq_base.specs.declared.day.TheConstants.{LAST_DAY}
 use Rattle.aq_rules.specs.Kept.Cells.{CellName}
 use Rattle.aq_rules.specs.Office.Monitors.{is_same_site}
 use Rattle.aq_rules.specs.Office.Office.{Office}
-use Rattle.aq_rules.specs.Office.Sameness.{site_itself}
-use Rattle.aq_dirty.specs.Marked.{named}
-use Rattle.aq_dirty.specs.declared.cell_name.CellName.{CellName as Name}
-use Rattle.aq_dirty.specs.declared.cell_name.CellName.TheVariants.{Hour}
 use Rattle.aq_ozone_cells.specs.FilledDays.{IsDayOf, IsSameDay}
 use Rattle.aq_ozone_cells.specs.Filling.{is_within, IsWeekOf}
 use Rattle.aq_ozone_cells.specs.OzoneCells.{is_among, Cells}
@@ -61,14 +56,6 @@ module _ (office : Office) (before after : Cells) (week : Week)
           | inl is ↦ day-counts office after other day is.held
           | inr same ↦ same-counts office before after other day same.held of
         ])
-
--- an hour is of the week that begins with its day
-pub week-begun : (cell : Name) (site : Site) (hour first : ℕ) → cell ≡ Hour site hour → first ≡ hour / 24 → is_of_week (record { site = site; first = first }) (named cell) ≡ true
-week-begun cell site hour first is at =
-    let day = hour / 24 in
-    let low : nat_le day day ≡ true = grind (arith, nat_tests) in
-    let high : nat_lt (day - day) 7 ≡ true = grind (arith, nat_tests) in
-    (λ i. is_of_week (record { site = site; first = at i }) (named (is i))) ∙ (λ i. (site_itself site i && low i) && high i)
 
 -- ---- weeks
 

@@ -1,4 +1,5 @@
 -- What is kept of the days and years of sites.
+pub mod Bound
 pub mod FilledDays
 pub mod Filling
 pub mod KeptDays

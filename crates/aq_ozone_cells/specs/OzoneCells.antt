@@ -1,5 +1,5 @@
 -- The ozone cells of sites: hours, averages, days and years, each from the one before.
-use Rattle.std.specs.Prelude.{◌≡◌, ◌≤◌, ◌+◌, ℕ, ◌&&◌, ◌||◌, Bool, nat_le, nat_lt, if◌then◌else◌, Option, None, List, map, filter_map, ℤ, IfSome, IsTrue}
+use Rattle.std.specs.Prelude.{◌≡◌, ◌≤◌, ◌+◌, ℕ, ◌&&◌, ◌||◌, Bool, nat_le, nat_lt, if◌then◌else◌, Option, None, List, map, filter_map, ℤ, IfSome, IsTrue, ◌<◌}
 use Rattle.aq_base.specs.Calendar.{days_in_year, year_first, year_of}
 use Rattle.aq_base.specs.Site.{Site}
 use Rattle.aq_base.specs.declared.day.TheConstants.{FIRST_YEAR, LAST_HOUR, LAST_YEAR}
@@ -88,6 +88,11 @@ pub record AreSettled (records : List OfficeRecord) (before after : Cells) (site
   pub days : (other : Site) (number : ℕ) → held_at after other number ≡ (if is_same_site site other && is_among first count number then day_from records before site number else held_at before other number)
   pub hours : (other : Site) (hour : ℕ) → hour_at after other hour ≡ hour_at before other hour
   pub averages : (other : Site) (start : ℕ) → average_at after other start ≡ average_at before other start
+
+-- so many days of a site from the first on give their years that already
+abbrev pub AreHeldAlready : List OfficeRecord → Cells → Site → ℕ → ℕ → Type 0
+AreHeldAlready records cells site first count =
+    (day : ℕ) → first ≤ day → day < first + count → held_at cells site day ≡ day_from records cells site day
 
 -- ---- what always holds
 

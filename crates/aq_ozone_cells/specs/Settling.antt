@@ -39,11 +39,13 @@ IsCellOf office cells (OzoneDayCell site day) = day ≤ LAST_DAY → HasMaximumO
 IsCellOf office cells (OzoneYearCell site year) = (day : ℕ) → day ≤ LAST_DAY → year_of day ≡ year → CountsAs office cells site day
 IsCellOf office cells cell = ⊤
 
--- the cells of the level below a cell's are the office's
+-- the cells of the levels below a cell's that it is settled from, and of a year also its days, are the office's
 unfoldable pub AreBelow : Office → Cells → CellName → Type 0
 AreBelow office cells (WindowCell site start) = (other : Site) (hour : ℕ) → IsHourOf office cells other hour
 AreBelow office cells (OzoneDayCell site day) = (other : Site) (start : ℕ) → IsAverageOf office cells other start
-AreBelow office cells (OzoneYearCell site year) = (other : Site) (start : ℕ) → IsAverageOf office cells other start
+AreBelow office cells (OzoneYearCell site year) =
+    ((other : Site) (start : ℕ) → IsAverageOf office cells other start)
+    × ((other : Site) (day : ℕ) → day ≤ LAST_DAY → HasMaximumOf office cells other day)
 AreBelow office cells cell = ⊤
 
 -- the cells that are the office's stay so

@@ -62,7 +62,7 @@ fn fill_observed<L: Ledger>(
     ensures filled { OnOk result ((site : Site) (day : ℕ) → day ≤ LAST_DAY → list_any (observes site day) shelf.now ≡ true → IsDayOf (office_of registry.now shelf.now) cells.new site day) }
 {
     let mut week = None;
-    for (key, _) in shelf.rows() {
+    for (key, _) in shelf.rows(steps) {
         fill_observation(cells, &mut week, shelf, registry, &key, steps)?;
     }
     Ok(())
@@ -169,7 +169,8 @@ pub(crate) fn is_within(week: &Option<Week>, site: SiteId, first: u16, last: u16
     }
 }
 
-/// Fills the days of a week from a day on, as far as the profile goes.
+/// Fills the days of a week from a day on, as far as the profile goes: at most 1,544 steps to read the hours,
+/// and four for each day.
 pub(crate) fn fill_week<L: Ledger>(
     cells: &mut OzoneCells,
     shelf: &Shelf,
@@ -181,6 +182,7 @@ pub(crate) fn fill_week<L: Ledger>(
     requires { first ≤ LAST_DAY }
     ensures filled { OnOk result ((day : ℕ) → first ≤ day → day < first + 7 → day ≤ LAST_DAY → IsDayOf (office_of registry.now shelf.now) cells.new site day) }
     ensures others { OnOk result ((other : Site) (day : ℕ) → (is_same_site site other && is_among first 7 day) ≡ false → IsSameDay cells.old cells.new other day) }
+    ensures steps { steps.new ≤ steps.old + 1572 }
 {
     let hours = site_hours(shelf, registry, site, Day::new(first), steps);
     let span = &hours[..];
@@ -244,6 +246,7 @@ fn fill_one<L: Ledger>(
     requires range { AreOzone hours.now }
     ensures filled { OnOk result ((rows : List (ObsKey × Observation)) → hours.now ≡ hours_from (office_of registry.now rows) site day → IsDayOf (office_of registry.now rows) cells.new site day) }
     ensures others { OnOk result ((other : Site) (number : ℕ) → (is_same_site site other && (day == number)) ≡ false → IsSameDay cells.old cells.new other number) }
+    ensures steps { steps.new ≤ steps.old + 4 }
 {
     // The proof learns that the day is one of the profile.
     let _ = day.number();

@@ -9,7 +9,7 @@ ghost use Rattle.aq_rules.specs.Ozone.OzoneYear.{days_of};
 ghost use Rattle.aq_series.specs.Samples.{IsOzone};
 ghost use Rattle.aq_ozone.specs.DayHours.{AreNetOzone};
 ghost use Rattle.aq_ozone_cells.specs.KeptDays.{average_at, held_at, hour_at};
-ghost use Rattle.aq_ozone_cells.specs.OzoneCells.{counts, day_from, row_with, AreAveragesOfOzone, AreSettled, AreYears};
+ghost use Rattle.aq_ozone_cells.specs.OzoneCells.{counts, day_from, row_with, AreAveragesOfOzone, AreHeldAlready, AreSettled, AreYears};
 ghost use Rattle.aq_ozone_cells.specs.YearTallies.{maximum_of};
 
 use crate::kept_days::{HeldDay, KeptAverage, KeptDays};
@@ -104,6 +104,7 @@ pub(crate) fn exchange_day<L: Ledger>(
     ensures averages { OnOk result ((other : Site) (start : ℕ) → average_at days.new.days.entries other start ≡ average_at days.old.days.entries other start) }
     ensures days { OnOk result ((other : Site) (number : ℕ) → held_at days.new.days.entries other number ≡ (if is_same_site site other && (day == number) then new.now else held_at days.old.days.entries other number)) }
     ensures steps { steps.new ≤ steps.old + 2 }
+    ensures no_step { held_at days.old.days.entries site day ≡ new.now → steps.new ≤ steps.old }
 {
     // The proof learns that the day is one of the profile.
     let _ = day.number();
@@ -133,6 +134,7 @@ pub(crate) fn settle_days<L: Ledger>(
     ensures years { OnOk result (AreYears days.new.days.entries tallies.new) }
     ensures settled { OnOk result (AreSettled registry.now days.old.days.entries days.new.days.entries site first count) }
     ensures steps { steps.new ≤ steps.old + 2 * count }
+    ensures no_step { AreHeldAlready registry.now days.old.days.entries site first count → steps.new ≤ steps.old }
 {
     for i in 0..count {
         let day = Day::new(first.number() + i);

@@ -1,5 +1,5 @@
 //! The ozone cells of sites, kept under change.
-ghost use Rattle.std.specs.Prelude.{◌≡◌, ◌≤◌, ◌+◌, ◌*◌, ◌/◌, ◌%◌, ◌&&◌, ◌==◌, ℕ, [], None, false, get_or, length, if◌then◌else◌, IfSome, OnOk, OnErr};
+ghost use Rattle.std.specs.Prelude.{◌≡◌, ◌≤◌, ◌+◌, ◌*◌, ◌/◌, ◌%◌, ◌&&◌, ◌==◌, ℕ, [], None, false, get_or, length, if◌then◌else◌, IfSome, IsTrue, OnOk, OnErr};
 ghost use Rattle.aq_base.specs.Calendar.{year_of};
 ghost use Rattle.aq_base.specs.Site.{Site};
 ghost use Rattle.aq_base.specs.declared.day.TheConstants.{FIRST_YEAR, LAST_DAY, LAST_YEAR};
@@ -9,7 +9,7 @@ ghost use Rattle.aq_rules.specs.Ozone.OzoneDay.{windows_by};
 ghost use Rattle.aq_series.specs.Samples.{AreOzone, IsOzone};
 ghost use Rattle.aq_ozone_cells.specs.FilledDays.{day_average, IsEmptyDay};
 ghost use Rattle.aq_ozone_cells.specs.KeptDays.{average_at, held_at, hour_at, is_kept_start, no_average, no_day};
-ghost use Rattle.aq_ozone_cells.specs.OzoneCells.{average_of_hours, day_from, is_day_of, year_of_days, AreHeldBy, AreSettled};
+ghost use Rattle.aq_ozone_cells.specs.OzoneCells.{average_of_hours, day_from, is_day_of, year_of_days, AreHeldAlready, AreHeldBy, AreSettled};
 
 use crate::filled_days::fill_day;
 use crate::held_days::{season_days, settle_days};
@@ -166,7 +166,8 @@ impl OzoneCells {
         Ok(())
     }
 
-    /// The same for each day of a year, 1990 to 2059, so that `year` may be asked. At most 732 steps.
+    /// The same for each day of a year, 1990 to 2059, so that `year` may be asked. At most 732 steps, and
+    /// none if each day is held so already.
     pub fn settle_year<L: Ledger>(
         &mut self,
         registry: &Registry,
@@ -181,6 +182,7 @@ impl OzoneCells {
         ensures hours { OnOk result ((other : Site) (hour : ℕ) → hour_at self.new other hour ≡ hour_at self.old other hour) }
         ensures averages { OnOk result ((other : Site) (start : ℕ) → average_at self.new other start ≡ average_at self.old other start) }
         ensures steps { steps.new ≤ steps.old + 732 }
+        ensures no_step { ((day : ℕ) → day ≤ LAST_DAY → IsTrue (is_day_of year day) → held_at self.old site day ≡ day_from registry.now self.old site day) → steps.new ≤ steps.old }
     {
         let (first, count) = year_span(year);
         self.settle_days(registry, site, first, count, steps)?;
@@ -199,6 +201,7 @@ impl OzoneCells {
         requires { first + count ≤ LAST_DAY + 1 }
         ensures settled { OnOk result (AreSettled registry.now self.old self.new site first count) }
         ensures steps { steps.new ≤ steps.old + 2 * count }
+        ensures no_step { AreHeldAlready registry.now self.old site first count → steps.new ≤ steps.old }
     {
         match settle_days(
             &mut self.days,

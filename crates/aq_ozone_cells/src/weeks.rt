@@ -1,11 +1,12 @@
 //! Weeks that are filled whole while cells are brought up to date.
-ghost use Rattle.std.specs.Prelude.{◌≡◌, ◌≤◌, [], Some, IfSome, IsTrue, OnOk};
+ghost use Rattle.std.specs.Prelude.{◌≡◌, ◌≤◌, ◌+◌, [], Some, IfSome, IsTrue, OnOk};
 ghost use Rattle.std.specs.List.{list_any};
 ghost use Rattle.aq_base.specs.Site.{Site};
 ghost use Rattle.aq_base.specs.declared.day.TheConstants.{LAST_DAY};
 ghost use Rattle.aq_rules.specs.Kept.Cells.{CellName as Cell};
 ghost use Rattle.aq_series.specs.OfficeView.{office_of};
 ghost use Rattle.aq_dirty.specs.Marked.{named};
+ghost use Rattle.aq_ozone_cells.specs.Bound.{IsBegun};
 ghost use Rattle.aq_ozone_cells.specs.Filling.{is_within};
 ghost use Rattle.aq_ozone_cells.specs.Settling.{is_of_week, AreWeeksOf, CellsStay, IsCellOf};
 
@@ -18,8 +19,8 @@ use aq_shelf::Shelf;
 use std::alloc::Global;
 use std::sync::ledger::Ledger;
 
-/// So many hours one by one make more steps than a week that is filled.
-const TWO_DAYS: u32 = 48;
+/// So many hours one by one may make more steps than a week that is filled: 1,920, and 1,572.
+pub(crate) const TWO_DAYS: u32 = 48;
 
 /// The weeks that were filled, mostly in the order of sites and days, and the place of the one that was
 /// found last. Each cell of their days is up to date, but for the years.
@@ -83,21 +84,19 @@ fn is_day_at(weeks: &[Week], place: usize, site: SiteId, day: u16) -> bool
     }
 }
 
-/// The week that a cell begins, if it is the first hour of at least two days that wait.
-pub(crate) fn week_ahead(cell: &CellName, dirty: &Dirty) -> Option<Week>
+/// The week that begins with the first hours that wait, if they are of at least two days from the first one's
+/// 00:00 on.
+pub(crate) fn week_ahead(dirty: &Dirty) -> Option<Week>
     ensures day { IfSome result (λ week. week.first ≤ LAST_DAY) }
-    ensures cell { IfSome result (λ week. IsTrue (is_of_week week (named cell.now))) }
+    ensures begun { IfSome result (IsBegun dirty.now) }
 {
-    let CellName::Hour(site, hour) = cell else {
-        return None;
-    };
     let waiting = dirty.first_hours()?;
-    let number = hour.number();
+    let number = waiting.first.number();
     if number % 24 != 0 || waiting.count < TWO_DAYS {
         return None;
     }
     Some(Week {
-        site: *site,
+        site: waiting.site,
         first: (number / 24) as u16,
     })
 }
@@ -116,6 +115,7 @@ pub(crate) fn fill_ahead<L: Ledger>(
     ensures stay { OnOk result (CellsStay (office_of registry.now shelf.now) cells.old cells.new) }
     ensures filled { OnOk result ((cell : Cell) → IsTrue (is_of_week week cell) → IsCellOf (office_of registry.now shelf.now) cells.new cell) }
     ensures weeks { OnOk result (AreWeeksOf (office_of registry.now shelf.now) cells.new weeks.new.weeks.items) }
+    ensures steps { steps.new ≤ steps.old + 1572 }
 {
     fill_week(cells, shelf, registry, week.site, week.first, steps)?;
     weeks.weeks.push(week)?;

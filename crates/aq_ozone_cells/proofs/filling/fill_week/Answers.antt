@@ -9,6 +9,7 @@ pub loop-i-init : goal.loop-i-init
 loop-i-init g c = record {
   filled = λ day low high. absurd (omega (arith, low, high));
   others = λ other day off. same-itself c.args.cells.now other day;
+  steps = omega (arith, c.site_hours-hours.ensures.steps);
 }
 
 pub loop-i-preserved : goal.loop-i-preserved
@@ -23,6 +24,7 @@ loop-i-preserved g c =
           (c.in_ok-fill_one.ensures.filled c.args.shelf.now (hours ∙ ap (hours_from office c.args.site) at));
       others =
           others-more office c.args.cells.now c.fill_one.new.cells c.args.site c.args.first c.loop-i.i c.loop-i.cells c.new-in-loop-i.result at c.loop-i.invariant.others c.in_ok-fill_one.ensures.others;
+      steps = omega (arith, c.loop-i.invariant.steps, c.fill_one.ensures.steps);
     }
 
 pub returns-clause-filled : goal.returns-clause-filled

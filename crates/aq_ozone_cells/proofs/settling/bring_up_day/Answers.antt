@@ -8,8 +8,8 @@ use Rattle.aq_ozone_cells.proofs.SettledCells.{day-up, one-day}
 use Rattle.aq_ozone_cells.proofs.SiteNumbers.{itself, one-number}
 use Rattle.aq_ozone_cells.proofs.settling.bring_up_day.Goals as goal
 
-pub returns : goal.returns
-returns g c =
+pub returns-clause-up : goal.returns-clause-up
+returns-clause-up g c =
     day-up (office_of c.args.registry.now c.args.shelf.now) c.args.cells.now c.settle_day.new.self c.requires c.in_ok-settle_day.ensures.hours c.in_ok-settle_day.ensures.averages
     c.args.site (λ other number. is_same_site c.args.site other && (c.args.day == number)) (one-day c.args.site c.args.day)
     (λ other number. c.in_ok-settle_day.ensures.days other number

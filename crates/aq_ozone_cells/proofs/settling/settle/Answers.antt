@@ -1,6 +1,6 @@
-use Rattle.aq_dirty.specs.Marked.{named}
+use Rattle.std.proofs.Common.{arith}
 use Rattle.aq_series.specs.OfficeView.{office_of}
-use Rattle.aq_ozone_cells.proofs.NextCells.{below-next, fewer, others-next}
+use Rattle.aq_ozone_cells.proofs.CellSteps.{enough-stay, stay-on, stay-same}
 use Rattle.aq_ozone_cells.proofs.SettledCells.{all-cells}
 use Rattle.aq_ozone_cells.proofs.WeekCells.{weeks-none}
 use Rattle.aq_ozone_cells.proofs.settling.settle.Goals as goal
@@ -9,25 +9,33 @@ pub loop-cell-init : goal.loop-cell-init
 loop-cell-init g c = record {
   others = c.requires;
   weeks = weeks-none (office_of c.args.registry.now c.args.shelf.now) c.args.cells.now c.new-weeks.result.weeks.items c.new-weeks.ensures;
+  stay = stay-same (office_of c.args.registry.now c.args.shelf.now) c.args.cells.now;
+  paid = λ enough are. omega arith;
 }
-
-pub bring_up_next-requires-clause-below : goal.bring_up_next-requires-clause-below
-bring_up_next-requires-clause-below g c =
-    below-next (office_of c.args.registry.now c.args.shelf.now) c.loop-cell.cells c.loop-cell.dirty c.loop-cell.invariant.others c.in-Some.cell c.in-Some.ensures.value
-
-pub loop-cell-smaller : goal.loop-cell-smaller
-loop-cell-smaller g c =
-    fewer c.loop-cell.dirty c.settle.new.self (named c.in-Some.cell) c.a_cell_less_is_its_steps_less.ensures c.the_cells_held_are_a_list.ensures
-    c.in-Some.ensures.held c.settle.ensures
 
 pub loop-cell-preserved : goal.loop-cell-preserved
 loop-cell-preserved g c = record {
-  others =
-      others-next (office_of c.args.registry.now c.args.shelf.now) c.loop-cell.cells c.loop-cell.dirty c.loop-cell.invariant.others c.bring_up_next.new.cells c.settle.new.self (named c.in-Some.cell)
-      c.in_ok-bring_up_next.ensures.cell c.settle.ensures;
-  weeks = c.in_ok-bring_up_next.ensures.weeks;
+  others = c.in_ok-settle_next.ensures.others;
+  weeks = c.in_ok-settle_next.ensures.weeks;
+  stay = stay-on (office_of c.args.registry.now c.args.shelf.now) c.args.cells.now c.loop-cell.cells c.settle_next.new.cells c.loop-cell.invariant.stay c.in_ok-settle_next.ensures.stay;
+  paid = λ enough are.
+      let so_far = c.loop-cell.invariant.paid enough are in
+      let now = c.in_ok-settle_next.ensures.paid enough (enough-stay (office_of c.args.registry.now c.args.shelf.now) c.args.cells.now c.loop-cell.cells enough c.loop-cell.invariant.stay are) in
+      omega (arith, so_far, now);
 }
 
-pub returns : goal.returns
-returns g c =
+pub loop-cell-smaller : goal.loop-cell-smaller
+loop-cell-smaller g c = c.in_ok-settle_next.ensures.fewer
+
+pub returns-clause-kept : goal.returns-clause-kept
+returns-clause-kept g c =
     all-cells (office_of c.args.registry.now c.args.shelf.now) c.loop-cell.cells (λ cell. c.loop-cell.invariant.others cell (c.in_default.ensures.none cell))
+
+pub returns-clause-steps : goal.returns-clause-steps
+returns-clause-steps g c enough are = let so_far = c.loop-cell.invariant.paid enough are in omega (arith, so_far)
+
+pub returns-in_err-settle_next-clause-steps : goal.returns-in_err-settle_next-clause-steps
+returns-in_err-settle_next-clause-steps g c enough are =
+    let so_far = c.loop-cell.invariant.paid enough are in
+    let now = c.in_err-settle_next.ensures.steps enough (enough-stay (office_of c.args.registry.now c.args.shelf.now) c.args.cells.now c.loop-cell.cells enough c.loop-cell.invariant.stay are) in
+    omega (arith, so_far, now)
