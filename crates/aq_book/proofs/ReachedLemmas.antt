@@ -1,5 +1,5 @@
 -- The changes of a load, the cells that they mark, and the office without its loads.
-use Rattle.std.proofs.Common.{◌≡◌, ℕ, Bool, true, false, ◌+◌, ◌<◌, cond, ◌&&◌, ◌||◌, List, [], ◌∷◌, ◌++◌, map, length, drop, get_or, arith, refl, ap, sym, ◌∙◌, inl, inr, ◌⊎◌}
+use Rattle.std.proofs.Common.{◌≡◌, ℕ, Bool, true, false, ◌+◌, ◌<◌, cond, ◌&&◌, ◌||◌, List, [], ◌∷◌, ◌++◌, map, length, drop, get_or, arith, refl, ap, sym, ◌∙◌, inr}
 use Rattle.std.specs.Prelude.{Option, Some, None, is_none, unwrap_or}
 use Rattle.std.specs.List.{cons_option, filter_map, list_any}
 use Rattle.std.proofs.lemmas.Bool.{false≢true}
@@ -12,13 +12,15 @@ use Rattle.aq_base.specs.declared.office.OfficeKey.{OfficeKey}
 use Rattle.aq_rules.proofs.Found.{find-passes}
 use Rattle.aq_rules.proofs.Lookups.{same-is}
 use Rattle.aq_rules.proofs.OneKey.{one_office_key}
-use Rattle.aq_rules.specs.Kept.Cells.{CellName as Cell, is_same_cell}
-use Rattle.aq_rules.specs.Kept.Reach.{ChangedRecord, changed_row, changed_rows, reach, reads}
+use Rattle.aq_rules.specs.Kept.Cells.{CellName as Cell, HourCell, WindowCell, OzoneDayCell, OzoneYearCell, PmDayCell, StratumCell, QuarterCell, PmYearCell, is_same_cell}
+use Rattle.aq_rules.specs.Kept.Reach.{ChangedRecord, ChangedRow, changed_row, changed_rows, reach, reads}
 use Rattle.aq_rules.specs.Office.Load.{OfficeChange, PutRecord, PutObservation, observation_change, record_change, record_changes, observation_changes, keys_of_either, is_same_record, is_same_content}
 use Rattle.aq_rules.specs.Office.Office.{IsOffice, Office, StoredLoad, is_same, key_numbers, key_of, record_at, record_rank, observation_at, observation_key, observation_numbers}
 use Rattle.aq_rules.specs.Office.Questions.{record_of}
-use Rattle.aq_dirty.specs.Marked.{holds_cell, Marked}
-use Rattle.aq_dirty.specs.Reach.{is_of_ozone, marks, record_row, row_of}
+use Rattle.aq_dirty.specs.Marked.{holds_cell, nothing, Marked}
+use Rattle.aq_dirty.specs.ParticleReach.{is_of_particles, marks_particle, reads_particle_row}
+use Rattle.aq_dirty.specs.Particles.{holds_particle, nothing as no_particles, MarkedParticles}
+use Rattle.aq_dirty.specs.Reach.{is_of_ozone, marks, reads_row, record_row, row_of}
 use Rattle.aq_dirty.specs.declared.change.OfficeChange as dirty
 use Rattle.aq_series.specs.OfficeView.{office_of}
 use Rattle.aq_staging.specs.Batch.{change_in, changes_between, changes_in, AreChangesOf}
@@ -32,7 +34,16 @@ use Rattle.aq_ozone_cells.specs.FilledDays.{AreKept}
 use Rattle.aq_ozone_cells.specs.Filling.{observes, AreFilling}
 use Rattle.aq_ozone_cells.specs.KeptDays.{average_at, held_at, hour_at, no_average, no_day}
 use Rattle.aq_ozone_cells.specs.OzoneCells.{Cells}
-use Rattle.aq_book.specs.Reached.{is_amiss, reads_change, Marks}
+use Rattle.aq_base.specs.declared.monitor.Pollutant.TheVariants.{Ozone, Pm25, Pm10}
+use Rattle.aq_particle_days.specs.KeptDays.{cell_at, sample_at, Days}
+use Rattle.aq_particle_days.specs.Observed.{observes as observed}
+use Rattle.aq_pm10_cells.specs.Pm10Cells.{Pm10Kept}
+use Rattle.aq_pm10_cells.specs.Pm10Levels as pm10_cells
+use Rattle.aq_pm10_cells.specs.Strata.{stratum_at}
+use Rattle.aq_pm10_cells.proofs.Pm10Filling as pm10_filling
+use Rattle.aq_pm25_cells.proofs.Pm25Filling as pm25_filling
+use Rattle.aq_pm25_cells.specs.Pm25Levels as pm25_cells
+use Rattle.aq_book.specs.Reached.{is_amiss, reads_change, HoldsCells, HoldsParticles, HoldsReach, Marks, MarksParticles}
 use Rattle.aq_book.specs.View.{standing}
 
 -- ---- the office without its loads
@@ -120,34 +131,106 @@ module _ (records after : List OfficeRecord) (rows later : List (ObsKey × Obser
 
 -- ---- marks
 
+joined : (held kind p q : Bool) → (held || (kind && p) || (kind && q)) ≡ (held || (kind && (p || q)))
+joined true kind p q = refl
+joined false true p q = refl
+joined false false p q = refl
+
+-- what a change marks, by the row that it changes
 module _ (before after : List OfficeRecord) (rows : List (ObsKey × Observation)) (change : dirty.OfficeChange) (made : OfficeChange)
-    (is : row_of change ≡ Some (changed_row (office_of before rows) made)) (old new : Marked) (marked : Marks before after change old new) where
-  pub mark-reads : (cell : Cell) → is_of_ozone cell ≡ true → reads_change before after rows cell made ≡ true → holds_cell new cell ≡ true
+    (is : row_of change ≡ Some (changed_row (office_of before rows) made)) where
+  pub mark-adds : (old new : Marked) → Marks before after change old new
+      → (cell : Cell) → holds_cell new cell ≡ (holds_cell old cell || (is_of_ozone cell && reads_change before after rows cell made))
   unfolding marks
-  mark-reads cell ozone read = marked cell ∙ rw (is, ozone) (by (holds_cell old cell) (reads before cell (changed_row (office_of before rows) made)) (reads after cell (changed_row (office_of before rows) made)) read)
+  mark-adds old new marked cell =
+      marked cell ∙ ap (λ (row : Option ChangedRow). holds_cell old cell || reads_row before row cell || reads_row after row cell) is
+      ∙ joined (holds_cell old cell) (is_of_ozone cell) (reads before cell (changed_row (office_of before rows) made)) (reads after cell (changed_row (office_of before rows) made))
+
+  pub particles-add : (old new : MarkedParticles) → MarksParticles before after change old new
+      → (cell : Cell) → holds_particle new cell ≡ (holds_particle old cell || (is_of_particles cell && reads_change before after rows cell made))
+  unfolding marks_particle
+  particles-add old new marked cell =
+      marked cell ∙ ap (λ (row : Option ChangedRow). holds_particle old cell || reads_particle_row before row cell || reads_particle_row after row cell) is
+      ∙ joined (holds_particle old cell) (is_of_particles cell) (reads before cell (changed_row (office_of before rows) made)) (reads after cell (changed_row (office_of before rows) made))
+
+-- a cell is held, or one of the changes that are left will mark it: with one more, and with none
+module _ (test : OfficeChange → Bool) (kind : Bool) where
+  pub marked-more : (made : OfficeChange) (rest left : List OfficeChange) (held now whole : Bool) → now ≡ (held || (kind && test made)) → left ≡ made ∷ rest
+      → (held || (kind && list_any test left)) ≡ whole → (now || (kind && list_any test rest)) ≡ whole
+  marked-more made rest left held now whole is next so_far =
+      ap (λ (h : Bool). h || (kind && list_any test rest)) is ∙ joined held kind (test made) (list_any test rest)
+      ∙ ap (λ (l : List OfficeChange). held || (kind && list_any test l)) (sym next) ∙ so_far
+
+  pub marked-all : (left : List OfficeChange) (held whole : Bool) → left ≡ [] → (held || (kind && list_any test left)) ≡ whole → held ≡ whole
+  marked-all left held whole none so_far =
+      sym (by held kind) ∙ ap (λ (l : List OfficeChange). held || (kind && list_any test l)) (sym none) ∙ so_far
     where
-      by : (h p q : Bool) → (p || q) ≡ true → (h || (true && p) || (true && q)) ≡ true
-      by true p q read = refl
-      by false true q read = refl
-      by false false q read = read
+      by : (h k : Bool) → (h || (k && false)) ≡ h
+      by true k = refl
+      by false true = refl
+      by false false = refl
 
-  pub mark-stays : (cell : Cell) → holds_cell old cell ≡ true → holds_cell new cell ≡ true
-  mark-stays cell held = marked cell ∙ ap (λ h. h || marks before change cell || marks after change cell) held
+-- nothing is held of fresh sets
+no-cell : (cell : Cell) → holds_cell nothing cell ≡ false
+no-cell (HourCell site hour) = refl
+no-cell (WindowCell site start) = refl
+no-cell (OzoneDayCell site day) = refl
+no-cell (OzoneYearCell site year) = refl
+no-cell (PmDayCell site pollutant day) = refl
+no-cell (StratumCell site first) = refl
+no-cell (QuarterCell site pollutant quarter) = refl
+no-cell (PmYearCell site year) = refl
 
--- one more change is marked
-pub marked-more : {D E : Type 0} (test : OfficeChange → Bool) (made : OfficeChange) (rest : List OfficeChange) → (list_any test (made ∷ rest) ≡ true) ⊎ D
-    → (test made ≡ true → E) → (D → E) → (list_any test rest ≡ true) ⊎ E
-marked-more test made rest (inr done) here stays = inr (stays done)
-marked-more {E = E} test made rest (inl any) here stays = by (test made) refl any
+no-particle : (cell : Cell) → holds_particle no_particles cell ≡ false
+no-particle (HourCell site hour) = refl
+no-particle (WindowCell site start) = refl
+no-particle (OzoneDayCell site day) = refl
+no-particle (OzoneYearCell site year) = refl
+no-particle (PmDayCell site Ozone day) = refl
+no-particle (PmDayCell site Pm25 day) = refl
+no-particle (PmDayCell site Pm10 day) = refl
+no-particle (StratumCell site first) = refl
+no-particle (QuarterCell site Ozone quarter) = refl
+no-particle (QuarterCell site Pm25 quarter) = refl
+no-particle (QuarterCell site Pm10 quarter) = refl
+no-particle (PmYearCell site year) = refl
+
+pub none-marked : (old : Marked) (cell : Cell) (waits : Bool) → old ≡ nothing → (holds_cell old cell || waits) ≡ waits
+none-marked old cell waits fresh = ap (λ (m : Marked). holds_cell m cell || waits) fresh ∙ ap (λ (h : Bool). h || waits) (no-cell cell)
+
+pub no-particles : (old : MarkedParticles) (cell : Cell) (waits : Bool) → old ≡ no_particles → (holds_particle old cell || waits) ≡ waits
+no-particles old cell waits fresh = ap (λ (m : MarkedParticles). holds_particle m cell || waits) fresh ∙ ap (λ (h : Bool). h || waits) (no-particle cell)
+
+-- a cell of this kind that is not held reads none of the changes
+pub unread : (kind test held : Bool) → held ≡ (kind && test) → held ≡ false → kind ≡ true → test ≡ false
+unread kind test held exact free is = sym (ap (λ (k : Bool). k && test) is) ∙ sym exact ∙ free
+
+-- each cell is of ozone or of particles
+of-one-kind : (cell : Cell) (test : Bool) → ((is_of_ozone cell && test) || (is_of_particles cell && test)) ≡ test
+of-one-kind cell test = by cell
   where
-    by : (b : Bool) → test made ≡ b → (b || list_any test rest) ≡ true → (list_any test rest ≡ true) ⊎ E
-    by true e any = inr (here e)
-    by false e any = inl any
+    neither : (t : Bool) → (t || false) ≡ t
+    neither true = refl
+    neither false = refl
 
--- a cell that is not held is one that the changes do not reach, or none of ozone
-pub not-held : (test : Bool) (held ozone : Bool) → (ozone ≡ true → test ≡ true → held ≡ true) → held ≡ false → ozone ≡ true → test ≡ false
-not-held true held ozone reads free is = absurd (false≢true (sym free ∙ reads is refl))
-not-held false held ozone reads free is = refl
+    by : (c : Cell) → ((is_of_ozone c && test) || (is_of_particles c && test)) ≡ test
+    by (HourCell site hour) = neither test
+    by (WindowCell site start) = neither test
+    by (OzoneDayCell site day) = neither test
+    by (OzoneYearCell site year) = neither test
+    by (PmDayCell site pollutant day) = refl
+    by (StratumCell site first) = refl
+    by (QuarterCell site pollutant quarter) = refl
+    by (PmYearCell site year) = refl
+
+pub reach-held : (before after : List OfficeRecord) (changes : List OfficeChange) (ozone : Marked) (particles : MarkedParticles)
+    → HoldsCells before after changes ozone → HoldsParticles before after changes particles
+    → ((old new : Office) (cell : Cell) → list_any (is_same_cell cell) (reach old new) ≡ list_any (λ row. reads old.records cell row || reads new.records cell row) (changed_rows old new))
+    → HoldsReach before after changes ozone particles
+reach-held before after changes ozone particles cells days law rows later cell are =
+    reached-by before after rows later changes are cell (law (office_of before rows) (office_of after later) cell)
+    ∙ sym (of-one-kind cell (list_any (reads_change before after rows cell) changes))
+    ∙ (λ i. sym (cells rows cell) i || sym (days rows cell) i)
 
 -- the changes that are left, and those behind the next one
 pub rest-is : (changes : List staged.OfficeChange) (i : ℕ) (x : staged.OfficeChange) → i < length changes → x ≡ get_or changes i x
@@ -173,3 +256,47 @@ none-kept records rows no_records no_rows cells hours averages days =
     (λ site day within. inr (record { hours = λ hour lies. hours site hour; averages = λ start lies. averages site start; held = days site day }))
     (λ site day within any. absurd (false≢true (sym (ap (list_any (observes site day)) no_rows) ∙ any)))
     (λ site day within any. absurd (false≢true (sym (ap (list_any (approves site day)) no_records) ∙ any)))
+
+pub none-kept-pm25 : (records : List OfficeRecord) (rows : List (ObsKey × Observation)) → rows ≡ [] → (days : Days)
+    → ((site : Site) (day : ℕ) → cell_at days site day ≡ None) → ((site : Site) (day : ℕ) → sample_at days site day ≡ None)
+    → pm25_cells.AreKept (office_of records rows) days
+none-kept-pm25 records rows no_rows days cells samples =
+    pm25_filling.all-filled (office_of records rows) days (pm25_filling.none-filling (office_of records rows) days cells samples)
+    (λ site day any. absurd (false≢true (sym (ap (list_any (observed Pm25 site day)) no_rows) ∙ any)))
+
+pub none-kept-pm10 : (records : List OfficeRecord) (rows : List (ObsKey × Observation)) → rows ≡ [] → (kept : Pm10Kept)
+    → ((site : Site) (day : ℕ) → cell_at kept.days site day ≡ None) → ((site : Site) (day : ℕ) → sample_at kept.days site day ≡ None) → ((site : Site) (first : ℕ) → stratum_at kept.strata site first ≡ None)
+    → pm10_cells.AreKept (office_of records rows) kept
+none-kept-pm10 records rows no_rows kept cells samples strata =
+    let office = office_of records rows in
+    let filling = pm10_filling.none-filling office kept cells samples in
+    let none : (site : Site) (day : ℕ) → list_any (observed Pm10 site day) rows ≡ false = λ site day. ap (list_any (observed Pm10 site day)) no_rows in
+    pm10_filling.all-filled office kept kept (pm10_filling.values-filled office kept filling (λ site day any. absurd (false≢true (sym (none site day) ∙ any))))
+    (pm10_filling.counts-filled office kept filling)
+    (λ site first within. pm10_filling.stratum-filled office kept site first (λ day any in_it. absurd (false≢true (sym (none site day) ∙ any))) (inr (strata site first)))
+    (λ site day. refl) (λ site day. refl)
+
+-- ---- cells of which nothing is kept
+
+-- a cell that is none of particles is the office's in what is kept of these
+pub pm25-else : (office : Office) (days : Days) (cell : Cell) → (is_of_particles cell ≡ true → pm25_cells.IsCellOf office days cell) → pm25_cells.IsCellOf office days cell
+unfolding pm25_cells.IsCellOf
+pm25-else office days (HourCell site hour) is = tt
+pm25-else office days (WindowCell site start) is = tt
+pm25-else office days (OzoneDayCell site day) is = tt
+pm25-else office days (OzoneYearCell site year) is = tt
+pm25-else office days (PmDayCell site pollutant day) is = is refl
+pm25-else office days (StratumCell site first) is = tt
+pm25-else office days (QuarterCell site pollutant quarter) is = is refl
+pm25-else office days (PmYearCell site year) is = tt
+
+pub pm10-else : (office : Office) (kept : Pm10Kept) (cell : Cell) → (is_of_particles cell ≡ true → pm10_cells.IsCellOf office kept cell) → pm10_cells.IsCellOf office kept cell
+unfolding pm10_cells.IsCellOf
+pm10-else office kept (HourCell site hour) is = tt
+pm10-else office kept (WindowCell site start) is = tt
+pm10-else office kept (OzoneDayCell site day) is = tt
+pm10-else office kept (OzoneYearCell site year) is = tt
+pm10-else office kept (PmDayCell site pollutant day) is = is refl
+pm10-else office kept (StratumCell site first) is = is refl
+pm10-else office kept (QuarterCell site pollutant quarter) is = is refl
+pm10-else office kept (PmYearCell site year) is = tt

@@ -1,9 +1,10 @@
 //! An office with its observations and records.
-ghost use Rattle.std.specs.Prelude.{◌≡◌, ◌≤◌, ◌⊎◌, ℕ, List, length, option_map, IfOk};
+ghost use Rattle.std.specs.Prelude.{◌≡◌, ◌≤◌, ◌+◌, ◌⊎◌, ℕ, List, length, option_map, IfOk};
 ghost use Rattle.aq_book.specs.Checks.{decision_of};
 ghost use Rattle.aq_staging.specs.Staged.{IsStagedOn};
 ghost use Rattle.aq_rows.specs.KeptLoads.{digest_in, reply_in};
 ghost use Rattle.aq_book.specs.Staged.{kept_under, office_with, Fits, IsStageOf};
+ghost use Rattle.aq_rules.specs.Kept.Reach.{cost};
 ghost use Rattle.aq_rules.specs.Kept.RowChanges.{row_batch};
 ghost use Rattle.aq_rules.specs.Limits.{MOST_BYTES, MOST_LINES};
 ghost use Rattle.aq_rules.specs.Lines.Lines.{line_count};
@@ -11,10 +12,13 @@ ghost use Rattle.aq_rules.specs.Office.Load.{New, decide, load, reply};
 ghost use Rattle.aq_rules.specs.Office.Office.{load_at, nothing};
 
 use crate::batch::{RowChanges, batch_of};
+use crate::cells::Cells;
 use crate::check::LoadCheck;
 use crate::reached::bring_up;
-use aq_base::{LoadReply, Memory};
-use aq_ozone_cells::{OzoneCells, cells_out_of_reach_are_those_of_the_office_after_it};
+use aq_base::{LoadReply, Memory, Steps};
+use aq_ozone_cells::OzoneCells;
+use aq_pm10_cells::Pm10Cells;
+use aq_pm25_cells::Pm25Cells;
 use aq_registry::Registry;
 use aq_rows::{Loads, digest_is_32_bytes};
 use aq_rules::kept::reach::what_reads_a_changed_row_is_in_reach;
@@ -23,15 +27,16 @@ use aq_shelf::Shelf;
 use aq_staging::{LoadIdentity, Staged, registry_after, stage_load};
 use std::alloc::Global;
 use std::marker::Model;
+use std::sync::ledger::Ledger;
 
-/// An office with its records, observations and loads, as it stands between two loads, and with its ozone
+/// An office with its records, observations and loads, as it stands between two loads, and with its
 /// cells. Contracts see the valid office of the book of rules; every cell that is kept is that office's.
 #[derive(Drop)]
 pub struct Book {
     pub(crate) registry: Registry,
     pub(crate) shelf: Shelf,
     pub(crate) loads: Loads,
-    pub(crate) cells: OzoneCells,
+    pub(crate) cells: Cells,
     pub(crate) alloc: Global,
 }
 
@@ -56,7 +61,11 @@ impl Book {
             registry: Registry::new(alloc),
             shelf: Shelf::new(alloc),
             loads: Loads::new(alloc),
-            cells: OzoneCells::new(alloc),
+            cells: Cells {
+                ozone: OzoneCells::new(alloc),
+                pm25: Pm25Cells::new(alloc),
+                pm10: Pm10Cells::new(alloc),
+            },
             alloc,
         }
     }
@@ -156,13 +165,17 @@ impl Book {
     }
 
     /// The book after a load that fits it: one that was staged on this book. It costs a search of the
-    /// observations for each that the load changed, or two, and brings the ozone cells that the load reaches
-    /// up to date, lower levels first. After want of memory the book is gone.
-    pub fn take(self, staged: Staged) -> Result<Book, Memory>
+    /// observations for each that the load changed, or two, and brings the cells that the load reaches up to
+    /// date, lower levels first, in at most the steps that the change from the one office to the other costs.
+    /// After want of memory the book is gone.
+    pub fn take<L: Ledger>(self, staged: Staged, steps: &mut Steps<L>) -> Result<Book, Memory>
         requires { Fits staged self }
-        ensures { IfOk result (λ book. book ≡ office_with staged self) }
+        ensures book { IfOk result (λ book. book ≡ office_with staged self) }
+        ensures steps { steps.new ≤ steps.old + cost self (office_with staged self) }
     {
-        cells_out_of_reach_are_those_of_the_office_after_it();
+        aq_ozone_cells::cells_out_of_reach_are_those_of_the_office_after_it();
+        aq_pm25_cells::cells_out_of_reach_are_those_of_the_office_after_it();
+        aq_pm10_cells::cells_out_of_reach_are_those_of_the_office_after_it();
         what_reads_a_changed_row_is_in_reach();
         let changes = staged.changes(self.alloc, &self.registry, &self.shelf)?;
         let taken = staged.onto(self.shelf)?;
@@ -176,6 +189,7 @@ impl Book {
             &self.registry,
             after,
             &taken.shelf,
+            steps,
         )?;
         Ok(Book {
             registry: taken.registry.unwrap_or(self.registry),

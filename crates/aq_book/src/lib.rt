@@ -1,6 +1,6 @@
-//! The book: an office with its records, observations and loads, and its ozone cells. It is read from rows
-//! and gives them back, stages a load beside what stands, names its batch, takes it, and answers questions
-//! of a site. Contracts see the valid office of the book of rules, and nothing else of it.
+//! The book: an office with its records, observations and loads, and its cells of ozone and particles. It
+//! is read from rows and gives them back, stages a load beside what stands, names its batch, takes it, and
+//! answers questions of a site. Contracts see the valid office of the book of rules, and nothing else of it.
 //!
 //! # What it has
 //!
@@ -30,10 +30,10 @@
 //!   `batch`). Taken, it gives the book of that office (`take`).
 //! - A question of a site is answered as the book of rules answers it, and refused exactly if no monitor
 //!   of the site is registered, or for want of memory where its answer takes some.
-//! - Each ozone cell that is kept is the office's, in every book (the invariant of `Book`): a load that is
-//!   taken brings up to date what reads one of its changes, before it or after it. So an ozone year, a
-//!   design value and a report of ozone make no step (`ozone_year`, `design_value`, `report`), and a day's
-//!   windows are those of the hours that are kept (`windows`).
+//! - Each cell that is kept is the office's, in every book (the invariant of `Book`): a load that is taken
+//!   marks what reads one of its changes, before it or after it, and nothing else, and brings it up to
+//!   date. So a year, a design value and a report make no step (`ozone_year`, `pm25_year`, `pm10_year`,
+//!   `design_value`, `report`), and a day's windows are those of the hours that are kept (`windows`).
 //! - The report of a standard has the sites with a monitor of its pollutant, in rising order, each with
 //!   its whole design value (`report`).
 //!
@@ -43,13 +43,14 @@
 //! let book = Book::new(alloc);
 //! let staged = book.stage(alloc, 1, digest, body)?;
 //! let batch = book.batch(alloc, &staged)?; // a keeper commits it, and then
-//! let book = book.take(staged)?;
+//! let book = book.take(staged, &mut steps)?;
 //! let value = book.design_value(Standard::Ozone2015, site, 2024, &mut steps)?;
 //! ```
 #![tactic(auto)]
 
 mod batch;
 mod book;
+mod cells;
 mod check;
 mod design;
 mod export;

@@ -3,12 +3,14 @@ ghost use Rattle.std.specs.Prelude.{◌≡◌, ◌<◌, Some, IfErr, IfOk};
 ghost use Rattle.aq_rules.specs.Kept.Rows as kept;
 ghost use Rattle.aq_rows.specs.Opening.{IsOpenFault};
 ghost use Rattle.aq_series.specs.OfficeView.{office_of};
-ghost use Rattle.aq_ozone_cells.specs.FilledDays.{AreKept};
+ghost use Rattle.aq_ozone_cells.specs.FilledDays as ozone_cells;
+ghost use Rattle.aq_pm10_cells.specs.Pm10Levels as pm10_cells;
+ghost use Rattle.aq_pm25_cells.specs.Pm25Levels as pm25_cells;
 
 use crate::book::Book;
+use crate::cells::{Cells, filled};
 use aq_base::{Memory, Steps};
 use aq_keeper::{Row, Rows};
-use aq_ozone_cells::{OzoneCells, filled};
 use aq_registry::Registry;
 use aq_rows::{OpenFault, Opened, open};
 use aq_shelf::Shelf;
@@ -27,9 +29,9 @@ pub fn book_of(alloc: Global, rows: &[Row]) -> Result<Book, OpenFault>
 }
 
 impl Book {
-    /// The book of an office that was opened from its rows, with its ozone cells filled: a walk over its
-    /// observations and records. The rows may be gone by then, so that they and the cells need no memory at
-    /// once.
+    /// The book of an office that was opened from its rows, with its cells filled: four walks over its
+    /// observations and one over its records. The rows may be gone by then, so that they and the cells need
+    /// no memory at once.
     pub fn over(alloc: Global, opened: Opened) -> Result<Book, Memory>
         ensures { IfOk result (λ book. book ≡ opened) }
     {
@@ -44,17 +46,22 @@ impl Book {
     }
 }
 
-/// The ozone cells of an office, on a counter of their own, which nobody reads.
+/// The cells of an office, filled on a counter of their own, which nobody reads.
 fn cells_of<L: Ledger>(
     alloc: Global,
     shelf: &Shelf,
     registry: &Registry,
     blank: Blank,
-) -> Result<OzoneCells, Memory>
+) -> Result<Cells, Memory>
     requires name { blank.name ≡ L.name }
     requires parts { blank.parts ≡ L.parts }
     requires some { 0 < L.parts }
-    ensures { IfOk result (AreKept (office_of registry.now shelf.now)) }
+    ensures ozone { IfOk result
+        (λ cells. ozone_cells.AreKept (office_of registry.now shelf.now) cells.ozone) }
+    ensures pm25 { IfOk result
+        (λ cells. pm25_cells.AreKept (office_of registry.now shelf.now) cells.pm25) }
+    ensures pm10 { IfOk result
+        (λ cells. pm10_cells.AreKept (office_of registry.now shelf.now) cells.pm10) }
 {
     let mut steps = Steps::<L>::new(blank);
     filled(alloc, shelf, registry, &mut steps)

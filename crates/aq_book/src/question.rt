@@ -48,7 +48,7 @@ impl Book {
         // The hours are kept, so no step is made.
         let _ = steps;
         self.find(site)?;
-        Ok(self.cells.windows(site, day))
+        Ok(self.cells.ozone.windows(site, day))
     }
 
     /// The first and the last day of the ozone season of a site and year (40 CFR Part 50, Appendix U,
@@ -117,7 +117,8 @@ impl Book {
     }
 
     /// The PM2.5 year of a site: what is kept of its four quarters, and its eight greatest values (40 CFR
-    /// Part 50, Appendix N, 1.0(c), 3.0 and 4). It takes no memory. The year is 1990 to 2059.
+    /// Part 50, Appendix N, 1.0(c), 3.0 and 4), from the cells that are kept. It takes no memory and makes no
+    /// step. The year is 1990 to 2059.
     pub fn pm25_year<L: Ledger>(
         &self,
         site: SiteId,
@@ -128,13 +129,16 @@ impl Book {
         requires last { year ≤ LAST_YEAR }
         ensures year { IfOk result (λ summary. summary ≡ pm25_summary self.now site year) }
         ensures registered { is_ok result ≡ is_registered self.now site }
+        ensures steps { steps.new ≤ steps.old }
     {
+        // The cells are kept, so no step is made.
+        let _ = steps;
         self.find(site)?;
-        Ok(self.pm25(site, year, steps))
+        Ok(self.pm25_of_cells(site, year))
     }
 
-    /// The PM10 year of a site: its four quarters (40 CFR Part 50, Appendix K, 2.3 and 3). It takes no
-    /// memory. The year is 1990 to 2059.
+    /// The PM10 year of a site: its four quarters (40 CFR Part 50, Appendix K, 2.3 and 3), from the cells that
+    /// are kept. It takes no memory and makes no step. The year is 1990 to 2059.
     pub fn pm10_year<L: Ledger>(
         &self,
         site: SiteId,
@@ -145,9 +149,12 @@ impl Book {
         requires last { year ≤ LAST_YEAR }
         ensures year { IfOk result (λ summary. summary ≡ pm10_year self.now site year) }
         ensures registered { is_ok result ≡ is_registered self.now site }
+        ensures steps { steps.new ≤ steps.old }
     {
+        // The cells are kept, so no step is made.
+        let _ = steps;
         self.find(site)?;
-        Ok(self.pm10(site, year, steps))
+        Ok(self.pm10_of_cells(site, year))
     }
 
     /// The observations of a site and pollutant in a year, each with whether it is excluded (40 CFR

@@ -2,7 +2,6 @@
 ghost use Rattle.std.specs.Prelude.{◌≡◌, ◌+◌, ◌≤◌, ◌++◌, [], ◌∷◌, IfOk, OnOk, filter, length, map};
 ghost use Rattle.aq_base.specs.declared.day.TheConstants.{FIRST_YEAR, LAST_YEAR};
 ghost use Rattle.aq_base.specs.declared.limits.TheConstants.{MOST_SITES};
-ghost use Rattle.aq_base.specs.declared.standard.Standard.TheVariants.{Ozone2015};
 ghost use Rattle.aq_book.specs.Questions.{valued, valued_in};
 ghost use Rattle.aq_rules.specs.Office.Office as offices;
 ghost use Rattle.aq_rules.specs.Shown.OtherSheets.{sites_with};
@@ -21,7 +20,7 @@ pub type SiteValues = Items<(SiteId, DesignValue)>;
 impl Book {
     /// The design value of a standard for each site that has a registered monitor of its pollutant, eligible
     /// or not, and the three years that end with a year, in rising order of sites. Each site is asked once.
-    /// For ozone it makes no step. The year is 1992 to 2059.
+    /// It makes no step. The year is 1992 to 2059.
     pub fn report<L: Ledger>(
         &self,
         alloc: Global,
@@ -35,7 +34,7 @@ impl Book {
             ≡ map (valued standard self.now year)
             (sites_with self.now (standards.pollutant_of standard))) }
         ensures few { IfOk result (λ values. length values ≤ MOST_SITES) }
-        ensures steps { standard ≡ Ozone2015 → steps.new ≤ steps.old }
+        ensures steps { steps.new ≤ steps.old }
     {
         let mut values = SiteValues::new(alloc);
         let mut after = None;

@@ -14,12 +14,14 @@ pub struct FromShelf<'a> {
 }
 
 impl<'a> Years for FromShelf<'a> {
-    ghost use Rattle.std.specs.Prelude.{◌*◌};
+    ghost use Rattle.std.specs.Prelude.{◌*◌, false};
     ghost use Rattle.aq_series.specs.OfficeView.{office_of};
 
     ghost office = { λ source. office_of source.registry.now source.shelf.now };
 
     ghost ozone_steps = { 200 * 367 };
+
+    ghost keeps_particles = { false };
 
     fn ozone<L: Ledger>(&self, site: SiteId, year: u16, steps: &mut Steps<L>) -> OzoneYear {
         aq_ozone::year(self.shelf, self.registry, site, year, steps)

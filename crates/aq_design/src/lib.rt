@@ -14,7 +14,8 @@
 //! - The design value of each of the six standards is the book's over the source's office, with what is
 //!   kept of its three years and the verdict (`design_value`, clause `value`).
 //! - For ozone it makes at most three times the steps that the source says of a year (clause `steps`):
-//!   200 for each day and for the one after the last, over a shelf and a registry.
+//!   200 for each day and for the one after the last, over a shelf and a registry. For particles it makes
+//!   none if the source keeps their years (clause `kept`).
 //! - What a source gives is the book's year of the site in its office (the trait `Years`), and so is
 //!   what is computed from a shelf and a registry (`FromShelf`).
 //!

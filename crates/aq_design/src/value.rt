@@ -1,5 +1,5 @@
 //! The design value of any standard.
-ghost use Rattle.std.specs.Prelude.{◌≡◌, ◌+◌, ◌-◌, ◌*◌, ◌≤◌};
+ghost use Rattle.std.specs.Prelude.{◌≡◌, ◌+◌, ◌-◌, ◌*◌, ◌≤◌, true};
 ghost use Rattle.aq_base.specs.declared.day.TheConstants.{FIRST_YEAR, LAST_YEAR};
 ghost use Rattle.aq_base.specs.declared.standard.Standard.TheVariants.{Ozone2015};
 ghost use Rattle.aq_rules.specs.DesignValues.{OfAnnual, OfDaily, OfOzone, OfPm10, design_value, pm10_years, pm25_years};
@@ -20,8 +20,8 @@ use std::sync::ledger::Ledger;
 
 /// The design value of a standard for a site and the three years that end with a year, with what is kept
 /// of these and the verdict (40 CFR Part 50, Appendix U, 3(e) and 4, Appendix N, 4 and 5, and Appendix K,
-/// 2.1). It takes no memory. For ozone it makes at most the steps of three years of the source. The year is 1992 to
-/// 2059.
+/// 2.1). It takes no memory. For ozone it makes at most the steps of three years of the source, and for particles none
+/// if the source keeps their years. The year is 1992 to 2059.
 #[tactic(auto, unfolding(aq_rules::specs::DesignValues::design_value))]
 pub fn design_value<Y: Years, L: Ledger>(
     source: &Y,
@@ -34,6 +34,7 @@ pub fn design_value<Y: Years, L: Ledger>(
     requires last { year ≤ LAST_YEAR }
     ensures value { design_of result ≡ design_value standard (Y.office source.now) site year }
     ensures steps { standard ≡ Ozone2015 → steps.new ≤ steps.old + 3 * Y.ozone_steps }
+    ensures kept { Y.keeps_particles ≡ true → steps.new ≤ steps.old + 3 * Y.ozone_steps }
 {
     match standard {
         Standard::Ozone2015 => ozone_value(source, site, year, steps),
@@ -74,7 +75,8 @@ fn annual_value<Y: Years, L: Ledger>(
 ) -> DesignValue
     requires first { FIRST_YEAR + 2 ≤ year }
     requires last { year ≤ LAST_YEAR }
-    ensures { design_of result ≡ OfAnnual (pm25_years (Y.office source.now) site year) (annual_design level (Y.office source.now) site year) }
+    ensures value { design_of result ≡ OfAnnual (pm25_years (Y.office source.now) site year) (annual_design level (Y.office source.now) site year) }
+    ensures kept { Y.keeps_particles ≡ true → steps.new ≤ steps.old }
 {
     office_verdicts_read_what_is_kept();
     let years = three_pm25_years(source, site, year, steps);
@@ -90,7 +92,8 @@ fn daily_value<Y: Years, L: Ledger>(
 ) -> DesignValue
     requires first { FIRST_YEAR + 2 ≤ year }
     requires last { year ≤ LAST_YEAR }
-    ensures { design_of result ≡ OfDaily (pm25_years (Y.office source.now) site year) (daily_design (Y.office source.now) site year) }
+    ensures value { design_of result ≡ OfDaily (pm25_years (Y.office source.now) site year) (daily_design (Y.office source.now) site year) }
+    ensures kept { Y.keeps_particles ≡ true → steps.new ≤ steps.old }
 {
     eight_greatest_are_enough_for_the_daily_verdict();
     let years = three_pm25_years(source, site, year, steps);
@@ -106,7 +109,8 @@ fn pm10_value<Y: Years, L: Ledger>(
 ) -> DesignValue
     requires first { FIRST_YEAR + 2 ≤ year }
     requires last { year ≤ LAST_YEAR }
-    ensures { design_of result ≡ OfPm10 (pm10_years (Y.office source.now) site year) (pm10_design (Y.office source.now) site year) }
+    ensures value { design_of result ≡ OfPm10 (pm10_years (Y.office source.now) site year) (pm10_design (Y.office source.now) site year) }
+    ensures kept { Y.keeps_particles ≡ true → steps.new ≤ steps.old }
 {
     let first = source.pm10(site, year - 2, steps);
     let second = source.pm10(site, year - 1, steps);
@@ -128,6 +132,7 @@ fn three_pm25_years<Y: Years, L: Ledger>(
     ensures first_kept { KeepsPmYear (pm25_summary (Y.office source.now) site (last - 2)) }
     ensures second_kept { KeepsPmYear (pm25_summary (Y.office source.now) site (last - 1)) }
     ensures third_kept { KeepsPmYear (pm25_summary (Y.office source.now) site last) }
+    ensures kept { Y.keeps_particles ≡ true → steps.new ≤ steps.old }
 {
     let first = source.pm25(site, last - 2, steps);
     let second = source.pm25(site, last - 1, steps);

@@ -1,5 +1,5 @@
 //! Where the years of an office are had from.
-ghost use Rattle.std.specs.Prelude.{◌≡◌, ◌+◌, ◌≤◌, ℕ};
+ghost use Rattle.std.specs.Prelude.{◌≡◌, ◌+◌, ◌≤◌, ℕ, Bool, true};
 ghost use Rattle.aq_base.specs.declared.day.TheConstants.{FIRST_YEAR, LAST_YEAR};
 ghost use Rattle.aq_rules.specs.Kept.Summaries.{pm25_summary};
 ghost use Rattle.aq_rules.specs.Office.Office.{Office};
@@ -18,6 +18,9 @@ pub trait Years {
     /// How many steps an ozone year makes at most.
     ghost ozone_steps: { ℕ };
 
+    /// Whether the particle years are kept, so that they make no step.
+    ghost keeps_particles: { Bool };
+
     /// The ozone year of a site (40 CFR Part 50, Appendix U, 3(e) and 4(b)), in at most as many
     /// steps as the source says. The year is 1990 to 2059.
     fn ozone<L: Ledger>(&self, site: SiteId, year: u16, steps: &mut Steps<L>) -> OzoneYear
@@ -26,15 +29,19 @@ pub trait Years {
         ensures year { result ≡ ozone_year (office self.now) site year }
         ensures steps { steps.new ≤ steps.old + ozone_steps };
 
-    /// The PM2.5 year of a site (40 CFR Part 50, Appendix N, 1.0(c), 3.0 and 4). The year is 1990 to 2059.
+    /// The PM2.5 year of a site (40 CFR Part 50, Appendix N, 1.0(c), 3.0 and 4). If the
+    /// source keeps it, it makes no step. The year is 1990 to 2059.
     fn pm25<L: Ledger>(&self, site: SiteId, year: u16, steps: &mut Steps<L>) -> PmYear
         requires first { FIRST_YEAR ≤ year }
         requires last { year ≤ LAST_YEAR }
-        ensures { result ≡ pm25_summary (office self.now) site year };
+        ensures year { result ≡ pm25_summary (office self.now) site year }
+        ensures steps { keeps_particles ≡ true → steps.new ≤ steps.old };
 
-    /// The PM10 year of a site (40 CFR Part 50, Appendix K, 2.3 and 3). The year is 1990 to 2059.
+    /// The PM10 year of a site (40 CFR Part 50, Appendix K, 2.3 and 3). If the source keeps it, it
+    /// makes no step. The year is 1990 to 2059.
     fn pm10<L: Ledger>(&self, site: SiteId, year: u16, steps: &mut Steps<L>) -> Pm10Year
         requires first { FIRST_YEAR ≤ year }
         requires last { year ≤ LAST_YEAR }
-        ensures { result ≡ pm10_year (office self.now) site year };
+        ensures year { result ≡ pm10_year (office self.now) site year }
+        ensures steps { keeps_particles ≡ true → steps.new ≤ steps.old };
 }

@@ -61,11 +61,13 @@ impl<'a> Model for Turned<'a> {
 }
 
 impl<'a> Years for Turned<'a> {
-    ghost use Rattle.std.specs.Prelude.{◌*◌};
+    ghost use Rattle.std.specs.Prelude.{◌*◌, false};
 
     ghost office = { λ office. office };
 
     ghost ozone_steps = { 200 * 367 };
+
+    ghost keeps_particles = { false };
 
     fn ozone<L: Ledger>(&self, site: SiteId, year: u16, steps: &mut Steps<L>) -> OzoneYear {
         match self.standing.ozone(&self.hours, site, year) {

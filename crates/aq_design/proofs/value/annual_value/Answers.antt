@@ -5,8 +5,8 @@ use Rattle.aq_rules.specs.Kept.SummaryVerdicts.{kept_annual_dv}
 use Rattle.aq_design.proofs.DesignLemmas.{annual-value}
 use Rattle.aq_design.proofs.value.annual_value.Goals as goal
 
-pub returns : goal.returns
-returns g c =
+pub returns-clause-value : goal.returns-clause-value
+returns-clause-value g c =
     let office = g.Y.Years.office c.args.source.now in
     let years = c.three_pm25_years-years.result in
     annual-value office c.args.site c.args.year years c.annual.result c.three_pm25_years-years.ensures.years c.args.level

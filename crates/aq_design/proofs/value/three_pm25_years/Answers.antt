@@ -3,13 +3,13 @@ use Rattle.aq_rules.specs.Kept.Summaries.{KeepsPmYear}
 use Rattle.aq_design.proofs.value.three_pm25_years.Goals as goal
 
 pub returns-clause-years : goal.returns-clause-years
-returns-clause-years g c = λ i. c.pm25-first.ensures i ∷ c.pm25-second.ensures i ∷ c.pm25-third.ensures i ∷ []
+returns-clause-years g c = λ i. c.pm25-first.ensures.year i ∷ c.pm25-second.ensures.year i ∷ c.pm25-third.ensures.year i ∷ []
 
 pub returns-clause-first_kept : goal.returns-clause-first_kept
-returns-clause-first_kept g c = subst KeepsPmYear c.pm25-first.ensures c.quarters.ensures.facts
+returns-clause-first_kept g c = subst KeepsPmYear c.pm25-first.ensures.year c.quarters.ensures.facts
 
 pub returns-clause-second_kept : goal.returns-clause-second_kept
-returns-clause-second_kept g c = subst KeepsPmYear c.pm25-second.ensures c.quarters-2.ensures.facts
+returns-clause-second_kept g c = subst KeepsPmYear c.pm25-second.ensures.year c.quarters-2.ensures.facts
 
 pub returns-clause-third_kept : goal.returns-clause-third_kept
-returns-clause-third_kept g c = subst KeepsPmYear c.pm25-third.ensures c.quarters-3.ensures.facts
+returns-clause-third_kept g c = subst KeepsPmYear c.pm25-third.ensures.year c.quarters-3.ensures.facts

@@ -1,4 +1,4 @@
-use Rattle.std.proofs.Common.{◌≡◌, Some, None, cond, List, [], ◌∷◌, ◌++◌, length, map, ap, sym, subst, ◌∙◌, arith}
+use Rattle.std.proofs.Common.{◌≡◌, Some, None, cond, List, [], ◌∷◌, ◌++◌, length, map, refl, ap, sym, subst, ◌∙◌, arith}
 use Rattle.std.proofs.lemmas.List.{append-nil, length-map}
 use Rattle.aq_base.specs.Site.{Site}
 use Rattle.aq_rules.specs.Office.Office.{IsOffice, Office, has_monitor}
@@ -20,11 +20,11 @@ loop-site-init g c =
       values =
           ap (λ (l : List (Site × DesignValue)). map valued_in l ++ map (valued c.args.standard office c.args.year) (with_monitor office pollutant (sites_above office.records None))) c.new-values.ensures
           ∙ ap (map (valued c.args.standard office c.args.year)) (with_all office pollutant);
-      steps = λ ozone. omega arith;
+      steps = omega arith;
     }
 
 pub returns-in_err-push-clause-steps : goal.returns-in_err-push-clause-steps
-returns-in_err-push-clause-steps g c ozone = omega (arith, c.design_value-value.ensures.steps ozone, c.loop-site.invariant.steps ozone)
+returns-in_err-push-clause-steps g c = omega (arith, c.design_value-value.ensures.kept refl, c.loop-site.invariant.steps)
 
 pub loop-site-smaller : goal.loop-site-smaller
 loop-site-smaller g c =
@@ -54,7 +54,7 @@ loop-site-preserved g c =
                 ∙ valued-more c.args.standard office c.args.year c.loop-site.values site w.design_value-value.result behind w.design_value-value.ensures.value
                 ∙ ap (λ (l : List Site). map valued_in c.loop-site.values ++ map value_of l) (sym here)
                 ∙ c.loop-site.invariant.values;
-            steps = λ ozone. omega (arith, steps, w.design_value-value.ensures.steps ozone, c.loop-site.invariant.steps ozone);
+            steps = omega (arith, steps, w.design_value-value.ensures.kept refl, c.loop-site.invariant.steps);
           }
       | else-measures w ↦
           let here : with_monitor office pollutant (sites_above office.records c.loop-site.after) ≡ behind = walk ∙ ap (λ b. cond b (site ∷ behind) behind) w.if-measures.false in
@@ -65,7 +65,7 @@ loop-site-preserved g c =
                 ap (λ (l : List (Site × DesignValue)). map valued_in l ++ map value_of behind) values
                 ∙ ap (λ (l : List Site). map valued_in c.loop-site.values ++ map value_of l) (sym here)
                 ∙ c.loop-site.invariant.values;
-            steps = λ ozone. omega (arith, steps, c.loop-site.invariant.steps ozone);
+            steps = omega (arith, steps, c.loop-site.invariant.steps);
           }
     ]
 

@@ -1,5 +1,4 @@
 use Rattle.std.proofs.Common.{◌≡◌, ◌≤◌, ◌++◌, length, map}
-use Rattle.aq_base.specs.declared.standard.Standard.TheVariants.{Ozone2015}
 use Rattle.aq_rules.specs.Shown.OtherSheets.{sites_with}
 use Rattle.aq_rules.specs.Standards.{pollutant_of}
 use Rattle.aq_book.specs.Questions.{valued, valued_in}
@@ -11,7 +10,7 @@ invariant-loop-site g l = record {
   values :
       map valued_in l.values ++ map (valued l.standard l.self l.year) (with_monitor l.self (pollutant_of l.standard) (sites_above l.self.records l.after))
       ≡ map (valued l.standard l.self l.year) (sites_with l.self (pollutant_of l.standard));
-  steps : l.standard ≡ Ozone2015 → l.steps ≤ l.fn.steps;
+  steps : l.steps ≤ l.fn.steps;
 }
 
 abbrev pub decreases-loop-site : goal.decreases-loop-site

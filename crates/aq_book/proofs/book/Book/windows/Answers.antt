@@ -10,6 +10,6 @@ pub returns-clause-windows : goal.returns-clause-windows
 returns-clause-windows g c =
     let office = office_of c.self.inside.registry c.self.inside.shelf in
     c.windows.ensures
-    ∙ c.kept_numbers_are_those_of_the_office.ensures.windows office c.self.inside.cells c.args.site c.args.day
-    (λ hour low high within. hours-kept office c.self.inside.cells c.args.site c.self.invariant.cells_kept hour within)
+    ∙ c.kept_numbers_are_those_of_the_office.ensures.windows office c.self.inside.cells.ozone c.args.site c.args.day
+    (λ hour low high within. hours-kept office c.self.inside.cells.ozone c.args.site c.self.invariant.ozone_kept hour within)
     ∙ windows_are c.self.inside.registry c.self.inside.shelf c.self.inside.loads c.args.site c.args.day ∙ ap (λ (office : Office). windows office c.args.site c.args.day) c.self.view_is

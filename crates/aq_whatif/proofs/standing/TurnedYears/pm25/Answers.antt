@@ -8,8 +8,8 @@ use Rattle.aq_whatif.proofs.StandingLemmas.{in-profile, summary-same}
 use Rattle.aq_whatif.proofs.Turned.{of-some}
 use Rattle.aq_whatif.proofs.standing.TurnedYears.pm25.Goals as goal
 
-pub returns-in-Some : goal.returns-in-Some
-returns-in-Some g c =
+pub returns-in-Some-clause-year : goal.returns-in-Some-clause-year
+returns-in-Some-clause-year g c =
     let turned = c.self.inside in
     let standing = turned.standing.now in
     let hours = turned.hours in
