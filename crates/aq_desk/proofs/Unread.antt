@@ -34,6 +34,12 @@ pub stopped_by : {A : Type 0} (answer : Result A Stop) (stop : Stop) → IsErrAn
 stopped_by (Ok nothing) stop why = absurd why
 stopped_by (Err other) stop why = ap Err why
 
+-- memory was not to be had, and nothing was written
+pub out_of_memory : (outcome : Printout) (answer : Result Unit Stop) (output : SinkView) → IsErrAnd answer (λ why. why ≡ Memory) → Obeys outcome answer output output
+out_of_memory outcome answer output why =
+    let P = λ (ends : Result Unit Stop). Obeys outcome ends output output in
+    subst P (sym (stopped_by answer Memory why)) (without_memory outcome Memory output refl)
+
 -- a body that was not filled has no lines that were counted
 pub unfilled : {A : Type 0} (m n : ℕ) (bytes : Type 0) (lines : ℕ → Type 0) (why : BodyFault) (answer : Result A BodyFault) → IsErrAnd answer (λ fault. fault ≡ why) → IsBodyFault m n bytes (λ _. ⊥) why → IfErr answer (λ fault. IsBodyFault m n bytes lines fault)
 unfilled m n bytes lines why (Ok body) is cause = absurd is

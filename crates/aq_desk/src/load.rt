@@ -19,7 +19,7 @@ use crate::writing::{print_text, text_of_load};
 use aq_base::Bytes;
 use aq_book::Book;
 use aq_keeper::Keeper;
-use aq_office::{Posted, post};
+use aq_office::{Posted, post_uncounted};
 use aq_serve::{Sink, Source};
 use std::alloc::Global;
 
@@ -89,7 +89,7 @@ fn take<K: Keeper>(alloc: Global, number: u32, body: &[u8], keeper: &mut K) -> R
         (K.seen keeper.new).faults }
 {
     let book = open(alloc, keeper)?;
-    let (book, posted) = post(alloc, book, keeper, number, body)?;
+    let (book, posted) = post_uncounted(alloc, book, keeper, number, body)?;
     text_of_posted(alloc, &book, number, posted)
 }
 

@@ -1,5 +1,5 @@
 //! The command `scan`.
-ghost use Rattle.std.specs.Prelude.{◌≡◌, ◌≤◌, length, true, IfErr};
+ghost use Rattle.std.specs.Prelude.{◌≡◌, ◌<◌, ◌≤◌, length, true, IfErr, IfOk};
 ghost use Rattle.aq_book.specs.Staged.{office_with, Fits};
 ghost use Rattle.aq_rules.specs.Limits.{MOST_BYTES, MOST_LINES};
 ghost use Rattle.aq_rules.specs.Lines.Lines.{line_count};
@@ -16,12 +16,14 @@ ghost use Rattle.aq_desk.specs.declared.status.TheConstants.{DOOR_FAILED, KEEPER
 use crate::body::read_body;
 use crate::stop::Stop;
 use crate::writing::print_sheet;
-use aq_base::{Ask, Day, SiteId};
+use aq_base::{Ask, Day, Memory, SiteId, Steps};
 use aq_book::{Book, Staged};
 use aq_office::{Answer, answer_to};
 use aq_reports::load_sheet;
 use aq_serve::{Sink, Source};
 use std::alloc::Global;
+use std::marker::Brand;
+use std::sync::ledger::{Blank, Ledger};
 
 /// Takes the input as a load over an office of which nothing stands, and prints the reply and then the
 /// day's windows.
@@ -118,8 +120,20 @@ fn print_taken<O: Sink>(
     ensures output_failed { RisesAt OUTPUT_FAILED (status_of result) (O.seen output.old).faults
         (O.seen output.new).faults }
 {
-    let book = book.take(staged)?;
+    let book = taken::<Brand>(book, staged, Blank::new(1))?;
     print_windows(alloc, &book, site, day, output)
+}
+
+/// The book after a staged load, on a counter of its own, which nobody reads.
+fn taken<L: Ledger>(book: Book, staged: Staged, blank: Blank) -> Result<Book, Memory>
+    requires name { blank.name ≡ L.name }
+    requires parts { blank.parts ≡ L.parts }
+    requires some { 0 < L.parts }
+    requires fits { Fits staged book }
+    ensures { IfOk result (λ after. after ≡ office_with staged book) }
+{
+    let mut steps = Steps::<L>::new(blank);
+    book.take(staged, &mut steps)
 }
 
 /// Prints the day's windows of a registered site.

@@ -5,19 +5,21 @@
 //!
 //! - `answer_to(alloc, book, ask)`: the `Answer` to a question: a sheet, an export, or that no such site
 //!   or load is there.
-//! - `post(alloc, book, keeper, number, body)`: a load, posted under a number; it answers the book that
-//!   then stands, and what became of the load, as a `Posted`.
+//! - `post(alloc, book, keeper, number, body, steps)`: a load, posted under a number; it answers the book
+//!   that then stands, and what became of the load, as a `Posted`. `post_uncounted` is the same on a counter
+//!   of its own.
 //!
 //! # What it promises
 //!
 //! - A question about an office is answered as the book of rules has it (`answer_to`).
 //! - A load that is posted is what the book's `posted` says of it: it is committed before it is taken,
-//!   and after a failed commit the office and the tables are as before (`post`).
+//!   and after a failed commit the office and the tables are as before (`post`). It makes at most the steps
+//!   that the change costs, whatever else stands (`post`, clause `steps`).
 //!
 //! # An example
 //!
 //! ```rust
-//! let (book, posted) = post(alloc, Book::new(alloc), &mut keeper, 1, body)?;
+//! let (book, posted) = post(alloc, Book::new(alloc), &mut keeper, 1, body, &mut steps)?;
 //! assert!(rt; matches!(posted, Posted::Done));
 //! match answer_to(alloc, &book, &Ask::Value(Standard::Ozone2015, site, 2024))? {
 //!     Answer::Sheet(sheet) => print(text_of(alloc, &sheet)?),
@@ -32,4 +34,4 @@ mod days;
 mod posting;
 
 pub use answers::{Answer, answer_to};
-pub use posting::{Posted, post};
+pub use posting::{Posted, post, post_uncounted};

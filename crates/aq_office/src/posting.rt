@@ -1,6 +1,7 @@
 //! Loads that are posted: checked, staged, committed, and then taken.
-ghost use Rattle.std.specs.Prelude.{◌≡◌, ◌≤◌, length, IfOk, OnErr};
+ghost use Rattle.std.specs.Prelude.{◌≡◌, ◌+◌, ◌<◌, ◌≤◌, length, IfOk, OnErr};
 ghost use Rattle.sha2.specs.Sha256.{sha256};
+ghost use Rattle.aq_rules.specs.Kept.Reach.{cost};
 ghost use Rattle.aq_rules.specs.Limits.{MOST_BYTES, MOST_LINES};
 ghost use Rattle.aq_rules.specs.Lines.Lines.{line_count};
 ghost use Rattle.aq_rules.specs.Office.Load.{New, decide, load, posted, reply};
@@ -8,13 +9,15 @@ ghost use Rattle.aq_rules.specs.Office.Office.{IsOffice};
 ghost use Rattle.aq_keeper.specs.Standing.{standing_of};
 ghost use Rattle.aq_office.specs.Posting.{IsPosted, LosesLoad, TakenBy};
 
-use aq_base::{MOST_LINES, Memory};
+use aq_base::{MOST_LINES, Memory, Steps};
 use aq_book::{Book, LoadCheck};
 use aq_forms::count_lines;
 use aq_keeper::{Keeper, KeeperFault};
 use aq_rules::kept::row_changes::{batch_gives_the_rows_after, batch_is_in_order};
 use sha2::{Digest, Sha256};
 use std::alloc::Global;
+use std::marker::Brand;
+use std::sync::ledger::{Blank, Ledger};
 
 /// What became of a load that was posted.
 #[derive(Clone, Copy, Debug, PartialEq, Eq)]
@@ -32,9 +35,45 @@ pub enum Posted {
 }
 
 /// Posts a load under a number from 1 on, and answers the book that then stands: a load that is taken is
-/// committed first. The digest of a load is the SHA-256 of its body. After `Memory` the book is gone, and
-/// the keeper's tables are as before or have the load.
-pub fn post<K: Keeper>(
+/// committed first. The digest of a load is the SHA-256 of its body. It makes at most the steps that the
+/// change from the one office to the other costs. After `Memory` the book is gone, and the keeper's tables are
+/// as before or have the load.
+pub fn post<K: Keeper, L: Ledger>(
+    alloc: Global,
+    book: Book,
+    keeper: &mut K,
+    number: u32,
+    body: &[u8],
+    steps: &mut Steps<L>,
+) -> Result<(Book, Posted), Memory>
+    requires bytes { length body.now ≤ MOST_BYTES }
+    requires valid { IsOffice book }
+    ensures posted { IfOk result (λ ends. IsPosted (posted book number (sha256 body.now) body.now)
+        (line_count body.now)
+        (standing_of book (K.seen keeper.old))
+        (standing_of ends.0 (K.seen keeper.new)) ends.1) }
+    ensures valid { IfOk result (λ ends. IsOffice ends.0) }
+    ensures lost { OnErr result (LosesLoad number (sha256 body.now) body.now
+        (standing_of book (K.seen keeper.old))
+        (standing_of book (K.seen keeper.new))) }
+    ensures steps { steps.new
+        ≤ steps.old + cost book (load book number (sha256 body.now) body.now) }
+{
+    let lines = count_lines(body);
+    if lines > MOST_LINES {
+        return Ok((book, Posted::Lines(lines)));
+    }
+    let digest = Sha256::digest(body);
+    match book.check(number, &digest) {
+        LoadCheck::Repeat => Ok((book, Posted::Done)),
+        LoadCheck::Conflict => Ok((book, Posted::Conflict(digest))),
+        LoadCheck::Full => Ok((book, Posted::Full)),
+        LoadCheck::New => take(alloc, book, keeper, number, digest, body, steps),
+    }
+}
+
+/// Posts a load as `post` does, on a counter of its own, which nobody reads.
+pub fn post_uncounted<K: Keeper>(
     alloc: Global,
     book: Book,
     keeper: &mut K,
@@ -52,27 +91,44 @@ pub fn post<K: Keeper>(
         (standing_of book (K.seen keeper.old))
         (standing_of book (K.seen keeper.new))) }
 {
-    let lines = count_lines(body);
-    if lines > MOST_LINES {
-        return Ok((book, Posted::Lines(lines)));
-    }
-    let digest = Sha256::digest(body);
-    match book.check(number, &digest) {
-        LoadCheck::Repeat => Ok((book, Posted::Done)),
-        LoadCheck::Conflict => Ok((book, Posted::Conflict(digest))),
-        LoadCheck::Full => Ok((book, Posted::Full)),
-        LoadCheck::New => take(alloc, book, keeper, number, digest, body),
-    }
+    counted::<K, Brand>(alloc, book, keeper, number, body, Blank::new(1))
+}
+
+fn counted<K: Keeper, L: Ledger>(
+    alloc: Global,
+    book: Book,
+    keeper: &mut K,
+    number: u32,
+    body: &[u8],
+    blank: Blank,
+) -> Result<(Book, Posted), Memory>
+    requires name { blank.name ≡ L.name }
+    requires parts { blank.parts ≡ L.parts }
+    requires some { 0 < L.parts }
+    requires bytes { length body.now ≤ MOST_BYTES }
+    requires valid { IsOffice book }
+    ensures posted { IfOk result (λ ends. IsPosted (posted book number (sha256 body.now) body.now)
+        (line_count body.now)
+        (standing_of book (K.seen keeper.old))
+        (standing_of ends.0 (K.seen keeper.new)) ends.1) }
+    ensures valid { IfOk result (λ ends. IsOffice ends.0) }
+    ensures lost { OnErr result (LosesLoad number (sha256 body.now) body.now
+        (standing_of book (K.seen keeper.old))
+        (standing_of book (K.seen keeper.new))) }
+{
+    let mut steps = Steps::<L>::new(blank);
+    post(alloc, book, keeper, number, body, &mut steps)
 }
 
 /// Stages a new load, commits its batch, and takes it.
-fn take<K: Keeper>(
+fn take<K: Keeper, L: Ledger>(
     alloc: Global,
     book: Book,
     keeper: &mut K,
     number: u32,
     digest: [u8; 32],
     body: &[u8],
+    steps: &mut Steps<L>,
 ) -> Result<(Book, Posted), Memory>
     requires new { decide book number digest ≡ New }
     requires bytes { length body.now ≤ MOST_BYTES }
@@ -85,6 +141,7 @@ fn take<K: Keeper>(
     ensures lost { OnErr result (LosesLoad number digest body.now
         (standing_of book (K.seen keeper.old))
         (standing_of book (K.seen keeper.new))) }
+    ensures steps { steps.new ≤ steps.old + cost book (load book number digest body.now) }
 {
     batch_is_in_order();
     batch_gives_the_rows_after();
@@ -92,7 +149,7 @@ fn take<K: Keeper>(
     let batch = book.batch(alloc, &staged)?;
     match keeper.commit(alloc, batch.as_slice()) {
         Ok(()) => {
-            let book = book.take(staged)?;
+            let book = book.take(staged, steps)?;
             Ok((book, Posted::Done))
         }
         Err(KeeperFault::Failed) => Ok((book, Posted::Failed)),

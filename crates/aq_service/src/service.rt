@@ -15,7 +15,7 @@ use aq_base::Memory;
 use aq_book::Book;
 use aq_http::{Found, Routes, Verb};
 use aq_keeper::Keeper;
-use aq_office::post;
+use aq_office::post_uncounted;
 use aq_rules::office::valid_load::an_office_of_nothing_is_valid;
 use aq_serve::{Service, error_reply};
 use std::alloc::Global;
@@ -99,7 +99,7 @@ impl OfficeService {
     {
         an_office_of_nothing_is_valid();
         let book = mem::replace(&mut self.book, Book::new(alloc));
-        let (book, posted) = post(alloc, book, keeper, number, body)?;
+        let (book, posted) = post_uncounted(alloc, book, keeper, number, body)?;
         self.book = book;
         load_reply(alloc, &self.book, number, posted, close)
     }

@@ -10,7 +10,7 @@ use Rattle.aq_base.specs.Standard.{standards}
 use Rattle.aq_base.specs.declared.standard.Standard.{Standard}
 use Rattle.aq_rules.specs.Limits.{MOST_LINES, MOST_GENERATED_SITES, MOST_GENERATED_YEARS}
 use Rattle.aq_rules.specs.Lines.Lines.{line_count}
-use Rattle.aq_rules.specs.Office.Office.{Office, nothing}
+use Rattle.aq_rules.specs.Office.Office.{IsOffice, Office, nothing}
 use Rattle.aq_rules.specs.Office.Load.{TooManyLines, Repeated, Differing, NoRoom, Taken, office_after, post}
 use Rattle.aq_rules.specs.Office.Load as loads
 use Rattle.aq_rules.specs.Shown.Answer.{OfSheet, OfExport, NoSite, NoLoad, Report, answer}
@@ -110,16 +110,18 @@ module _ (start sites years : ℕ) where
   pub record TakesOn (load lines : ℕ) (office : Office) : Type 0 where
     pub first : 1 ≤ load
     pub last : load ≤ load_count sites years + 1
+    pub valid : IsOffice office
     pub loads : load_count sites years ≤ 321
     pub few : lines + MOST_LINES ≤ load * MOST_LINES
     pub taken : fold step office (range_with_len load (load_count sites years + 1 - load)) ≡ generated_office sha256 start sites years
     pub count : fold add lines (range_with_len load (load_count sites years + 1 - load)) ≡ generated_lines start sites years
 
-  pub takes_first : (office : Office) → office ≡ nothing → sites ≤ MOST_GENERATED_SITES → years ≤ MOST_GENERATED_YEARS → TakesOn 1 0 office
+  pub takes_first : (office : Office) → IsOffice nothing → office ≡ nothing → sites ≤ MOST_GENERATED_SITES → years ≤ MOST_GENERATED_YEARS → TakesOn 1 0 office
   unfolding generated_office generated_lines loads_to_take
-  takes_first office none few short = record {
+  takes_first office valid none few short = record {
     first = omega arith;
     last = omega arith;
+    valid = subst IsOffice (sym none) valid;
     loads = few_loads sites years few short;
     few = omega arith;
     taken = ap (λ o. fold step o (range_with_len 1 (load_count sites years + 1 - 1))) none ∙ ap (λ k. fold step nothing (range_with_len 1 k)) all;
@@ -129,10 +131,11 @@ module _ (start sites years : ℕ) where
       all : load_count sites years + 1 - 1 ≡ load_count sites years
       all = omega arith
 
-  pub takes_next : (load lines more : ℕ) (office now : Office) → load ≤ load_count sites years → TakesOn load lines office → now ≡ step office load → more ≡ add lines load → more ≤ lines + MOST_LINES → TakesOn (load + 1) more now
-  takes_next load lines more office now is_there on is counts few = record {
+  pub takes_next : (load lines more : ℕ) (office now : Office) → load ≤ load_count sites years → TakesOn load lines office → IsOffice now → now ≡ step office load → more ≡ add lines load → more ≤ lines + MOST_LINES → TakesOn (load + 1) more now
+  takes_next load lines more office now is_there on valid is counts few = record {
     first = omega arith;
     last = omega (arith, is_there);
+    valid = valid;
     loads = on.loads;
     few = omega (arith, on.few, few);
     taken = ap (fold step now) rest ∙ ap (λ o. fold step o (range_with_len (load + 1) left)) is ∙ ap (λ k. fold step office (range_with_len load k)) (sym here) ∙ on.taken;

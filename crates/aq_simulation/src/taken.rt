@@ -4,6 +4,7 @@ ghost use Rattle.sha2.specs.Sha256.{sha256};
 ghost use Rattle.aq_rules.specs.Limits.{MOST_BYTES, MOST_LINES, MOST_GENERATED_SITES, FEWEST_GENERATED_YEARS, MOST_GENERATED_YEARS};
 ghost use Rattle.aq_rules.specs.Lines.Lines.{line_count};
 ghost use Rattle.aq_rules.specs.Office.Load.{post};
+ghost use Rattle.aq_rules.specs.Office.Office.{IsOffice};
 ghost use Rattle.aq_rules.specs.Shown.Generator.{generated_lines, generated_load, generated_office, load_count};
 
 use aq_base::Memory;
@@ -11,7 +12,8 @@ use aq_book::Book;
 use aq_forms::count_lines;
 use aq_generator::{generate, load_count};
 use aq_keeper::SteadyKeeper;
-use aq_office::post;
+use aq_office::post_uncounted;
+use aq_rules::office::valid_load::an_office_of_nothing_is_valid;
 use std::alloc::Global;
 use std::mem;
 
@@ -31,6 +33,7 @@ pub(crate) fn take_all(alloc: Global, start: u64, sites: u8, years: u8) -> Resul
     ensures office { IfOk result (λ taken. taken.book ≡ generated_office sha256 start sites years) }
     ensures lines { IfOk result (λ taken. taken.lines ≡ generated_lines start sites years) }
 {
+    an_office_of_nothing_is_valid();
     let mut keeper = SteadyKeeper::new(alloc);
     let mut taken = Taken {
         book: Book::new(alloc),
@@ -62,6 +65,8 @@ fn take_load(
     requires first { 1 ≤ load }
     requires last { load ≤ load_count sites years }
     requires room { taken.old.lines ≤ 400 * MOST_LINES }
+    requires valid { IsOffice taken.old.book }
+    ensures valid { OnOk result (IsOffice taken.new.book) }
     ensures book { OnOk result (taken.new.book ≡ post taken.old.book load (sha256 (generated_load start sites years load)) (generated_load start sites years load)) }
     ensures lines { OnOk result (taken.new.lines ≡ taken.old.lines + line_count (generated_load start sites years load)) }
     ensures few_lines { OnOk result (taken.new.lines ≤ taken.old.lines + MOST_LINES) }
@@ -83,11 +88,13 @@ fn take(
     requires bytes { length body.now ≤ MOST_BYTES }
     requires lines { line_count body.now ≤ MOST_LINES }
     requires room { taken.old.lines ≤ 400 * MOST_LINES }
+    requires valid { IsOffice taken.old.book }
+    ensures valid { OnOk result (IsOffice taken.new.book) }
     ensures book { OnOk result (taken.new.book ≡ post taken.old.book number (sha256 body.now) body.now) }
     ensures lines { OnOk result (taken.new.lines ≡ taken.old.lines + line_count body.now) }
 {
     let book = mem::replace(&mut taken.book, Book::new(alloc));
-    let (book, _) = post(alloc, book, keeper, number, body)?;
+    let (book, _) = post_uncounted(alloc, book, keeper, number, body)?;
     taken.book = book;
     taken.lines += count_lines(body);
     Ok(())

@@ -26,10 +26,10 @@ returns-in_ok-book-in-Ok-clause-taken g c =
     taken c.args.book c.args.number c.args.digest c.args.body.now c.as_slice.result.now
     (c.batch_gives_the_rows_after.ensures c.args.book c.args.number c.args.digest c.args.body.now c.requires.valid)
     (c.as_slice.ensures ∙ c.in_ok-batch.ensures c.args.number c.args.digest c.args.body.now c.in_ok-staged.ensures.staged)
-    _ _ _ _ c.in-Ok.ensures.done c.in-Ok.ensures.cause c.in_ok-book-in-Ok.book (c.in_ok-book-in-Ok.ensures ∙ c.in_ok-staged.ensures.office)
+    _ _ _ _ c.in-Ok.ensures.done c.in-Ok.ensures.cause c.in_ok-book-in-Ok.book (c.in_ok-book-in-Ok.ensures.book ∙ c.in_ok-staged.ensures.office)
 
 pub returns-in_ok-book-in-Ok-clause-valid : goal.returns-in_ok-book-in-Ok-clause-valid
-returns-in_ok-book-in-Ok-clause-valid g c = subst IsOffice (sym c.in_ok-book-in-Ok.ensures) c.in_ok-staged.ensures.fits.valid
+returns-in_ok-book-in-Ok-clause-valid g c = subst IsOffice (sym c.in_ok-book-in-Ok.ensures.book) c.in_ok-staged.ensures.fits.valid
 
 pub returns-in-Err-Failed-clause-taken : goal.returns-in-Err-Failed-clause-taken
 returns-in-Err-Failed-clause-taken g c =

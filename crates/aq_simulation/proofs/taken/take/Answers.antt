@@ -1,9 +1,7 @@
-use Rattle.std.proofs.Common.{List, refl, ap, ◌∙◌}
+use Rattle.std.proofs.Common.{refl, ap, sym, subst, ◌∙◌}
 use Rattle.sha2.specs.Sha256.{sha256}
-use Rattle.aq_rules.specs.Lines.Lines.{line_count}
 use Rattle.aq_rules.specs.Office.Load.{post, posted}
-use Rattle.aq_rules.specs.Office.Office.{Office}
-use Rattle.aq_keeper.specs.Standing.{Standing}
+use Rattle.aq_rules.specs.Office.Office.{IsOffice, Office}
 use Rattle.aq_simulation.proofs.Steps.{posted_office}
 use Rattle.aq_simulation.proofs.taken.take.Goals as goal
 
@@ -12,3 +10,6 @@ returns-clause-book c =
     let office = λ (o : Office). post o c.args.number (sha256 c.args.body.now) c.args.body.now in
     posted_office _ _ _ _ _ refl refl c.in_ok-book.ensures.posted
     ∙ ap office c.replace-book.ensures.value
+
+pub post_uncounted-requires-clause-valid : goal.post_uncounted-requires-clause-valid
+post_uncounted-requires-clause-valid c = subst IsOffice (sym c.replace-book.ensures.value) c.requires.valid

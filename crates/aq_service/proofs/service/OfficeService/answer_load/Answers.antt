@@ -9,22 +9,22 @@ use Rattle.aq_service.proofs.Replied.{load_answered, post_lost, reply_lost, stan
 use Rattle.aq_office.proofs.Taking.{if_ok, on_err}
 use Rattle.aq_service.proofs.service.OfficeService.answer_load.Goals as goal
 
-pub post-requires-clause-valid : goal.post-requires-clause-valid
-post-requires-clause-valid g c = subst IsOffice (sym c.replace-book.ensures.value) c.self.invariant
+pub post_uncounted-requires-clause-valid : goal.post_uncounted-requires-clause-valid
+post_uncounted-requires-clause-valid g c = subst IsOffice (sym c.replace-book.ensures.value) c.self.invariant
 
 pub returns-in_err-book-clause-lost : goal.returns-in_err-book-clause-lost
 returns-in_err-book-clause-lost g c =
     let P = λ (o : Office). LosesLoad c.args.number (sha256 c.args.body.now) c.args.body.now
     (standing_of o (g.K.Keeper.seen c.args.keeper.now))
-    (standing_of o (g.K.Keeper.seen c.post.new.keeper)) in
+    (standing_of o (g.K.Keeper.seen c.post_uncounted.new.keeper)) in
     on_err _ c.from_residual.result
     (post_lost c.args.number (sha256 c.args.body.now) c.args.body.now c.args.self.now c.replace-book.new.dest
-    (g.K.Keeper.seen c.args.keeper.now).tables (g.K.Keeper.seen c.post.new.keeper).tables (g.K.Keeper.seen c.args.keeper.now).faults (g.K.Keeper.seen c.post.new.keeper).faults
+    (g.K.Keeper.seen c.args.keeper.now).tables (g.K.Keeper.seen c.post_uncounted.new.keeper).tables (g.K.Keeper.seen c.args.keeper.now).faults (g.K.Keeper.seen c.post_uncounted.new.keeper).faults
     (subst P (c.replace-book.ensures.value ∙ c.self.view_is) c.in_err-book.ensures.lost))
 
 pub load_reply-requires-clause-stands : goal.load_reply-requires-clause-stands
 load_reply-requires-clause-stands g c =
-    let after : Standing = standing_of c.in_ok-book.book (g.K.Keeper.seen c.post.new.keeper) in
+    let after : Standing = standing_of c.in_ok-book.book (g.K.Keeper.seen c.post_uncounted.new.keeper) in
     let is = posted_over _ _ (c.replace-book.ensures.value ∙ c.self.view_is) c.args.number (sha256 c.args.body.now) c.args.body.now (line_count c.args.body.now)
     (g.K.Keeper.seen c.args.keeper.now).tables (g.K.Keeper.seen c.args.keeper.now).faults after c.in_ok-book.posted c.in_ok-book.ensures.posted in
     stands c.args.number (sha256 c.args.body.now) c.args.body.now (is_numbered c.args.number c.requires.number) (line_count c.args.body.now) c.args.close
@@ -32,7 +32,7 @@ load_reply-requires-clause-stands g c =
 
 pub returns-clause-answered : goal.returns-clause-answered
 returns-clause-answered g c =
-    let after : Standing = standing_of c.in_ok-book.book (g.K.Keeper.seen c.post.new.keeper) in
+    let after : Standing = standing_of c.in_ok-book.book (g.K.Keeper.seen c.post_uncounted.new.keeper) in
     let is = posted_over _ _ (c.replace-book.ensures.value ∙ c.self.view_is) c.args.number (sha256 c.args.body.now) c.args.body.now (line_count c.args.body.now)
     (g.K.Keeper.seen c.args.keeper.now).tables (g.K.Keeper.seen c.args.keeper.now).faults after c.in_ok-book.posted c.in_ok-book.ensures.posted in
     if_ok c.load_reply.result
@@ -42,7 +42,7 @@ returns-clause-answered g c =
 
 pub returns-clause-lost : goal.returns-clause-lost
 returns-clause-lost g c =
-    let after : Standing = standing_of c.in_ok-book.book (g.K.Keeper.seen c.post.new.keeper) in
+    let after : Standing = standing_of c.in_ok-book.book (g.K.Keeper.seen c.post_uncounted.new.keeper) in
     let is = posted_over _ _ (c.replace-book.ensures.value ∙ c.self.view_is) c.args.number (sha256 c.args.body.now) c.args.body.now (line_count c.args.body.now)
     (g.K.Keeper.seen c.args.keeper.now).tables (g.K.Keeper.seen c.args.keeper.now).faults after c.in_ok-book.posted c.in_ok-book.ensures.posted in
     on_err _ c.load_reply.result
