@@ -3,7 +3,7 @@ use Rattle.std.proofs.Common.{◌≡◌, ℕ, ◌+◌, ◌-◌, ◌<◌, Bool, t
 use Rattle.std.specs.Prelude.{filter, filter_map, nat_le, nat_lt, option_map, unwrap_or, slice_get, IsTrue, IfSome}
 use Rattle.std.specs.List.{cons_option, last_or, list_all}
 use Rattle.std.specs.List.Sorted.{IsStrictlySortedBy}
-use Rattle.std.specs.Option.{option_and_then, option_map_or}
+use Rattle.std.specs.Option.{option_and_then}
 use Rattle.std.proofs.lemmas.Bool.{false≢true}
 use Rattle.std.proofs.lemmas.Bool.Decides.{nat_tests}
 use Rattle.aq_base.specs.Site.{Site}
@@ -16,10 +16,10 @@ use Rattle.aq_rules.specs.Lines.Spellings.{is_interval}
 use Rattle.aq_rules.specs.Office.Office.{Office, IsOffice, key_of, parameter_number, is_day, is_key, is_content_of, is_record, fits_records, has_its_monitor, has_its_event, group_size, most_in_group}
 use Rattle.aq_rules.specs.Office.Monitors.{is_same_site}
 use Rattle.aq_rules.specs.Office.Questions.{first_given, missed_for, missed_of}
-use Rattle.aq_rules.specs.Office.Schedule.{Schedule as Sampling, schedule_by, asks_for, is_scheduled}
+use Rattle.aq_rules.specs.Office.Schedule.{Schedule as Sampling, schedule_by}
 use Rattle.aq_registry.specs.declared.place.Place.{Place}
 use Rattle.aq_registry.specs.Places.{of_site, place_of, place_cmp, places_of, is_of_between, lies_between}
-use Rattle.aq_registry.specs.Registry.{office_with, schedule_in, missed_by}
+use Rattle.aq_registry.specs.Registry.{office_with, schedule_in, schedule_on, missed_by}
 use Rattle.aq_registry.proofs.PlaceOrder.{first_of_both, second_of_both}
 use Rattle.aq_registry.proofs.QuestionLemmas.{same-parameters}
 use Rattle.aq_registry.proofs.LatestLemmas.{until, latest-last}
@@ -76,11 +76,10 @@ schedule-part : (r : OfficeRecord) (x : Sampling) → schedule_in r ≡ Some x �
 schedule-part (Schedule site pollutant from interval anchor) x h = ap (λ (o : Option Sampling). unwrap_or (option_map (λ (d : Sampling). d.from) o) 0) (sym h)
 schedule-part r x h = cc
 
-pub schedule_found : (rows : List OfficeRecord) (site : Site) (pollutant : Pollutant) (day : ℕ) → IsStrictlySortedBy place_cmp (places_of rows) → is_scheduled rows site pollutant day ≡ option_map_or (asks_for day) (option_and_then schedule_in (last_or None (filter (is_of_between 3 site (parameter_number pollutant) 0 (day + 1)) rows))) false
-unfolding is_scheduled
+pub schedule_found : (rows : List OfficeRecord) (site : Site) (pollutant : Pollutant) (day : ℕ) → IsStrictlySortedBy place_cmp (places_of rows) → schedule_on rows site pollutant day ≡ option_and_then schedule_in (last_or None (filter (is_of_between 3 site (parameter_number pollutant) 0 (day + 1)) rows))
+unfolding schedule_on
 schedule_found rows site pollutant day sorted =
-    ap (λ (o : Option Sampling). option_map_or (asks_for day) o false)
-    (latest-last (schedule_by site pollutant day) schedule_in (λ (d : Sampling). d.from) 3 site (parameter_number pollutant) (day + 1) (schedule-tells site pollutant day) (schedule-says site (parameter_number pollutant) (day + 1)) schedule-part rows sorted)
+    latest-last (schedule_by site pollutant day) schedule_in (λ (d : Sampling). d.from) 3 site (parameter_number pollutant) (day + 1) (schedule-tells site pollutant day) (schedule-says site (parameter_number pollutant) (day + 1)) schedule-part rows sorted
 
 -- ---- make-up samples
 

@@ -1,19 +1,21 @@
 -- What holds of the records of every registry, and what its answers read of one record.
-use Rattle.std.specs.Prelude.{◌≡◌, ◌==◌, if◌then◌else◌, ℕ, Bool, false, not, ◌&&◌, nat_le, Option, Some, None, List, [], ◌∷◌, length, count_by}
+use Rattle.std.specs.Prelude.{◌≡◌, ◌==◌, if◌then◌else◌, ℕ, Bool, false, not, ◌&&◌, nat_le, Option, Some, None, List, [], ◌∷◌, length, count_by, filter_map}
 use Rattle.aq_base.specs.Site.{Site}
 use Rattle.aq_base.specs.declared.monitor.Duration.{Duration}
+use Rattle.aq_base.specs.declared.monitor.Pollutant.{Pollutant}
 use Rattle.aq_base.specs.declared.office.OfficeRecord.{OfficeRecord}
 use Rattle.aq_base.specs.declared.office.OfficeRecord.TheVariants.{Monitor, Primary, Schedule, Season, Makeup, Event, Concurrence, Combined}
 use Rattle.aq_base.specs.declared.office.OfficeKey.{OfficeKey}
 use Rattle.aq_base.specs.declared.office.OfficeKey.TheVariants.{Event as EventKey}
 use Rattle.aq_registry.specs.declared.agreed.Span.{Span}
 use Rattle.aq_registry.specs.Agreed.{AreAgreedOf}
+use Rattle.aq_rules.specs.Lists.{latest}
 use Rattle.aq_rules.specs.Office.Refusal.{key_stands}
 use Rattle.aq_rules.specs.Office.Office.{Office, IsOffice, group_of, is_same, sites_of}
 use Rattle.aq_rules.specs.Office.Questions.{Registered, Joined}
 use Rattle.aq_rules.specs.Office.Season.{Season as Days}
 use Rattle.aq_rules.specs.Office.Designation.{Designation}
-use Rattle.aq_rules.specs.Office.Schedule.{Schedule as Sampling}
+use Rattle.aq_rules.specs.Office.Schedule.{Schedule as Sampling, schedule_by}
 
 -- an office of these records alone
 abbrev pub office_with : List OfficeRecord → Office
@@ -39,6 +41,10 @@ pub record IsRegistry (records : List OfficeRecord) (sites events : ℕ) (agreed
   pub sites_counted : sites ≡ length (sites_of records)
   pub events_counted : events ≡ events_in records
   pub agreed_held : AreAgreedOf records agreed
+
+-- the schedule in force on a day: the one with the greatest start date not after it
+unfoldable pub schedule_on : List OfficeRecord → Site → Pollutant → ℕ → Option Sampling
+schedule_on records site pollutant day = latest (λ (s : Sampling). s.from) (filter_map (schedule_by site pollutant day) records)
 
 -- ---- what a record says
 

@@ -3,12 +3,12 @@ ghost use Rattle.std.specs.Prelude.{◌≡◌, false, option_map, IfSome, IsTrue
 ghost use Rattle.std.specs.Option.{option_and_then, option_map_or};
 ghost use Rattle.aq_rules.specs.Office.Designation.{designated_poc};
 ghost use Rattle.aq_rules.specs.Office.Office.{combines, combines_either, is_record, is_same, series_numbers};
-ghost use Rattle.aq_rules.specs.Office.Schedule.{asks_for, distance};
 ghost use Rattle.aq_registry.specs.Events.{event_above};
 ghost use Rattle.aq_registry.specs.Rules.{duration_in};
 ghost use Rattle.aq_registry.specs.Registry.{agreement_in, coverage_in, days_of, designation_in, joined_from, joined_in, schedule_in, missed_by, makeup_in, pair_of, poc_in, registration_in, season_in, site_in};
 
 use crate::place::parameter;
+use crate::schedule::Schedule;
 use aq_base::{Day, Duration, Hour, OfficeRecord, Pollutant, SiteId};
 
 /// How long a monitor's samples last, and whether its values count.
@@ -171,31 +171,23 @@ pub(crate) fn designated(of: &Option<OfficeRecord>) -> Option<u8>
     }
 }
 
-/// Whether a schedule asks for a sample on a day.
+/// The schedule that a record makes.
 #[tactic(auto, using(crate::proofs::ScheduleLemmas::interval_is_some))]
-pub(crate) fn asks(of: &Option<OfficeRecord>, day: Day) -> bool
+pub(crate) fn schedule(of: &Option<OfficeRecord>) -> Option<Schedule>
     requires { IfSome of.now (λ r. IsTrue (is_record r)) }
-    ensures { result ≡ option_map_or (asks_for day) (option_and_then schedule_in of.now) false }
+    ensures { result ≡ option_and_then schedule_in of.now }
 {
     match of {
         Some(
             OfficeRecord::Schedule {
+                from,
                 interval,
                 anchor,
                 ..
             },
-        ) => distance(day, *anchor) % u16::from(*interval) == 0,
-        _ => false,
+        ) => Some(Schedule::new(*from, *interval, *anchor)),
+        _ => None,
     }
-}
-
-/// The days from one to the other, whichever comes first.
-fn distance(a: Day, b: Day) -> u16
-    ensures { result ≡ distance a b }
-{
-    let a = a.number();
-    let b = b.number();
-    if a < b { b - a } else { a - b }
 }
 
 /// The missed day for which the sample of a day makes up.

@@ -8,8 +8,8 @@
 //! - `Registry::new`, `copy`, `rows`, `get`, `following`: the records, one of them, and the one after a
 //!   key.
 //! - `monitor`, `next_poc`, `has_site`, `next_site`, `primary_on`: monitors, sites, and a day's primary.
-//! - `is_scheduled`, `season`, `is_approved`, `makeup_of`, `missed_of`: schedules, seasons, approvals,
-//!   make-ups.
+//! - `schedule_on`, `is_scheduled`: the `Schedule` in force on a day, and whether it asks for the day.
+//! - `season`, `is_approved`, `makeup_of`, `missed_of`: seasons, approvals, make-ups.
 //! - `combined`: the site that is joined to a site for a pollutant, and from when.
 //! - `covers`, `excluded`, `next_event`, `agreed`: events, and what they leave out.
 //! - `apply(line)`: a line of the office; it answers the `Changes` that it made, or a `RegistryFault`.
@@ -47,8 +47,10 @@ mod place;
 mod records;
 mod registry;
 mod rows;
+mod schedule;
 
 pub use changes::{Changes, RecordChange, RegistryFault};
 pub use records::Records;
 pub use registry::Registry;
 pub use rows::Rows;
+pub use schedule::Schedule;

@@ -11,7 +11,7 @@ ghost use Rattle.aq_rules.specs.Office.Season as seasons;
 ghost use Rattle.aq_rules.specs.Office.Approval as approvals;
 ghost use Rattle.aq_rules.specs.Office.Exclusion as exclusions;
 ghost use Rattle.aq_registry.specs.Places.{behind_sites};
-ghost use Rattle.aq_registry.specs.Registry.{days_of, joined_from, missed_by, office_with, pair_of};
+ghost use Rattle.aq_registry.specs.Registry.{days_of, joined_from, missed_by, office_with, pair_of, schedule_on};
 ghost use Rattle.aq_base.specs.declared.day.TheConstants.{FIRST_YEAR, LAST_YEAR};
 
 mod apply;
@@ -24,6 +24,7 @@ use crate::facts;
 use crate::place::{Place, parameter};
 use crate::records::Records;
 use crate::rows::Rows;
+use crate::schedule::Schedule;
 use aq_base::{
     Day, Duration, Hour, Memory, MonitorId, ObsKey, OfficeKey, OfficeRecord, Pollutant, Quals,
     SiteId,
@@ -165,17 +166,28 @@ impl Registry {
         )
     }
 
-    /// Whether a day is scheduled: by the standing schedule with the greatest start date not after it, and
-    /// not if there is none (40 CFR 58.12). By one search of the map.
+    /// The schedule in force on a day: the standing one with the greatest start date not after it, and
+    /// `None` if there is none (40 CFR 58.12). By one search of the map.
     #[tactic(auto, using(crate::proofs::ScheduleLemmas::schedule_found, crate::proofs::ScheduleLemmas::last_is_record))]
+    pub fn schedule_on(&self, site: SiteId, pollutant: Pollutant, day: Day) -> Option<Schedule>
+        ensures { result ≡ schedule_on self.now site pollutant day }
+    {
+        let end = u32::from(day.number()) + 1;
+        facts::schedule(
+            &self
+                .records
+                .last_before(3, &site, parameter(pollutant), end),
+        )
+    }
+
+    /// Whether a day is scheduled: by the schedule in force on it, and not if there is none (40 CFR
+    /// 58.12). By one search of the map.
+    #[tactic(auto, unfolding(aq_rules::specs::Office::Schedule::is_scheduled, crate::specs::Registry::schedule_on))]
     pub fn is_scheduled(&self, site: SiteId, pollutant: Pollutant, day: Day) -> bool
         ensures { result ≡ schedules.is_scheduled self.now site pollutant day }
     {
-        let end = u32::from(day.number()) + 1;
-        let found = self
-            .records
-            .last_before(3, &site, parameter(pollutant), end);
-        facts::asks(&found, day)
+        self.schedule_on(site, pollutant, day)
+            .is_some_and(|schedule| schedule.asks(day))
     }
 
     /// The ozone season of a site and year: the season on record, else the whole year (40 CFR Part 50,
