@@ -12,7 +12,7 @@ use Rattle.aq_rules.specs.Ozone.SiteHour.{Cell}
 use Rattle.aq_rules.specs.Particles.ParticleDay.{unless_excluded}
 use Rattle.aq_series.specs.DayCells.{IsParticle}
 
-count_cons : (p : ℕ → Bool) (d : ℕ) (days : List ℕ) → count_by p (d ∷ days) ≡ cond (p d) 1 0 + count_by p days
+pub count_cons : (p : ℕ → Bool) (d : ℕ) (days : List ℕ) → count_by p (d ∷ days) ≡ cond (p d) 1 0 + count_by p days
 count_cons p d days = sum_by-cons (λ (k : ℕ). cond (p k) 1 0) d days
 
 -- those of a filter that pass a test

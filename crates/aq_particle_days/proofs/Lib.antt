@@ -6,6 +6,7 @@ pub mod ItemsOfDays
 pub mod Keys
 pub mod ObservedLemmas
 pub mod Replaced
+pub mod ScheduleSpans
 pub mod TimeLemmas
 pub mod Told
 pub mod Unobserved
