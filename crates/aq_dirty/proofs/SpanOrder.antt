@@ -1,12 +1,11 @@
--- The order of spans, and what a binary search of them finds.
-use Rattle.std.proofs.Common.{◌≡◌, ℕ, ◌<◌, Bool, true, false, List, [], ◌∷◌, refl, ap, sym, ◌∙◌, arith, inl, inr, suc, zero}
-use Rattle.std.specs.Prelude.{not, length, take, drop, bytes_eq, slice_index_or}
-use Rattle.std.specs.List.{AllByRecursion, AllWithin}
-use Rattle.std.specs.List.Sorted.{IsPartitionedBy, IsPartitionPoint}
+-- The order of spans, and what starts before and behind a place among them.
+use Rattle.std.proofs.Common.{◌≡◌, ℕ, Bool, true, false, List, [], ◌∷◌, ◌++◌, refl, ap, sym, ◌∙◌, inl, inr}
+use Rattle.std.specs.Prelude.{bytes_eq}
+use Rattle.std.specs.List.{AllByRecursion}
 use Rattle.std.proofs.lemmas.Bool.{false≢true, cases_Bool}
 use Rattle.aq_rules.specs.Office.Office.{comes_before}
 use Rattle.aq_rules.specs.Office.RowOrder.{before-trans, before-total}
-use Rattle.aq_registry.proofs.AgreedLemmas.{all_follow, back-all, before-asym, equal-lists}
+use Rattle.aq_registry.proofs.AgreedLemmas.{all_follow, before-asym, equal-lists}
 use Rattle.aq_dirty.specs.declared.spans.Span.{Span}
 use Rattle.aq_dirty.specs.Spans.{start_of, starts_before, AreInOrder}
 
@@ -24,47 +23,34 @@ no_earlier a b c p q = choose (comes_before c a) refl
 pub not_later : (a b : Span) → starts_before a b ≡ true → starts_before b a ≡ false
 not_later a b p = before-asym (start_of a) (start_of b) p
 
--- ---- the search
+-- ---- two parts
 
-abbrev pub is_up_to : Span → Span → Bool
-is_up_to span other = not (starts_before span other)
+all-at : {X : Type 0} (P : X → Type 0) (front back : List X) (x : X) → AllByRecursion P (front ++ x ∷ back) → P x
+all-at P [] back x all = all.0
+all-at P (first ∷ front) back x all = all-at P front back x all.1
 
-at_later : (P : Span → Type 0) (spans : List Span) (j : ℕ) (d : Span) → AllByRecursion P spans → j < length spans → P (slice_index_or spans j d)
-at_later P [] j d all h = absurd (omega (arith, h))
-at_later P (span ∷ spans) zero d all h = all.0
-at_later P (span ∷ spans) (suc j) d all h = at_later P spans j d all.1 (omega arith)
+in_order-behind : (front back : List Span) → AreInOrder (front ++ back) → AreInOrder back
+in_order-behind [] back h = h
+in_order-behind (first ∷ front) back h = in_order-behind front back h.1
 
-up_to : (a : Bool) → not a ≡ true → a ≡ false
-up_to true h = absurd (false≢true h)
-up_to false h = refl
+-- if a span does not start before one, it starts before none in front of it
+pub none-in_front : (span last : Span) (front back : List Span) → AreInOrder (front ++ last ∷ back) → starts_before span last ≡ false
+    → AllByRecursion (λ other. starts_before span other ≡ false) (front ++ last ∷ [])
+none-in_front span last [] back h is = (is, tt)
+none-in_front span last (first ∷ front) back h is = (
+  no_earlier (start_of first) (start_of last) (start_of span) (all-at (λ other. starts_before other first ≡ false) front back last h.0) is,
+  none-in_front span last front back h.1 is,
+)
 
-not_up_to : (a : Bool) → not a ≡ false → a ≡ true
-not_up_to true h = refl
-not_up_to false h = absurd (false≢true (sym h))
-
-pub partitioned : (span : Span) (spans : List Span) → AreInOrder spans → IsPartitionedBy (is_up_to span) spans
-partitioned span [] h i j d low high p = absurd (omega (arith, high))
-partitioned span (first ∷ spans) h zero zero d low high p = p
-partitioned span (first ∷ spans) h (suc i) zero d low high p = absurd (omega (arith, low))
-partitioned span (first ∷ spans) h (suc i) (suc j) d low high p = partitioned span spans h.1 i j d (omega arith) (omega arith) p
-partitioned span (first ∷ spans) h zero (suc j) d low high p =
-    let later = slice_index_or spans j d in
-    let no_later : starts_before span later ≡ false = up_to (starts_before span later) p in
-    let behind : starts_before later first ≡ false = at_later (λ other. starts_before other first ≡ false) spans j d h.0 (omega arith) in
-    ap not (no_earlier (start_of first) (start_of later) (start_of span) behind no_later)
-
-front-all : (P : Span → Type 0) (spans : List Span) (n : ℕ) → AllWithin P spans 0 n → AllByRecursion P (take n spans)
-front-all P spans zero all = tt
-front-all P [] (suc n) all = tt
-front-all P (span ∷ spans) (suc n) all = (all 0 span (omega arith) (omega arith), front-all P spans n (λ k d low high. all (suc k) d (omega arith) (omega arith)))
-
--- the spans before a partition point, and those from it on
-pub point-front : (span : Span) (spans : List Span) (n : ℕ) → IsPartitionPoint (λ other. is_up_to span other ≡ true) (λ other. is_up_to span other ≡ false) spans n → AllByRecursion (λ other. starts_before span other ≡ false) (take n spans)
-point-front span spans n point =
-    all_follow (λ other. is_up_to span other ≡ true) (λ other. starts_before span other ≡ false) (λ other is. up_to (starts_before span other) is) (take n spans)
-    (front-all (λ other. is_up_to span other ≡ true) spans n point.0)
-
-pub point-back : (span : Span) (spans : List Span) (n : ℕ) → IsPartitionPoint (λ other. is_up_to span other ≡ true) (λ other. is_up_to span other ≡ false) spans n → AllByRecursion (λ other. starts_before span other ≡ true) (drop n spans)
-point-back span spans n point =
-    all_follow (λ other. is_up_to span other ≡ false) (λ other. starts_before span other ≡ true) (λ other is. not_up_to (starts_before span other) is) (drop n spans)
-    (back-all (λ other. is_up_to span other ≡ false) spans n point.1)
+-- and if it starts before one, it starts before all behind it
+pub all-behind : (span next : Span) (front back : List Span) → AreInOrder (front ++ next ∷ back) → starts_before span next ≡ true
+    → AllByRecursion (λ other. starts_before span other ≡ true) (next ∷ back)
+all-behind span next front back h is =
+    (is, all_follow (λ other. starts_before other next ≡ false) (λ other. starts_before span other ≡ true) (λ other later. still other later) back (in_order-behind front (next ∷ back) h).0)
+  where
+    still : (other : Span) → starts_before other next ≡ false → starts_before span other ≡ true
+    still other later = choose (starts_before span other) refl
+      where
+        choose : (b : Bool) → starts_before span other ≡ b → b ≡ true
+        choose true same = refl
+        choose false same = absurd (false≢true (sym (no_earlier (start_of next) (start_of other) (start_of span) later same) ∙ is))

@@ -1,5 +1,5 @@
 -- Spans of numbers of sites, in the order of their sites and first numbers, which may overlap.
-use Rattle.std.specs.Prelude.{◌≡◌, ℕ, ◌-◌, ◌≤◌, Bool, false, ◌&&◌, nat_le, max, if◌then◌else◌, Option, Some, None, List, [], ◌∷◌, ⊤}
+use Rattle.std.specs.Prelude.{◌≡◌, ℕ, ◌-◌, ◌≤◌, Bool, false, ◌&&◌, nat_le, max, min, if◌then◌else◌, Option, Some, None, List, [], ◌∷◌, ⊤}
 use Rattle.std.specs.List.{list_any, AllByRecursion}
 use Rattle.aq_base.specs.Site.{Site}
 use Rattle.aq_rules.specs.Office.Monitors.{is_same_site}
@@ -37,6 +37,16 @@ AreInOrder (span ∷ spans) = AllByRecursion (λ other. starts_before other span
 pub record AreSpans (spans : List Span) : Type 0 where
   pub in_order : AreInOrder spans
   pub some : AllByRecursion (λ span. span.first ≤ span.last) spans
+
+-- what holds of the two parts of a set of spans: together they are spans, so many, and each part has room for all
+pub record AreParts (spans : List Span) (count front_room back_room : ℕ) : Type 0 where
+  pub are : AreSpans spans
+  pub front : count ≤ front_room
+  pub back : count ≤ back_room
+
+-- how many more have room, if each part may have to hold all
+abbrev pub room_in : ℕ → ℕ → ℕ → ℕ
+room_in count front_room back_room = min (front_room - count) (back_room - count)
 
 -- the spans, and how many more there is room for
 pub record Held : Type 0 where

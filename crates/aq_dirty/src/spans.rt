@@ -1,9 +1,9 @@
 //! Spans of numbers of sites: of hours, days or years.
-ghost use Rattle.std.specs.Prelude.{◌≡◌, ◌≤◌, ◌<◌, ◌+◌, ◌&&◌, ◌||◌, ℕ, None, Some, [], true, false, drop, take, not, IfSome, IsTrue, OnOk};
+ghost use Rattle.std.specs.Prelude.{◌≡◌, ◌≤◌, ◌<◌, ◌+◌, ◌++◌, ◌&&◌, ◌||◌, ℕ, None, Some, [], true, false, not, IfSome, IsTrue, OnOk};
 ghost use Rattle.std.specs.List.{AllByRecursion, list_any};
 ghost use Rattle.std.specs.VecDeque.{deque_len, deque_capacity};
 ghost use Rattle.aq_base.specs.Site.{Site};
-ghost use Rattle.aq_dirty.specs.Spans.{covers, first_of, holds, in_front, is_in_front, last_of, left_of, lengthened, reaches, starts_before, AreInOrder, AreSpans};
+ghost use Rattle.aq_dirty.specs.Spans.{covers, first_of, holds, in_front, is_in_front, last_of, left_of, lengthened, reaches, starts_before, AreParts, AreSpans};
 
 use aq_base::{Memory, SiteId};
 use std::alloc::Global;
@@ -55,23 +55,26 @@ impl Span {
     }
 }
 
-/// Spans in the order of their sites and first numbers, which may overlap. Contracts see the list of them,
-/// and how many more can be added without taking memory.
+/// Spans in the order of their sites and first numbers, which may overlap, in two parts: those up to the
+/// place where one was added last, and those behind it. Spans that come in rising order, as the changes of
+/// a load do, each find their place at the last one, so no other is moved for them. Contracts see the list
+/// of them, and how many more can be added without taking memory.
 #[derive(Drop)]
 pub(crate) struct Spans {
-    spans: VecDeque<Span>,
+    front: VecDeque<Span>,
+    back: VecDeque<Span>,
 }
 
 impl Model for Spans {
-    ghost use Rattle.std.specs.Prelude.{◌-◌};
+    ghost use Rattle.std.specs.Prelude.{◌+◌, ◌++◌};
     ghost use Rattle.std.specs.VecDeque.{deque_capacity, deque_len};
-    ghost use Rattle.aq_dirty.specs.Spans.{AreSpans, Held};
+    ghost use Rattle.aq_dirty.specs.Spans.{room_in, AreParts, Held};
 
     ghost Value = { Held };
 
-    ghost view = { λ spans. record { spans = spans.spans.items; room = deque_capacity spans.spans - deque_len spans.spans } };
+    ghost view = { λ spans. record { spans = spans.front.items ++ spans.back.items; room = room_in (deque_len spans.front + deque_len spans.back) (deque_capacity spans.front) (deque_capacity spans.back) } };
 
-    ghost invariant = { λ spans. AreSpans spans.spans.items };
+    ghost invariant = { λ spans. AreParts (spans.front.items ++ spans.back.items) (deque_len spans.front + deque_len spans.back) (deque_capacity spans.front) (deque_capacity spans.back) };
 }
 
 impl Spans {
@@ -80,7 +83,8 @@ impl Spans {
         ensures { result.spans ≡ [] }
     {
         Spans {
-            spans: VecDeque::new(alloc),
+            front: VecDeque::new(alloc),
+            back: VecDeque::new(alloc),
         }
     }
 
@@ -88,9 +92,7 @@ impl Spans {
     pub(crate) fn holds(&self, site: SiteId, number: u32) -> bool
         ensures { result ≡ holds site number self.now.spans }
     {
-        self.spans.iter().any(|span| span.site == site
-            && span.first <= number
-            && number <= span.last)
+        any_holds(&self.front, site, number) || any_holds(&self.back, site, number)
     }
 
     /// Takes memory for more spans, if there is none left.
@@ -98,21 +100,20 @@ impl Spans {
         ensures same { self.new.spans ≡ self.old.spans }
         ensures room { OnOk result (count ≤ self.new.room) }
     {
-        self.spans.reserve(count)?;
-        Ok(())
+        reserve_beside(&mut self.front, &self.back, count)?;
+        reserve_beside(&mut self.back, &self.front, count)
     }
 
-    /// Adds the numbers of a span. It takes no memory. Spans that come in rising order, as the changes of a
-    /// load do, mostly lengthen the last one.
+    /// Adds the numbers of a span. It takes no memory. Spans that come in rising order mostly lengthen the
+    /// one before them.
     pub(crate) fn add(&mut self, span: Span)
         requires some { span.first ≤ span.last }
         requires room { 0 < self.old.room }
         ensures holds { (site : Site) (number : ℕ) → holds site number self.new.spans ≡ (holds site number self.old.spans || covers site number span) }
         ensures room { self.old.room ≤ self.new.room + 1 }
     {
-        if !lengthen_last(&mut self.spans, &span) {
-            insert(&mut self.spans, span);
-        }
+        part_at(&mut self.front, &mut self.back, &span);
+        add_last(&mut self.front, &self.back, span);
     }
 
     /// The first span, if there is one.
@@ -121,7 +122,10 @@ impl Spans {
         ensures some { IfSome result (λ span. span.first ≤ span.last) }
         ensures held { IfSome result (λ span. (number : ℕ) → span.first ≤ number → number ≤ span.last → holds span.site number self.now.spans ≡ true) }
     {
-        let first = self.spans.front()?;
+        if let Some(first) = self.front.front() {
+            return Some(*first);
+        }
+        let first = self.back.front()?;
         Some(*first)
     }
 
@@ -130,15 +134,155 @@ impl Spans {
         requires { IfSome (first_of self.old.spans) (λ span. span.first ≤ end) }
         ensures { (site : Site) (number : ℕ) → holds site number self.new.spans ≡ (holds site number self.old.spans && not (is_in_front self.old.spans end site number)) }
     {
-        if let Some(front) = self.spans.pop_front() {
-            let last = absorb(&mut self.spans, &front, end);
-            if end < last {
-                self.spans.push_front_reserved(Span {
-                    site: front.site,
-                    first: end + 1,
-                    last,
-                });
-            }
+        join(&mut self.front, &mut self.back);
+        drop_front(&mut self.back, end);
+    }
+}
+
+/// Whether a number of a site lies in one of the spans, by a walk over them.
+fn any_holds(spans: &VecDeque<Span>, site: SiteId, number: u32) -> bool
+    ensures { result ≡ holds site number spans.now.items }
+{
+    spans.iter().any(|span| span.site == site && span.first <= number && number <= span.last)
+}
+
+/// Takes memory for so many spans more than a part and the part beside it have.
+fn reserve_beside(
+    part: &mut VecDeque<Span>,
+    beside: &VecDeque<Span>,
+    count: usize,
+) -> Result<(), Memory>
+    ensures same { part.new.items ≡ part.old.items }
+    ensures more { deque_capacity part.old ≤ deque_capacity part.new }
+    ensures room { OnOk result
+        (deque_len part.new + deque_len beside.now + count ≤ deque_capacity part.new) }
+{
+    let Some(count) = count.checked_add(beside.len()) else {
+        return Err(Memory); // No memory holds so many.
+    };
+    part.reserve(count)?;
+    Ok(())
+}
+
+/// Parts the spans at the place of a span: behind it are those that start after it.
+fn part_at(front: &mut VecDeque<Span>, back: &mut VecDeque<Span>, span: &Span)
+    requires are { AreParts (front.old.items ++ back.old.items) (deque_len front.old + deque_len back.old) (deque_capacity front.old) (deque_capacity back.old) }
+    ensures same { front.new.items ++ back.new.items ≡ front.old.items ++ back.old.items }
+    ensures front { AllByRecursion (λ other. starts_before span.now other ≡ false) front.new.items }
+    ensures back { AllByRecursion (λ other. starts_before span.now other ≡ true) back.new.items }
+    ensures len { deque_len front.new + deque_len back.new ≡ deque_len front.old + deque_len back.old }
+    ensures front_room { deque_capacity front.new ≡ deque_capacity front.old }
+    ensures back_room { deque_capacity back.new ≡ deque_capacity back.old }
+{
+    put_back(front, back, span);
+    bring_forward(front, back, span);
+}
+
+/// Puts spans of the front that start after a span to the back, from the last one on.
+fn put_back(front: &mut VecDeque<Span>, back: &mut VecDeque<Span>, span: &Span)
+    requires are { AreParts (front.old.items ++ back.old.items) (deque_len front.old + deque_len back.old) (deque_capacity front.old) (deque_capacity back.old) }
+    ensures same { front.new.items ++ back.new.items ≡ front.old.items ++ back.old.items }
+    ensures front { AllByRecursion (λ other. starts_before span.now other ≡ false) front.new.items }
+    ensures len { deque_len front.new + deque_len back.new ≡ deque_len front.old + deque_len back.old }
+    ensures front_room { deque_capacity front.new ≡ deque_capacity front.old }
+    ensures back_room { deque_capacity back.new ≡ deque_capacity back.old }
+{
+    while let Some(last) = front.pop_back() {
+        if !span.is_before(&last) {
+            front.push_back_reserved(last);
+            break;
+        }
+        back.push_front_reserved(last);
+    }
+}
+
+/// Puts spans of the back that do not start after a span to the front, from the first one on.
+fn bring_forward(front: &mut VecDeque<Span>, back: &mut VecDeque<Span>, span: &Span)
+    requires are { AreParts (front.old.items ++ back.old.items) (deque_len front.old + deque_len back.old) (deque_capacity front.old) (deque_capacity back.old) }
+    requires front { AllByRecursion (λ other. starts_before span.now other ≡ false) front.old.items }
+    ensures same { front.new.items ++ back.new.items ≡ front.old.items ++ back.old.items }
+    ensures front { AllByRecursion (λ other. starts_before span.now other ≡ false) front.new.items }
+    ensures back { AllByRecursion (λ other. starts_before span.now other ≡ true) back.new.items }
+    ensures len { deque_len front.new + deque_len back.new ≡ deque_len front.old + deque_len back.old }
+    ensures front_room { deque_capacity front.new ≡ deque_capacity front.old }
+    ensures back_room { deque_capacity back.new ≡ deque_capacity back.old }
+{
+    while let Some(first) = back.pop_front() {
+        if span.is_before(&first) {
+            back.push_front_reserved(first);
+            break;
+        }
+        front.push_back_reserved(first);
+    }
+}
+
+/// Adds the numbers of a span to the front, of which none starts after it, as all of the back do.
+fn add_last(front: &mut VecDeque<Span>, back: &VecDeque<Span>, span: Span)
+    requires are { AreSpans (front.old.items ++ back.now.items) }
+    requires some { span.first ≤ span.last }
+    requires front { AllByRecursion (λ other. starts_before span other ≡ false) front.old.items }
+    requires back { AllByRecursion (λ other. starts_before span other ≡ true) back.now.items }
+    requires room { deque_len front.old < deque_capacity front.old }
+    ensures are { AreSpans (front.new.items ++ back.now.items) }
+    ensures holds { (site : Site) (number : ℕ) → holds site number (front.new.items ++ back.now.items) ≡ (holds site number (front.old.items ++ back.now.items) || covers site number span) }
+    ensures len { deque_len front.new ≤ deque_len front.old + 1 }
+    ensures room { deque_capacity front.new ≡ deque_capacity front.old }
+{
+    if !lengthen_last(front, back, &span) {
+        front.push_back_reserved(span);
+    }
+}
+
+/// Lengthens the last span of the front by the numbers of a span, if it reaches them, and says whether it
+/// does.
+fn lengthen_last(front: &mut VecDeque<Span>, back: &VecDeque<Span>, span: &Span) -> bool
+    requires are { AreSpans (front.old.items ++ back.now.items) }
+    ensures are { IsTrue result → AreSpans (front.new.items ++ back.now.items) }
+    ensures joined { IsTrue result → (site : Site) (number : ℕ) → holds site number (front.new.items ++ back.now.items) ≡ (holds site number (front.old.items ++ back.now.items) || covers site number span.now) }
+    ensures same { result ≡ false → front.new.items ≡ front.old.items }
+    ensures len { deque_len front.new ≡ deque_len front.old }
+    ensures room { deque_capacity front.new ≡ deque_capacity front.old }
+{
+    if let Some(last) = front.pop_back() {
+        if last.reaches(span) {
+            front.push_back_reserved(last.lengthened(span));
+            return true;
+        }
+        front.push_back_reserved(last);
+    }
+    false
+}
+
+/// Puts all spans of the front to the back.
+fn join(front: &mut VecDeque<Span>, back: &mut VecDeque<Span>)
+    requires room { deque_len front.old + deque_len back.old ≤ deque_capacity back.old }
+    ensures none { front.new.items ≡ [] }
+    ensures same { back.new.items ≡ front.old.items ++ back.old.items }
+    ensures front_room { deque_capacity front.new ≡ deque_capacity front.old }
+    ensures back_room { deque_capacity back.new ≡ deque_capacity back.old }
+{
+    while let Some(last) = front.pop_back() {
+        back.push_front_reserved(last);
+    }
+}
+
+/// Takes the numbers of the first span's site up to `end` away, and no others.
+fn drop_front(spans: &mut VecDeque<Span>, end: u32)
+    requires are { AreSpans spans.old.items }
+    requires first { IfSome (first_of spans.old.items) (λ span. span.first ≤ end) }
+    ensures are { AreSpans spans.new.items }
+    ensures holds { (site : Site) (number : ℕ) → holds site number spans.new.items ≡ (holds site number spans.old.items && not (is_in_front spans.old.items end site number)) }
+    ensures fewer { deque_len spans.new ≤ deque_len spans.old }
+    ensures room { deque_capacity spans.new ≡ deque_capacity spans.old }
+{
+    if let Some(front) = spans.pop_front() {
+        let last = absorb(spans, &front, end);
+        if end < last {
+            spans.push_front_reserved(Span {
+                site: front.site,
+                first: end + 1,
+                last,
+            });
         }
     }
 }
@@ -160,50 +304,4 @@ fn absorb(spans: &mut VecDeque<Span>, front: &Span, end: u32) -> u32
         spans.pop_front();
     }
     last
-}
-
-/// Lengthens the last span by the numbers of a span, if it reaches them, and says whether it does.
-fn lengthen_last(spans: &mut VecDeque<Span>, span: &Span) -> bool
-    requires are { AreSpans spans.old.items }
-    ensures are { AreSpans spans.new.items }
-    ensures joined { IsTrue result → (site : Site) (number : ℕ) → holds site number spans.new.items ≡ (holds site number spans.old.items || covers site number span.now) }
-    ensures same { result ≡ false → spans.new.items ≡ spans.old.items }
-    ensures len { deque_len spans.new ≡ deque_len spans.old }
-    ensures capacity { deque_capacity spans.new ≡ deque_capacity spans.old }
-{
-    if let Some(last) = spans.pop_back() {
-        if last.reaches(span) {
-            spans.push_back_reserved(last.lengthened(span));
-            return true;
-        }
-        spans.push_back_reserved(last);
-    }
-    false
-}
-
-/// Puts a span in its place, before those that start after it.
-fn insert(spans: &mut VecDeque<Span>, span: Span)
-    requires are { AreSpans spans.old.items }
-    requires some { span.first ≤ span.last }
-    requires room { deque_len spans.old < deque_capacity spans.old }
-    ensures are { AreSpans spans.new.items }
-    ensures holds { (site : Site) (number : ℕ) → holds site number spans.new.items ≡ (holds site number spans.old.items || covers site number span) }
-    ensures len { deque_len spans.new ≡ deque_len spans.old + 1 }
-    ensures capacity { deque_capacity spans.old ≤ deque_capacity spans.new }
-{
-    let place = place(spans, &span);
-    match spans.insert(place, span) {
-        Ok(()) => {}
-        Err(_) => {} // This does not happen: there is room.
-    }
-}
-
-/// How many spans do not start after a span, by one binary search.
-fn place(spans: &VecDeque<Span>, span: &Span) -> usize
-    requires { AreInOrder spans.now.items }
-    ensures few { result ≤ deque_len spans.now }
-    ensures front { AllByRecursion (λ other. starts_before span.now other ≡ false) (take result spans.now.items) }
-    ensures back { AllByRecursion (λ other. starts_before span.now other ≡ true) (drop result spans.now.items) }
-{
-    spans.partition_point(|other| !span.is_before(other))
 }
