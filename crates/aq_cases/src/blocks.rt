@@ -166,9 +166,21 @@ fn field_text(alloc: Global, name: &str, fields: &Fields) -> Result<String, Trou
         "n" => format!(in alloc; "{number}")?,
         "n:02" => format!(in alloc; "{number:02}")?,
         "n:04" => format!(in alloc; "{number:04}")?,
-        _ => return time_text(alloc, name, &fields.time),
+        _ => match name.strip_prefix("n+") {
+            Some(more) => greater_text(alloc, number, more)?,
+            None => time_text(alloc, name, &fields.time)?,
+        },
     };
     Ok(text)
+}
+
+/// A number that is greater by another one.
+fn greater_text(alloc: Global, number: u32, more: &str) -> Result<String, Trouble> {
+    let Ok(more) = more.parse::<u32>() else {
+        return Err(Trouble::Wrong("no number"));
+    };
+    let greater = number.saturating_add(more);
+    Ok(format!(in alloc; "{greater}")?)
 }
 
 fn time_text(alloc: Global, name: &str, time: &Option<(Day, u32)>) -> Result<String, Trouble> {

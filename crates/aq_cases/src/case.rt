@@ -24,6 +24,9 @@ pub enum Place {
     Database,
     /// In a new journal. Its disk fails at the calls that the keeper is told to.
     Journal,
+    /// In memory, but for the last run: its keeper gives the rows once, and takes every batch without keeping
+    /// it.
+    Nowhere,
 }
 
 /// One run of the program's words.

@@ -22,6 +22,8 @@
 //!   has no `rows`.
 //! - `keeper in a journal`: it is that of `aq_journal`, over a new disk in memory. Such a case has no `rows`, and
 //!   what `keeper fails at` counts are the calls of that disk.
+//! - `keeper takes every batch`: it tells nothing. It gives the `rows` at its first reading, fails at each later
+//!   one, and takes every batch without keeping it. Such a case has no `keeper fails at`, and no `tables`.
 //! - `calls`, a block: calls of single functions, `NAME ARGUMENTS => ANSWER`, by the names of `answers`. Its
 //!   lines stand for themselves alone.
 //! - `run WORDS`: the program's words, with one space between them.
@@ -41,7 +43,8 @@
 //! backslash, and `\xff` is a byte. These lines stand for many:
 //!
 //! - `@repeat COUNT LINE`
-//! - `@count FIRST LAST LINE`, where `{n}`, `{n:02}` and `{n:04}` are the number.
+//! - `@count FIRST LAST LINE`, where `{n}`, `{n:02}` and `{n:04}` are the number, and `{n+14}` is one that is
+//!   greater by 14.
 //! - `@days DAY COUNT STEP LINE`, for so many days from `YYYY-MM-DD` on, each so many after the one before,
 //!   where `{date}` is `YYYYMMDD`, `{day}` is `YYYY-MM-DD`, and `{n}` counts from 0.
 //! - `@hours DAY TIME COUNT LINE`, for so many hours from `HH:00` of a day on, where `{time}` is `HH:00`.
@@ -196,19 +199,8 @@ fn open_in_case(alloc: Global, case: &mut Case, word: &str, rest: &str) -> Resul
         }
         "rows" if rest.is_empty() => Ok(Block::Rows),
         "calls" if rest.is_empty() => Ok(Block::Calls),
-        "keeper" if rest == "in a database" => {
-            case.place = Place::Database;
-            Ok(Block::None)
-        }
-        "keeper" if rest == "in a journal" => {
-            case.place = Place::Journal;
-            Ok(Block::None)
-        }
         "keeper" => {
-            let Some(numbers) = rest.strip_prefix("fails at ") else {
-                return Err(UNKNOWN);
-            };
-            case.failing_keeper = numbers_of(alloc, numbers)?;
+            set_keeper(alloc, case, rest)?;
             Ok(Block::None)
         }
         "input" if rest == "again" => {
@@ -220,6 +212,22 @@ fn open_in_case(alloc: Global, case: &mut Case, word: &str, rest: &str) -> Resul
             None => Err(Trouble::Wrong("no such word before the first run")),
         },
     }
+}
+
+/// Sets which keeper a case has, or at which calls it fails.
+fn set_keeper(alloc: Global, case: &mut Case, words: &str) -> Result<(), Trouble> {
+    match words {
+        "in a database" => case.place = Place::Database,
+        "in a journal" => case.place = Place::Journal,
+        "takes every batch" => case.place = Place::Nowhere,
+        _ => {
+            let Some(numbers) = words.strip_prefix("fails at ") else {
+                return Err(UNKNOWN);
+            };
+            case.failing_keeper = numbers_of(alloc, numbers)?;
+        }
+    }
+    Ok(())
 }
 
 const UNKNOWN: Trouble = Trouble::Wrong("no such words");

@@ -10,8 +10,10 @@
 //!
 //! # What it promises
 //!
-//! - Nothing: it has no contracts. It ends with 1 if a case differs. Expected values come from the
-//!   standard by hand, never from the program.
+//! - Of `TakingKeeper`, a keeper that tells nothing: it gives its rows once, fails at each later reading, and
+//!   takes every batch.
+//! - Of the cases nothing: no contract says what they are. It ends with 1 if one differs. Expected values come
+//!   from the standard by hand, never from the program.
 //!
 //! # An example
 //!
@@ -32,6 +34,7 @@ mod dates;
 mod format;
 mod rows;
 mod spelling;
+mod taking;
 mod trial;
 mod trouble;
 

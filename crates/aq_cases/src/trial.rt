@@ -1,13 +1,17 @@
 //! A case that is tried.
+ghost use Rattle.std.specs.Prelude.{◌≡◌, true, map, IfOk};
+ghost use Rattle.aq_rules.specs.Kept.RowChanges.{row_key, keys_rise};
+
 use crate::calls::try_calls;
 use crate::case::{Case, Extent, Failing, Given, Place, Run, Subject, Wanted};
 use crate::compare::difference;
 use crate::database::new_keeper;
 use crate::rows::{read_rows, rows_text};
+use crate::taking::TakingKeeper;
 use crate::trouble::Trouble;
 use aq_base::Memory;
 use aq_journal::{JournalKeeper, MemoryDisk};
-use aq_keeper::{Keeper, MemoryKeeper, are_in_order};
+use aq_keeper::{Keeper, MemoryKeeper, Row, are_in_order};
 use aq_serve::{MemoryDoor, MemorySink, MemorySource};
 use std::alloc::Global;
 
@@ -41,7 +45,13 @@ pub fn try_case(alloc: Global, case: Case) -> Result<Option<String>, Memory> {
         return Ok(Some(found));
     }
     match place {
-        Place::Memory => try_in_memory(alloc, &rows, failing_keeper, runs),
+        Place::Memory => match rows_in_order(alloc, &rows) {
+            Ok(rows) => {
+                let mut keeper = MemoryKeeper::new(rows, failing_keeper);
+                try_runs(alloc, runs, &mut keeper)
+            }
+            Err(trouble) => said_of(alloc, trouble),
+        },
         Place::Database => match new_keeper(alloc) {
             Some(mut keeper) => try_runs(alloc, runs, &mut keeper),
             None => said(alloc, "the database cannot be opened"),
@@ -51,26 +61,34 @@ pub fn try_case(alloc: Global, case: Case) -> Result<Option<String>, Memory> {
             let mut keeper = JournalKeeper::new(disk);
             try_runs(alloc, runs, &mut keeper)
         }
+        Place::Nowhere => match rows_in_order(alloc, &rows) {
+            Ok(rows) => {
+                let mut keeper = MemoryKeeper::new(rows, failing_keeper);
+                try_taking(alloc, runs, &mut keeper)
+            }
+            Err(trouble) => said_of(alloc, trouble),
+        },
     }
 }
 
-/// The first difference of runs over a keeper in memory, which has these rows before.
-fn try_in_memory(
-    alloc: Global,
-    rows: &[u8],
-    failing: Vec<u64>,
-    runs: Vec<Run>,
-) -> Result<Option<String>, Memory> {
-    let rows = match read_rows(alloc, rows) {
-        Ok(rows) => rows,
-        Err(Trouble::Memory) => return Err(Memory),
-        Err(Trouble::Wrong(why)) => return said(alloc, why),
-    };
-    if !are_in_order(&rows) {
-        return said(alloc, "the rows are not in order");
+/// The rows of a text, which have to be in the order of tables and keys.
+fn rows_in_order(alloc: Global, text: &[u8]) -> Result<Vec<Row>, Trouble>
+    ensures { IfOk result (λ rows. keys_rise (map row_key rows.items) ≡ true) }
+{
+    let rows = read_rows(alloc, text)?;
+    if are_in_order(&rows) {
+        Ok(rows)
+    } else {
+        Err(Trouble::Wrong("the rows are not in order"))
     }
-    let mut keeper = MemoryKeeper::new(rows, failing);
-    try_runs(alloc, runs, &mut keeper)
+}
+
+/// What is wrong with the rows of a case.
+fn said_of(alloc: Global, trouble: Trouble) -> Result<Option<String>, Memory> {
+    match trouble {
+        Trouble::Memory => Err(Memory),
+        Trouble::Wrong(why) => said(alloc, why),
+    }
 }
 
 fn said(alloc: Global, text: &str) -> Result<Option<String>, Memory> {
@@ -92,6 +110,30 @@ fn try_runs<K: Keeper>(
         }
     }
     Ok(None)
+}
+
+/// The first difference of runs over a keeper, but for the last one: its keeper gives the rows that stand
+/// then, and takes every batch.
+fn try_taking<K: Keeper>(
+    alloc: Global,
+    runs: Vec<Run>,
+    keeper: &mut K,
+) -> Result<Option<String>, Memory> {
+    let mut runs = runs;
+    let Some(last) = runs.pop() else {
+        return said(alloc, "there is no last run");
+    };
+    if let Some(found) = try_runs(alloc, runs, keeper)? {
+        return Ok(Some(found));
+    }
+    let Ok(rows) = keeper.read_all(alloc) else {
+        return said(alloc, "the tables cannot be read");
+    };
+    let mut taking = TakingKeeper::new(rows);
+    let Some(found) = try_run(alloc, last, &mut taking, &mut Vec::new(alloc))? else {
+        return Ok(None);
+    };
+    Ok(Some(format!(in alloc; "the last run: {found}")?))
 }
 
 /// The first difference of a run. What the run before wrote on the output gives way to what this one does.
