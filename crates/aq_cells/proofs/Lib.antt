@@ -8,7 +8,6 @@ pub mod ParticleSteps
 pub mod Pm10Quarters
 pub mod Pm25Quarters
 pub mod QuarterDays
-pub mod SameSchedules
 pub mod SettlingCosts
 pub mod SiteSteps
 pub mod UnreadRows

@@ -15,7 +15,7 @@ use Rattle.aq_rules.specs.Kept.Reach.{changed_rows, is_of_schedule, quarter_cell
 use Rattle.aq_rules.specs.Office.Office.{IsOffice, Office}
 use Rattle.aq_rules.specs.Office.Schedule.{is_scheduled}
 use Rattle.aq_cells.specs.Allowed.{allowed, ReadsNoSchedule}
-use Rattle.aq_cells.proofs.SameSchedules.{scheduled-same}
+use Rattle.aq_reach.proofs.Schedules.{scheduled-same}
 use Rattle.aq_cells.proofs.UnreadRows.{kind-alike}
 
 -- so does any for which fewer steps are allowed
@@ -32,7 +32,7 @@ module _ (old new : Office) (valid : IsOffice old) (after : IsOffice new) (site 
       → (day : ℕ) → day ≤ LAST_DAY → quarter_of day ≡ quarter → is_scheduled old.records site pollutant day ≡ is_scheduled new.records site pollutant day
   by-reading pollutant here unread day within its =
       let cell = QuarterCell site pollutant quarter in
-      scheduled-same cell old new valid after site pollutant day within
+      scheduled-same cell old.records old new valid after site pollutant day within
       (subst (λ q. list_any (is_same_cell cell) (quarter_cells old.records site pollutant q) ≡ true) (sym its) here)
       (λ from is_read. kind-alike old new cell is_of_schedule unread (keys.Schedule site pollutant from) refl is_read)
 

@@ -18,13 +18,13 @@ use Rattle.aq_base.specs.declared.office.OfficeKey.TheVariants.{Monitor as Monit
 use Rattle.aq_rules.specs.Office.Office.{key_of}
 use Rattle.aq_rules.specs.Office.Questions.{record_of}
 use Rattle.aq_rules.specs.Kept.Cells.{CellName as Cell, HourCell, WindowCell, OzoneDayCell, OzoneYearCell, PmDayCell, StratumCell, QuarterCell, PmYearCell, is_same_cell}
-use Rattle.aq_rules.specs.Kept.Reach.{ChangedRecord, cells_at, cells_in, cells_in_span, cells_reading, every_hour, from_to, is_of_season, may_count_at_once, quarter_cells, reads}
+use Rattle.aq_rules.specs.Kept.Reach.{ChangedRecord, cells_at, cells_in, cells_in_span, cells_reading, every_hour, from_to, may_count_at_once, quarter_cells, reads}
 use Rattle.aq_rules.specs.Particles.Strata.{first_days_by, stratum_by}
 use Rattle.aq_registry.proofs.SiteLemmas.{flipped}
 use Rattle.aq_dirty.specs.declared.change.OfficeChange.{OfficeChange}
 use Rattle.aq_dirty.specs.declared.change.OfficeChange.TheVariants.{Observation, Record}
 use Rattle.aq_dirty.specs.declared.reach.Reach.TheVariants.{Nothing, Hours}
-use Rattle.aq_dirty.specs.Reach.{adds, adds_hours, adds_season, adds_year, is_of_ozone, marks, marks_season, reach_of, reach_of_either, reach_of_event, reach_of_hours, reach_of_key, reads_row, reads_season_row, record_row, IsReach}
+use Rattle.aq_dirty.specs.Reach.{adds, adds_hours, adds_year, is_of_ozone, marks, reach_of, reach_of_either, reach_of_event, reach_of_hours, reach_of_key, reads_row, record_row, IsReach}
 use Rattle.aq_dirty.proofs.Ranges.{any-false, any-flat_map, any-map}
 use Rattle.aq_dirty.proofs.Reached.{hours-reached}
 
@@ -181,37 +181,3 @@ module _ (records : List OfficeRecord) where
   unfolding marks reads cells_reading
   marks-adds (Observation key old new) cell within = observation_read key.monitor.pollutant key.monitor.site key.hour cell within
   marks-adds (Record change) cell within = either_read change.old change.new cell within
-
-  -- ---- seasons and approved days
-
-  no_season : (pollutant : Pollutant) (site : Site) (first last : ℕ) (other : Site) (year : ℕ) → false ≡ adds_season (reach_of_hours pollutant site first last) other year
-  no_season Ozone site first last other year = elim (nat_le first last) as (λ b. false ≡ adds_season (cond b (Hours site first last) Nothing) other year) [ true ↦ refl | false ↦ refl ]
-  no_season Pm25 site first last other year = refl
-  no_season Pm10 site first last other year = refl
-
-  no_event_season : (o : Option OfficeRecord) (other : Site) (year : ℕ) → false ≡ adds_season (reach_of_event o) other year
-  no_event_season (Some (Event number site pollutant first last code)) other year = no_season pollutant site first last other year
-  no_event_season o other year = refl
-
-  key_season : (key : OfficeKey) (is_new : Bool) (other : Site) (year : ℕ) → (is_of_season (ChangedRecord key is_new) && reads records (OzoneYearCell other year) (ChangedRecord key is_new)) ≡ adds_season (reach_of_key records key is_new) other year
-  unfolding reads cells_reading
-  key_season (MonitorKey id) true other year = refl
-  key_season (MonitorKey id) false other year = no_season id.pollutant id.site 0 LAST_HOUR other year
-  key_season (PrimaryKey site pollutant from) is_new other year = no_season pollutant site _ _ other year
-  key_season (ScheduleKey site pollutant from) is_new other year = refl
-  key_season (SeasonKey site number) is_new other year = one_year _ _ year number (flipped other site)
-  key_season (MakeupKey site missed) is_new other year = refl
-  key_season (EventKey number) is_new other year = no_event_season (record_of records (EventKey number)) other year
-  key_season (ConcurrenceKey number) is_new other year = no_event_season (record_of records (EventKey number)) other year
-  key_season (ApprovedKey site day) is_new other year = one_year _ _ year (year_of day) (flipped other site)
-  key_season (CombinedKey site pollutant) is_new other year = refl
-
-  either_season : (old new : Option OfficeRecord) (other : Site) (year : ℕ) → reads_season_row records (record_row old new) (OzoneYearCell other year) ≡ adds_season (reach_of_either records old new) other year
-  either_season old (Some row) other year = key_season (key_of row) (is_none old) other year
-  either_season (Some row) None other year = key_season (key_of row) false other year
-  either_season None None other year = refl
-
-  pub marks_season-adds : (change : OfficeChange) (other : Site) (year : ℕ) → marks_season records change other year ≡ adds_season (reach_of records change) other year
-  unfolding marks_season
-  marks_season-adds (Observation key old new) other year = no_season key.monitor.pollutant key.monitor.site key.hour key.hour other year
-  marks_season-adds (Record change) other year = either_season change.old change.new other year

@@ -16,11 +16,11 @@ use Rattle.aq_base.specs.declared.office.OfficeKey.TheVariants.{Monitor as Monit
 use Rattle.aq_rules.specs.Office.Office.{key_of}
 use Rattle.aq_rules.specs.Office.Questions.{record_of}
 use Rattle.aq_rules.specs.Kept.Cells.{CellName as Cell, HourCell, WindowCell, OzoneDayCell, OzoneYearCell, PmDayCell, StratumCell, QuarterCell, PmYearCell, is_same_cell}
-use Rattle.aq_rules.specs.Kept.Reach.{ChangedRecord, cells_at, cells_in, cells_in_span, cells_reading, every_hour, from_to, is_of_schedule, may_count_at_once, quarter_cells, reads}
+use Rattle.aq_rules.specs.Kept.Reach.{ChangedRecord, cells_at, cells_in, cells_in_span, cells_reading, every_hour, from_to, may_count_at_once, quarter_cells, reads}
 use Rattle.aq_dirty.specs.declared.change.OfficeChange.{OfficeChange}
 use Rattle.aq_dirty.specs.declared.change.OfficeChange.TheVariants.{Observation, Record}
 use Rattle.aq_dirty.specs.declared.particle_reach.ParticleReach.TheVariants.{Nothing, Days, Quarters}
-use Rattle.aq_dirty.specs.ParticleReach.{adds, adds_schedule, is_of_particles, marks_particle, marks_schedule, reach_of, reach_of_either, reach_of_event, reach_of_hours, reach_of_key, reach_of_quarters, reads_particle_row, reads_schedule_row, IsReach}
+use Rattle.aq_dirty.specs.ParticleReach.{adds, is_of_particles, marks_particle, reach_of, reach_of_either, reach_of_event, reach_of_hours, reach_of_key, reach_of_quarters, reads_particle_row, IsReach}
 use Rattle.aq_dirty.specs.Reach.{adds_hours, record_row}
 use Rattle.aq_dirty.proofs.ParticleRows.{no-quarters, pm10-hours, pm10-quarters, pm25-hours, pm25-quarters}
 use Rattle.aq_dirty.proofs.Reached.{hours-reached}
@@ -197,56 +197,3 @@ module _ (records : List OfficeRecord) (cell : Cell) where
   unfolding marks_particle reads cells_reading
   marks_particle-adds (Observation key old new) within = hour_read key.monitor.pollutant key.monitor.site key.hour within
   marks_particle-adds (Record change) within = either_read change.old change.new within
-
--- ---- schedules and make-ups
-
-quarter_of_kind : (records : List OfficeRecord) (pollutant : Pollutant) (site : Site) (first last : ℕ) (other : Site) (kind : Pollutant) (quarter : ℕ)
-    → adds records (Quarters site pollutant first last) (QuarterCell other kind quarter) ≡ adds_schedule (Quarters site pollutant first last) other kind quarter
-quarter_of_kind records Ozone site first last other kind quarter = refl
-quarter_of_kind records Pm25 site first last other Ozone quarter = refl
-quarter_of_kind records Pm25 site first last other Pm25 quarter = refl
-quarter_of_kind records Pm25 site first last other Pm10 quarter = refl
-quarter_of_kind records Pm10 site first last other Ozone quarter = refl
-quarter_of_kind records Pm10 site first last other Pm25 quarter = refl
-quarter_of_kind records Pm10 site first last other Pm10 quarter = refl
-
-module _ (records : List OfficeRecord) (other : Site) (kind : Pollutant) (quarter : ℕ) where
-  no_hours : (pollutant : Pollutant) (site : Site) (first last : ℕ) → false ≡ adds_schedule (reach_of_hours site pollutant first last) other kind quarter
-  no_hours pollutant site first last = elim (nat_le first last) as (λ b. false ≡ adds_schedule (cond b (Days site pollutant (day_of_hour first) (day_of_hour last)) Nothing) other kind quarter) [ true ↦ refl | false ↦ refl ]
-
-  no_monitor : (pollutant : Pollutant) (site : Site) (b : Bool) → false ≡ adds_schedule (cond b Nothing (reach_of_hours site pollutant 0 LAST_HOUR)) other kind quarter
-  no_monitor pollutant site true = refl
-  no_monitor pollutant site false = no_hours pollutant site 0 LAST_HOUR
-
-  no_event : (o : Option OfficeRecord) → false ≡ adds_schedule (reach_of_event o) other kind quarter
-  no_event (Some (Event number site pollutant first last code)) = no_hours pollutant site first last
-  no_event o = refl
-
-  some_schedule : (pollutant : Pollutant) (site : Site) (first last : ℕ) → adds records (reach_of_quarters site pollutant first last) (QuarterCell other kind quarter) ≡ adds_schedule (reach_of_quarters site pollutant first last) other kind quarter
-  some_schedule pollutant site first last =
-      elim (nat_le first last) as (λ b. adds records (cond b (Quarters site pollutant first last) Nothing) (QuarterCell other kind quarter) ≡ adds_schedule (cond b (Quarters site pollutant first last) Nothing) other kind quarter) [
-        | true ↦ quarter_of_kind records pollutant site first last other kind quarter
-        | false ↦ refl
-      ]
-
-  key_schedule : (key : OfficeKey) (is_new : Bool) → IsReach (reach_of_key records key is_new)
-      → (is_of_schedule (ChangedRecord key is_new) && reads records (QuarterCell other kind quarter) (ChangedRecord key is_new)) ≡ adds_schedule (reach_of_key records key is_new) other kind quarter
-  key_schedule (MonitorKey id) is_new within = no_monitor id.pollutant id.site (is_new && not (may_count_at_once id.pollutant))
-  key_schedule (PrimaryKey site pollutant from) is_new within = no_hours pollutant site _ _
-  key_schedule (ScheduleKey site pollutant from) is_new within = key_read records (QuarterCell other kind quarter) (ScheduleKey site pollutant from) is_new within ∙ some_schedule pollutant site _ _
-  key_schedule (SeasonKey site year) is_new within = refl
-  key_schedule (MakeupKey site missed) is_new within = key_read records (QuarterCell other kind quarter) (MakeupKey site missed) is_new within ∙ some_schedule Pm25 site _ _
-  key_schedule (EventKey number) is_new within = no_event (record_of records (EventKey number))
-  key_schedule (ConcurrenceKey number) is_new within = no_event (record_of records (EventKey number))
-  key_schedule (ApprovedKey site day) is_new within = refl
-  key_schedule (CombinedKey site pollutant) is_new within = refl
-
-  either_schedule : (old new : Option OfficeRecord) → IsReach (reach_of_either records old new) → reads_schedule_row records (record_row old new) (QuarterCell other kind quarter) ≡ adds_schedule (reach_of_either records old new) other kind quarter
-  either_schedule old (Some row) within = key_schedule (key_of row) (is_none old) within
-  either_schedule (Some row) None within = key_schedule (key_of row) false within
-  either_schedule None None within = refl
-
-  pub marks_schedule-adds : (change : OfficeChange) → IsReach (reach_of records change) → marks_schedule records change other kind quarter ≡ adds_schedule (reach_of records change) other kind quarter
-  unfolding marks_schedule
-  marks_schedule-adds (Observation key old new) within = no_hours key.monitor.pollutant key.monitor.site key.hour key.hour
-  marks_schedule-adds (Record change) within = either_schedule change.old change.new within

@@ -22,16 +22,15 @@ named (Stratum site first) = StratumCell site first
 named (Quarter site pollutant quarter) = QuarterCell site pollutant quarter
 named (PmYear site year) = PmYearCell site year
 
--- the spans of each kind, and those of the years of which a season or an approved day changed
+-- the spans of each kind
 pub record Marked : Type 0 where
   pub hours : List Span
   pub windows : List Span
   pub days : List Span
   pub years : List Span
-  pub seasons : List Span
 
 abbrev pub nothing : Marked
-nothing = record { hours = []; windows = []; days = []; years = []; seasons = [] }
+nothing = record { hours = []; windows = []; days = []; years = [] }
 
 -- whether a cell waits
 abbrev pub holds_cell : Marked → Cell → Bool

@@ -13,7 +13,7 @@ use Rattle.aq_base.specs.declared.office.OfficeKey.{OfficeKey}
 use Rattle.aq_base.specs.declared.office.OfficeKey.TheVariants.{Monitor as MonitorKey, Primary as PrimaryKey, Schedule as ScheduleKey, Season as SeasonKey, Makeup as MakeupKey, Event as EventKey, Concurrence as ConcurrenceKey, Approved as ApprovedKey, Combined as CombinedKey}
 use Rattle.aq_registry.specs.declared.changes.RecordChange.{RecordChange}
 use Rattle.aq_rules.specs.Kept.Cells.{CellName as Cell, PmDayCell, StratumCell, QuarterCell, PmYearCell}
-use Rattle.aq_rules.specs.Kept.Reach.{ChangedRow, from_to, is_of_schedule, last_day_designated, last_day_scheduled, may_count_at_once, reads}
+use Rattle.aq_rules.specs.Kept.Reach.{ChangedRow, from_to, last_day_designated, last_day_scheduled, may_count_at_once, reads}
 use Rattle.aq_rules.specs.Office.Monitors.{is_same_site, is_same_pollutant}
 use Rattle.aq_rules.specs.Office.Office.{key_of}
 use Rattle.aq_rules.specs.Office.Questions.{record_of}
@@ -41,17 +41,9 @@ abbrev pub reads_particle_row : List OfficeRecord → Option ChangedRow → Cell
 reads_particle_row records None cell = false
 reads_particle_row records (Some row) cell = is_of_particles cell && reads records cell row
 
-abbrev pub reads_schedule_row : List OfficeRecord → Option ChangedRow → Cell → Bool
-reads_schedule_row records None cell = false
-reads_schedule_row records (Some row) cell = is_of_schedule row && reads records cell row
-
--- whether a cell reads what a change changes, and whether it is a quarter that reads a schedule or a make-up that the change changes
+-- whether a cell reads what a change changes
 unfoldable pub marks_particle : List OfficeRecord → OfficeChange → Cell → Bool
 marks_particle records change cell = reads_particle_row records (row_of change) cell
-
-unfoldable pub marks_schedule : List OfficeRecord → OfficeChange → Site → Pollutant → ℕ → Bool
-marks_schedule records change site pollutant quarter =
-    reads_schedule_row records (row_of change) (QuarterCell site pollutant quarter)
 
 -- ---- the same as spans
 
@@ -107,12 +99,6 @@ adds records (Days site Pm10 first last) cell = adds_pm10_days records site firs
 adds records (Quarters site Pm25 first last) cell = adds_pm25_quarters site first last cell
 adds records (Quarters site Pm10 first last) cell = adds_pm10_quarters records site first last cell
 adds records reach cell = false
-
--- the quarters of which a schedule or a make-up changed
-abbrev pub adds_schedule : ParticleReach → Site → Pollutant → ℕ → Bool
-adds_schedule (Quarters site Pm25 first last) other Pm25 quarter = covers other quarter (span_of site first last)
-adds_schedule (Quarters site Pm10 first last) other Pm10 quarter = covers other quarter (span_of site first last)
-adds_schedule reach other pollutant quarter = false
 
 -- there are days or quarters, and all are of the profile
 abbrev pub IsReach : ParticleReach → Type 0

@@ -1,17 +1,15 @@
 -- The cells of particles that wait to be brought up to date, as spans: days, strata, quarters and years.
-use Rattle.std.specs.Prelude.{ℕ, ◌+◌, ◌-◌, Bool, false, ◌&&◌, nat_le, nat_lt, Option, Some, None, List, [], ◌∷◌, ◌++◌}
+use Rattle.std.specs.Prelude.{ℕ, ◌-◌, Bool, false, Option, None, List, [], ◌++◌}
 use Rattle.aq_base.specs.Site.{Site}
 use Rattle.aq_base.specs.declared.day.TheConstants.{LAST_DAY, QUARTERS}
 use Rattle.aq_base.specs.declared.monitor.Pollutant.{Pollutant}
-use Rattle.aq_base.specs.declared.monitor.Pollutant.TheVariants.{Ozone, Pm25, Pm10}
+use Rattle.aq_base.specs.declared.monitor.Pollutant.TheVariants.{Pm25, Pm10}
 use Rattle.aq_rules.specs.Kept.Cells.{CellName as Cell, PmDayCell, StratumCell, QuarterCell, PmYearCell}
-use Rattle.aq_rules.specs.Office.Monitors.{is_same_site, is_same_pollutant}
-use Rattle.aq_dirty.specs.declared.particles.DaySpan.{DaySpan}
 use Rattle.aq_dirty.specs.declared.spans.Span.{Span}
 use Rattle.aq_dirty.specs.Marked.{cells_in_spans, first_or, IsWithin}
 use Rattle.aq_dirty.specs.Spans.{holds}
 
--- the spans of each kind, and those of the quarters of which a schedule or a make-up changed
+-- the spans of each kind
 pub record MarkedParticles : Type 0 where
   pub pm25_days : List Span
   pub pm10_days : List Span
@@ -19,8 +17,6 @@ pub record MarkedParticles : Type 0 where
   pub pm25_quarters : List Span
   pub pm10_quarters : List Span
   pub years : List Span
-  pub pm25_schedules : List Span
-  pub pm10_schedules : List Span
 
 abbrev pub nothing : MarkedParticles
 nothing = record {
@@ -30,8 +26,6 @@ nothing = record {
   pm25_quarters = [];
   pm10_quarters = [];
   years = [];
-  pm25_schedules = [];
-  pm10_schedules = [];
 }
 
 -- whether a cell waits
@@ -43,12 +37,6 @@ holds_particle marked (QuarterCell site Pm25 quarter) = holds site quarter marke
 holds_particle marked (QuarterCell site Pm10 quarter) = holds site quarter marked.pm10_quarters
 holds_particle marked (PmYearCell site year) = holds site year marked.years
 holds_particle marked cell = false
-
--- whether a schedule or a make-up was marked that a quarter reads
-abbrev pub holds_schedule : MarkedParticles → Site → Pollutant → ℕ → Bool
-holds_schedule marked site Ozone quarter = false
-holds_schedule marked site Pm25 quarter = holds site quarter marked.pm25_schedules
-holds_schedule marked site Pm10 quarter = holds site quarter marked.pm10_schedules
 
 -- no number that is held is greater than the greatest of its kind
 pub record AreMarkedParticles (of_pm25_days of_pm10_days of_strata of_pm25_quarters of_pm10_quarters of_years : List Span) : Type 0 where
@@ -75,28 +63,6 @@ next_in marked =
     (first_or (quarter_cell Pm25) marked.pm25_quarters
     (first_or (quarter_cell Pm10) marked.pm10_quarters
     (first_or PmYearCell marked.years None)))))
-
--- the days of the first span, and else others
-abbrev pub days_of : Pollutant → Span → DaySpan
-days_of pollutant span = record {
-  site = span.site;
-  pollutant = pollutant;
-  first = span.first;
-  count = span.last - span.first + 1;
-}
-
-abbrev pub first_days_or : Pollutant → List Span → Option DaySpan → Option DaySpan
-first_days_or pollutant [] other = other
-first_days_or pollutant (span ∷ spans) other = Some (days_of pollutant span)
-
-abbrev pub first_days_in : MarkedParticles → Option DaySpan
-first_days_in marked = first_days_or Pm25 marked.pm25_days (first_days_or Pm10 marked.pm10_days None)
-
--- whether a cell is one of so many days of a site and pollutant from the first one on
-abbrev pub is_day_in : Site → Pollutant → ℕ → ℕ → Cell → Bool
-is_day_in site pollutant first count (PmDayCell other kind day) =
-    is_same_site site other && is_same_pollutant pollutant kind && nat_le first day && nat_lt day (first + count)
-is_day_in site pollutant first count cell = false
 
 -- ---- the same as a list of cells
 

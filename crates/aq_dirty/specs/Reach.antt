@@ -11,7 +11,7 @@ use Rattle.aq_base.specs.declared.office.OfficeKey.{OfficeKey}
 use Rattle.aq_base.specs.declared.office.OfficeKey.TheVariants.{Monitor as MonitorKey, Primary as PrimaryKey, Schedule as ScheduleKey, Season as SeasonKey, Makeup as MakeupKey, Event as EventKey, Concurrence as ConcurrenceKey, Approved as ApprovedKey, Combined as CombinedKey}
 use Rattle.aq_registry.specs.declared.changes.RecordChange.{RecordChange}
 use Rattle.aq_rules.specs.Kept.Cells.{CellName as Cell, HourCell, WindowCell, OzoneDayCell, OzoneYearCell}
-use Rattle.aq_rules.specs.Kept.Reach.{ChangedRow, ChangedObservation, ChangedRecord, is_of_season, last_day_designated, reads}
+use Rattle.aq_rules.specs.Kept.Reach.{ChangedRow, ChangedObservation, ChangedRecord, last_day_designated, reads}
 use Rattle.aq_rules.specs.Office.Monitors.{is_same_site, is_same_pollutant}
 use Rattle.aq_rules.specs.Office.Office.{key_of}
 use Rattle.aq_rules.specs.Office.Questions.{record_of}
@@ -48,16 +48,9 @@ abbrev pub reads_row : List OfficeRecord → Option ChangedRow → Cell → Bool
 reads_row records None cell = false
 reads_row records (Some row) cell = is_of_ozone cell && reads records cell row
 
-abbrev pub reads_season_row : List OfficeRecord → Option ChangedRow → Cell → Bool
-reads_season_row records None cell = false
-reads_season_row records (Some row) cell = is_of_season row && reads records cell row
-
--- whether a cell reads what a change changes, and whether it is the year of a season or an approved day that the change changes
+-- whether a cell reads what a change changes
 unfoldable pub marks : List OfficeRecord → OfficeChange → Cell → Bool
 marks records change cell = reads_row records (row_of change) cell
-
-unfoldable pub marks_season : List OfficeRecord → OfficeChange → Site → ℕ → Bool
-marks_season records change site year = reads_season_row records (row_of change) (OzoneYearCell site year)
 
 -- ---- the same as spans
 
@@ -86,10 +79,6 @@ abbrev pub adds : Reach → Cell → Bool
 adds Nothing cell = false
 adds (Hours site first last) cell = adds_hours site first last cell
 adds (Year site year) cell = adds_year site year cell
-
-abbrev pub adds_season : Reach → Site → ℕ → Bool
-adds_season (Year site year) other number = covers other number (span_of site year year)
-adds_season reach other number = false
 
 -- there are hours, and all are of the profile
 abbrev pub IsReach : Reach → Type 0

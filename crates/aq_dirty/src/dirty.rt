@@ -1,12 +1,10 @@
 //! The cells that wait to be brought up to date.
-ghost use Rattle.std.specs.Prelude.{◌≡◌, ◌≤◌, ◌<◌, ◌+◌, ◌&&◌, ◌||◌, ℕ, None, Some, [], true, false, not, option_map, IfSome, IfNone, OnOk, OnErr};
+ghost use Rattle.std.specs.Prelude.{◌≡◌, ◌≤◌, ◌<◌, ◌+◌, ◌&&◌, ◌||◌, ℕ, None, Some, true, false, not, option_map, IfSome, IfNone, OnOk, OnErr};
 ghost use Rattle.std.specs.List.{list_any};
-ghost use Rattle.aq_base.specs.Site.{Site};
 ghost use Rattle.aq_rules.specs.Kept.Cells.{CellName as Cell, HourCell, is_same_cell};
 ghost use Rattle.aq_dirty.specs.Marked.{cells_of, first_hours_in, holds_cell, is_hour_in, named, next_in, nothing, Marked};
 ghost use Rattle.aq_base.specs.declared.day.TheConstants.{LAST_HOUR};
-ghost use Rattle.aq_dirty.specs.Reach.{adds, adds_hours, adds_season, adds_year, marks, marks_season, span_of, IsReach};
-ghost use Rattle.aq_dirty.specs.Spans.{covers, holds};
+ghost use Rattle.aq_dirty.specs.Reach.{adds, adds_hours, adds_year, marks, IsReach};
 
 use crate::cell_name::CellName;
 use crate::change::OfficeChange;
@@ -34,8 +32,6 @@ pub struct Dirty {
     windows: Spans,
     days: Spans,
     years: Spans,
-    /// The years of which a season or an approved day changed.
-    seasons: Spans,
 }
 
 impl Model for Dirty {
@@ -43,7 +39,7 @@ impl Model for Dirty {
 
     ghost Value = { Marked };
 
-    ghost view = { λ dirty. record { hours = dirty.hours.spans; windows = dirty.windows.spans; days = dirty.days.spans; years = dirty.years.spans; seasons = dirty.seasons.spans } };
+    ghost view = { λ dirty. record { hours = dirty.hours.spans; windows = dirty.windows.spans; days = dirty.days.spans; years = dirty.years.spans } };
 
     ghost invariant = { λ dirty. AreMarked dirty.hours.spans dirty.windows.spans dirty.days.spans dirty.years.spans };
 }
@@ -58,7 +54,6 @@ impl Dirty {
             windows: Spans::new(alloc),
             days: Spans::new(alloc),
             years: Spans::new(alloc),
-            seasons: Spans::new(alloc),
         }
     }
 
@@ -66,7 +61,6 @@ impl Dirty {
     /// After want of memory the set holds what it held.
     pub fn mark(&mut self, registry: &Registry, change: &OfficeChange) -> Result<(), Memory>
         ensures cells { OnOk result ((cell : Cell) → holds_cell self.new cell ≡ (holds_cell self.old cell || marks registry.now change.now cell)) }
-        ensures seasons { OnOk result ((site : Site) (year : ℕ) → holds site year self.new.seasons ≡ (holds site year self.old.seasons || marks_season registry.now change.now site year)) }
         ensures unchanged { OnErr result (self.new ≡ self.old) }
     {
         let reach = reach_of(registry, change);
@@ -76,7 +70,6 @@ impl Dirty {
     fn add(&mut self, reach: Reach) -> Result<(), Memory>
         requires { IsReach reach }
         ensures cells { OnOk result ((cell : Cell) → holds_cell self.new cell ≡ (holds_cell self.old cell || adds reach cell)) }
-        ensures seasons { OnOk result ((site : Site) (year : ℕ) → holds site year self.new.seasons ≡ (holds site year self.old.seasons || adds_season reach site year)) }
         ensures unchanged { OnErr result (self.new ≡ self.old) }
     {
         match reach {
@@ -95,7 +88,6 @@ impl Dirty {
         requires some { first ≤ last }
         requires end { last ≤ LAST_HOUR }
         ensures cells { OnOk result ((cell : Cell) → holds_cell self.new cell ≡ (holds_cell self.old cell || adds_hours site first last cell)) }
-        ensures seasons { OnOk result (self.new.seasons ≡ self.old.seasons) }
         ensures unchanged { OnErr result (self.new ≡ self.old) }
     {
         reserve_each(
@@ -112,18 +104,11 @@ impl Dirty {
     /// Adds a year of a site of which a season or an approved day changed.
     fn add_year(&mut self, site: SiteId, year: u16) -> Result<(), Memory>
         ensures cells { OnOk result ((cell : Cell) → holds_cell self.new cell ≡ (holds_cell self.old cell || adds_year site year cell)) }
-        ensures seasons { OnOk result ((other : Site) (number : ℕ) → holds other number self.new.seasons ≡ (holds other number self.old.seasons || covers other number (span_of site year year))) }
         ensures unchanged { OnErr result (self.new ≡ self.old) }
     {
         self.years.reserve(1)?;
-        self.seasons.reserve(1)?;
         let year = u32::from(year);
         self.years.add(Span {
-            site,
-            first: year,
-            last: year,
-        });
-        self.seasons.add(Span {
             site,
             first: year,
             last: year,
@@ -142,13 +127,6 @@ impl Dirty {
             CellName::OzoneYear(site, year) => self.years.holds(site, u32::from(year)),
             _ => false,
         }
-    }
-
-    /// Whether a season or an approved day of a year was marked, by a walk over such years.
-    pub fn is_of_season(&self, site: SiteId, year: u16) -> bool
-        ensures { result ≡ holds site year self.now.seasons }
-    {
-        self.seasons.holds(site, u32::from(year))
     }
 
     /// The next cell: hours come before averages, these before days, and these before years.

@@ -8,12 +8,10 @@
 //! - `CellName`: a cell, by what it is of.
 //! - `OfficeChange`: what became of one observation or record.
 //! - `Dirty::new`, `mark`: an empty set; the ozone cells that a change reaches are added.
-//! - `Dirty::holds`, `is_of_season`: whether a cell is held, and whether a season or an approval of a
-//!   year was marked.
+//! - `Dirty::holds`: whether a cell is held.
 //! - `Dirty::next`, `settle`: the next cell, of the lowest level; it is dropped once it is up to date.
 //! - `Dirty::first_hours`, `settle_hours`: the same for the first hours, as an `HourSpan`.
-//! - `DirtyParticles`: the same for the cells of particles, with `is_of_schedule`, `first_days`,
-//!   `settle_days` and `DaySpan`.
+//! - `DirtyParticles`: the same for the cells of particles, one at a time.
 //! - `stratum_first`: the first day of the stratum that holds a day.
 //!
 //! # What it promises
@@ -23,9 +21,7 @@
 //! - The next cell is of the lowest level: hours come before averages, these before days, and these
 //!   before years; days of particles come before strata, these before quarters, and these before years.
 //!   There is none exactly if no cell is held.
-//! - Settling the next cell, or the first hours or days, drops those cells alone, and takes no memory.
-//! - A year is of a season, and a quarter of a schedule, exactly if a marked change is one that the book's
-//!   table names for it. So a day that changes leaves its year and its quarter at no step.
+//! - Settling the next cell, or the first hours, drops those cells alone, and takes no memory.
 //! - The cells that are held are those of a list (`the_cells_held_are_a_list`,
 //!   `the_particle_cells_held_are_a_list`).
 //!
@@ -57,5 +53,5 @@ mod tests;
 pub use cell_name::CellName;
 pub use change::OfficeChange;
 pub use dirty::{Dirty, HourSpan, the_cells_held_are_a_list};
-pub use particles::{DaySpan, DirtyParticles, the_particle_cells_held_are_a_list};
+pub use particles::{DirtyParticles, the_particle_cells_held_are_a_list};
 pub use strata::stratum_first;

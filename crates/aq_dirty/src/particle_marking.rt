@@ -12,15 +12,15 @@ use crate::spans::{Span, Spans};
 use aq_base::{Day, Memory, Quarter, SiteId};
 use aq_cal::{civil_of, quarter_of, quarter_span};
 
-/// Takes memory for one more span of two kinds.
-pub(crate) fn reserve_two(one: &mut Spans, other: &mut Spans) -> Result<(), Memory>
+/// Takes memory for one more span of a kind, and for so many of another.
+pub(crate) fn reserve_two(one: &mut Spans, other: &mut Spans, count: usize) -> Result<(), Memory>
     ensures one { one.new.spans ≡ one.old.spans }
     ensures other { other.new.spans ≡ other.old.spans }
     ensures room_of_one { OnOk result (0 < one.new.room) }
-    ensures room_of_other { OnOk result (0 < other.new.room) }
+    ensures room_of_other { OnOk result (count ≤ other.new.room) }
 {
     one.reserve(1)?;
-    other.reserve(1)?;
+    other.reserve(count)?;
     Ok(())
 }
 

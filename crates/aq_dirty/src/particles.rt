@@ -1,15 +1,13 @@
 //! The particle cells that wait to be brought up to date.
-ghost use Rattle.std.specs.Prelude.{◌≡◌, ◌≤◌, ◌<◌, ◌+◌, ◌-◌, ◌&&◌, ◌||◌, ℕ, Some, true, false, not, option_map, IfSome, IfNone, OnOk, OnErr};
+ghost use Rattle.std.specs.Prelude.{◌≡◌, ◌≤◌, ◌<◌, ◌-◌, ◌&&◌, ◌||◌, Some, true, false, not, option_map, IfSome, IfNone, OnOk, OnErr};
 ghost use Rattle.std.specs.List.{list_any};
-ghost use Rattle.aq_base.specs.Site.{Site};
 ghost use Rattle.aq_base.specs.declared.day.TheConstants.{LAST_DAY, QUARTERS};
-ghost use Rattle.aq_base.specs.declared.monitor.Pollutant.{Pollutant as Kind};
 ghost use Rattle.aq_base.specs.declared.monitor.Pollutant.TheVariants.{Pm25, Pm10};
 ghost use Rattle.aq_rules.specs.Kept.Cells.{CellName as Cell, PmDayCell, QuarterCell, is_same_cell};
 ghost use Rattle.aq_dirty.specs.Marked.{named};
-ghost use Rattle.aq_dirty.specs.ParticleReach.{adds, adds_pm10_days, adds_pm10_quarters, adds_pm25_days, adds_pm25_quarters, adds_schedule, marks_particle, marks_schedule, IsReach};
+ghost use Rattle.aq_dirty.specs.ParticleReach.{adds, adds_pm10_days, adds_pm10_quarters, adds_pm25_days, adds_pm25_quarters, marks_particle, IsReach};
 ghost use Rattle.aq_dirty.specs.declared.particle_reach.ParticleReach.TheVariants.{Days, Quarters};
-ghost use Rattle.aq_dirty.specs.Particles.{days_of, first_days_in, holds_particle, holds_schedule, is_day_in, next_in, nothing, particle_cells_of, MarkedParticles};
+ghost use Rattle.aq_dirty.specs.Particles.{holds_particle, next_in, nothing, particle_cells_of, MarkedParticles};
 
 use crate::cell_name::CellName;
 use crate::change::OfficeChange;
@@ -18,21 +16,12 @@ use crate::particle_marking::{
     reserve_two,
 };
 use crate::particle_reach::{ParticleReach, particle_reach_of};
-use crate::spans::{Span, Spans};
+use crate::spans::Spans;
 use crate::strata::add_strata;
 use aq_base::{Day, Memory, Pollutant, Quarter, SiteId};
 use aq_registry::Registry;
 use std::alloc::Global;
 use std::marker::Model;
-
-/// Days of a site and pollutant, one after the other.
-#[derive(Clone, Copy, Debug)]
-pub struct DaySpan {
-    pub site: SiteId,
-    pub pollutant: Pollutant,
-    pub first: Day,
-    pub count: u32,
-}
 
 /// The cells of PM2.5 and PM10 that a change of an office's rows reaches and that wait to be brought up to
 /// date, as spans of numbers. Contracts see the spans of each kind; `holds_particle` says which cells they
@@ -45,9 +34,6 @@ pub struct DirtyParticles {
     pm25_quarters: Spans,
     pm10_quarters: Spans,
     years: Spans,
-    /// The quarters of which a schedule or a make-up changed.
-    pm25_schedules: Spans,
-    pm10_schedules: Spans,
 }
 
 impl Model for DirtyParticles {
@@ -55,7 +41,7 @@ impl Model for DirtyParticles {
 
     ghost Value = { MarkedParticles };
 
-    ghost view = { λ dirty. record { pm25_days = dirty.pm25_days.spans; pm10_days = dirty.pm10_days.spans; strata = dirty.strata.spans; pm25_quarters = dirty.pm25_quarters.spans; pm10_quarters = dirty.pm10_quarters.spans; years = dirty.years.spans; pm25_schedules = dirty.pm25_schedules.spans; pm10_schedules = dirty.pm10_schedules.spans } };
+    ghost view = { λ dirty. record { pm25_days = dirty.pm25_days.spans; pm10_days = dirty.pm10_days.spans; strata = dirty.strata.spans; pm25_quarters = dirty.pm25_quarters.spans; pm10_quarters = dirty.pm10_quarters.spans; years = dirty.years.spans } };
 
     ghost invariant = { λ dirty. AreMarkedParticles dirty.pm25_days.spans dirty.pm10_days.spans dirty.strata.spans dirty.pm25_quarters.spans dirty.pm10_quarters.spans dirty.years.spans };
 }
@@ -72,8 +58,6 @@ impl DirtyParticles {
             pm25_quarters: Spans::new(alloc),
             pm10_quarters: Spans::new(alloc),
             years: Spans::new(alloc),
-            pm25_schedules: Spans::new(alloc),
-            pm10_schedules: Spans::new(alloc),
         }
     }
 
@@ -82,10 +66,6 @@ impl DirtyParticles {
     pub fn mark(&mut self, registry: &Registry, change: &OfficeChange) -> Result<(), Memory>
         ensures cells { OnOk result ((cell : Cell) → holds_particle self.new cell ≡
             (holds_particle self.old cell || marks_particle registry.now change.now cell)) }
-        ensures schedules { OnOk result ((site : Site) (pollutant : Kind) (quarter : ℕ)
-            → holds_schedule self.new site pollutant quarter ≡
-            (holds_schedule self.old site pollutant quarter
-            || marks_schedule registry.now change.now site pollutant quarter)) }
         ensures unchanged { OnErr result (self.new ≡ self.old) }
     {
         let reach = particle_reach_of(registry, change);
@@ -96,10 +76,6 @@ impl DirtyParticles {
         requires { IsReach reach }
         ensures cells { OnOk result ((cell : Cell) → holds_particle self.new cell ≡
             (holds_particle self.old cell || adds registry.now reach cell)) }
-        ensures schedules { OnOk result ((site : Site) (pollutant : Kind) (quarter : ℕ)
-            → holds_schedule self.new site pollutant quarter ≡
-            (holds_schedule self.old site pollutant quarter
-            || adds_schedule reach site pollutant quarter)) }
         ensures unchanged { OnErr result (self.new ≡ self.old) }
     {
         match reach {
@@ -132,9 +108,6 @@ impl DirtyParticles {
         ensures cells { OnOk result ((cell : Cell) → holds_particle self.new cell ≡
             (holds_particle self.old cell || adds registry.now
             (Days site pollutant first last) cell)) }
-        ensures schedules { OnOk result ((other : Site) (kind : Kind) (quarter : ℕ)
-            → holds_schedule self.new other kind quarter
-            ≡ holds_schedule self.old other kind quarter) }
         ensures unchanged { OnErr result (self.new ≡ self.old) }
     {
         match pollutant {
@@ -150,9 +123,6 @@ impl DirtyParticles {
         requires end { last ≤ LAST_DAY }
         ensures cells { OnOk result ((cell : Cell) → holds_particle self.new cell ≡
             (holds_particle self.old cell || adds_pm25_days site first last cell)) }
-        ensures schedules { OnOk result ((other : Site) (kind : Kind) (quarter : ℕ)
-            → holds_schedule self.new other kind quarter
-            ≡ holds_schedule self.old other kind quarter) }
         ensures unchanged { OnErr result (self.new ≡ self.old) }
     {
         reserve_three(
@@ -184,9 +154,6 @@ impl DirtyParticles {
         requires end { last ≤ LAST_DAY }
         ensures cells { OnOk result ((cell : Cell) → holds_particle self.new cell ≡
             (holds_particle self.old cell || adds_pm10_days registry.now site first last cell)) }
-        ensures schedules { OnOk result ((other : Site) (kind : Kind) (quarter : ℕ)
-            → holds_schedule self.new other kind quarter
-            ≡ holds_schedule self.old other kind quarter) }
         ensures unchanged { OnErr result (self.new ≡ self.old) }
     {
         reserve_three(
@@ -219,10 +186,6 @@ impl DirtyParticles {
         ensures cells { OnOk result ((cell : Cell) → holds_particle self.new cell ≡
             (holds_particle self.old cell || adds registry.now
             (Quarters site pollutant first last) cell)) }
-        ensures schedules { OnOk result ((other : Site) (kind : Kind) (quarter : ℕ)
-            → holds_schedule self.new other kind quarter ≡
-            (holds_schedule self.old other kind quarter || adds_schedule
-            (Quarters site pollutant first last) other kind quarter)) }
         ensures unchanged { OnErr result (self.new ≡ self.old) }
     {
         match pollutant {
@@ -243,15 +206,10 @@ impl DirtyParticles {
         requires end { last < QUARTERS }
         ensures cells { OnOk result ((cell : Cell) → holds_particle self.new cell ≡
             (holds_particle self.old cell || adds_pm25_quarters site first last cell)) }
-        ensures schedules { OnOk result ((other : Site) (kind : Kind) (quarter : ℕ)
-            → holds_schedule self.new other kind quarter ≡
-            (holds_schedule self.old other kind quarter || adds_schedule
-            (Quarters site Pm25 first last) other kind quarter)) }
         ensures unchanged { OnErr result (self.new ≡ self.old) }
     {
-        reserve_two(&mut self.pm25_quarters, &mut self.pm25_schedules)?;
+        self.pm25_quarters.reserve(1)?;
         add_quarters(&mut self.pm25_quarters, site, first, last);
-        add_quarters(&mut self.pm25_schedules, site, first, last);
         Ok(())
     }
 
@@ -268,22 +226,16 @@ impl DirtyParticles {
         ensures cells { OnOk result ((cell : Cell) → holds_particle self.new cell ≡
             (holds_particle self.old cell
             || adds_pm10_quarters registry.now site first last cell)) }
-        ensures schedules { OnOk result ((other : Site) (kind : Kind) (quarter : ℕ)
-            → holds_schedule self.new other kind quarter ≡
-            (holds_schedule self.old other kind quarter || adds_schedule
-            (Quarters site Pm10 first last) other kind quarter)) }
         ensures unchanged { OnErr result (self.new ≡ self.old) }
     {
         let first_day = first_day(first);
         let last_day = last_day(last);
-        reserve_three(
+        reserve_two(
             &mut self.pm10_quarters,
-            &mut self.pm10_schedules,
             &mut self.strata,
             days_between(first_day, last_day),
         )?;
         add_quarters(&mut self.pm10_quarters, site, first, last);
-        add_quarters(&mut self.pm10_schedules, site, first, last);
         add_strata(&mut self.strata, registry, site, first_day, last_day);
         Ok(())
     }
@@ -323,18 +275,6 @@ impl DirtyParticles {
         }
     }
 
-    /// Whether a schedule or a make-up of a quarter was marked, by a walk over such quarters. If none was, the
-    /// days of the quarter count as they did, and it is brought up to date with its days.
-    pub fn is_of_schedule(&self, site: SiteId, pollutant: Pollutant, quarter: Quarter) -> bool
-        ensures { result ≡ holds_schedule self.now site pollutant quarter }
-    {
-        match pollutant {
-            Pollutant::Ozone => false,
-            Pollutant::Pm25 => self.pm25_schedules.holds(site, u32::from(quarter.number())),
-            Pollutant::Pm10 => self.pm10_schedules.holds(site, u32::from(quarter.number())),
-        }
-    }
-
     /// The next cell: days come before strata, these before quarters, and these before years.
     pub fn next(&self) -> Option<CellName>
         ensures value { option_map named result ≡ next_in self.now }
@@ -371,9 +311,6 @@ impl DirtyParticles {
         requires { next_in self.old ≡ Some (named cell) }
         ensures cells { (other : Cell) → holds_particle self.new other ≡
             (holds_particle self.old other && not (is_same_cell (named cell) other)) }
-        ensures schedules { (other : Site) (kind : Kind) (quarter : ℕ)
-            → holds_schedule self.new other kind quarter
-            ≡ holds_schedule self.old other kind quarter }
     {
         match cell {
             CellName::PmDay(site, pollutant, day) => self.settle_day(site, pollutant, day),
@@ -391,9 +328,6 @@ impl DirtyParticles {
         ensures cells { (other : Cell) → holds_particle self.new other ≡
             (holds_particle self.old other && not (is_same_cell
             (PmDayCell site pollutant day) other)) }
-        ensures schedules { (other : Site) (kind : Kind) (quarter : ℕ)
-            → holds_schedule self.new other kind quarter
-            ≡ holds_schedule self.old other kind quarter }
     {
         let _ = site; // It is that of the first span.
         match pollutant {
@@ -408,9 +342,6 @@ impl DirtyParticles {
         ensures cells { (other : Cell) → holds_particle self.new other ≡
             (holds_particle self.old other && not (is_same_cell
             (QuarterCell site pollutant quarter) other)) }
-        ensures schedules { (other : Site) (kind : Kind) (quarter : ℕ)
-            → holds_schedule self.new other kind quarter
-            ≡ holds_schedule self.old other kind quarter }
     {
         let _ = site; // It is that of the first span.
         match pollutant {
@@ -418,59 +349,6 @@ impl DirtyParticles {
             Pollutant::Pm25 => self.pm25_quarters.drop_to(u32::from(quarter.number())),
             Pollutant::Pm10 => self.pm10_quarters.drop_to(u32::from(quarter.number())),
         }
-    }
-
-    /// The first days that are held, if there are any: the next cell and those that follow it in its span.
-    pub fn first_days(&self) -> Option<DaySpan>
-        ensures value { result ≡ first_days_in self.now }
-        ensures some { IfSome result (λ days. 0 < days.count) }
-        ensures within { IfSome result (λ days. days.first + days.count ≤ LAST_DAY + 1) }
-        ensures held { IfSome result (λ days. (day : ℕ) → days.first ≤ day
-            → day < days.first + days.count → holds_particle self.now
-            (PmDayCell days.site days.pollutant day) ≡ true) }
-    {
-        if let Some(days) = self.pm25_days.first() {
-            return Some(days_of(Pollutant::Pm25, days));
-        }
-        if let Some(days) = self.pm10_days.first() {
-            return Some(days_of(Pollutant::Pm10, days));
-        }
-        None
-    }
-
-    /// Drops the first days, as many as are given, and no other cell. It takes no memory.
-    pub fn settle_days(&mut self, count: u32)
-        requires some { 0 < count }
-        requires held { IfSome (first_days_in self.old) (λ days. count ≤ days.count) }
-        ensures cells { IfSome (first_days_in self.old)
-            (λ days. (cell : Cell) → holds_particle self.new cell ≡
-            (holds_particle self.old cell && not
-            (is_day_in days.site days.pollutant days.first count cell))) }
-        ensures schedules { (other : Site) (kind : Kind) (quarter : ℕ)
-            → holds_schedule self.new other kind quarter
-            ≡ holds_schedule self.old other kind quarter }
-    {
-        if let Some(days) = self.pm25_days.first() {
-            self.pm25_days.drop_to(days.first + (count - 1));
-            return;
-        }
-        if let Some(days) = self.pm10_days.first() {
-            self.pm10_days.drop_to(days.first + (count - 1));
-        }
-    }
-}
-
-/// A span as days of a pollutant.
-fn days_of(pollutant: Pollutant, span: Span) -> DaySpan
-    requires some { span.first ≤ span.last }
-    requires within { span.last ≤ LAST_DAY }
-    ensures { result ≡ days_of pollutant span }
-{
-    DaySpan {
-        site: span.site,
-        pollutant,
-        first: Day::new(span.first as u16),
-        count: span.last - span.first + 1,
     }
 }
 

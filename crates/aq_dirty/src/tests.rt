@@ -2,7 +2,7 @@
 ghost use Rattle.std.specs.Prelude.{◌<◌};
 
 use super::*;
-use aq_base::{Day, Hour, Memory, MonitorId, ObsKey, OfficeRecord, Pollutant, Quarter, SiteId};
+use aq_base::{Day, Hour, Memory, MonitorId, ObsKey, OfficeRecord, Pollutant, SiteId};
 use aq_registry::{RecordChange, Registry};
 use std::alloc::Global;
 use std::test::Fail;
@@ -78,7 +78,6 @@ fn an_ozone_hour_waits_with_what_reads_it(rt: HostRuntime) -> Result<(), Fail> {
     let mut dirty = marked(rt.alloc(), change)?;
     assert!(rt; dirty.holds(CellName::Window(site, Hour::new(24))));
     assert!(rt; !dirty.holds(CellName::Window(site, Hour::new(23))));
-    assert!(rt; !dirty.is_of_season(site, 1990));
     let cells = settled(&mut dirty);
     assert!(rt;
         cells
@@ -121,7 +120,6 @@ fn records_wait_with_what_reads_them(rt: HostRuntime) -> Result<(), Fail> {
         last: Day::new(12_722),
     };
     let mut dirty = marked_record(rt.alloc(), season)?;
-    assert!(rt; dirty.is_of_season(site, 2024));
     let cells = settled(&mut dirty);
     assert!(rt; cells[0] == (4, 2024) && cells[1] == (0, 0));
     Ok(())
@@ -176,7 +174,6 @@ fn a_pm10_sample_waits_with_its_stratum_and_its_quarter(rt: HostRuntime) -> Resu
         new: None,
     };
     let mut dirty = marked_particles(rt.alloc(), change)?;
-    assert!(rt; !dirty.is_of_schedule(site, Pollutant::Pm10, Quarter::new(138)));
     let cells = settled_particles(&mut dirty);
     assert!(rt; cells == [(1, 12_607), (2, 12_606), (3, 138), (0, 0)]);
     Ok(())
@@ -199,7 +196,6 @@ fn a_schedule_waits_with_the_strata_of_its_quarters(rt: HostRuntime) -> Result<(
         new: Some(schedule),
     });
     let mut dirty = marked_particles(rt.alloc(), change)?;
-    assert!(rt; dirty.is_of_schedule(site, Pollutant::Pm10, Quarter::new(279)));
     let cells = settled_particles(&mut dirty);
     assert!(rt; cells == [(2, 25_475), (2, 25_481), (2, 25_487), (2, 25_493)]);
     Ok(())

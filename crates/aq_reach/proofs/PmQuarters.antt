@@ -37,7 +37,7 @@ use Rattle.aq_reach.proofs.Alike.{kept-alike, given-alike}
 use Rattle.aq_reach.proofs.DaysOfQuarters.{InQuarter, in-quarter}
 use Rattle.aq_reach.proofs.DaysRead.{day-out}
 use Rattle.aq_reach.proofs.PmDays.{pm_day-out_of_reach}
-use Rattle.aq_reach.proofs.Schedules.{scheduled-unreached}
+use Rattle.aq_reach.proofs.Schedules.{scheduled-same}
 
 -- ---- lists on whose items two words agree
 
@@ -261,9 +261,9 @@ module _ (a b : Office) (site : Site) (quarter : ℕ) (valid : IsOffice a) (afte
   schedule-by_reading : (pollutant : Pollutant) → list_any (is_same_cell (QuarterCell site pollutant quarter)) (quarter_cells a.records site pollutant quarter) ≡ true → IsOut pollutant → SameSchedule a b site pollutant quarter
   schedule-by_reading pollutant here out day is =
       let cell = QuarterCell site pollutant quarter in
-      scheduled-unreached cell a.records a b valid after site pollutant day is.in_profile
+      scheduled-same cell a.records a b valid after site pollutant day is.in_profile
       (subst (λ q. list_any (is_same_cell cell) (quarter_cells a.records site pollutant q) ≡ true) (sym is.is_of) here)
-      (λ key is_read. record-unreached a b cell a.records (unread a b cell out).0 key is_read)
+      (λ from is_read. record-unreached a b cell a.records (unread a b cell out).0 (keys.Schedule site pollutant from) is_read)
 
   pub schedule-same : (pollutant : Pollutant) → IsOut pollutant → SameSchedule a b site pollutant quarter
   schedule-same Ozone out day is = ozone-unscheduled a valid site day ∙ sym (ozone-unscheduled b after site day)

@@ -1,4 +1,4 @@
--- A cell that reads a quarter reads the schedules that ask for its days. So if no schedule that it reads changed, the same days are scheduled. It is enough that none of those changed that it reads in one of the two offices.
+-- A cell that reads a quarter reads the schedules that ask for its days. So if the same schedules stand in both offices that it reads in one of them, the same days are scheduled, whatever else has changed.
 use Rattle.std.proofs.Common.{◌≡◌, ℕ, zero, ◌+◌, ◌-◌, ◌<◌, ◌≤◌, Bool, true, false, cond, ◌&&◌, List, [], ◌∷◌, refl, sym, ap, ◌∙◌, subst, arith, inl, inr}
 use Rattle.std.specs.Prelude.{Option, Some, None, nat_le, nat_lt, slice_get, find, flat_map, MatchOption}
 use Rattle.std.specs.List.{filter_map, list_any, list_all, Contains, All}
@@ -18,7 +18,7 @@ use Rattle.aq_rules.specs.Lines.Spellings.{Xs, has_parameter}
 use Rattle.aq_rules.specs.Lists.{latest}
 use Rattle.aq_rules.specs.Office.Office.{Office, IsOffice, record_rank, row_at, rises, is_same, is_site, is_day, is_content_of, is_record, fits_records}
 use Rattle.aq_rules.specs.Office.Monitors.{is_same_site, is_same_pollutant}
-use Rattle.aq_rules.specs.Office.Questions.{first_given}
+use Rattle.aq_rules.specs.Office.Questions.{first_given, record_of}
 use Rattle.aq_rules.specs.Office.Sameness.{same_site, same_pollutant, site_itself, pollutant_itself}
 use Rattle.aq_rules.specs.Office.Schedule.{Schedule, schedule_by, asks_for, is_scheduled}
 use Rattle.aq_rules.specs.Kept.Cells.{CellName, is_same_cell}
@@ -26,7 +26,7 @@ use Rattle.aq_rules.specs.Kept.Reach.{ChangedRecord, reads, cells_reading, sched
 use Rattle.aq_rules.proofs.Found.{some_is, given, listed}
 use Rattle.aq_rules.proofs.Greatest.{latest-is}
 use Rattle.aq_rules.proofs.Pm25Counts.{is_record-of}
-use Rattle.aq_rules.proofs.Unreached.{SameWhereRead, is_new_in, any-in_range}
+use Rattle.aq_rules.proofs.Unreached.{is_new_in, any-in_range}
 use Rattle.aq_reach.proofs.DaysOfQuarters.{quarters-rise}
 
 -- ---- the record of a schedule
@@ -205,8 +205,14 @@ module _ (office : Office) (valid : IsOffice office) (site : Site) (pollutant : 
 
 -- ---- the same days
 
+-- the same stands in both offices under each key of a schedule of the site and pollutant that the cell reads in the old one; which are new is said by the records of before
+abbrev pub SameSchedules : CellName → List OfficeRecord → Office → Office → Site → Pollutant → Type 0
+SameSchedules cell before old new site pollutant =
+    (from : ℕ) → reads old.records cell (ChangedRecord (keys.Schedule site pollutant from) (is_new_in before (keys.Schedule site pollutant from))) ≡ true
+    → record_of old.records (keys.Schedule site pollutant from) ≡ record_of new.records (keys.Schedule site pollutant from)
+
 module _ (cell : CellName) (before : List OfficeRecord) (old new : Office) (valid : IsOffice old) (after : IsOffice new) (site : Site) (pollutant : Pollutant) (day : ℕ) (profile : day ≤ LAST_DAY)
-    (here : list_any (is_same_cell cell) (quarter_cells old.records site pollutant (quarter_of day)) ≡ true) (same : SameWhereRead cell before old.records new.records) where
+    (here : list_any (is_same_cell cell) (quarter_cells old.records site pollutant (quarter_of day)) ≡ true) (same : SameSchedules cell before old new site pollutant) where
   abbrev in_old : List Schedule
   in_old = by_day old.records site pollutant day
 
@@ -216,7 +222,7 @@ module _ (cell : CellName) (before : List OfficeRecord) (old new : Office) (vali
   -- under the key of a start that no schedule of the old office has begun after, the same stands in both
   alike : (from : ℕ) → from ≤ day → NoneLater in_old from → row_at record_rank (record_rank (ScheduleRecord site pollutant from 0 0)) old.records ≡ row_at record_rank (record_rank (ScheduleRecord site pollutant from 0 0)) new.records
   alike from begun last =
-      same (keys.Schedule site pollutant from) (schedule-read old valid site pollutant day profile cell from (is_new_in before (keys.Schedule site pollutant from)) here begun last)
+      same from (schedule-read old valid site pollutant day profile cell from (is_new_in before (keys.Schedule site pollutant from)) here begun last)
 
   moved : (xs ys : List OfficeRecord) (s : Schedule) → rises record_rank xs ≡ true → row_at record_rank (record_rank (ScheduleRecord site pollutant s.from 0 0)) xs ≡ row_at record_rank (record_rank (ScheduleRecord site pollutant s.from 0 0)) ys
       → Contains (by_day xs site pollutant day) s → Contains (by_day ys site pollutant day) s
@@ -256,6 +262,6 @@ module _ (cell : CellName) (before : List OfficeRecord) (old new : Office) (vali
       let high : t.from ≤ s.from = All-contains (λ (o : Schedule). o.from ≤ s.from) in_old t first.1 t_here in
       ap (λ (x : Schedule). Some x) (one-schedule old valid site pollutant day profile s t (omega (arith, low, high)) first.0 t_here)
 
-  pub scheduled-unreached : is_scheduled old.records site pollutant day ≡ is_scheduled new.records site pollutant day
+  pub scheduled-same : is_scheduled old.records site pollutant day ≡ is_scheduled new.records site pollutant day
   unfolding is_scheduled
-  scheduled-unreached = ap (λ (o : Option Schedule). option_map_or (asks_for day) o false) (latest-same _ _ refl refl)
+  scheduled-same = ap (λ (o : Option Schedule). option_map_or (asks_for day) o false) (latest-same _ _ refl refl)

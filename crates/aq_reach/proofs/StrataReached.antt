@@ -10,6 +10,7 @@ use Rattle.aq_base.specs.Calendar.{day_of_hour, is_year, quarter_of, quarter_yea
 use Rattle.aq_base.specs.declared.day.TheConstants.{LAST_DAY}
 use Rattle.aq_base.specs.declared.monitor.Pollutant.TheVariants.{Pm10}
 use Rattle.aq_base.specs.declared.office.OfficeRecord.{OfficeRecord}
+use Rattle.aq_base.specs.declared.office.OfficeKey.TheVariants as keys
 use Rattle.aq_rules.specs.Lists.{later, latest}
 use Rattle.aq_rules.specs.Office.Office.{Office, IsOffice}
 use Rattle.aq_rules.specs.Office.Schedule.{is_scheduled}
@@ -28,7 +29,7 @@ use Rattle.aq_reach.proofs.DaysOfQuarters.{InQuarter, in-quarter, quarter_of-is_
 use Rattle.aq_reach.proofs.DaysRead.{day-out}
 use Rattle.aq_reach.proofs.PmDays.{pm_day-out_of_reach}
 use Rattle.aq_reach.proofs.PmQuarters.{SameSchedule, every-range, given-agree, first_days-same, strata-same}
-use Rattle.aq_reach.proofs.Schedules.{scheduled-unreached}
+use Rattle.aq_reach.proofs.Schedules.{scheduled-same}
 
 -- ---- first days rise
 
@@ -181,9 +182,9 @@ module _ (site : Site) (first : ℕ) where
       (quarter : ℕ) (inside : is_year (quarter_year quarter) ≡ true) (is_first : IsFirst old.records quarter) where
     schedule-alike : SameSchedule old new site Pm10 quarter
     schedule-alike day is =
-        scheduled-unreached cell before old new valid after site Pm10 day is.in_profile
+        scheduled-same cell before old new valid after site Pm10 day is.in_profile
         (subst (λ q. list_any (is_same_cell cell) (quarter_cells old.records site Pm10 q) ≡ true) (sym is.is_of) (made-of (first_days_by old.records site quarter) is_first))
-        same
+        (λ from is_read. same (keys.Schedule site Pm10 from) is_read)
 
     firsts-alike : first_days_by old.records site quarter ≡ first_days_by new.records site quarter
     firsts-alike = first_days-same old new site quarter inside schedule-alike

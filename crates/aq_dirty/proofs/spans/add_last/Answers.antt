@@ -1,7 +1,7 @@
-use Rattle.std.proofs.Common.{◌≡◌, ◌∙◌, ◌||◌, ◌++◌, [], ◌∷◌, List, ap, sym, subst}
+use Rattle.std.proofs.Common.{◌≡◌, ◌∙◌, ◌++◌, [], ◌∷◌, List, ap, sym, subst}
 use mathlib.Core.List.{append_assoc}
 use Rattle.aq_dirty.specs.declared.spans.Span.{Span}
-use Rattle.aq_dirty.specs.Spans.{covers, holds, AreSpans}
+use Rattle.aq_dirty.specs.Spans.{holds, AreSpans}
 use Rattle.aq_dirty.proofs.Added.{between-are, between-holds}
 use Rattle.aq_dirty.proofs.spans.add_last.Goals as goal
 

@@ -32,11 +32,11 @@ invariant_of-self-2 c =
       pm25_days = was.pm25_days;
       pm10_days = was.pm10_days;
       strata =
-          within-added LAST_DAY here.strata.spans c.reserve_three.new.third.spans c.add_strata.new.strata.spans (λ (s : Site) (n : ℕ). covers_stratum c.args.registry.now site c.first_day-first_day.result c.last_day-last_day.result s n) was.strata c.reserve_three.ensures.third
+          within-added LAST_DAY here.strata.spans c.reserve_two.new.other.spans c.add_strata.new.strata.spans (λ (s : Site) (n : ℕ). covers_stratum c.args.registry.now site c.first_day-first_day.result c.last_day-last_day.result s n) was.strata c.reserve_two.ensures.other
           (strata-low c.args.registry.now site c.first_day-first_day.result c.last_day-last_day.result low c.last_day-last_day.ensures.range) c.add_strata.ensures;
       pm25_quarters = was.pm25_quarters;
       pm10_quarters =
-          within-added (QUARTERS - 1) here.pm10_quarters.spans c.reserve_three.new.one.spans c.add_quarters.new.quarters.spans (λ (s : Site) (n : ℕ). covers s n quarters) was.pm10_quarters c.reserve_three.ensures.one
+          within-added (QUARTERS - 1) here.pm10_quarters.spans c.reserve_two.new.one.spans c.add_quarters.new.quarters.spans (λ (s : Site) (n : ℕ). covers s n quarters) was.pm10_quarters c.reserve_two.ensures.one
           (λ s n held. let most = covered-low quarters s n held in omega (arith, most, end)) c.add_quarters.ensures;
       years = was.years;
     }

@@ -16,7 +16,7 @@ invariant_of-self-2 c =
       pm10_days = was.pm10_days;
       strata = was.strata;
       pm25_quarters =
-          within-added (QUARTERS - 1) c.self.inside.pm25_quarters.spans c.reserve_two.new.one.spans c.add_quarters.new.quarters.spans (λ (s : Site) (n : ℕ). covers s n quarters) was.pm25_quarters c.reserve_two.ensures.one
+          within-added (QUARTERS - 1) c.self.inside.pm25_quarters.spans c.reserve.new.self.spans c.add_quarters.new.quarters.spans (λ (s : Site) (n : ℕ). covers s n quarters) was.pm25_quarters c.reserve.ensures.same
           (λ s n held. let low = covered-low quarters s n held in omega (arith, low, end)) c.add_quarters.ensures;
       pm10_quarters = was.pm10_quarters;
       years = was.years;
