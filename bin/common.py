@@ -58,7 +58,7 @@ def program(name):
     if named:
         if not os.access(named, os.X_OK):
             sys.exit(f"{name.upper()} names no program: {named}")
-        return named
+        return os.path.abspath(named)
     built = TOP / "crates" / name / "out" / name
     stamp = pathlib.Path(f"{built}.sources")
     if not built.exists() or not stamp.exists() or stamp.read_text().strip() != sources():
@@ -80,6 +80,13 @@ def free_port():
     with socket.socket() as probe:
         probe.bind(("127.0.0.1", 0))
         return probe.getsockname()[1]
+
+
+def listens(port):
+    """Whether a program listens there, without a connection to it."""
+    wanted = f"0100007F:{port:04X}"
+    with open("/proc/net/tcp", encoding="ascii") as table:
+        return any(line.split()[1] == wanted and line.split()[3] == "0A" for line in list(table)[1:])
 
 
 # ---- tries
