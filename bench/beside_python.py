@@ -9,12 +9,15 @@ counted by valgrind, and told only where that is at hand. The program has to be 
 """
 
 import os
+import pathlib
 import re
 import shutil
 import subprocess
 import sys
 import tempfile
 import time
+
+sys.path.insert(0, str(pathlib.Path(__file__).resolve().parent.parent / "bin"))
 
 import common
 
