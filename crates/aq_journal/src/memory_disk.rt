@@ -145,11 +145,14 @@ impl Disk for MemoryDisk {
     ghost use Rattle.std.specs.Prelude.{◌≡◌, ◌↔◌, ◌+◌, ◌<◌, ◌≤◌, ◌^◌, length, IsTrue, IsErr, IfOk, OnOk, OnErr, Some};
     ghost use Rattle.aq_base.specs.Faults.{is_listed, next};
     ghost use Rattle.aq_journal.specs.Disks.{HasCause, Gives, written, Torn, Only, NothingNew, Follows, Elapses};
-    ghost use Rattle.aq_journal.specs.Memories.{MayLeave, LeftSince, bytes_now, at_first, faults_after, is_counted, is_last, reads_image, first_reads};
+    ghost use Rattle.aq_journal.specs.Memories.{MayLeave, LeftSince, bytes_now, at_first, faults_after, is_counted, is_last, reads_image, reads_alone, first_reads};
 
     ghost seen = { λ disk. Some (bytes_now disk) };
 
     ghost may_leave = { λ disk image. MayLeave disk image };
+
+    // A sync that failed changes nothing: the next one that is answered leaves the bytes as they read.
+    ghost once_synced = { λ disk image. image ≡ bytes_now disk };
 
     ghost moment = { λ disk. length disk.changes };
 
@@ -158,6 +161,8 @@ impl Disk for MemoryDisk {
     ghost faults = { λ disk. disk.faults };
 
     ghost counts_now = { λ disk t image _ now. is_counted (at_first disk.first) disk.changes t image now };
+
+    ghost once_synced_less = { λ disk image is. reads_alone (at_first disk.first) disk.changes image (first_reads disk.first) is };
 
     ghost only_now = { λ disk image left. is_last (at_first disk.first) disk.changes image left };
 
@@ -205,6 +210,15 @@ impl Disk for MemoryDisk {
     }
 
     fn sync(&mut self) -> Result<(), Failed> {
+        self.begin()?;
+        if self.note(Call::Synced).is_err() {
+            self.count_fault();
+            return Err(Failed);
+        }
+        Ok(())
+    }
+
+    fn refresh(&mut self) -> Result<(), Failed> {
         self.begin()?;
         if self.note(Call::Synced).is_err() {
             self.count_fault();
