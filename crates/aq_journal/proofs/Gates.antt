@@ -88,8 +88,8 @@ staged end batch behind (Some a) sn mo mn reads at is wrote-is over =
     let frame = stage_written end batches batch behind a at.1.place is old in
     let before = journal_tables a batches old in
     let images : (image : List ℕ) → mn image → HasFrame batches batch image = λ image may.
-        let from = over image may in
-        framed_as batches batch image (written (end + 1) behind from.0) from.2 (stage_written end batches batch behind from.0 at.1.place is (at.1.images from.0 from.1)) in
+    let from = over image may in
+    framed_as batches batch image (written (end + 1) behind from.0) from.2 (stage_written end batches batch behind from.0 at.1.place is (at.1.images from.0 from.1)) in
     wrote (λ seen. IsStagedFrom end batch (Some a) seen mn) sn (Some new) wrote-is (record {
       at = (batches, record { place = at.1.place; fits = at.1.fits; one = is.fits; images = images });
       told_is = shut_tables end frame.gate batches (sized (body_of batch) ++ 0 ∷ frame.junk) new at.1.place at.1.fits frame.whole ∙ sym before;
@@ -156,8 +156,8 @@ gate_shut end batch (Some a) sn mo mn reads at wrote-is over =
     let new = written end (0 ∷ []) a in
     let old = s.images a reads in
     let shut : (before : List ℕ) → mo before → IsJournalOf (written end (0 ∷ []) before) batches = λ before may.
-        let frame = s.images before may in
-        record { gate = 0; rest = sized (body_of batch) ++ 0 ∷ frame.junk; whole = gate_written end 0 batches batch before s.place frame; shut = omega arith; fits = s.fits } in
+    let frame = s.images before may in
+    record { gate = 0; rest = sized (body_of batch) ++ 0 ∷ frame.junk; whole = gate_written end 0 batches batch before s.place frame; shut = omega arith; fits = s.fits } in
     let images : (image : List ℕ) → mn image → IsJournalOf image batches = λ image may. let from = over image may in subst (λ (file : List ℕ). IsJournalOf file batches) (sym from.2) (shut from.0 from.1) in
     wrote (λ seen. IsShutFrom end seen mn (told (Doubtful end) (Some a))) sn (Some new) wrote-is (record {
       at = (batches, record { place = s.place; fits = s.fits; images = images });
@@ -175,8 +175,8 @@ gate_opened end batch behind (Some a) sn mo mn reads at is wrote-is over =
     let old = s.images a reads in
     let more = batches ++ batch ∷ [] in
     let opened : (before : List ℕ) → mo before → IsJournalOf (written end (1 ∷ []) before) more = λ before may.
-        let frame = s.images before may in
-        record { gate = 0; rest = frame.junk; whole = gate_written end 1 batches batch before s.place frame ∙ opened_is batches batch frame.junk; shut = omega arith; fits = fits_more batches batch s.fits s.one } in
+    let frame = s.images before may in
+    record { gate = 0; rest = frame.junk; whole = gate_written end 1 batches batch before s.place frame ∙ opened_is batches batch frame.junk; shut = omega arith; fits = fits_more batches batch s.fits s.one } in
     let images : (image : List ℕ) → mn image → IsJournalOf image more = λ image may. let from = over image may in subst (λ (file : List ℕ). IsJournalOf file more) (sym from.2) (opened from.0 from.1) in
     wrote (λ seen. IsShutFrom (end + length behind) seen mn (in_doubt (Doubtful end) (Some a))) sn (Some new) wrote-is (record {
       at = (more, record { place = place_more end batches batch behind s.place is; fits = fits_more batches batch s.fits s.one; images = images });

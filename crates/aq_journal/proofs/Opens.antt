@@ -104,8 +104,8 @@ begun None sn mo mn small at wrote-is over = subst (λ (seen : Told). IsMade (Sh
 begun (Some a) sn mo mn small at wrote-is over =
     let is : sn ≡ Some nine = wrote-is ∙ ap (λ (l : List ℕ). Some l) (written_nine a small) in
     let images : (image : List ℕ) → mn image → IsJournalOf image [] = λ image may.
-        let from = over image may in
-        subst (λ (file : List ℕ). IsJournalOf file []) (sym (from.2 ∙ written_nine from.0 (read_small a from.0 small (at from.0 from.1)))) empty_is in
+    let from = over image may in
+    subst (λ (file : List ℕ). IsJournalOf file []) (sym (from.2 ∙ written_nine from.0 (read_small a from.0 small (at from.0 from.1)))) empty_is in
     subst (λ (seen : Told). IsMade (Shut 8) (Some a) seen mn) (sym is) (record {
       at = ([], record { place = refl; fits = tt; images = images });
       told_is = journal_tables nine [] empty_is ∙ sym (short_tables a small);

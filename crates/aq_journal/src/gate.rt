@@ -23,8 +23,8 @@ pub(crate) enum Gate {
     Doubtful(u64),
 }
 
-/// Refreshes a disk that was not synced yet, and shuts a gate that may be open: it is written again, since a
-/// sync alone that is answered after one that failed says nothing of it.
+/// Refreshes a disk that was not synced yet, and shuts a gate that may be open. The gate is written again: behind
+/// a sync that failed, one that is answered says nothing of what was written before.
 pub(crate) fn settle<D: Disk>(disk: &mut D, gate: &mut Gate) -> Result<(), Failed>
     requires held { IsHeld D.Disk disk.old gate.old }
     ensures held { IsHeld D.Disk disk.new gate.new }

@@ -6,7 +6,7 @@ use aq_base::{Bytes, Failed, Memory};
 use std::alloc::Global;
 use std::marker::Model;
 
-/// A call that changed what a crash may leave: a write, one that failed, or a sync.
+/// A call that changed what a crash may leave: a write, one that failed, or a sync, by itself or in a refresh.
 #[derive(Debug, Drop)]
 pub(crate) enum Call {
     Wrote { at: u64, piece: Bytes },
@@ -14,8 +14,9 @@ pub(crate) enum Call {
     Synced,
 }
 
-/// A disk in memory, which fails at the calls that it is told to, and if it is refused memory for a write or a
-/// sync. Contracts see its state.
+/// A disk in memory, which fails at the calls that it is told to, and if it is refused memory for a write, a
+/// sync or a refresh. After a sync that failed the next one that is answered leaves the bytes as they read.
+/// Contracts see its state.
 #[derive(Drop)]
 pub struct MemoryDisk {
     first: Vec<u8>,
@@ -151,7 +152,6 @@ impl Disk for MemoryDisk {
 
     ghost may_leave = { λ disk image. MayLeave disk image };
 
-    // A sync that failed changes nothing: the next one that is answered leaves the bytes as they read.
     ghost once_synced = { λ disk image. image ≡ bytes_now disk };
 
     ghost moment = { λ disk. length disk.changes };
