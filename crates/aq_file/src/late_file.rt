@@ -15,7 +15,7 @@ const MOST_TRIES: u32 = 1_000;
 /// What is known of the bytes on the disk.
 #[derive(Clone, Copy, Debug, PartialEq, Eq)]
 pub(crate) enum Standing {
-    /// No sync failed.
+    /// No sync failed, and no refresh.
     Certain,
     /// One did.
     Doubtful,
@@ -129,7 +129,7 @@ impl<'a> LateFile<'a> {
         self.noted(answer)
     }
 
-    /// Passes on the answer of a sync, and remembers that it failed.
+    /// Passes on the answer of a sync or a refresh, and remembers that it failed.
     fn noted(&mut self, answer: io::Result<()>) -> io::Result<()>
         ensures same { result ≡ answer }
         ensures kept { self.new.file ≡ self.old.file }

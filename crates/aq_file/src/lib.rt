@@ -13,9 +13,10 @@
 //! - Where a sync fails, a system may keep what was written as if it stood: it answers the next sync, and
 //!   gives in a read what the disk does not have. So the first call opens and locks the file, syncs it,
 //!   drops the system's copies of it, and syncs the folder; `refresh` syncs and drops them once more.
-//! - After a sync that failed, also that of the first call, each later call fails and is counted. The lock
-//!   is kept until the disk is dropped, so only what opens the file anew finds out what stands. That a file
-//!   in doubt is remembered, kept and refused is proved of the private `LateFile`.
+//! - After a sync that failed, also that of the first call, each later call fails and is counted; so it is
+//!   where the copies could not be dropped. The lock is kept until the disk is dropped, so only what opens
+//!   the file anew finds out what stands. That a file in doubt is remembered and refused is proved of the
+//!   private `LateFile`.
 //! - A file that could not be opened or locked is opened by the next call. A read, a write or a length
 //!   that failed leaves the file in use.
 //! - It tells none of its bytes, since no contract says what a real file holds. So over it the clauses
