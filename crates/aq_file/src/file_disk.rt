@@ -9,7 +9,8 @@ use aq_base::Failed;
 use aq_journal::Disk;
 use std::io;
 
-/// A file as a disk, opened at its first call. What the file refuses is a fault of that call, counted once.
+/// A file as a disk, opened at its first call. What the file refuses is a fault of that call, counted once. After a
+/// sync that failed, also the one at the opening, each call fails until the disk is dropped, which gives its lock up.
 #[derive(Drop)]
 pub struct FileDisk<'a> {
     file: LateFile<'a>,
@@ -37,11 +38,15 @@ impl<'a> Disk for FileDisk<'a> {
 
     ghost may_leave = { λ _ _. ⊥ };
 
+    ghost once_synced = { λ _ _. ⊥ };
+
     ghost moment = { λ _. 0 };
 
     ghost left_since = { λ _ _ _. ⊥ };
 
     ghost faults = { λ disk. disk.faults };
+
+    ghost once_synced_less = { λ _ _ left. left };
 
     ghost counts_now = { λ _ _ _ _ left. left };
 
@@ -63,6 +68,10 @@ impl<'a> Disk for FileDisk<'a> {
 
     fn sync(&mut self) -> Result<(), Failed> {
         counted(&mut self.faults, self.file.sync())
+    }
+
+    fn refresh(&mut self) -> Result<(), Failed> {
+        counted(&mut self.faults, self.file.refresh())
     }
 }
 

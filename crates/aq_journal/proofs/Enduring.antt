@@ -140,7 +140,7 @@ module _ {D : Type 0} (d : Ghosts D) (reads : (disk : D) → IfSome (d.seen disk
       fewer Unsynced file mo mn now at = tt
       fewer Unread file mo mn now at = λ image may. at image (now image may)
       fewer (Shut end) file mo mn now at = (at.0, record { place = at.1.place; fits = at.1.fits; images = λ image may. at.1.images image (now image may) })
-      fewer (Doubtful end) file mo mn now at = (at.0, at.1, record { place = at.2.place; fits = at.2.fits; one = at.2.one; junk = at.2.junk; images = λ image may. at.2.images image (now image may) })
+      fewer (Doubtful end) file mo mn now at = (at.0, at.1, record { place = at.2.place; fits = at.2.fits; one = at.2.one; images = λ image may. at.2.images image (now image may) })
 
       both : (so : Told) (gate : Gate) (mo mn : List ℕ → Type 0) → ((image : List ℕ) → mn image → mo image) → IfSome so (λ file. Stands gate file mo) → IfSome so (λ file. Stands gate file mn)
       both (Some a) gate mo mn now at = fewer gate a mo mn now at
@@ -200,7 +200,7 @@ module _ {D : Type 0} (d : Ghosts D) (reads : (disk : D) → IfSome (d.seen disk
   pub stage_done : (old new : D) (end : ℕ) (batch : List RowChange) (behind : List ℕ) → IsHeld d old (Shut end) → IsBehind batch behind → Puts d (end + 1) behind old new → HasPut d (end + 1) behind old new → IsStaged old new end batch
   stage_done old new end batch behind held is put has =
       let also = with_batch batch (told (Shut end) (d.seen old)) in
-      let s = staged end batch behind (d.seen old) (d.seen new) (d.may_leave old) (d.may_leave new) (reads old) held.file is has.seen has.synced in
+      let s = staged end batch behind (d.seen old) (d.seen new) (d.may_leave old) (d.may_leave new) (reads old) held.file is has.seen has.images in
       record {
         at = s.at;
         doubt_is = s.doubt_is;
@@ -228,7 +228,7 @@ module _ {D : Type 0} (d : Ghosts D) (reads : (disk : D) → IfSome (d.seen disk
   pub shut_done : (old new : D) (end : ℕ) (also : Option (List Row)) → IsHeld d old (Doubtful end) → Puts d end (0 ∷ []) old new → HasPut d end (0 ∷ []) old new → Step d old new (Doubtful end) (Shut end) (told (Doubtful end) (d.seen old)) also
   shut_done old new end also held put has =
       let f = framed end (d.seen old) (d.may_leave old) held.file in
-      let s = gate_shut end f.0 (d.seen old) (d.seen new) (d.may_leave old) (d.may_leave new) (reads old) f.1 has.seen has.synced in
+      let s = gate_shut end f.0 (d.seen old) (d.seen new) (d.may_leave old) (d.may_leave new) (reads old) f.1 has.seen has.images in
       record {
         held = record { room = held.room; file = s.at };
         told_is = s.told_is;
@@ -240,7 +240,7 @@ module _ {D : Type 0} (d : Ghosts D) (reads : (disk : D) → IfSome (d.seen disk
       → Puts d end (1 ∷ []) old new → HasPut d end (1 ∷ []) old new → Step d old new (Doubtful end) (Shut (end + length behind)) (in_doubt (Doubtful end) (d.seen old)) also
   open_done old new end batch behind also held at is room put has =
       let later = end + length behind in
-      let s = gate_opened end batch behind (d.seen old) (d.seen new) (d.may_leave old) (d.may_leave new) (reads old) at is has.seen has.synced in
+      let s = gate_opened end batch behind (d.seen old) (d.seen new) (d.may_leave old) (d.may_leave new) (reads old) at is has.seen has.images in
       record {
         held = record { room = room; file = s.at };
         told_is = s.told_is;
@@ -273,10 +273,10 @@ module _ {D : Type 0} (d : Ghosts D) (reads : (disk : D) → IfSome (d.seen disk
         endures = endures_then d reads only_now old mid new (Shut end) (Doubtful end) (Doubtful end) also also first.step.told_is (inr refl) first.step.endures second.endures;
       }
 
-  -- ---- a first sync
+  -- ---- a disk that is refreshed
 
-  pub first_synced : (old new : D) (also : Option (List Row)) → IsQuiet d old new → IfSome (d.seen old) (λ file. Only file (d.may_leave new)) → Step d old new Unsynced Unread (told Unsynced (d.seen old)) also
-  first_synced old new also quiet only = record {
+  pub refreshed : (old new : D) (also : Option (List Row)) → IsQuiet d old new → IfSome (d.seen old) (λ file. Only file (d.may_leave new)) → Step d old new Unsynced Unread (told Unsynced (d.seen old)) also
+  refreshed old new also quiet only = record {
     held = record { room = tt; file = known (d.seen old) (d.seen new) quiet.seen only };
     told_is = ap (told Unread) quiet.seen;
     endures = record {
@@ -321,8 +321,8 @@ module _ {D : Type 0} (d : Ghosts D) (reads : (disk : D) → IfSome (d.seen disk
   shut_done_at old new gate end is held put has =
       subst (λ (g : Gate). IsHeld d old g → Step d old new g (Shut end) (told g (d.seen old)) (told g (d.seen old))) (sym is) (λ had. shut_done old new end (told (Doubtful end) (d.seen old)) had put has) held
 
-  pub first_synced_at : (old new : D) (gate : Gate) → gate ≡ Unsynced → IsQuiet d old new → IfSome (d.seen old) (λ file. Only file (d.may_leave new)) → Step d old new gate Unread (told gate (d.seen old)) (told gate (d.seen old))
-  first_synced_at old new gate is quiet only = subst (λ (g : Gate). Step d old new g Unread (told g (d.seen old)) (told g (d.seen old))) (sym is) (first_synced old new (told Unsynced (d.seen old)) quiet only)
+  pub refreshed_at : (old new : D) (gate : Gate) → gate ≡ Unsynced → IsQuiet d old new → IfSome (d.seen old) (λ file. Only file (d.may_leave new)) → Step d old new gate Unread (told gate (d.seen old)) (told gate (d.seen old))
+  refreshed_at old new gate is quiet only = subst (λ (g : Gate). Step d old new g Unread (told g (d.seen old)) (told g (d.seen old))) (sym is) (refreshed old new (told Unsynced (d.seen old)) quiet only)
 
   pub stage_failed_at : (old new : D) (gate : Gate) (end : ℕ) (batch : List RowChange) (behind : List ℕ) → gate ≡ Shut end → IsHeld d old gate → Puts d (end + 1) behind old new → Step d old new gate gate (told gate (d.seen old)) (with_batch batch (told gate (d.seen old)))
   stage_failed_at old new gate end batch behind is held put =

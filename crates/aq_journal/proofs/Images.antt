@@ -1,11 +1,11 @@
 -- What one more call makes of the images of a disk in memory.
-use Rattle.std.proofs.Common.{◌≡◌, ◌⊎◌, inl, inr, ⊎_elim, ℕ, zero, suc, ◌≤◌, List, [], ◌∷◌, ◌++◌, length, Result, Ok, Err, sym, ap, ◌∙◌, subst, arith, length-append}
+use Rattle.std.proofs.Common.{◌≡◌, ◌⊎◌, inl, inr, ⊎_elim, ℕ, zero, suc, ◌≤◌, List, [], ◌∷◌, ◌++◌, length, Result, Ok, Err, refl, sym, ap, ◌∙◌, subst, arith, length-append}
 use Rattle.std.specs.Prelude.{OnOk, OnErr, false, is_err}
 use Rattle.std.proofs.lemmas.List.Sums.{fold-append}
 use Rattle.aq_journal.specs.declared.memory_disk.Call.{Call}
 use Rattle.aq_journal.specs.declared.memory_disk.Call.TheVariants.{Wrote, Synced}
-use Rattle.aq_journal.specs.Disks.{Torn, NothingNew, Follows, Elapses}
-use Rattle.aq_journal.specs.Memories.{DiskState, Moment, at_first, after_call, after_calls, MayMake, IsImage, LeftFrom, MayLeave, LeftSince, reads_image, first_reads}
+use Rattle.aq_journal.specs.Disks.{Torn, IsWritten, NothingNew, Follows, Elapses}
+use Rattle.aq_journal.specs.Memories.{DiskState, Moment, at_first, after_call, after_calls, bytes_now, MayMake, IsImage, LeftFrom, MayLeave, LeftSince, reads_image, first_reads}
 use Rattle.aq_journal.proofs.Writes.{torn_written}
 
 pub after_more : (m : Moment) (calls : List Call) (call : Call) → after_calls m (calls ++ call ∷ []) ≡ after_call (after_calls m calls) call
@@ -74,6 +74,12 @@ pub crash_wrote : (old new : DiskState) (at : ℕ) (piece : List ℕ) → new.fi
 crash_wrote old new at piece first more image left =
     let made = made_of old new (Wrote at piece) first more image left in
     (made.0, made.1, torn_wrote at piece made.0 image made.2)
+
+-- the bytes as they read have the piece
+pub stands_wrote : (old new : DiskState) (at : ℕ) (piece : List ℕ) → new.first ≡ old.first → new.changes ≡ old.changes ++ Wrote at piece ∷ [] → Follows (IsWritten at piece) (λ image. image ≡ bytes_now old) (λ image. image ≡ bytes_now new)
+stands_wrote old new at piece first more image is =
+    let one : after_calls (at_first new.first) new.changes ≡ after_calls (at_first old.first) (old.changes ++ Wrote at piece ∷ []) = λ i. after_calls (at_first (first i)) (more i) in
+    (bytes_now old, refl, is ∙ ap (λ (m : Moment). m.bytes) (one ∙ after_more (at_first old.first) old.changes (Wrote at piece)))
 
 pub crash_synced : (old new : DiskState) → new.first ≡ old.first → new.changes ≡ old.changes ++ Synced ∷ [] → NothingNew (MayLeave old) (MayLeave new)
 crash_synced old new first more image left =

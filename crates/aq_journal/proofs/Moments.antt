@@ -1,9 +1,9 @@
 -- How calls of a disk follow one another.
-use Rattle.std.proofs.Common.{◌≡◌, inl, inr, ⊎_elim, ℕ, ◌≤◌, List, length, Option, Some, None, refl, sym, ap, subst, ◌∙◌, arith}
-use Rattle.std.specs.Prelude.{IfSome, OnOk, Result, Ok, Err, is_some}
+use Rattle.std.proofs.Common.{◌≡◌, inl, inr, ⊎_elim, ℕ, ◌≤◌, List, length, Option, Some, None, refl, ap, ◌∙◌, arith}
+use Rattle.std.specs.Prelude.{OnOk, Result, Ok, Err, is_some}
 use Rattle.std.specs.Option.{option_map}
 use Rattle.aq_journal.specs.declared.disk.Disk.{Ghosts}
-use Rattle.aq_journal.specs.Disks.{Torn, TornIfTold, written, Only, NothingNew, Follows, Elapses}
+use Rattle.aq_journal.specs.Disks.{Torn, TornIfTold, written, IsWritten, NothingNew, Follows, Elapses}
 use Rattle.aq_journal.specs.Calls.{Since, IsTorn, Puts, HasPut, IsQuiet}
 
 tells_torn : (at n : ℕ) (old new : Option (List ℕ)) → TornIfTold at n old new → is_some new ≡ is_some old
@@ -49,10 +49,10 @@ module _ {D : Type 0} (d : Ghosts D) where
     since = since_then old mid new (IsTorn d at bytes old) (since_one old mid (IsTorn d at bytes old) time crash) (since_one mid new (IsTorn d at bytes old) later (λ image may. crash image (none image may)));
   }
 
-  pub put_done : {T E : Type 0} (at : ℕ) (bytes : List ℕ) (old mid new : D) (synced : Result T E) → d.seen mid ≡ option_map (written at bytes) (d.seen old) → d.seen new ≡ d.seen mid
-      → OnOk synced (IfSome (d.seen mid) (λ file. Only file (d.may_leave new))) → OnOk synced (HasPut d at bytes old new)
-  put_done at bytes old mid new (Ok answer) wrote same only = record { seen = same ∙ wrote; synced = subst (λ (seen : Option (List ℕ)). IfSome seen (λ file. Only file (d.may_leave new))) (sym same) only }
-  put_done at bytes old mid new (Err fault) wrote same only = tt
+  pub put_done : {T E : Type 0} (less : (disk : D) (image : List ℕ) → d.once_synced disk image → d.may_leave disk image) (at : ℕ) (bytes : List ℕ) (old mid new : D) (synced : Result T E) → d.seen mid ≡ option_map (written at bytes) (d.seen old) → d.seen new ≡ d.seen mid
+      → Follows (IsWritten at bytes) (d.once_synced old) (d.once_synced mid) → OnOk synced (NothingNew (d.once_synced mid) (d.may_leave new)) → OnOk synced (HasPut d at bytes old new)
+  put_done less at bytes old mid new (Ok answer) wrote same over none = record { seen = same ∙ wrote; images = λ image may. let from = over image (none image may) in (from.0, less old from.0 from.1, from.2) }
+  put_done less at bytes old mid new (Err fault) wrote same over none = tt
 
   -- ---- calls that change nothing
 

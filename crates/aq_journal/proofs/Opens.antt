@@ -8,7 +8,7 @@ use Rattle.aq_rules.specs.Kept.RowChanges.{RowChange}
 use Rattle.aq_journal.specs.declared.disk.Disk.{Ghosts}
 use Rattle.aq_journal.specs.declared.gate.Gate.{Gate}
 use Rattle.aq_journal.specs.declared.gate.Gate.TheVariants.{Unsynced, Unread, Shut, Doubtful}
-use Rattle.aq_journal.specs.Disks.{Gives, written, Only}
+use Rattle.aq_journal.specs.Disks.{Gives, written, IsWritten, Follows}
 use Rattle.aq_journal.specs.JournalFormat.{IsJournalOf, header, frames_of, journal_of, tables_of, tables_in, batches_in}
 use Rattle.aq_journal.specs.Scanning.{IsEnded}
 use Rattle.aq_journal.specs.Calls.{IsTorn, Puts, HasPut}
@@ -98,17 +98,18 @@ begin_torn None (Some b) mo mn reads tells small at now = absurd cc
 empty_is : IsJournalOf nine []
 empty_is = record { gate = 0; rest = []; whole = nine_is; shut = omega arith; fits = tt }
 
-begun : (so sn : Told) (mn : List ℕ → Type 0) → IfSome so IsSmall → sn ≡ option_map (written 0 nine) so → IfSome sn (λ file. Only file mn) → IsMade (Shut 8) so sn mn
-begun None sn mn small wrote-is only = subst (λ (seen : Told). IsMade (Shut 8) None seen mn) (sym wrote-is) (record { at = tt; told_is = refl })
-begun (Some a) sn mn small wrote-is only =
+-- each image of a short file is written over whole
+begun : (so sn : Told) (mo mn : List ℕ → Type 0) → IfSome so IsSmall → IfSome so (λ file. Stands Unread file mo) → sn ≡ option_map (written 0 nine) so → Follows (IsWritten 0 nine) mo mn → IsMade (Shut 8) so sn mn
+begun None sn mo mn small at wrote-is over = subst (λ (seen : Told). IsMade (Shut 8) None seen mn) (sym wrote-is) (record { at = tt; told_is = refl })
+begun (Some a) sn mo mn small at wrote-is over =
     let is : sn ≡ Some nine = wrote-is ∙ ap (λ (l : List ℕ). Some l) (written_nine a small) in
-    subst (λ (seen : Told). IfSome seen (λ file. Only file mn) → IsMade (Shut 8) (Some a) seen mn) (sym is) made only
-  where
-    made : Only nine mn → IsMade (Shut 8) (Some a) (Some nine) mn
-    made all = record {
-      at = ([], record { place = refl; fits = tt; images = λ image may. subst (λ (file : List ℕ). IsJournalOf file []) (sym (all image may)) empty_is });
+    let images : (image : List ℕ) → mn image → IsJournalOf image [] = λ image may.
+    let from = over image may in
+    subst (λ (file : List ℕ). IsJournalOf file []) (sym (from.2 ∙ written_nine from.0 (read_small a from.0 small (at from.0 from.1)))) empty_is in
+    subst (λ (seen : Told). IsMade (Shut 8) (Some a) seen mn) (sym is) (record {
+      at = ([], record { place = refl; fits = tt; images = images });
       told_is = journal_tables nine [] empty_is ∙ sym (short_tables a small);
-    }
+    })
 
 -- an empty journal that stands
 begun_before : (end : ℕ) (so : Told) (mo : List ℕ → Type 0) → IfSome so mo → IfSome so IsSmall → IfSome so (λ file. Stands (Shut end) file mo) → IfSome so (λ file. Stands (Shut 8) file mo)
@@ -189,7 +190,7 @@ module _ {D : Type 0} (d : Ghosts D) (reads : (disk : D) → IfSome (d.seen disk
 
   pub begin_done : (old new : D) (also : Option (List Row)) → IsHeld d old Unread → IfSome (d.seen old) (λ file. length file ≤ 9) → Puts d 0 nine old new → HasPut d 0 nine old new → Step d old new Unread (Shut 8) (told Unread (d.seen old)) also
   begin_done old new also held small put has =
-      let s = begun (d.seen old) (d.seen new) (d.may_leave new) small has.seen has.synced in
+      let s = begun (d.seen old) (d.seen new) (d.may_leave old) (d.may_leave new) small held.file has.seen has.images in
       record {
         held = record { room = omega arith; file = s.at };
         told_is = s.told_is;

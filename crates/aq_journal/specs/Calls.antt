@@ -1,8 +1,8 @@
 -- Calls of a disk one after the other.
-use Rattle.std.specs.Prelude.{◌≡◌, ◌⊎◌, ℕ, ◌≤◌, List, length, IfSome, is_some}
+use Rattle.std.specs.Prelude.{◌≡◌, ◌⊎◌, ℕ, ◌≤◌, List, length, is_some}
 use Rattle.std.specs.Option.{option_map}
 use Rattle.aq_journal.specs.declared.disk.Disk.{Ghosts}
-use Rattle.aq_journal.specs.Disks.{Torn, written, Only, NothingNew}
+use Rattle.aq_journal.specs.Disks.{Torn, written, IsWritten, NothingNew, Follows}
 
 -- A crash at any moment since an earlier one leaves what it could leave up to here, or such an image.
 pub record Since {D : Type 0} (d : Ghosts D) (old new : D) (Is : List ℕ → Type 0) : Type 0 where
@@ -28,10 +28,10 @@ pub record Puts {D : Type 0} (d : Ghosts D) (at : ℕ) (bytes : List ℕ) (old n
   pub now : (image : List ℕ) → d.may_leave new image → IsTorn d at bytes old image
   pub since : Since d old new (IsTorn d at bytes old)
 
--- the bytes stand there, and a crash leaves nothing else
+-- the bytes stand there, in the file and in each image, over what a crash could leave before
 pub record HasPut {D : Type 0} (d : Ghosts D) (at : ℕ) (bytes : List ℕ) (old new : D) : Type 0 where
   pub seen : d.seen new ≡ option_map (written at bytes) (d.seen old)
-  pub synced : IfSome (d.seen new) (λ file. Only file (d.may_leave new))
+  pub images : Follows (IsWritten at bytes) (d.may_leave old) (d.may_leave new)
 
 -- ---- calls that change nothing
 

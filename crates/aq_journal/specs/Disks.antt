@@ -20,6 +20,10 @@ pub record Gives (bytes : List ℕ) (at : ℕ) (buffer : List ℕ) (n : ℕ) : T
 abbrev pub written : ℕ → List ℕ → List ℕ → List ℕ
 written at piece bytes = take at bytes ++ replicate (at - length bytes) 0 ++ piece ++ drop (at + length piece) bytes
 
+-- an image with the piece written
+abbrev pub IsWritten : ℕ → List ℕ → List ℕ → List ℕ → Type 0
+IsWritten at piece before image = image ≡ written at piece before
+
 -- what a crash may make of a write of n bytes: any bytes in the range and past the old end, the others as they were
 pub record Torn (at n : ℕ) (old new : List ℕ) : Type 0 where
   pub before : take (min at (length old)) new ≡ take at old

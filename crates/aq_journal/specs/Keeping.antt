@@ -91,13 +91,18 @@ pub record AreJournals (end : ℕ) (batches : List (List RowChange)) (may_leave 
   pub fits : AllByRecursion BatchFits batches
   pub images : (image : List ℕ) → may_leave image → IsJournalOf image batches
 
--- each of them is these batches, a gate, whatever it is, and a whole frame behind it
+-- these batches, a gate, whatever it is, a whole frame behind it, and whatever follows that
+pub record HasFrame (batches : List (List RowChange)) (batch : List RowChange) (image : List ℕ) : Type 0 where
+  pub gate : ℕ
+  pub junk : List ℕ
+  pub whole : image ≡ journal_of batches gate (sized (body_of batch) ++ 0 ∷ junk)
+
+-- each of them is so, with a gate of its own
 pub record AreStaged (end : ℕ) (batches : List (List RowChange)) (batch : List RowChange) (may_leave : List ℕ → Type 0) : Type 0 where
   pub place : end ≡ length (header ++ frames_of batches)
   pub fits : AllByRecursion BatchFits batches
   pub one : BatchFits batch
-  pub junk : List ℕ
-  pub images : (image : List ℕ) → may_leave image → (gate : ℕ) × (image ≡ journal_of batches gate (sized (body_of batch) ++ 0 ∷ junk))
+  pub images : (image : List ℕ) → may_leave image → HasFrame batches batch image
 
 -- each of them is the file; or it is the empty journal, as the file is, for want of bytes
 abbrev pub AreRead : List ℕ → (List ℕ → Type 0) → Type 0

@@ -1,6 +1,6 @@
 -- What contracts see of the disk in memory: the calls that changed it, and from them the images of each moment.
 use Rattle.std.specs.Prelude.{◌≡◌, ◌⊎◌, ℕ, zero, suc, List, [], ◌∷◌, length, fold, Option, Some, None, Result, Ok, Err}
-use Rattle.std.proofs.Common.{inl, inr, refl}
+use Rattle.std.proofs.Common.{inl, inr, refl, sym, subst}
 use Rattle.aq_base.specs.Faults.{next}
 use Rattle.aq_base.specs.declared.refusal.Failed.{Failed}
 use Rattle.aq_journal.specs.declared.memory_disk.Call.{Call}
@@ -100,6 +100,10 @@ reads_then m Synced reads = refl
 pub reads_image : (m : Moment) (calls : List Call) → IsImage m m.bytes → IsImage (after_calls m calls) (after_calls m calls).bytes
 reads_image m [] reads = reads
 reads_image m (call ∷ calls) reads = reads_image (after_call m call) calls (reads_then m call reads)
+
+-- the bytes as they read, and no others, are an image
+pub reads_alone : (m : Moment) (calls : List Call) (image : List ℕ) → IsImage m m.bytes → image ≡ (after_calls m calls).bytes → IsImage (after_calls m calls) image
+reads_alone m calls image reads is = subst (λ (bytes : List ℕ). IsImage (after_calls m calls) bytes) (sym is) (reads_image m calls reads)
 
 pub first_reads : (bytes : List ℕ) → IsImage (at_first bytes) bytes
 first_reads bytes = refl

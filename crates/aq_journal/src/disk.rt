@@ -1,9 +1,13 @@
 //! A disk as the journal sees it: one file of bytes. It tells its bytes or does not, always, and counts its
 //! faults: the count rises at a call that fails, and at no other. It says what a crash may leave, at this
 //! moment and at each since a given one.
+//!
+//! Bytes that are written, and then synced by a call that is answered, stand. Nothing is said of a sync that
+//! fails: what was written before it, and is not written again, may stand or not, whatever a read gives and
+//! however many later syncs are answered. Only `refresh` makes that certain.
 ghost use Rattle.std.specs.Prelude.{◌≡◌, ◌+◌, ◌<◌, ◌≤◌, ◌^◌, ℕ, List, length, Option, IfSome, IfOk, OnOk, OnErr};
 ghost use Rattle.std.specs.Option.{option_map};
-ghost use Rattle.aq_journal.specs.Disks.{HasCause, Gives, written, Torn, TornIfTold, Only, NothingNew, Follows, Elapses};
+ghost use Rattle.aq_journal.specs.Disks.{HasCause, Gives, written, IsWritten, Torn, TornIfTold, Only, NothingNew, Follows, Elapses};
 
 use aq_base::Failed;
 
@@ -14,6 +18,9 @@ pub trait Disk {
 
     /// What a crash at this moment may leave.
     ghost may_leave: { Self → List ℕ → Type 0 };
+
+    /// What a crash may leave once a sync is answered, if nothing is written before it.
+    ghost once_synced: { Self → List ℕ → Type 0 };
 
     /// The moment, as a number that does not fall.
     ghost moment: { Self → ℕ };
@@ -44,22 +51,37 @@ pub trait Disk {
         ensures cause { HasCause (faults self.old) (faults self.new) result };
 
     /// Writes over what is there, and past the end. Until a sync a crash may leave any bytes in the range, and
-    /// past the old end; so may a write that fails.
+    /// past the old end; so may a write that fails. Once a sync is answered the bytes stand, over what could
+    /// stand before.
     fn write_at(&mut self, at: u64, bytes: &[u8]) -> Result<(), Failed>
         requires { at + length bytes.now < 2 ^ 63 }
         ensures written { OnOk result (seen self.new ≡ option_map (written at bytes.now) (seen self.old)) }
         ensures failed { OnErr result (TornIfTold at (length bytes.now) (seen self.old) (seen self.new)) }
+        ensures stands { OnOk result (Follows (IsWritten at bytes.now) (once_synced self.old) (once_synced self.new)) }
         ensures crash { Follows (Torn at (length bytes.now)) (may_leave self.old) (may_leave self.new) }
         ensures time { Elapses (moment self.old) (moment self.new) (left_since self.old) (left_since self.new) (may_leave self.new) }
         ensures cause { HasCause (faults self.old) (faults self.new) result };
 
-    /// After it a crash leaves what a read gives.
+    /// Syncs what was written since the last sync that was answered. If one failed meanwhile, what was written
+    /// before it and not again stays in doubt.
     fn sync(&mut self) -> Result<(), Failed>
-        ensures synced { OnOk result (IfSome (seen self.old) (λ bytes. Only bytes (may_leave self.new))) }
+        ensures synced { OnOk result (NothingNew (once_synced self.old) (may_leave self.new)) }
         ensures same { seen self.new ≡ seen self.old }
         ensures crash { NothingNew (may_leave self.old) (may_leave self.new) }
         ensures time { Elapses (moment self.old) (moment self.new) (left_since self.old) (left_since self.new) (may_leave self.new) }
         ensures cause { HasCause (faults self.old) (faults self.new) result };
+
+    /// Syncs, and drops each copy that is held beside the disk. After it a crash leaves what a read gives, also
+    /// of bytes that an earlier program wrote and did not sync.
+    fn refresh(&mut self) -> Result<(), Failed>
+        ensures refreshed { OnOk result (IfSome (seen self.old) (λ bytes. Only bytes (may_leave self.new))) }
+        ensures same { seen self.new ≡ seen self.old }
+        ensures crash { NothingNew (may_leave self.old) (may_leave self.new) }
+        ensures time { Elapses (moment self.old) (moment self.new) (left_since self.old) (left_since self.new) (may_leave self.new) }
+        ensures cause { HasCause (faults self.old) (faults self.new) result };
+
+    /// A sync that is answered leaves nothing new.
+    ghost once_synced_less: { (disk : Self) (image : List ℕ) → once_synced disk image → may_leave disk image };
 
     /// This moment is one of those since an earlier one.
     ghost counts_now: { (disk : Self) (t : ℕ) (image : List ℕ) → t ≤ moment disk → may_leave disk image → left_since disk t image };

@@ -23,7 +23,8 @@ pub(crate) enum Gate {
     Doubtful(u64),
 }
 
-/// Syncs a disk that was not synced yet, and shuts a gate that may be open.
+/// Refreshes a disk that was not synced yet, and shuts a gate that may be open. The gate is written again: behind
+/// a sync that failed, one that is answered says nothing of what was written before.
 pub(crate) fn settle<D: Disk>(disk: &mut D, gate: &mut Gate) -> Result<(), Failed>
     requires held { IsHeld D.Disk disk.old gate.old }
     ensures held { IsHeld D.Disk disk.new gate.new }
@@ -34,7 +35,7 @@ pub(crate) fn settle<D: Disk>(disk: &mut D, gate: &mut Gate) -> Result<(), Faile
 {
     match *gate {
         Gate::Unsynced => {
-            disk.sync()?;
+            disk.refresh()?;
             *gate = Gate::Unread;
             Ok(())
         }

@@ -18,16 +18,22 @@
 //! - Over a disk that tells its bytes, the keeper tells the tables of its journal: what it reads is that
 //!   (`rows`), a commit that answers `Ok` is the batch done to the tables (`done`), and after any other
 //!   answer they are as before (`kept`).
-//! - Until the first sync was answered a crash leaves only what it could leave before. From then on a
-//!   crash at any moment, during a call or between two, leaves a disk whose tables are those told
-//!   before, or those with one batch more: that of the commit, or of one that failed since the last call
-//!   that answered `Ok` (`crash`, `left`, `settled`). So a test that the tables pass after a call that
-//!   answered `Ok`, as that the row of a load stands, is passed by whatever a crash may leave from then
-//!   on, if each later batch spares it (`what_is_acknowledged_outlives_a_crash`).
+//! - The keeper refreshes the disk first of all. Until that was answered a crash leaves only what it could
+//!   leave before. From then on a crash at any moment, during a call or between two, leaves a disk whose
+//!   tables are those told before, or those with one batch more: that of the commit, or of one that failed
+//!   since the last call that answered `Ok` (`crash`, `left`, `settled`). So a test that the tables pass
+//!   after a call that answered `Ok`, as that the row of a load stands, is passed by whatever a crash may
+//!   leave from then on, if each later batch spares it (`what_is_acknowledged_outlives_a_crash`).
 //! - It fails only where the disk failed, the file is no journal, or the batch is too great (`why`), and
 //!   its count of faults rises exactly where it answers `Failed` (`cause`).
 //! - All this rests on what the trait `Disk` says of a write, a sync and a crash, which the disk in
 //!   memory keeps (`MemoryDisk`); of a real disk it is assumed.
+//! - Of a sync that fails the trait promises nothing. What was written before it and not again may stand or
+//!   not, whatever a read gives, and however many later syncs are answered (`once_synced`). Bytes that are
+//!   written again and synced stand. All of the above is proved over that: before anything rests on bytes
+//!   that a failed sync left in doubt, the keeper writes them again.
+//! - After a `refresh` that is answered a crash leaves what a read gives, also of bytes that an earlier
+//!   program left in doubt. The disk in memory forgets nothing: over it a sync does the same.
 //!
 //! # An example
 //!

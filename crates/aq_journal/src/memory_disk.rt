@@ -6,7 +6,7 @@ use aq_base::{Bytes, Failed, Memory};
 use std::alloc::Global;
 use std::marker::Model;
 
-/// A call that changed what a crash may leave: a write, one that failed, or a sync.
+/// A call that changed what a crash may leave: a write, one that failed, or a sync, by itself or in a refresh.
 #[derive(Debug, Drop)]
 pub(crate) enum Call {
     Wrote { at: u64, piece: Bytes },
@@ -14,8 +14,9 @@ pub(crate) enum Call {
     Synced,
 }
 
-/// A disk in memory, which fails at the calls that it is told to, and if it is refused memory for a write or a
-/// sync. Contracts see its state.
+/// A disk in memory, which fails at the calls that it is told to, and if it is refused memory for a write, a
+/// sync or a refresh. After a sync that failed the next one that is answered leaves the bytes as they read.
+/// Contracts see its state.
 #[derive(Drop)]
 pub struct MemoryDisk {
     first: Vec<u8>,
@@ -145,11 +146,13 @@ impl Disk for MemoryDisk {
     ghost use Rattle.std.specs.Prelude.{◌≡◌, ◌↔◌, ◌+◌, ◌<◌, ◌≤◌, ◌^◌, length, IsTrue, IsErr, IfOk, OnOk, OnErr, Some};
     ghost use Rattle.aq_base.specs.Faults.{is_listed, next};
     ghost use Rattle.aq_journal.specs.Disks.{HasCause, Gives, written, Torn, Only, NothingNew, Follows, Elapses};
-    ghost use Rattle.aq_journal.specs.Memories.{MayLeave, LeftSince, bytes_now, at_first, faults_after, is_counted, is_last, reads_image, first_reads};
+    ghost use Rattle.aq_journal.specs.Memories.{MayLeave, LeftSince, bytes_now, at_first, faults_after, is_counted, is_last, reads_image, reads_alone, first_reads};
 
     ghost seen = { λ disk. Some (bytes_now disk) };
 
     ghost may_leave = { λ disk image. MayLeave disk image };
+
+    ghost once_synced = { λ disk image. image ≡ bytes_now disk };
 
     ghost moment = { λ disk. length disk.changes };
 
@@ -158,6 +161,8 @@ impl Disk for MemoryDisk {
     ghost faults = { λ disk. disk.faults };
 
     ghost counts_now = { λ disk t image _ now. is_counted (at_first disk.first) disk.changes t image now };
+
+    ghost once_synced_less = { λ disk image is. reads_alone (at_first disk.first) disk.changes image (first_reads disk.first) is };
 
     ghost only_now = { λ disk image left. is_last (at_first disk.first) disk.changes image left };
 
@@ -205,6 +210,15 @@ impl Disk for MemoryDisk {
     }
 
     fn sync(&mut self) -> Result<(), Failed> {
+        self.begin()?;
+        if self.note(Call::Synced).is_err() {
+            self.count_fault();
+            return Err(Failed);
+        }
+        Ok(())
+    }
+
+    fn refresh(&mut self) -> Result<(), Failed> {
         self.begin()?;
         if self.note(Call::Synced).is_err() {
             self.count_fault();

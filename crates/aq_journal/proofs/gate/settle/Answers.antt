@@ -1,27 +1,27 @@
 use Rattle.aq_journal.proofs.Moments.{quiet_one, quiet_none}
-use Rattle.aq_journal.proofs.Enduring.{quiet_step, first_synced_at, shut_failed_at, shut_done_at}
+use Rattle.aq_journal.proofs.Enduring.{quiet_step, refreshed_at, shut_failed_at, shut_done_at}
 use Rattle.aq_journal.specs.Keeping.{told}
 use Rattle.aq_journal.proofs.gate.settle.Goals as goal
 
-pub returns-in_err-sync-in-Unsynced-clause-held : goal.returns-in_err-sync-in-Unsynced-clause-held
-returns-in_err-sync-in-Unsynced-clause-held g c =
-    let quiet = quiet_one g.D.Disk g.met.D.Disk.counts_now c.args.disk.now c.sync.new.self c.sync.ensures.same c.sync.ensures.crash c.sync.ensures.time in
-    (quiet_step g.D.Disk g.met.D.Disk.reads_image g.met.D.Disk.only_now c.args.disk.now c.sync.new.self c.args.gate.now (told c.args.gate.now (g.D.Disk.seen c.args.disk.now)) quiet c.requires.held).held
+pub returns-in_err-refresh-in-Unsynced-clause-held : goal.returns-in_err-refresh-in-Unsynced-clause-held
+returns-in_err-refresh-in-Unsynced-clause-held g c =
+    let quiet = quiet_one g.D.Disk g.met.D.Disk.counts_now c.args.disk.now c.refresh.new.self c.refresh.ensures.same c.refresh.ensures.crash c.refresh.ensures.time in
+    (quiet_step g.D.Disk g.met.D.Disk.reads_image g.met.D.Disk.only_now c.args.disk.now c.refresh.new.self c.args.gate.now (told c.args.gate.now (g.D.Disk.seen c.args.disk.now)) quiet c.requires.held).held
 
-pub returns-in_err-sync-in-Unsynced-clause-crash : goal.returns-in_err-sync-in-Unsynced-clause-crash
-returns-in_err-sync-in-Unsynced-clause-crash g c =
-    let quiet = quiet_one g.D.Disk g.met.D.Disk.counts_now c.args.disk.now c.sync.new.self c.sync.ensures.same c.sync.ensures.crash c.sync.ensures.time in
-    (quiet_step g.D.Disk g.met.D.Disk.reads_image g.met.D.Disk.only_now c.args.disk.now c.sync.new.self c.args.gate.now (told c.args.gate.now (g.D.Disk.seen c.args.disk.now)) quiet c.requires.held).endures
+pub returns-in_err-refresh-in-Unsynced-clause-crash : goal.returns-in_err-refresh-in-Unsynced-clause-crash
+returns-in_err-refresh-in-Unsynced-clause-crash g c =
+    let quiet = quiet_one g.D.Disk g.met.D.Disk.counts_now c.args.disk.now c.refresh.new.self c.refresh.ensures.same c.refresh.ensures.crash c.refresh.ensures.time in
+    (quiet_step g.D.Disk g.met.D.Disk.reads_image g.met.D.Disk.only_now c.args.disk.now c.refresh.new.self c.args.gate.now (told c.args.gate.now (g.D.Disk.seen c.args.disk.now)) quiet c.requires.held).endures
 
-pub returns-in_ok-sync-in-Unsynced-clause-held : goal.returns-in_ok-sync-in-Unsynced-clause-held
-returns-in_ok-sync-in-Unsynced-clause-held g c =
-    let quiet = quiet_one g.D.Disk g.met.D.Disk.counts_now c.args.disk.now c.sync.new.self c.sync.ensures.same c.sync.ensures.crash c.sync.ensures.time in
-    (first_synced_at g.D.Disk g.met.D.Disk.reads_image g.met.D.Disk.only_now c.args.disk.now c.sync.new.self c.args.gate.now c.in-Unsynced.is quiet c.in_ok-sync-in-Unsynced.ensures.synced).held
+pub returns-in_ok-refresh-in-Unsynced-clause-held : goal.returns-in_ok-refresh-in-Unsynced-clause-held
+returns-in_ok-refresh-in-Unsynced-clause-held g c =
+    let quiet = quiet_one g.D.Disk g.met.D.Disk.counts_now c.args.disk.now c.refresh.new.self c.refresh.ensures.same c.refresh.ensures.crash c.refresh.ensures.time in
+    (refreshed_at g.D.Disk g.met.D.Disk.reads_image g.met.D.Disk.only_now c.args.disk.now c.refresh.new.self c.args.gate.now c.in-Unsynced.is quiet c.in_ok-refresh-in-Unsynced.ensures.refreshed).held
 
-pub returns-in_ok-sync-in-Unsynced-clause-crash : goal.returns-in_ok-sync-in-Unsynced-clause-crash
-returns-in_ok-sync-in-Unsynced-clause-crash g c =
-    let quiet = quiet_one g.D.Disk g.met.D.Disk.counts_now c.args.disk.now c.sync.new.self c.sync.ensures.same c.sync.ensures.crash c.sync.ensures.time in
-    (first_synced_at g.D.Disk g.met.D.Disk.reads_image g.met.D.Disk.only_now c.args.disk.now c.sync.new.self c.args.gate.now c.in-Unsynced.is quiet c.in_ok-sync-in-Unsynced.ensures.synced).endures
+pub returns-in_ok-refresh-in-Unsynced-clause-crash : goal.returns-in_ok-refresh-in-Unsynced-clause-crash
+returns-in_ok-refresh-in-Unsynced-clause-crash g c =
+    let quiet = quiet_one g.D.Disk g.met.D.Disk.counts_now c.args.disk.now c.refresh.new.self c.refresh.ensures.same c.refresh.ensures.crash c.refresh.ensures.time in
+    (refreshed_at g.D.Disk g.met.D.Disk.reads_image g.met.D.Disk.only_now c.args.disk.now c.refresh.new.self c.args.gate.now c.in-Unsynced.is quiet c.in_ok-refresh-in-Unsynced.ensures.refreshed).endures
 
 pub returns-in-Unread-clause-crash : goal.returns-in-Unread-clause-crash
 returns-in-Unread-clause-crash g c = (quiet_step g.D.Disk g.met.D.Disk.reads_image g.met.D.Disk.only_now c.args.disk.now c.args.disk.now c.args.gate.now (told c.args.gate.now (g.D.Disk.seen c.args.disk.now)) (quiet_none g.D.Disk c.args.disk.now) c.requires.held).endures

@@ -1,0 +1,2 @@
+-- A file of which a sync failed.
+pub mod Syncs
