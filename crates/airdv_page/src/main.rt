@@ -45,6 +45,7 @@ mod numbers;
 mod page;
 mod reading;
 mod style;
+mod subject;
 
 use aq_base::Bytes;
 use page::page_of;
