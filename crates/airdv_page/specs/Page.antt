@@ -93,7 +93,7 @@ in_its_place (Squares verdict) = codes "<p>No picture: no event alone would chan
 in_its_place Lines = codes "<p>No picture: no hour has an average.</p>\n"
 in_its_place Nothing = []
 
-abbrev pub picture_of : Picture → List Line → List Line → List ℕ
+unfoldable pub picture_of : Picture → List Line → List Line → List ℕ
 picture_of picture heads rows = if is_drawn picture heads rows then drawn_as picture heads rows else in_its_place picture
 
 -- the heads, and the standard and its level in words above them

@@ -7,8 +7,7 @@ use Rattle.airdv_page.specs.Html.{cell}
 -- whether a line is a head that says what its sheet is about
 unfoldable pub is_about : Line → Bool
 is_about line =
-    (is_head (codes "standard") line || is_head (codes "site") line)
-    || (is_head (codes "year") line || is_head (codes "day") line)
+    ((is_head (codes "standard") line || is_head (codes "site") line) || is_head (codes "year") line) || is_head (codes "day") line
 
 -- the words of the first such heads, those that follow one another, each between two texts; `begun` says that one stands before the lines
 abbrev pub subject_from : Bool → List ℕ → List ℕ → List Line → List ℕ

@@ -181,6 +181,7 @@ fn in_its_place(picture: Picture) -> &'static str
 }
 
 /// Appends the picture of a sheet, or the sentence in its place.
+#[tactic(auto, unfolding(crate::specs::Page::picture_of))]
 fn write_picture(
     out: &mut Vec<u8>,
     picture: Picture,

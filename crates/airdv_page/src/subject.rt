@@ -1,6 +1,5 @@
 //! What a page is about, and what each of its sections is about: its standard, its site, its year or its day.
 ghost use Rattle.std.specs.Prelude.{◌≡◌, ◌++◌, false, OnOk};
-ghost use Rattle.airdv_page.specs.Html.{cell};
 ghost use Rattle.airdv_page.specs.Subject.{heading, is_about, page_title, subject_from};
 
 use crate::html::write_cell;
