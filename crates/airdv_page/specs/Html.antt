@@ -1,5 +1,5 @@
 -- A text in HTML, and the rows of a table (own).
-use Rattle.std.specs.Prelude.{ℕ, ◌==◌, if◌then◌else◌, List, [], ◌∷◌, ◌++◌, codes, flat_map}
+use Rattle.std.specs.Prelude.{ℕ, ◌+◌, ◌==◌, if◌then◌else◌, List, [], ◌∷◌, ◌++◌, codes, flat_map}
 use Rattle.aq_base.specs.Decimal.{fixed}
 use Rattle.std.specs.Prelude.{pos}
 
@@ -54,3 +54,7 @@ rect y width =
     codes "<rect"
     ++ (attribute (codes "x") 20
     ++ (attribute (codes "y") y ++ (attribute (codes "width") width ++ (attribute (codes "height") 24 ++ codes "/>"))))
+
+-- the line at which a bar starts, this far from the top
+unfoldable pub start_mark : ℕ → List ℕ
+start_mark y = line (20, y) (20, y + 24)

@@ -1,5 +1,5 @@
 -- The numbers of a sheet, and the one scale by which they are drawn (own).
-use Rattle.std.specs.Prelude.{ℕ, ◌*◌, ◌/◌, max, if◌then◌else◌, List, [], ◌∷◌, slice_get, Option, Some, None, unwrap_or, ℤ, pos, int_lt, unsigned_abs, Result, Ok, Err}
+use Rattle.std.specs.Prelude.{ℕ, ◌*◌, ◌/◌, max, Bool, false, ◌||◌, if◌then◌else◌, List, [], ◌∷◌, slice_get, Option, Some, None, is_some, unwrap_or, ℤ, pos, int_lt, unsigned_abs, Result, Ok, Err}
 use Rattle.aq_num.specs.DecimalIn.{decimal_in}
 use Rattle.aq_num.specs.declared.decimal.NumberFault.{NumberFault}
 use Rattle.airdv_page.specs.Reading.{Line}
@@ -22,6 +22,11 @@ word_at place line = unwrap_or (slice_get line place) []
 
 abbrev pub number_at : ℕ → Line → Option ℕ
 number_at place line = number_in (word_at place line)
+
+-- some line has a number at a place
+abbrev pub has_number : ℕ → List Line → Bool
+has_number place [] = false
+has_number place (line ∷ lines) = is_some (number_at place line) || has_number place lines
 
 -- the greatest of the numbers at a place of some lines, and of one more
 unfoldable pub greatest : ℕ → ℕ → List Line → ℕ

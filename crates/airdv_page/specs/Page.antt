@@ -1,31 +1,39 @@
--- The page: a section for each sheet of a text, with its words, its heads and its rows as tables, and its picture (own).
-use Rattle.std.specs.Prelude.{ℕ, Bool, true, false, List, [], ◌∷◌, ◌++◌, codes, flat_map, Option, Some, None, option_map, IsSomeAnd}
+-- The page: its title, and a section for each sheet of a text, with its words, its heads and its rows as tables, and its picture (own).
+use Rattle.std.specs.Prelude.{ℕ, Bool, true, false, ◌||◌, if◌then◌else◌, List, [], ◌∷◌, ◌++◌, codes, flat_map, Option, Some, None, option_map, IsSomeAnd}
 use Rattle.std.specs.Io.KnownBytes.{Appends}
 use Rattle.aq_base.specs.declared.standard.Standard.{Standard}
 use Rattle.aq_base.specs.declared.standard.Standard.TheVariants.{Ozone2015}
 use Rattle.aq_rd.specs.Words.{standard_word}
 use Rattle.airdv_page.specs.declared.kind.Picture.{Picture}
 use Rattle.airdv_page.specs.declared.kind.Picture.TheVariants.{Counts, Bars, Squares, Lines, Nothing}
-use Rattle.airdv_page.specs.Reading.{Line, SheetText, sheets_of}
+use Rattle.airdv_page.specs.Reading.{Line, SheetText, lines_of, sheets_of}
 use Rattle.airdv_page.specs.Html.{row}
-use Rattle.airdv_page.specs.Numbers.{word_at}
+use Rattle.airdv_page.specs.Numbers.{word_at, has_number}
+use Rattle.airdv_page.specs.Subject.{heading, page_title}
 use Rattle.airdv_page.specs.Levels.{form_of, level_text}
 use Rattle.airdv_page.specs.Pictures.{bars, day}
 
 -- ---- the tables: each line of the sheet is a row, each word of it a cell, and there is nothing else
 
+-- round a table stands what scrolls where it is wider than the page
+abbrev pub table_start : List ℕ
+table_start = codes "<div class=\"table\"><table>\n"
+
+abbrev pub table_end : List ℕ
+table_end = codes "</table></div>\n"
+
 abbrev pub cells : Line → List ℕ
 cells line = row (codes "<td>") (codes "</td>") line
 
 unfoldable pub heads_table : List Line → List ℕ
-heads_table heads = codes "<table>\n" ++ (flat_map cells heads ++ codes "</table>\n")
+heads_table heads = table_start ++ (flat_map cells heads ++ table_end)
 
 unfoldable pub column_names : Line → List ℕ
 column_names columns = row (codes "<th scope=\"col\">") (codes "</th>") columns
 
 -- the names of the columns stand above the rows
 unfoldable pub columns_and_rows : Line → List Line → List ℕ
-columns_and_rows columns rows = codes "<table>\n" ++ (column_names columns ++ (flat_map cells rows ++ codes "</table>\n"))
+columns_and_rows columns rows = table_start ++ (column_names columns ++ (flat_map cells rows ++ table_end))
 
 -- a sheet without columns has no rows
 unfoldable pub rows_table : Line → List Line → List ℕ
@@ -38,6 +46,10 @@ rows_table (column ∷ columns) rows = columns_and_rows (column ∷ columns) row
 abbrev pub first_value : List Line → List ℕ
 first_value [] = []
 first_value (line ∷ lines) = word_at 1 line
+
+abbrev pub has_lines : List Line → Bool
+has_lines [] = false
+has_lines (line ∷ lines) = true
 
 abbrev pub behind_first : List Line → List Line
 behind_first [] = []
@@ -65,8 +77,24 @@ drawn_as (Squares verdict) heads rows = bars None (Some verdict) None rows
 drawn_as Lines heads rows = day Ozone2015 rows
 drawn_as Nothing heads rows = []
 
-unfoldable pub heading : List ℕ → List ℕ
-heading title = codes "<section>\n<h1>" ++ (title ++ codes "</h1>\n")
+-- whether there is a number, or the verdict of an event, to draw
+unfoldable pub is_drawn : Picture → List Line → List Line → Bool
+is_drawn Counts heads rows = has_number 1 (behind_first heads)
+is_drawn (Bars value verdict) heads rows = has_number value rows
+is_drawn (Squares verdict) heads rows = has_lines rows
+is_drawn Lines heads rows = has_number 1 rows || has_number 3 rows
+is_drawn Nothing heads rows = false
+
+-- the sentence in place of a picture in which nothing would be drawn
+unfoldable pub in_its_place : Picture → List ℕ
+in_its_place Counts = codes "<p>No picture: no count is a number.</p>\n"
+in_its_place (Bars value verdict) = codes "<p>No picture: no row has a value.</p>\n"
+in_its_place (Squares verdict) = codes "<p>No picture: no event alone would change the verdict.</p>\n"
+in_its_place Lines = codes "<p>No picture: no hour has an average.</p>\n"
+in_its_place Nothing = []
+
+unfoldable pub picture_of : Picture → List Line → List Line → List ℕ
+picture_of picture heads rows = if is_drawn picture heads rows then drawn_as picture heads rows else in_its_place picture
 
 -- the heads, and the standard and its level in words above them
 unfoldable pub opening : Picture → List Line → List ℕ
@@ -74,8 +102,8 @@ opening picture heads = level_words picture heads ++ heads_table heads
 
 unfoldable pub section_of : List ℕ → Picture → List Line → Line → List Line → List ℕ
 section_of title picture heads columns rows =
-    heading title
-    ++ (opening picture heads ++ (drawn_as picture heads rows ++ (rows_table columns rows ++ codes "</section>\n")))
+    heading title heads
+    ++ (opening picture heads ++ (picture_of picture heads rows ++ (rows_table columns rows ++ codes "</section>\n")))
 
 unfoldable pub section : SheetText → List ℕ
 section sheet = section_of sheet.title sheet.picture sheet.heads sheet.columns sheet.rows
@@ -90,17 +118,17 @@ abbrev pub if_true : Bool → List ℕ → Option (List ℕ)
 if_true true text = Some text
 if_true false text = None
 
--- what stands before the sections and behind them
+-- what stands before the title of a page and behind its sections
 pub record Frame : Type 0 where
   pub head : List ℕ
   pub foot : List ℕ
 
-unfoldable pub page : Frame → List SheetText → List ℕ
-page frame sheets = frame.head ++ (flat_map section sheets ++ frame.foot)
+unfoldable pub page : Frame → List Line → List SheetText → List ℕ
+page frame lines sheets = frame.head ++ (page_title lines ++ (flat_map section sheets ++ frame.foot))
 
 -- the page of a text of sheets; none of another text
 unfoldable pub page_of : Frame → List ℕ → Option (List ℕ)
-page_of frame text = option_map (page frame) (sheets_of text)
+page_of frame text = option_map (page frame (lines_of text)) (sheets_of text)
 
 -- the page of a text went after what was written, if that is known
 abbrev pub Prints : Frame → List ℕ → Option (List ℕ) → Option (List ℕ) → Type 0

@@ -3,7 +3,7 @@ use Rattle.std.specs.Prelude.{ℕ, ◌+◌, ◌-◌, ◌*◌, max, Bool, false, 
 use Rattle.aq_base.specs.Decimal.{fixed}
 use Rattle.aq_base.specs.declared.standard.Standard.{Standard}
 use Rattle.airdv_page.specs.Reading.{Line}
-use Rattle.airdv_page.specs.Html.{escaped, number, rect, svg_start, text_start}
+use Rattle.airdv_page.specs.Html.{escaped, number, rect, start_mark, svg_start, text_start}
 use Rattle.airdv_page.specs.Numbers.{word_at, number_at, greatest, scaled}
 use Rattle.airdv_page.specs.Levels.{level_at, level_or_zero, level_mark}
 use Rattle.airdv_page.specs.declared.bars.TheConstants.{LONGEST}
@@ -39,25 +39,31 @@ caption value verdict y line =
     ++ (look verdict line
     ++ (codes "\">" ++ (text_start (codes "label") 20 y ++ (label value verdict line ++ codes "</text>"))))
 
--- a bar as long as its number by the scale, on which the greatest has `LONGEST`; none where there is no number
+-- a bar as long as its number by the scale, on which the greatest has `LONGEST`, and a line at its start, so that
+-- one of no length is seen; none where there is no number
 unfoldable pub bar : ℕ → ℕ → Option ℕ → List ℕ
 bar top y None = []
-bar top y (Some n) = rect y (scaled top LONGEST n)
+bar top y (Some n) = start_mark y ++ rect y (scaled top LONGEST n)
 
 -- the bar of a line; a square if it is by its verdict alone
 unfoldable pub bar_at : ℕ → ℕ → Option ℕ → Line → List ℕ
 bar_at top y None line = rect y 24
 bar_at top y (Some place) line = bar top y (number_at place line)
 
--- a label and its bar
-unfoldable pub labelled : Option ℕ → Option ℕ → ℕ → ℕ → Line → List ℕ
-labelled value verdict top index line =
-    caption value verdict (76 + 64 * index) line ++ (bar_at top (84 + 64 * index) value line ++ codes "</g>\n")
+-- a label and its bar, below so much room
+unfoldable pub labelled : Option ℕ → Option ℕ → ℕ → ℕ → ℕ → Line → List ℕ
+labelled value verdict top room index line =
+    caption value verdict (28 + (room + 64 * index)) line ++ (bar_at top (36 + (room + 64 * index)) value line ++ codes "</g>\n")
 
-abbrev pub bars_from : Option ℕ → Option ℕ → ℕ → ℕ → List Line → List ℕ
-bars_from value verdict top index [] = []
-bars_from value verdict top index (line ∷ lines) =
-    labelled value verdict top index line ++ bars_from value verdict top (index + 1) lines
+abbrev pub bars_from : Option ℕ → Option ℕ → ℕ → ℕ → ℕ → List Line → List ℕ
+bars_from value verdict top room index [] = []
+bars_from value verdict top room index (line ∷ lines) =
+    labelled value verdict top room index line ++ bars_from value verdict top room (index + 1) lines
+
+-- the room above the bars, for the level in words; none if there is no level
+abbrev pub room_for : Option Standard → ℕ
+room_for None = 0
+room_for (Some standard) = 48
 
 -- a line across so many bars, where the level stands by the same scale
 unfoldable pub level_across : ℕ → ℕ → Option Standard → List ℕ
@@ -70,14 +76,14 @@ abbrev pub end_of : Option ℕ → Option Standard → List Line → ℕ
 end_of None standard lines = max 1 (level_or_zero standard)
 end_of (Some place) standard lines = greatest place (max 1 (level_or_zero standard)) lines
 
-unfoldable pub bars_at : ℕ → ℕ → Option ℕ → Option ℕ → Option Standard → List Line → List ℕ
-bars_at top count value verdict standard lines =
-    svg_start 720 (64 + 64 * count)
-    ++ (bars_from value verdict top 0 lines ++ (level_across top count standard ++ codes "</svg>\n"))
+unfoldable pub bars_at : ℕ → ℕ → ℕ → Option ℕ → Option ℕ → Option Standard → List Line → List ℕ
+bars_at top room count value verdict standard lines =
+    svg_start 720 (16 + room + 64 * count)
+    ++ (bars_from value verdict top room 0 lines ++ (level_across top count standard ++ codes "</svg>\n"))
 
 -- a bar for each line, beside the level
 unfoldable pub bars : Option ℕ → Option ℕ → Option Standard → List Line → List ℕ
-bars value verdict standard lines = bars_at (end_of value standard lines) (length lines) value verdict standard lines
+bars value verdict standard lines = bars_at (end_of value standard lines) (room_for standard) (length lines) value verdict standard lines
 
 -- ---- the two lines of a day
 

@@ -1,9 +1,9 @@
 //! A bar for each line of a sheet, beside the level.
 ghost use Rattle.std.specs.Prelude.{◌≡◌, ◌≤◌, ◌<◌, ◌++◌, ◌^◌, length, OnOk};
 ghost use Rattle.airdv_page.specs.Pictures as pictures;
-ghost use Rattle.airdv_page.specs.Pictures.{bar, bar_at, bars_at, bars_from, caption, end_of, label, labelled, level_across, look, look_of, word_if};
+ghost use Rattle.airdv_page.specs.Pictures.{bar, bar_at, bars_at, bars_from, caption, end_of, label, labelled, level_across, look, look_of, room_for, word_if};
 
-use crate::html::{write_escaped, write_rect, write_svg_start, write_text_start};
+use crate::html::{write_escaped, write_rect, write_start_mark, write_svg_start, write_text_start};
 use crate::level::{level_at, level_or_zero, write_level_mark};
 use crate::numbers::{greatest, number_at, scaled, word_at};
 use crate::reading::Line;
@@ -12,12 +12,14 @@ use aq_base::{Bytes, Memory, Standard};
 /// The length of a bar that stands for the greatest number.
 const LONGEST: u16 = 680;
 
-/// Which words of a line are drawn, by their places from 0, and the number at which the scale ends.
+/// Which words of a line are drawn, by their places from 0, the number at which the scale ends, and the
+/// room above the bars.
 #[derive(Clone, Copy)]
 struct Layout {
     value: Option<usize>,
     verdict: Option<usize>,
     top: u32,
+    room: u64,
 }
 
 /// The class of a verdict, which has its own colour and hatching.
@@ -80,15 +82,18 @@ fn write_caption(out: &mut Vec<u8>, layout: Layout, y: u64, line: &[Bytes]) -> R
     Ok(())
 }
 
-/// Appends a bar as long as its number by the scale, if there is a number.
+/// Appends a bar as long as its number by the scale, and a line at its start, if there is a number.
 #[tactic(auto, unfolding(crate::specs::Pictures::bar))]
 fn write_bar(out: &mut Vec<u8>, top: u32, y: u64, number: Option<u32>) -> Result<(), Memory>
     requires top { 0 < top }
-    requires y { y < 2 ^ 63 }
+    requires y { y < 2 ^ 62 }
     ensures { OnOk result (out.new.items ≡ out.old.items ++ bar top y number) }
 {
     match number {
-        Some(number) => write_rect(out, y, scaled(top, LONGEST, number)),
+        Some(number) => {
+            write_start_mark(out, y)?;
+            write_rect(out, y, scaled(top, LONGEST, number))
+        }
         None => Ok(()),
     }
 }
@@ -103,7 +108,7 @@ fn write_bar_at(
     line: &[Bytes],
 ) -> Result<(), Memory>
     requires top { 0 < top }
-    requires y { y < 2 ^ 63 }
+    requires y { y < 2 ^ 62 }
     ensures { OnOk result (out.new.items ≡ out.old.items ++ bar_at top y place line.now) }
 {
     match place {
@@ -121,19 +126,22 @@ fn write_labelled(
     line: &[Bytes],
 ) -> Result<(), Memory>
     requires top { 0 < layout.top }
+    requires room { layout.room ≤ 48 }
     requires index { index ≤ 100000 }
-    ensures { OnOk result (out.new.items ≡ out.old.items ++ labelled layout.value layout.verdict layout.top index line.now) }
+    ensures { OnOk result (out.new.items ≡ out.old.items ++ labelled layout.value layout.verdict layout.top layout.room index line.now) }
 {
-    write_caption(out, layout, 76 + 64 * index, line)?;
-    write_bar_at(out, layout.top, 84 + 64 * index, layout.value, line)?;
+    let y = layout.room + 64 * index;
+    write_caption(out, layout, 28 + y, line)?;
+    write_bar_at(out, layout.top, 36 + y, layout.value, line)?;
     out.extend_from_slice(b"</g>\n")?;
     Ok(())
 }
 
 fn write_bars(out: &mut Vec<u8>, layout: Layout, lines: &[Line]) -> Result<(), Memory>
     requires top { 0 < layout.top }
+    requires room { layout.room ≤ 48 }
     requires few { length lines.now ≤ 100000 }
-    ensures { OnOk result (out.new.items ≡ out.old.items ++ bars_from layout.value layout.verdict layout.top 0 lines.now) }
+    ensures { OnOk result (out.new.items ≡ out.old.items ++ bars_from layout.value layout.verdict layout.top layout.room 0 lines.now) }
 {
     for (i, line) in lines.iter().enumerate() {
         write_labelled(out, layout, i as u64, line.as_slice())?;
@@ -171,11 +179,12 @@ fn write_bars_at(
     lines: &[Line],
 ) -> Result<(), Memory>
     requires top { 0 < layout.top }
+    requires room { layout.room ≤ 48 }
     requires count { count ≤ 100000 }
     requires few { length lines.now ≤ 100000 }
-    ensures { OnOk result (out.new.items ≡ out.old.items ++ bars_at layout.top count layout.value layout.verdict standard lines.now) }
+    ensures { OnOk result (out.new.items ≡ out.old.items ++ bars_at layout.top layout.room count layout.value layout.verdict standard lines.now) }
 {
-    write_svg_start(out, 720, 64 + 64 * count)?;
+    write_svg_start(out, 720, 16 + layout.room + 64 * count)?;
     write_bars(out, layout, lines)?;
     write_level_across(out, layout.top, count, standard)?;
     out.extend_from_slice(b"</svg>\n")?;
@@ -191,6 +200,17 @@ fn end_of(value: Option<usize>, standard: Option<Standard>, lines: &[Line]) -> u
     match value {
         Some(place) => greatest(place, least, lines),
         None => least,
+    }
+}
+
+/// The room above the bars, for the level in words; none if there is no level.
+fn room_for(standard: Option<Standard>) -> u64
+    ensures room { result ≡ room_for standard }
+    ensures small { result ≤ 48 }
+{
+    match standard {
+        Some(_) => 48,
+        None => 0,
     }
 }
 
@@ -210,6 +230,7 @@ pub(crate) fn write_picture(
         value,
         verdict,
         top: end_of(value, standard, lines),
+        room: room_for(standard),
     };
     write_bars_at(out, layout, lines.len() as u64, standard, lines)
 }

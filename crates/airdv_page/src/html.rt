@@ -1,7 +1,7 @@
 //! Texts, rows and the elements of a picture, in HTML. A place in a picture is so far from the left, and
 //! from the top.
 ghost use Rattle.std.specs.Prelude.{◌≡◌, ◌<◌, ◌^◌, ◌++◌, OnOk, flat_map};
-ghost use Rattle.airdv_page.specs.Html.{attribute, cell, escaped, escaped_byte, line, number, rect, row, svg_start, text_start};
+ghost use Rattle.airdv_page.specs.Html.{attribute, cell, escaped, escaped_byte, line, number, rect, row, start_mark, svg_start, text_start};
 
 use aq_base::{Bytes, Memory};
 use aq_num::write_fixed;
@@ -51,13 +51,26 @@ pub(crate) fn write_row(
     Ok(())
 }
 
+/// Appends a cell: its word, escaped, between these tags.
+pub(crate) fn write_cell(
+    out: &mut Vec<u8>,
+    start: &[u8],
+    end: &[u8],
+    word: &[u8],
+) -> Result<(), Memory>
+    ensures { OnOk result (out.new.items ≡ out.old.items ++ cell start.now end.now word.now) }
+{
+    out.extend_from_slice(start)?;
+    write_escaped(out, word)?;
+    out.extend_from_slice(end)?;
+    Ok(())
+}
+
 fn write_cells(out: &mut Vec<u8>, start: &[u8], end: &[u8], words: &[Bytes]) -> Result<(), Memory>
     ensures { OnOk result (out.new.items ≡ out.old.items ++ flat_map (cell start.now end.now) words.now) }
 {
     for word in words {
-        out.extend_from_slice(start)?;
-        write_escaped(out, word.as_slice())?;
-        out.extend_from_slice(end)?;
+        write_cell(out, start, end, word.as_slice())?;
     }
     Ok(())
 }
@@ -148,4 +161,13 @@ pub(crate) fn write_rect(out: &mut Vec<u8>, y: u64, width: u64) -> Result<(), Me
     write_attribute(out, b"height", 24)?;
     out.extend_from_slice(b"/>")?;
     Ok(())
+}
+
+/// Appends the line at which a bar starts, this far from the top.
+#[tactic(auto, unfolding(crate::specs::Html::start_mark))]
+pub(crate) fn write_start_mark(out: &mut Vec<u8>, y: u64) -> Result<(), Memory>
+    requires { y < 2 ^ 62 }
+    ensures { OnOk result (out.new.items ≡ out.old.items ++ start_mark y) }
+{
+    write_line(out, (20, y), (20, y + 24))
 }

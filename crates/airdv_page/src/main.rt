@@ -6,10 +6,10 @@
 //! - `main`: reads the input, and writes its page; without words. Its statuses are in
 //!   `docs/COMMANDS.md`.
 //! - `page::page_of`: the page of a text, or that it has none. `reading` finds the sheets of a text,
-//!   `kind` says what each is called and what is drawn of it, and `html`, `numbers`, `bars` and `day`
-//!   write it.
-//! - In `specs/`: `Kinds`, `Page` and `Pictures`, which say what a page is, and the one scale of its
-//!   pictures.
+//!   `kind` says what each is called and what is drawn of it, `subject` what it is about, and `html`,
+//!   `numbers`, `bars` and `day` write it.
+//! - In `specs/`: `Kinds`, `Subject`, `Page` and `Pictures`, which say what a page is, and the one scale
+//!   of its pictures.
 //!
 //! # What it promises
 //!
@@ -18,6 +18,8 @@
 //!   unless memory ran out, that page is made, and of any other text none (`page_of`).
 //! - The page is the definition's: after each title the tables have a row for each line of the sheet and
 //!   a cell for each of its words, escaped, in their order, and nothing else.
+//! - The title of the page and the head of each section say the standard, the site and the year or day
+//!   that the heads of a sheet name. A picture in which nothing would be drawn is a sentence.
 //! - Every coordinate of a picture that stands for a number is its place by one scale, `scaled`, from 0
 //!   to the greatest of the numbers drawn and the level; the level and its words are those of aq_base.
 //! - With 0 the whole page of the input is on the output, and with 2 the input has no page, as far as
@@ -45,6 +47,7 @@ mod numbers;
 mod page;
 mod reading;
 mod style;
+mod subject;
 
 use aq_base::Bytes;
 use page::page_of;

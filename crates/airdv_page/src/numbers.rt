@@ -1,6 +1,6 @@
 //! The numbers of a sheet, and the scale by which they are drawn.
 ghost use Rattle.std.specs.Prelude.{◌≡◌, ◌≤◌, ◌<◌, ◌^◌, IfSome};
-ghost use Rattle.airdv_page.specs.Numbers.{greatest, number_at, number_in, scaled, word_at};
+ghost use Rattle.airdv_page.specs.Numbers.{greatest, has_number, number_at, number_in, scaled, word_at};
 
 use crate::reading::Line;
 use aq_base::Bytes;
@@ -35,6 +35,18 @@ pub(crate) fn number_at(place: usize, line: &[Bytes]) -> Option<u32>
     ensures within { IfSome result (λ n. n ≤ 999999999) }
 {
     number_in(word_at(place, line))
+}
+
+/// Whether some line has a number at a place.
+pub(crate) fn has_number(place: usize, lines: &[Line]) -> bool
+    ensures { result ≡ has_number place lines.now }
+{
+    for line in lines {
+        if number_at(place, line.as_slice()).is_some() {
+            return true;
+        }
+    }
+    false
 }
 
 /// The greatest of the numbers at a place of some lines, and of one more.

@@ -1,7 +1,7 @@
 //! The page of a text.
 ghost use Rattle.std.specs.Prelude.{◌≡◌, ◌≤◌, ◌++◌, length, flat_map, IfOk, IfSome, OnOk, option_map};
 ghost use Rattle.airdv_page.specs.Page as pages;
-ghost use Rattle.airdv_page.specs.Page.{behind_first, cells, column_names, columns_and_rows, drawn_as, first_value, heading, heads_table, level_words, if_true, opening, rows_table, section, section_of, standard_for, standard_line, written};
+ghost use Rattle.airdv_page.specs.Page.{behind_first, cells, column_names, columns_and_rows, drawn_as, first_value, has_lines, heads_table, in_its_place, is_drawn, level_words, if_true, opening, picture_of, rows_table, section, section_of, standard_for, standard_line, written};
 ghost use Rattle.airdv_page.specs.Reading.{lines_in, sheet_at, sheets_in};
 
 use crate::bars;
@@ -9,8 +9,9 @@ use crate::day::write_day;
 use crate::html::write_row;
 use crate::kind::Picture;
 use crate::level::{words_of, write_level};
-use crate::numbers::word_at;
+use crate::numbers::{has_number, word_at};
 use crate::reading::{Line, MOST_LINES, MOST_SHEETS, SheetText, is_end, lines_of, sheet_at};
+use crate::subject::{write_heading, write_page_title};
 use aq_base::{Bytes, Memory, Standard};
 use aq_rd::standard_word;
 use std::alloc::Global;
@@ -29,9 +30,9 @@ fn write_lines(out: &mut Vec<u8>, lines: &[Line]) -> Result<(), Memory>
 fn write_heads(out: &mut Vec<u8>, heads: &[Line]) -> Result<(), Memory>
     ensures { OnOk result (out.new.items ≡ out.old.items ++ heads_table heads.now) }
 {
-    out.extend_from_slice(b"<table>\n")?;
+    out.extend_from_slice(b"<div class=\"table\"><table>\n")?;
     write_lines(out, heads)?;
-    out.extend_from_slice(b"</table>\n")?;
+    out.extend_from_slice(b"</table></div>\n")?;
     Ok(())
 }
 
@@ -57,10 +58,10 @@ fn write_column_names(out: &mut Vec<u8>, columns: &[Bytes]) -> Result<(), Memory
 fn write_columns_and_rows(out: &mut Vec<u8>, columns: &[Bytes], rows: &[Line]) -> Result<(), Memory>
     ensures { OnOk result (out.new.items ≡ out.old.items ++ columns_and_rows columns.now rows.now) }
 {
-    out.extend_from_slice(b"<table>\n")?;
+    out.extend_from_slice(b"<div class=\"table\"><table>\n")?;
     write_column_names(out, columns)?;
     write_lines(out, rows)?;
-    out.extend_from_slice(b"</table>\n")?;
+    out.extend_from_slice(b"</table></div>\n")?;
     Ok(())
 }
 
@@ -118,8 +119,9 @@ fn write_level_words(out: &mut Vec<u8>, picture: Picture, heads: &[Line]) -> Res
     write_standard(out, standard_for(picture, heads))
 }
 
+/// Appends the picture of a sheet in which something is drawn.
 #[tactic(auto, unfolding(crate::specs::Page::drawn_as))]
-fn write_picture(
+fn write_drawn(
     out: &mut Vec<u8>,
     picture: Picture,
     heads: &[Line],
@@ -141,14 +143,61 @@ fn write_picture(
     }
 }
 
-#[tactic(auto, unfolding(crate::specs::Page::heading))]
-fn write_heading(out: &mut Vec<u8>, title: &str) -> Result<(), Memory>
-    ensures { OnOk result (out.new.items ≡ out.old.items ++ heading title.now) }
+fn has_lines(lines: &[Line]) -> bool
+    ensures { result ≡ has_lines lines.now }
 {
-    out.extend_from_slice(b"<section>\n<h1>")?;
-    out.extend_from_slice(title.as_bytes())?;
-    out.extend_from_slice(b"</h1>\n")?;
-    Ok(())
+    match lines {
+        [] => false,
+        _ => true,
+    }
+}
+
+/// Whether there is a number, or the verdict of an event, to draw.
+#[tactic(auto, unfolding(crate::specs::Page::is_drawn))]
+fn is_drawn(picture: Picture, heads: &[Line], rows: &[Line]) -> bool
+    ensures { result ≡ is_drawn picture heads.now rows.now }
+{
+    match picture {
+        Picture::Counts => has_number(1, behind_first(heads)),
+        Picture::Bars { value, .. } => has_number(value, rows),
+        Picture::Squares(_) => has_lines(rows),
+        Picture::Lines => has_number(1, rows) || has_number(3, rows),
+        Picture::Nothing => false,
+    }
+}
+
+/// The sentence in place of a picture in which nothing would be drawn.
+#[tactic(auto, unfolding(crate::specs::Page::in_its_place))]
+fn in_its_place(picture: Picture) -> &'static str
+    ensures { result.now ≡ in_its_place picture }
+{
+    match picture {
+        Picture::Counts => "<p>No picture: no count is a number.</p>\n",
+        Picture::Bars { .. } => "<p>No picture: no row has a value.</p>\n",
+        Picture::Squares(_) => "<p>No picture: no event alone would change the verdict.</p>\n",
+        Picture::Lines => "<p>No picture: no hour has an average.</p>\n",
+        Picture::Nothing => "",
+    }
+}
+
+/// Appends the picture of a sheet, or the sentence in its place.
+#[tactic(auto, unfolding(crate::specs::Page::picture_of))]
+fn write_picture(
+    out: &mut Vec<u8>,
+    picture: Picture,
+    heads: &[Line],
+    rows: &[Line],
+) -> Result<(), Memory>
+    requires heads { length heads.now ≤ 100000 }
+    requires rows { length rows.now ≤ 100000 }
+    ensures { OnOk result (out.new.items ≡ out.old.items ++ picture_of picture heads.now rows.now) }
+{
+    if is_drawn(picture, heads, rows) {
+        write_drawn(out, picture, heads, rows)
+    } else {
+        out.extend_from_slice(in_its_place(picture).as_bytes())?;
+        Ok(())
+    }
 }
 
 /// Appends the heads, and the standard and its level in words above them.
@@ -174,7 +223,7 @@ fn write_section_of(
     requires rows { length rows.now ≤ 100000 }
     ensures { OnOk result (out.new.items ≡ out.old.items ++ section_of title.now picture heads.now columns.now rows.now) }
 {
-    write_heading(out, title)?;
+    write_heading(out, title, heads)?;
     write_opening(out, picture, heads)?;
     write_picture(out, picture, heads, rows)?;
     write_rows(out, columns, rows)?;
@@ -240,7 +289,7 @@ fn write_sections(
     Ok(false)
 }
 
-/// The page of a text, between these two texts; `None` if the text is none of sheets.
+/// The page of a text, its title and its sections between these two texts; `None` if the text is none of sheets.
 #[tactic(auto, unfolding(crate::specs::Page::page_of, crate::specs::Page::page, crate::specs::Reading::sheets_of))]
 pub fn page_of(
     alloc: Global,
@@ -258,6 +307,7 @@ pub fn page_of(
         return Ok(None);
     }
     let mut out = head.to_vec(alloc)?;
+    write_page_title(&mut out, lines.as_slice())?;
     if !write_sections(alloc, MOST_SHEETS, lines.as_slice(), &mut out)? {
         return Ok(None);
     }

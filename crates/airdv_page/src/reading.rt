@@ -129,7 +129,8 @@ fn are_words(words: &[Bytes]) -> bool
     true
 }
 
-fn is_head(name: &[u8], line: &[Bytes]) -> bool
+/// Whether a line is a head of this name: its name and one word.
+pub(crate) fn is_head(name: &[u8], line: &[Bytes]) -> bool
     ensures { result ≡ is_head name.now line.now }
 {
     match line {

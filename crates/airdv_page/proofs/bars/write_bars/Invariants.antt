@@ -4,5 +4,5 @@ use Rattle.airdv_page.proofs.bars.write_bars.Given as goal
 
 abbrev pub invariant-loop-i : goal.invariant-loop-i
 invariant-loop-i l =
-    l.out.items ++ bars_from l.layout.value l.layout.verdict l.layout.top l.i (drop l.i l.lines)
-    ≡ l.fn.out.items ++ bars_from l.layout.value l.layout.verdict l.layout.top 0 l.lines
+    l.out.items ++ bars_from l.layout.value l.layout.verdict l.layout.top l.layout.room l.i (drop l.i l.lines)
+    ≡ l.fn.out.items ++ bars_from l.layout.value l.layout.verdict l.layout.top l.layout.room 0 l.lines

@@ -1,5 +1,6 @@
 use Rattle.std.specs.Prelude.{codes}
-use Rattle.airdv_page.specs.Page.{section_of, heading, opening, drawn_as, rows_table}
+use Rattle.airdv_page.specs.Page.{section_of, opening, picture_of, rows_table}
+use Rattle.airdv_page.specs.Subject.{heading}
 use Rattle.airdv_page.proofs.Pieces.{pieces5}
 use Rattle.airdv_page.proofs.page.write_section_of.Goals as goal
 
@@ -7,5 +8,5 @@ pub returns : goal.returns
 unfolding section_of
 returns c =
     pieces5 c.args.out.now.items
-    (heading c.args.title.now) (opening c.args.picture c.args.heads.now) (drawn_as c.args.picture c.args.heads.now c.args.rows.now) (rows_table c.args.columns.now c.args.rows.now) (codes "</section>\n")
+    (heading c.args.title.now c.args.heads.now) (opening c.args.picture c.args.heads.now) (picture_of c.args.picture c.args.heads.now c.args.rows.now) (rows_table c.args.columns.now c.args.rows.now) (codes "</section>\n")
     c.in_ok-write_heading.ensures c.in_ok-write_opening.ensures c.in_ok-write_picture.ensures c.in_ok-write_rows.ensures c.in_ok-extend_from_slice.ensures.items
