@@ -13,7 +13,7 @@
 //!
 //! # What it promises
 //!
-//! - A text has a page exactly if it is 1 to 100 sheets in a row, in at most 100,000 lines, each with
+//! - A text has a page exactly if it is 1 to 99 sheets in a row, in at most 99,999 lines, each with
 //!   the heads and columns of a sheet that a command prints and a word for each column in each row;
 //!   unless memory ran out, that page is made, and of any other text none (`page_of`).
 //! - The page is the definition's: after each title the tables have a row for each line of the sheet and

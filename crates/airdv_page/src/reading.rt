@@ -12,7 +12,7 @@ use std::marker::Model;
 /// So many lines a text of sheets has at most, with the empty part behind the last line end.
 pub(crate) const MOST_LINES: usize = 100_000;
 
-/// So many sheets it has at most.
+/// It has fewer sheets than this.
 pub(crate) const MOST_SHEETS: usize = 100;
 
 /// The words of a line.
