@@ -1,6 +1,7 @@
 #!/usr/bin/env python3
-"""What the scripts of bin/ and bench/ share: the crates, the programs that they run, what they tell and count, parts by
-name, and free ports. As a script it prints the path of the program that it is given, as `bin/common.py airdv`."""
+"""What the scripts of bin/ and bench/ share: the crates, the programs that they run, the numbers of observations, what
+they tell and count, parts by name, and free ports. As a script it prints the path of the program that it is given, as
+`bin/common.py airdv`."""
 
 import functools
 import importlib.machinery
@@ -87,6 +88,13 @@ def listens(port):
     wanted = f"0100007F:{port:04X}"
     with open("/proc/net/tcp", encoding="ascii") as table:
         return any(line.split()[1] == wanted and line.split()[3] == "0A" for line in list(table)[1:])
+
+
+# ---- observations
+
+def number_of(site, pollutant, poc, hour):
+    """The number under which `observations3` keeps an observation, whose hour counts from 2000."""
+    return site * 10**9 + pollutant * 10**8 + poc * 10**6 + hour + 87_648
 
 
 # ---- tries

@@ -48,8 +48,8 @@ RECORDS = Table(0, "records", [("kind", WHOLE), ("rowkey", BYTES)], ("line", BYT
 OBSERVATIONS = Table(1, "observations", PLACE, ("value", OPTIONAL), *CODES)
 LOADS = Table(2, "loads", [("number", WHOLE)], ("digest", BYTES), ("lines", WHOLE), ("accepted", WHOLE),
               ("listed", BYTES), ("rest", BYTES))
-OBSERVATIONS2 = Table(3, "observations2", PLACE, ("value", OPTIONAL), ("method", OPTIONAL), *CODES)
-TABLES = [RECORDS, OBSERVATIONS, LOADS, OBSERVATIONS2]
+OBSERVATIONS3 = Table(3, "observations3", PLACE, ("value", OPTIONAL), ("method", OPTIONAL), *CODES)
+TABLES = [RECORDS, OBSERVATIONS, LOADS, OBSERVATIONS3]
 
 
 # ---- as bytes

@@ -43,7 +43,7 @@ digits_number text = digits_value 10 (whole_part text ++ fraction_part text)
 abbrev pub cut_magnitude : List ℕ → ℕ → ℕ
 cut_magnitude text places = digits_number text * 10 ^ places / 10 ^ length (fraction_part text)
 
--- the same with its sign, so that the fraction is dropped toward zero (own)
+-- the same with its sign, so that the fraction is dropped toward zero (own wording of 40 CFR Part 50, Appendix U, 3(a), and Appendix N, 3.0)
 abbrev pub cut : List ℕ → ℕ → ℤ
 cut text places =
     if is_minus text then neg_ℤ (pos (cut_magnitude text places)) else pos (cut_magnitude text places)

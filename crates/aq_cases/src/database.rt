@@ -10,7 +10,7 @@ pub fn new_keeper(alloc: Global) -> Option<SqliteKeeper<FileStore<Memory>>> {
         log: Memory::new(alloc),
         db: Memory::new(alloc),
     };
-    prepared(opened(alloc, files)?)
+    prepared(alloc, opened(alloc, files)?)
 }
 
 fn opened<D: Disk + Drop>(alloc: Global, files: Files<D>) -> Option<Connection<FileStore<D>>> {
@@ -21,11 +21,11 @@ fn opened<D: Disk + Drop>(alloc: Global, files: Files<D>) -> Option<Connection<F
 }
 
 /// The keeper of a connection without an open transaction, whose tables are prepared.
-fn prepared<S: Alter + Drop>(connection: Connection<S>) -> Option<SqliteKeeper<S>> {
+fn prepared<S: Alter + Drop>(alloc: Global, connection: Connection<S>) -> Option<SqliteKeeper<S>> {
     if !connection.is_autocommit() {
         return None;
     }
     let mut keeper = SqliteKeeper::adopt(connection);
-    keeper.prepare().ok()?;
+    keeper.prepare(alloc).ok()?;
     Some(keeper)
 }

@@ -5,7 +5,8 @@
 //! # What it has
 //!
 //! - `data/*.txt`: the cases, plain text that a reviewer can read. `format` says how one is written.
-//! - `data/index.txt`: the files that are run if the words name none.
+//! - `data/index.txt`: the files that are run if the words name none. A file of `data/` that it does not name
+//!   counts as a failure.
 //! - `stdout`: a line for each case; the gate compares it, as two compilers build the program.
 //!
 //! # What it promises
@@ -65,12 +66,26 @@ fn main(rt: HostRuntime) -> io::Result<ExitCode> {
         for name in index.lines() {
             try_file(&rt, name, &mut tally)?;
         }
+        see_all_named(&rt, index.as_str(), &mut tally)?;
     }
     for name in &names {
         try_file(&rt, name.as_str(), &mut tally)?;
     }
     println!(rt; "{} cases, {} failures", tally.cases, tally.failures)?;
     Ok(ExitCode::from(u8::from(tally.failures > 0)))
+}
+
+/// Sees that the index names each file that stands beside it.
+fn see_all_named(rt: &HostRuntime, index: &str, tally: &mut Tally) -> io::Result<()> {
+    for entry in fs::read_dir(rt, ".")? {
+        let entry = entry?;
+        let name = entry.file_name();
+        if name != "index.txt" && !index.lines().any(|line| line == name) {
+            tally.failures = tally.failures.saturating_add(1);
+            println!(rt; "DIFFERS index.txt: it does not name {name}")?;
+        }
+    }
+    Ok(())
 }
 
 /// Tries the cases of a file.

@@ -3,7 +3,7 @@
 //! - `records KIND, KEY, LINE`
 //! - `observations SITE, POLLUTANT, POC, HOUR, VALUE, NULL CODE, QUALIFIERS`, which version 1 kept
 //! - `loads NUMBER, DIGEST, LINES, ACCEPTED, LISTED, REST`, the digest as hex digits
-//! - `observations2 SITE, POLLUTANT, POC, HOUR, VALUE, METHOD, NULL CODE, QUALIFIERS`
+//! - `observations3 SITE, POLLUTANT, POC, HOUR, VALUE, METHOD, NULL CODE, QUALIFIERS`
 use crate::trouble::Trouble;
 use aq_base::{Bytes, Memory};
 use aq_keeper::{LoadRow, ObsRow, ObsRow2, OfficeRow, Row, RowContent};
@@ -31,7 +31,7 @@ fn read_row(alloc: Global, line: &str) -> Result<Row, Trouble> {
         "records" => Ok(Row::office(read_record(alloc, columns)?)),
         "observations" => Ok(Row::observation(read_observation(alloc, columns)?)),
         "loads" => Ok(Row::load(read_load(alloc, columns)?)),
-        "observations2" => Ok(Row::second(read_second(alloc, columns)?)),
+        "observations3" => Ok(Row::second(read_second(alloc, columns)?)),
         _ => Err(NO_ROW),
     }
 }
@@ -181,7 +181,7 @@ fn second_text(alloc: Global, row: &ObsRow2) -> Result<String, Memory> {
         bytes_text(alloc, &row.quals)?,
     );
     Ok(format!(in alloc;
-        "observations2 {}, {}, {}, {}, {value}, {method}, {null}, {quals}\n",
+        "observations3 {}, {}, {}, {}, {value}, {method}, {null}, {quals}\n",
         row.site, row.pollutant, row.poc, row.hour
     )?)
 }

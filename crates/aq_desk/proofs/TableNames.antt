@@ -12,8 +12,8 @@ observations_name table is = ap table_name (sym is)
 pub loads_name : (table : ℕ) → table ≡ 2 → codes "loads" ≡ table_name table
 loads_name table is = ap table_name (sym is)
 
-pub observations2_name : (table : ℕ) → table ≡ 3 → codes "observations2" ≡ table_name table
-observations2_name table is = ap table_name (sym is)
+pub observations3_name : (table : ℕ) → table ≡ 3 → codes "observations3" ≡ table_name table
+observations3_name table is = ap table_name (sym is)
 
 pub no_name : (table : ℕ) → (table ≡ 0 → ⊥) → (table ≡ 1 → ⊥) → (table ≡ 2 → ⊥) → (table ≡ 3 → ⊥) → [] ≡ table_name table
 no_name table zero_not one_not two_not three_not =

@@ -24,7 +24,7 @@ pub(crate) fn write_damaged<E: Sink>(table: u8, index: u64, errors: &mut E) -> R
 }
 
 /// The name of a table by its number.
-#[tactic(auto, using(crate::proofs::TableNames::records_name, crate::proofs::TableNames::observations_name, crate::proofs::TableNames::loads_name, crate::proofs::TableNames::observations2_name, crate::proofs::TableNames::no_name))]
+#[tactic(auto, using(crate::proofs::TableNames::records_name, crate::proofs::TableNames::observations_name, crate::proofs::TableNames::loads_name, crate::proofs::TableNames::observations3_name, crate::proofs::TableNames::no_name))]
 fn table_name(table: u8) -> &'static str
     ensures { result.now ≡ table_name table }
 {
@@ -38,7 +38,7 @@ fn table_name(table: u8) -> &'static str
         return "loads";
     }
     if table == 3 {
-        return "observations2";
+        return "observations3";
     }
     ""
 }

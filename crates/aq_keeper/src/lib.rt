@@ -5,7 +5,7 @@
 //! # What it has
 //!
 //! - `Row` with its `RowContent` (`OfficeRow`, `ObsRow`, `LoadRow`, `ObsRow2`): a row of the table
-//!   `records`, `observations` (which version 1 kept), `loads` or `observations2`; `Rows`: a list of
+//!   `records`, `observations` (which version 1 kept), `loads` or `observations3`; `Rows`: a list of
 //!   them.
 //! - `RowKey` with its `KeyContent`: the key of a row in its table.
 //! - `RowChange` with its `ChangeContent`: a row that is put, or the key of one that is dropped.

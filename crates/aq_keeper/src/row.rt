@@ -48,7 +48,7 @@ impl Model for ObsRow {
     ghost view = { λ row. record { site = row.site; pollutant = row.pollutant; poc = row.poc; hour = row.hour; value = row.value; null = row.null; quals = row.quals } };
 }
 
-/// A row of the table `observations2`: an observation with its method. Contracts see the book's row.
+/// A row of the table `observations3`: an observation with its method. Contracts see the book's row.
 #[derive(Debug, Drop)]
 pub struct ObsRow2 {
     /// State, county and site number as one number: `state * 10000000 + county * 10000 + number`.
@@ -230,7 +230,7 @@ impl Row {
         }
     }
 
-    /// A row of the table `observations2`.
+    /// A row of the table `observations3`.
     pub fn second(row: ObsRow2) -> Row
         ensures { result ≡ rows.OfSecondRow row }
     {

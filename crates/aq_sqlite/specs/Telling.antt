@@ -10,7 +10,7 @@ abbrev pub told_if : Bool → List Row → Option (List Row)
 told_if true rows = Some rows
 told_if false rows = None
 
--- the rows of the four tables as the last commit left them: told once they are prepared, while the connection is open
+-- the rows of the tables as the last commit left them: told once they are prepared, while the connection is open
 abbrev pub told : Bool → State → Option (List Row)
 told prepared s = told_if (prepared && s.is_open) (rows_of s.committed)
 

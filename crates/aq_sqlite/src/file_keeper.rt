@@ -103,7 +103,7 @@ fn open_file(rt: &HostRuntime, path: &str) -> Result<SqliteKeeper<FileStore<File
         Err(error) => return Err(fault_of(&error)),
     };
     let mut keeper = SqliteKeeper::adopt(connection);
-    keeper.prepare()?;
+    keeper.prepare(rt.alloc())?;
     Ok(keeper)
 }
 

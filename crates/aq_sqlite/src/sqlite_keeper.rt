@@ -24,8 +24,8 @@ pub struct SqliteKeeper<S: Alter + Drop> {
 }
 
 impl<S: Alter + Drop> SqliteKeeper<S> {
-    ghost use Rattle.std.specs.Prelude.{◌≡◌, false, IsTrue, IfSome, OnOk};
-    ghost use Rattle.sqlite.specs.State.{Survives};
+    ghost use Rattle.std.specs.Prelude.{◌≡◌, false, IsTrue, IfSome, OnErr, OnOk};
+    ghost use Rattle.sqlite.specs.State.{HasCleanDisk, KeepsCommit, Survives};
     ghost use Rattle.sqlite.specs.Held.{state};
     ghost use Rattle.aq_keeper.specs.Told.{HasCause};
     ghost use Rattle.aq_tables.specs.All.{rows_of};
@@ -48,12 +48,14 @@ impl<S: Alter + Drop> SqliteKeeper<S> {
         }
     }
 
-    /// Looks whether each table is as its statement makes it, and makes those that are missing, in one
+    /// Looks whether each table is as its statement makes it, makes the tables in a database of nobody, and
+    /// moves the rows of `observations2` into `observations3` in one that an earlier program left, in one
     /// transaction. From then on the keeper tells its tables.
     ///
-    /// It fails, and makes nothing, where a table with one of the names has another form, or where the
-    /// database has tables and none of these.
-    pub fn prepare(&mut self) -> Result<(), KeeperFault>
+    /// It fails, and makes nothing, where a table with one of the names has another form, where some of the
+    /// tables stand and not all, where the database has tables and none of these, and where the key of an
+    /// observation has no number.
+    pub fn prepare(&mut self, alloc: Global) -> Result<(), KeeperFault>
         ensures begins { OnOk result (IsTrue self.new.prepared) }
         ensures rows { IfSome (told self.new.prepared (state S.Store self.new.connection)) (λ rows. rows_of (state S.Store self.old.connection).committed ≡ rows) }
         ensures cause { HasCause self.old.faults self.new.faults result }
@@ -62,12 +64,15 @@ impl<S: Alter + Drop> SqliteKeeper<S> {
         ensures office { OnOk result (IsOffice self.old.connection.schema) }
         ensures other { (IsOffice self.old.connection.schema → ⊥) → self.new.connection ≡ self.old.connection }
 
+        // After an error nothing was committed.
+        ensures kept { HasCleanDisk (state S.Store self.new.connection) → OnErr result (KeepsCommit (state S.Store self.old.connection) (state S.Store self.new.connection)) }
+
         // After Ok a crash leaves what is told and nothing else, and after an error also what it could
         // leave before.
         ensures left { IfSome (told self.new.prepared (state S.Store self.new.connection)) (λ rows. LeavesOnly (λ left. left ≡ rows) (state S.Store self.new.connection)) }
         ensures crash { Survives (state S.Store self.old.connection) (state S.Store self.new.connection) (λ trees. (db : _) × IsMade (state S.Store self.old.connection).now db × (trees ≡ db.trees)) }
     {
-        let made = aq_tables::prepare(&mut self.connection);
+        let made = aq_tables::prepare(&mut self.connection, alloc);
         let _ = self.connection.schema();
         self.prepared = made.is_ok();
         counted(&mut self.faults, made)

@@ -1,7 +1,7 @@
 //! The keeper over a database on a disk in memory.
 use crate::rows::wrong;
 use crate::step::take_steps;
-use crate::stops::are_done_or_not;
+use crate::stops::{are_done_or_not, are_prepared_or_not};
 use aq_keeper::KeeperFault;
 use aq_sqlite::SqliteKeeper;
 use sqlite::{Alter, Connection, FileStore, Files, Options};
@@ -14,13 +14,20 @@ pub type Stoppable = Fuse<Memory>;
 
 pub type Store = FileStore<Stoppable>;
 
-/// Whether a database in which these statements were run takes these steps; what they leave of a batch is
-/// done or not wherever it is stopped.
+/// Whether a database in which these statements were run takes these steps. Wherever it is stopped while it
+/// is prepared, it tells the same rows; and what the steps leave of a batch is done or not wherever that is
+/// stopped.
 pub fn keeps(alloc: Global, sql: &str, steps: &str) -> io::Result<bool> {
-    let Some(mut keeper) = prepared(made(alloc, sql)?) else {
+    let Some(files) = closed(made(alloc, sql)?) else {
+        return Err(wrong());
+    };
+    if !are_prepared_or_not(alloc, &files)? {
+        return Ok(false);
+    }
+    let Some(mut keeper) = open(alloc, files) else {
         return Ok(false);
     };
-    if !prepare(&mut keeper) {
+    if !prepare(alloc, &mut keeper) {
         return Ok(false);
     }
     let Some(step) = take_steps(alloc, &mut keeper, steps)? else {
@@ -34,15 +41,15 @@ pub fn keeps(alloc: Global, sql: &str, steps: &str) -> io::Result<bool> {
 
 /// Whether a database in which these statements were run is refused, twice, so that nothing was made.
 pub fn is_refused(alloc: Global, sql: &str) -> io::Result<bool> {
-    Ok(is_of_others(made(alloc, sql)?))
+    Ok(is_of_others(alloc, made(alloc, sql)?))
 }
 
-fn is_of_others<S: Alter + Drop>(connection: Connection<S>) -> bool {
+fn is_of_others<S: Alter + Drop>(alloc: Global, connection: Connection<S>) -> bool {
     let Some(mut keeper) = adopted(connection) else {
         return false;
     };
-    let first = keeper.prepare() == Err(KeeperFault::Failed);
-    let again = keeper.prepare() == Err(KeeperFault::Failed);
+    let first = keeper.prepare(alloc) == Err(KeeperFault::Failed);
+    let again = keeper.prepare(alloc) == Err(KeeperFault::Failed);
     first && again
 }
 
@@ -78,6 +85,14 @@ pub fn closed<D: Disk + Drop>(connection: Connection<FileStore<D>>) -> Option<Fi
     connection.close_files().ok()
 }
 
+/// A keeper of these files, whose tables are not prepared, if they can be opened.
+pub fn unprepared<D: Disk + Drop>(
+    alloc: Global,
+    files: Files<D>,
+) -> Option<SqliteKeeper<FileStore<D>>> {
+    adopted(opened(alloc, files)?)
+}
+
 /// The keeper of a connection without an open transaction.
 fn adopted<S: Alter + Drop>(connection: Connection<S>) -> Option<SqliteKeeper<S>> {
     if !connection.is_autocommit() {
@@ -87,19 +102,19 @@ fn adopted<S: Alter + Drop>(connection: Connection<S>) -> Option<SqliteKeeper<S>
 }
 
 /// A keeper whose tables are prepared, if that is not refused.
-fn prepared<S: Alter + Drop>(connection: Connection<S>) -> Option<SqliteKeeper<S>> {
+fn prepared<S: Alter + Drop>(alloc: Global, connection: Connection<S>) -> Option<SqliteKeeper<S>> {
     let mut keeper = adopted(connection)?;
-    if !prepare(&mut keeper) {
+    if !prepare(alloc, &mut keeper) {
         return None;
     }
     Some(keeper)
 }
 
-fn prepare<S: Alter + Drop>(keeper: &mut SqliteKeeper<S>) -> bool {
-    keeper.prepare().is_ok()
+fn prepare<S: Alter + Drop>(alloc: Global, keeper: &mut SqliteKeeper<S>) -> bool {
+    keeper.prepare(alloc).is_ok()
 }
 
 /// A keeper of these files whose tables are prepared, if that is not refused or stopped.
 pub fn open<D: Disk + Drop>(alloc: Global, files: Files<D>) -> Option<SqliteKeeper<FileStore<D>>> {
-    prepared(opened(alloc, files)?)
+    prepared(alloc, opened(alloc, files)?)
 }

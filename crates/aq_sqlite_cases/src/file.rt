@@ -27,7 +27,7 @@ pub fn excludes(rt: &HostRuntime, sql: &str, steps: &str) -> io::Result<bool> {
     make(rt, sql)?;
     let mut first = keeper(rt)?;
     let mut second = keeper(rt)?;
-    let is_empty = reads(alloc, &mut first, &[])?;
+    let is_read = !text_read(alloc, &mut first)?.as_str().is_empty();
     let waits = fails(alloc, &mut second)?;
     let is_kept = take_steps(alloc, &mut first, steps)?.is_some();
     let waits_still = fails(alloc, &mut second)?;
@@ -40,7 +40,7 @@ pub fn excludes(rt: &HostRuntime, sql: &str, steps: &str) -> io::Result<bool> {
     fs::remove_file(rt, LOG)?;
     fs::remove_file(rt, PATH)?;
     let is_same = found.as_str() == stands.as_str();
-    Ok(is_empty && waits && is_kept && waits_still && is_same)
+    Ok(is_read && waits && is_kept && waits_still && is_same)
 }
 
 /// Whether a file that is no database is refused and stays. The next call tries again, and makes the file.

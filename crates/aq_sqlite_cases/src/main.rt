@@ -19,7 +19,7 @@
 //! In its folder, unproved; a case that differs is named:
 //!
 //! ```sh
-//! rt try | grep DIFFERS
+//! rt try --data kept.txt=data/kept.txt --data others.txt=data/others.txt | grep DIFFERS
 //! ```
 #![tactic(auto)]
 

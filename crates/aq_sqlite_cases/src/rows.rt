@@ -25,7 +25,7 @@ pub fn read_row(alloc: Global, line: &str) -> io::Result<Row> {
         "records" => record(alloc, &columns),
         "observations" => first(alloc, &columns),
         "loads" => load(alloc, &columns),
-        "observations2" => second(alloc, &columns),
+        "observations3" => second(alloc, &columns),
         _ => Err(wrong()),
     }
 }
@@ -100,7 +100,7 @@ pub fn read_key(alloc: Global, line: &str) -> io::Result<RowKey> {
     let (poc, hour) = (number(poc)?, number(hour)?);
     match table {
         "observations" => Ok(RowKey::observation(site, pollutant, poc, hour)),
-        "observations2" => Ok(RowKey::second(site, pollutant, poc, hour)),
+        "observations3" => Ok(RowKey::second(site, pollutant, poc, hour)),
         _ => Err(wrong()),
     }
 }

@@ -1,5 +1,5 @@
-//! A commit that a stop of the machine cuts short.
-use crate::database::{Stoppable, Store, closed, open};
+//! A commit, and a preparation, that a stop of the machine cuts short.
+use crate::database::{Stoppable, Store, closed, open, unprepared};
 use crate::rows::wrong;
 use crate::step::{Step, commit, text_of, text_read};
 use aq_keeper::RowChange;
@@ -33,6 +33,63 @@ pub fn are_done_or_not(
         return Err(wrong());
     };
     Ok(stop_each(alloc, &files, true, &batch)? && stop_each(alloc, &files, false, &batch)?)
+}
+
+/// Whether a database that is stopped at any call of the log or of the file while it is prepared tells the
+/// rows that it tells when it is not stopped.
+pub fn are_prepared_or_not(alloc: Global, files: &Files<Stoppable>) -> io::Result<bool> {
+    let Some(keeper) = open(alloc, copy(alloc, files, true, u64::MAX)?) else {
+        return Err(wrong());
+    };
+    let rows = text_found(alloc, keeper)?;
+    Ok(
+        prepare_each(alloc, files, true, rows.as_str())?
+            && prepare_each(alloc, files, false, rows.as_str())?,
+    )
+}
+
+/// Stops the preparation at each call of the log or of the file in turn, until it is done.
+fn prepare_each(
+    alloc: Global,
+    files: &Files<Stoppable>,
+    is_log: bool,
+    rows: &str,
+) -> io::Result<bool> {
+    for calls in 0..400 {
+        let Some((is_done, found)) = stop_preparing(alloc, copy(alloc, files, is_log, calls)?)?
+        else {
+            continue;
+        };
+        if found.as_str() != rows {
+            return Ok(false);
+        }
+        if is_done {
+            return Ok(true);
+        }
+    }
+    Ok(false)
+}
+
+/// Whether the tables were prepared, and the rows that are found after a stop; nothing if the calls do not
+/// suffice to open the files.
+fn stop_preparing<D: Crash + Drop>(
+    alloc: Global,
+    files: Files<D>,
+) -> io::Result<Option<(bool, String)>> {
+    let Some(keeper) = unprepared(alloc, files) else {
+        return Ok(None);
+    };
+    let (is_done, connection) = prepared(alloc, keeper);
+    let Some(keeper) = open(alloc, left(connection)) else {
+        return Err(wrong());
+    };
+    Ok(Some((is_done, text_found(alloc, keeper)?)))
+}
+
+/// The connection of a keeper, once its tables were to be prepared, and whether that was done.
+fn prepared<S: Alter + Drop>(alloc: Global, mut keeper: SqliteKeeper<S>) -> (bool, Connection<S>) {
+    let is_done = keeper.prepare(alloc).is_ok();
+    (is_done, keeper.into_connection())
 }
 
 /// Stops a commit at each call of the log or of the file in turn, until it is done.

@@ -1,5 +1,5 @@
--- A write is its edit and then the actions of foreign keys, which leave each table alone that has none.
-use Rattle.std.proofs.Common.{◌≡◌, ◌≢◌, inl, inr, ℕ, ℤ, zero, suc, ◌+◌, ◌==◌, if◌then◌else◌, slice_get, List, [], ◌∷◌, ◌++◌, Bool, true, false, Option, Some, None, Ok, sym, ap, ◌∙◌}
+-- A write is its edit and then the actions of foreign keys, which leave each table alone that has none; an INSERT sets off none.
+use Rattle.std.proofs.Common.{◌≡◌, ◌≢◌, inl, inr, ℕ, ℤ, zero, suc, ◌+◌, ◌==◌, ◌&&◌, if◌then◌else◌, slice_get, List, [], ◌∷◌, ◌++◌, Bool, true, false, Option, Some, None, Ok, refl, sym, ap, subst, ◌∙◌}
 use Rattle.std.specs.List.{AllByRecursion, flat_map, filter_map}
 use Rattle.std.specs.List.{cons_option}
 use Rattle.std.proofs.lemmas.Bool.{cases_Bool}
@@ -13,7 +13,8 @@ use Rattle.sqlite_schema.specs.declared.schema.Reference.{Reference}
 use Rattle.sqlite_schema.specs.Rules.{ParentKey, parent_key}
 use Rattle.sqlite_rules.specs.declared.action.Deed.{Deed}
 use Rattle.sqlite_rules.specs.Edit.{Edit, Applies, taken_by}
-use Rattle.sqlite_rules.specs.Action.{Work, work_by, work_for, deed_for, pairs, End, Leads, Goes, ActsOn, Writes, Settles, action_edit, refuses, max_depth}
+use Rattle.sqlite_keyed.proofs.ListLemmas.{flat_map_none}
+use Rattle.sqlite_rules.specs.Action.{Work, work_by, work_for, works, deed_for, pairs, End, Leads, Goes, ActsOn, Writes, Settles, action_edit, refuses, max_depth}
 use Rattle.std.specs.Prelude.{nat_lt, length}
 
 all_at : {X : Type 0} (P : X → Type 0) (xs : List X) (at : ℕ) (x : X) → slice_get xs at ≡ Some x → AllByRecursion P xs → P x
@@ -105,3 +106,41 @@ module _ (tree : ℕ) where
       own_edit db next edit (inr (inl big)) = absurd (let e = big.3 in cc)
       own_edit db next edit (inr (inr went)) =
           (went.0, went.1, leads_keep went.2.0 next went.0 _ (works_over 0 edit.table.tree (taken_by db edit) edit.news schema.tables childless) went.2.1)
+
+-- ---- an edit that takes no row out
+
+no_work : (depth at : ℕ) (child : Table) (ref : Reference) (deed : Option Deed) (key : Option ParentKey) → work_by depth at [] child ref deed key ≡ None
+no_work depth at child ref None key = refl
+no_work depth at child ref (Some deed) None = refl
+no_work depth at child ref (Some deed) (Some key) = none_if (key.0 == at) _
+  where
+    none_if : {X : Type 0} (b : Bool) (x : X) → ◌≡◌ {A = Option X} (if b && false then Some x else None) None
+    none_if true x = refl
+    none_if false x = refl
+
+none_filtered : {X Y : Type 0} (f : X → Option Y) (xs : List X) → ((x : X) → f x ≡ None) → filter_map f xs ≡ []
+none_filtered f [] none = refl
+none_filtered f (x ∷ xs) none = rw (none x) (none_filtered f xs none)
+
+no_end : {X : Type 0} (xs : List X) (x : X) → [] ≡ xs ++ x ∷ [] → ⊥
+no_end [] x is = absurd cc
+no_end (y ∷ xs) x is = absurd cc
+
+module _ (schema : Schema) (keys : Keys) where
+  no_works : (depth at : ℕ) (news : List Row) → works schema keys depth at [] news ≡ []
+  no_works depth at news =
+      flat_map_none _ (λ (child : Table). none_filtered (work_for schema keys depth at [] news child) child.references (λ ref. no_work depth at child ref (deed_for keys (length news == 0) ref) (parent_key schema.tables ref))) schema.tables
+
+  settled : (n : ℕ) (next db : Trees) → Leads schema keys n db [] (Ok next) → next ≡ db
+  settled zero next db leads = let e = leads.1 in cc
+  settled (suc n) next db leads = absurd (no_end leads.0 leads.1 leads.2)
+
+  -- each other table has the rows that it had
+  pub inserts_keep : (db next : Trees) (table : Table) (news : List Row) → Writes schema keys db (record { table = table; gone = []; news = news }) (Ok next)
+      → AllByRecursion (λ (t : Table). t.tree ≢ table.tree → next t.tree ≡ db t.tree) schema.tables
+  inserts_keep db next table news (inl refused) = absurd (let e = refused.2 in cc)
+  inserts_keep db next table news (inr (inl big)) = absurd (let e = big.3 in cc)
+  inserts_keep db next table news (inr (inr went)) =
+      let ends = subst (λ (stack : List Work). Settles schema keys went.0 stack (Ok next)) (no_works 0 table.tree news) went.2 in
+      let same = settled ends.0 next went.0 ends.1 in
+      subst (λ (now : Trees). AllByRecursion (λ (t : Table). t.tree ≢ table.tree → now t.tree ≡ db t.tree) schema.tables) (sym same) went.1.tables

@@ -28,7 +28,7 @@ definition_in (written.CreateTable def) = def
 definition_in _ = record { if_missing = false; name = []; body = record { columns = []; rules = [] }; is_strict = false; resolves = false }
 
 -- a name is new where nothing has it
-new_name : (if_missing : Bool) (name : Name) (same other : Option ℕ) (b : Bool) → if_missing ≡ false → creates if_missing name same other ≡ Ok b → b ≡ true
+pub new_name : (if_missing : Bool) (name : Name) (same other : Option ℕ) (b : Bool) → if_missing ≡ false → creates if_missing name same other ≡ Ok b → b ≡ true
 unfolding creates
 new_name true name same other b anew h = absurd (false≢true (sym anew))
 new_name false name same other b anew h = go (is_reserved name) (is_some other) (is_some same) h

@@ -10,7 +10,6 @@ use Rattle.sqlite.specs.Order.{Row}
 use Rattle.sqlite.specs.Tree.{Trees, rowid}
 use Rattle.sqlite.specs.Effect.{Database}
 use Rattle.sqlite_trees.specs.Tree.{IsAscending}
-use Rattle.sqlite_trees.specs.View.{is_int}
 use Rattle.sqlite_keyed.proofs.ListLemmas.{all-append, all_weaker}
 use Rattle.sqlite_schema.specs.Names.{table_named, same_name}
 use Rattle.sqlite_rules.specs.Lists.{Has as Holds}
@@ -21,10 +20,11 @@ use Rattle.sqlite_catalog.proofs.LayoutLemmas.{zipped_left}
 use Rattle.sqlite_catalog.proofs.AlterLemmas.{rows_trans, rows_fewer, place_has}
 use Rattle.aq_tables.specs.Forms.{Form, table_of}
 use Rattle.aq_tables.specs.Standing.{Ours, HaveOtherRowids, IsChildless, Stands}
-use Rattle.aq_tables.specs.Rowids.{AreApart}
+use Rattle.aq_tables.specs.Rowids.{AreApart, IsRowid}
 use Rattle.aq_tables.specs.Told.{told}
 use Rattle.aq_tables.specs.All.{rows_in}
-use Rattle.aq_tables.specs.Made.{HasForm, IsAdded, Extends}
+use Rattle.aq_tables.specs.Made.{HasForm, IsAdded}
+use Rattle.aq_tables.specs.Moves.{Extends}
 
 -- ---- lists with more behind them
 
@@ -46,6 +46,14 @@ module _ {X : Type 0} where
           → cond b (Some i) (position_from p (i + 1) (xs ++ y ∷ [])) ≡ Some (i + length (x ∷ xs))
       go true h more = absurd cc
       go false h more = more h hit ∙ ap Some (omega arith)
+
+  pub position_nowhere : (p : X → Bool) (i : ℕ) (xs : List X) (y : X) → position_from p i xs ≡ None → p y ≡ false → position_from p i (xs ++ y ∷ []) ≡ None
+  position_nowhere p i [] y is miss = rw miss refl
+  position_nowhere p i (x ∷ xs) y is miss = go (p x) is (position_nowhere p (i + 1) xs y)
+    where
+      go : (b : Bool) → cond b (Some i) (position_from p (i + 1) xs) ≡ None → (position_from p (i + 1) xs ≡ None → p y ≡ false → position_from p (i + 1) (xs ++ y ∷ []) ≡ None) → cond b (Some i) (position_from p (i + 1) (xs ++ y ∷ [])) ≡ None
+      go true h more = absurd cc
+      go false h more = more h miss
 
   pub place_before : (xs ys : List X) (at : ℕ) (x : X) → slice_get xs at ≡ Some x → slice_get (xs ++ ys) at ≡ Some x
   place_before [] ys at x is = absurd cc
@@ -90,7 +98,7 @@ extends_then a b c p q = record {
   rows = rows_trans a.schema.tables a.trees b.trees c.trees p.rows (rows_fewer a.schema.tables p.more b.trees c.trees (subst (λ l. KeepsRows l b.trees c.trees) p.tables q.rows));
 }
 
-keyless : (t : Table) → IsAdded t → t.references ≡ []
+pub keyless : (t : Table) → IsAdded t → t.references ≡ []
 keyless t (inl (which, same)) = ap (λ (u : Table). u.references) same
 keyless t (inr counts) = counts.1
 
@@ -113,7 +121,7 @@ still_formed old new form e h = record { at = h.at; tree = h.tree; stands = stil
 
 -- ---- their rows
 
-trees_still : (old new : Database) (form : Form) → Extends old new → (h : HasForm old.schema form) → new.trees h.tree ≡ old.trees h.tree
+pub trees_still : (old new : Database) (form : Form) → Extends old new → (h : HasForm old.schema form) → new.trees h.tree ≡ old.trees h.tree
 trees_still old new form e h =
     all_has (λ (t : Table). new.trees t.tree ≡ old.trees t.tree) old.schema.tables (table_of form h.tree) e.rows (place_has old.schema.tables h.at (table_of form h.tree) h.stands.has.stands)
 
@@ -128,7 +136,7 @@ one_tree schema form at tree at' tree' s t =
     same_value h = cc
 
 abbrev RowsApart : List Row → Type 0
-RowsApart rows = IsAscending HaveOtherRowids rows × AllByRecursion (λ r. is_int (rowid r) ≡ true) rows
+RowsApart rows = IsAscending HaveOtherRowids rows × AllByRecursion (λ r. IsRowid (rowid r)) rows
 
 apart_if : (db : Database) (form : Form) (h : HasForm db.schema form) → RowsApart (db.trees h.tree) → AreApart form db
 apart_if db form h rows at tree s = subst (λ tree. RowsApart (db.trees tree)) (one_tree db.schema form h.at h.tree at tree h.stands s) rows

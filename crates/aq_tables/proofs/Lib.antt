@@ -1,6 +1,7 @@
+pub mod Numbers
 pub mod InOrder
 pub mod InPlace
-pub mod OneOfFour
+pub mod OneTable
 pub mod Making
 pub mod Resolving
 pub mod Lowered
@@ -25,8 +26,13 @@ pub mod NewTable
 pub mod Storing
 pub mod OurTables
 pub mod Fitting
-pub mod AllMade
+pub mod RowsMoved
+pub mod LeftAlone
+pub mod Moved
+pub mod Whole
 pub mod MakeTexts
+pub mod Dropping
+pub mod Viewing
 pub mod Prepared
-pub mod SixteenPut
+pub mod ThirdPut
 pub mod SixteenRefused

@@ -23,9 +23,10 @@ use Rattle.sqlite_tied.specs.Compute.{everything}
 use Rattle.aq_tables.specs.declared.reading.Table.{Table as Which}
 use Rattle.aq_tables.specs.Forms.{Form, table_of}
 use Rattle.aq_tables.specs.Standing.{IsChildless, Stands}
-use Rattle.aq_tables.specs.Made.{form_of, HasForm, IsAdded, Extends, MakesForm}
+use Rattle.aq_tables.specs.Made.{HasForm, IsAdded, form_of}
+use Rattle.aq_tables.specs.Moves.{Extends, MakesForm}
 use Rattle.aq_tables.proofs.Statements.{went, same_value}
-use Rattle.aq_tables.proofs.Extending.{position_behind, place_before, place_behind, none_found, low_of, extends_here, extends_then, still_formed}
+use Rattle.aq_tables.proofs.Extending.{position_behind, position_nowhere, place_before, place_behind, none_found, low_of, extends_here, extends_then, still_formed}
 
 -- ---- any table
 
@@ -56,6 +57,15 @@ counts = (refl, refl)
 sequence_extends : (mid after : Database) (b : Bool) → MatchBool b (MakesTable sequence_text mid (Ok after)) (Gives mid (Ok after)) → Extends mid after
 sequence_extends mid after true h = creates_extends mid after sequence_text h (inr (sym (ap name_in h.defined) ∙ counts.0, sym (ap references_in h.defined) ∙ counts.1))
 sequence_extends mid after false h = subst (Extends mid) (sym (same_value h)) (extends_here mid)
+
+-- another name is free still, also where the table that counts is made
+free_over : (mid after : Database) (b : Bool) → MatchBool b (MakesTable sequence_text mid (Ok after)) (Gives mid (Ok after)) → (name : List ℕ) → same_name (codes "sqlite_sequence") name ≡ false → table_named mid.schema name ≡ None → table_named after.schema name ≡ None
+free_over mid after true h name other none =
+    let q = λ (t : Table). same_name t.name name in
+    let t = record h.table { tree = next_tree mid.schema } in
+    let named : h.table.name ≡ codes "sqlite_sequence" = sym (ap name_in h.defined) ∙ counts.0 in
+    ap (λ s. position_from q 0 s.tables) h.is ∙ position_nowhere q 0 mid.schema.tables t none (subst (λ n. same_name n name ≡ false) (sym named) other)
+free_over mid after false h name other none = subst (λ (db : Database). table_named db.schema name ≡ None) (sym (same_value h)) none
 
 -- ---- a table of ours
 
@@ -125,5 +135,7 @@ module _ (which : Which) (text : List ℕ) (defined : table_defined_by text ≡ 
             missing = unnamed old.now mid c;
             extends = extends_then old.now mid after (adds old.now mid c) rest;
             formed = still_formed mid after form rest formed;
+            free = λ name own counted none. free_over mid after (lacks_sequence mid.schema) makes.2 name counted
+                (ap (position_from (λ (u : Table). same_name u.name name) 0) (one_more old.now mid c) ∙ position_nowhere _ 0 old.now.schema.tables t none own);
             empty = all_has (λ (u : Table). after.trees u.tree ≡ mid.trees u.tree) mid.schema.tables t rest.rows (place_has mid.schema.tables at t formed.stands.has.stands) ∙ c.empty;
           })

@@ -1,5 +1,5 @@
--- Each of the four tables in a sound database whose rowids are distinct.
-use Rattle.std.proofs.Common.{◌≡◌, ◌&&◌, ℕ, ℤ, List, [], ◌∷◌, true, false, refl, sym, ap, ap₂, subst₂, ◌∙◌}
+-- Each of the tables in a sound database whose rowids are distinct.
+use Rattle.std.proofs.Common.{◌≡◌, ◌&&◌, ℕ, ℤ, Bool, List, [], ◌∷◌, true, false, refl, sym, ap, ap₂, subst₂, ◌∙◌}
 use Rattle.std.specs.Ordering.{is_eq, int_cmp}
 use Rattle.sqlite.specs.declared.types.Value.TheVariants.{Null, Int}
 use Rattle.sqlite.specs.Order.{Row}
@@ -7,18 +7,21 @@ use Rattle.sqlite.specs.Ops.{binary}
 use Rattle.sqlite.specs.Tree.{rowid}
 use Rattle.sqlite.specs.Effect.{Database, IsDatabase}
 use Rattle.sqlite_value.specs.Order.{value_cmp, column, bytes}
+use Rattle.sqlite_trees.specs.View.{is_int}
 use Rattle.sqlite_value.specs.Keys.{plain, first_key}
 use Rattle.sqlite_value.proofs.OrderLemmas.{value_cmp-Int, value_cmp-Text}
 use Rattle.sqlite_schema.specs.Rules.{agree}
 use Rattle.sqlite_rules.specs.Edit.{id_in}
 use Rattle.aq_rules.specs.Kept.Rows.{OfficeRow}
 use Rattle.aq_rules.specs.Kept.RowChanges.{OfficeRowKey, LoadRowKey, row_key, is_same_row_key}
-use Rattle.aq_tables.specs.All.{HasOurs, HasTables}
-use Rattle.aq_tables.specs.Forms.{records_form, observations_form, loads_form, second_form}
-use Rattle.aq_tables.specs.Made.{AreAllApart, HasForm, HasForms}
+use Rattle.aq_tables.specs.declared.missing.Missing.{Missing}
+use Rattle.aq_tables.specs.All.{HasOurs}
+use Rattle.aq_tables.specs.Forms.{records_form, observations_form, loads_form, second_form, third_form}
+use Rattle.aq_tables.specs.Made.{AreAllApart, AreMissing, AreThere, HasForm, IsMissing, IsThere}
 use Rattle.aq_tables.specs.Rowids.{AreApart}
-use Rattle.aq_tables.specs.Standing.{Stands, HasTable, HaveOtherRowids, HaveOtherKeys}
-use Rattle.aq_tables.specs.Told.{records, observations, loads, second, record_stored}
+use Rattle.aq_tables.specs.Standing.{Ours, Stands, HasTable, HaveOtherRowids, HaveOtherKeys}
+use Rattle.aq_tables.specs.Told.{records, observations, loads, second, third, record_stored}
+use Rattle.aq_tables.proofs.Numbers.{key_in, same_numbers}
 use Rattle.aq_tables.proofs.Cells.{two_kept, four_kept, same-texts}
 use Rattle.aq_tables.proofs.Storing.{int_cell, optional_cell, text_cell, blob_cell, int_is, IsKnown, keyed, keyed_by_rowid, has_table}
 
@@ -37,7 +40,7 @@ has_records : (db : Database) → IsDatabase db → HasForm db.schema records_fo
 has_records db sound h apart = record {
   at = h.at;
   tree = h.tree;
-  has = has_table records db sound h.at h.tree h.stands apart (int_cell, (text_cell, (text_cell, tt))) (refl, refl) (λ r. refl)
+  has = has_table records db sound h.at h.tree h.stands apart (int_cell, (text_cell, (text_cell, tt))) (refl, refl) (λ _ _. refl) (λ r. refl)
       (keyed records db sound h.at h.tree h.stands apart (1 ∷ 2 ∷ []) refl refl
       (λ a b p q. subst₂ (λ x y. agree plain (1 ∷ 2 ∷ []) x (1 ∷ 2 ∷ []) y ≡ is_same_row_key (row_key (records.says x)) (row_key (records.says y))) (sym p) (sym q)
       (record_agrees (id_in (rowid a)) (id_in (rowid b)) (said_record a) (said_record b))));
@@ -61,7 +64,7 @@ has_observations : (db : Database) → IsDatabase db → HasForm db.schema obser
 has_observations db sound h apart = record {
   at = h.at;
   tree = h.tree;
-  has = has_table observations db sound h.at h.tree h.stands apart (int_cell, (int_cell, (int_cell, (int_cell, (optional_cell, (text_cell, (text_cell, tt))))))) (refl, refl) (λ r. refl)
+  has = has_table observations db sound h.at h.tree h.stands apart (int_cell, (int_cell, (int_cell, (int_cell, (optional_cell, (text_cell, (text_cell, tt))))))) (refl, refl) (λ _ _. refl) (λ r. refl)
       (keyed observations db sound h.at h.tree h.stands apart places refl refl
       (λ a b p q. subst₂ (λ x y. agree plain places x places y ≡ is_same_row_key (row_key (observations.says x)) (row_key (observations.says y))) (sym p) (sym q)
       (four_agree (id_in (column a 1)) (id_in (column a 2)) (id_in (column a 3)) (id_in (column a 4)) (id_in (column b 1)) (id_in (column b 2)) (id_in (column b 3)) (id_in (column b 4)))));
@@ -69,7 +72,7 @@ has_observations db sound h apart = record {
 
 pub second_stands : (db : Database) → IsDatabase db → AreApart second_form db → (at tree : ℕ) → Stands db.schema second_form at tree → HasTable second db at tree
 second_stands db sound apart at tree stands =
-    has_table second db sound at tree stands apart (int_cell, (int_cell, (int_cell, (int_cell, (optional_cell, (optional_cell, (text_cell, (text_cell, tt)))))))) (refl, refl) (λ r. refl)
+    has_table second db sound at tree stands apart (int_cell, (int_cell, (int_cell, (int_cell, (optional_cell, (optional_cell, (text_cell, (text_cell, tt)))))))) (refl, refl) (λ _ _. refl) (λ r. refl)
     (keyed second db sound at tree stands apart places refl refl
     (λ a b p q. subst₂ (λ x y. agree plain places x places y ≡ is_same_row_key (row_key (second.says x)) (row_key (second.says y))) (sym p) (sym q)
     (four_agree (id_in (column a 1)) (id_in (column a 2)) (id_in (column a 3)) (id_in (column a 4)) (id_in (column b 1)) (id_in (column b 2)) (id_in (column b 3)) (id_in (column b 4)))))
@@ -90,16 +93,39 @@ has_loads : (db : Database) → IsDatabase db → HasForm db.schema loads_form �
 has_loads db sound h apart = record {
   at = h.at;
   tree = h.tree;
-  has = has_table loads db sound h.at h.tree h.stands apart (optional_cell, (blob_cell, (int_cell, (int_cell, (text_cell, (text_cell, tt)))))) (refl, refl) (λ r. refl)
+  has = has_table loads db sound h.at h.tree h.stands apart (optional_cell, (blob_cell, (int_cell, (int_cell, (text_cell, (text_cell, tt)))))) (refl, refl) (λ _ _. refl) (λ r. refl)
       (keyed_by_rowid loads db sound h.at h.tree h.stands apart other_loads);
 }
 
--- ---- all four
+-- ---- observations3
 
-pub has_tables : (db : Database) → IsDatabase db → HasForms db.schema → AreAllApart db → HasTables db
-has_tables db sound forms apart = record {
-  of_records = has_records db sound forms.of_records apart.of_records;
-  of_observations = has_observations db sound forms.of_observations apart.of_observations;
-  of_loads = has_loads db sound forms.of_loads apart.of_loads;
-  of_second = has_second db sound forms.of_second apart.of_second;
+-- two numbers that differ are of two keys
+other_observations : (m n : ℤ) → is_eq (value_cmp (Int m) (Int n)) ≡ false → is_same_row_key (key_in m) (key_in n) ≡ false
+other_observations m n h = sym (same_numbers m n) ∙ ap is_eq (sym (value_cmp-Int m n)) ∙ h
+
+pub other_thirds : (a b : Row) → is_int (rowid a) ≡ true → is_int (rowid b) ≡ true → HaveOtherRowids a b → HaveOtherKeys (third.says a) (third.says b)
+other_thirds a b p q ids =
+    other_observations (id_in (rowid a)) (id_in (rowid b)) (sym (ap₂ (λ x y. is_eq (value_cmp x y)) (int_is (rowid a) p) (int_is (rowid b) q)) ∙ ids)
+
+has_third : (db : Database) → IsDatabase db → HasForm db.schema third_form → AreApart third_form db → HasOurs third db
+has_third db sound h apart = record {
+  at = h.at;
+  tree = h.tree;
+  has = has_table third db sound h.at h.tree h.stands apart (optional_cell, (optional_cell, (optional_cell, (text_cell, (text_cell, tt))))) (refl, refl) (λ id fits. fits) (λ r. refl)
+      (keyed_by_rowid third db sound h.at h.tree h.stands apart (λ a b p q. other_thirds a b p.int q.int));
+}
+
+-- ---- all of them
+
+there : (ours : Ours) (missing : Bool) (db : Database) → (HasForm db.schema ours.form → HasOurs ours db) → IsMissing missing db.schema ours.form → IsThere missing ours db
+there ours true db has h = h
+there ours false db has h = has h
+
+pub are_there : (missing : Missing) (db : Database) → IsDatabase db → AreMissing missing db.schema → AreAllApart db → AreThere missing db
+are_there missing db sound are apart = record {
+  of_records = there records missing.records db (λ h. has_records db sound h apart.of_records) are.of_records;
+  of_observations = there observations missing.observations db (λ h. has_observations db sound h apart.of_observations) are.of_observations;
+  of_loads = there loads missing.loads db (λ h. has_loads db sound h apart.of_loads) are.of_loads;
+  of_second = there second missing.second db (λ h. has_second db sound h apart.of_second) are.of_second;
+  of_third = there third missing.third db (λ h. has_third db sound h apart.of_third) are.of_third;
 }

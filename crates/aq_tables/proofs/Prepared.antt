@@ -1,5 +1,5 @@
 -- What a connection has after `prepare` answered Ok.
-use Rattle.std.proofs.Common.{◌≡◌, ◌≤◌, ◌∙◌, Bool, true, false, Result, Ok, Err, IsTrue, OnOk, refl, sym, arith}
+use Rattle.std.proofs.Common.{◌≡◌, ◌≤◌, ◌∙◌, Bool, true, false, Result, Ok, Err, IfOk, IsTrue, MatchBool, OnOk, refl, sym, arith}
 use Rattle.std.proofs.lemmas.Bool.{false≢true}
 use Rattle.sqlite.specs.State.{State, HasCleanDisk}
 use Rattle.sqlite_trees.specs.View.{doubt}
@@ -8,6 +8,12 @@ use Rattle.sqlite_trees.proofs.Doubt.{no_doubt}
 pub if_ok : {X E P Q : Type 0} (r : Result X E) → (P → Q) → OnOk r P → OnOk r Q
 if_ok (Ok x) f h = f h
 if_ok (Err e) f h = tt
+
+-- what is said of given rows is said of those that were found
+pub found : {E : Type 0} (P Q S : Type 0) (r : Result Bool E) → (P → Q) → IfOk r (λ is_put. MatchBool is_put P S) → IfOk r (λ is_put. MatchBool is_put Q S)
+found P Q S (Ok true) f h = f h
+found P Q S (Ok false) f h = h
+found P Q S (Err e) f h = h
 
 -- what is open is clean
 clean_if : (is_clean is_open : Bool) → (is_clean ≡ false → is_open ≡ false) → is_open ≡ true → is_clean ≡ true

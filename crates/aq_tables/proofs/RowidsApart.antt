@@ -1,10 +1,11 @@
 -- A SELECT of the rowids of a table, in their order: if they rise, no two rows have one rowid.
-use Rattle.std.proofs.Common.{◌≡◌, ℕ, ℤ, List, [], ◌∷◌, ◌++◌, map, filter, Bool, true, false, Option, Some, Result, Ok, Err, IfOk, refl, sym, ap, subst, ◌∙◌, IsPermutation, Less, is_eq}
+use Rattle.std.proofs.Common.{◌≡◌, ℕ, ℤ, pos, negsuc, w64, FitsSigned, arith, List, [], ◌∷◌, ◌++◌, map, filter, Bool, true, false, Option, Some, Result, Ok, Err, IfOk, refl, sym, ap, subst, ◌∙◌, IsPermutation, Less, is_eq}
 use Rattle.std.specs.List.{AllByRecursion}
+use Rattle.std.proofs.lemmas.Bool.Decides.{nat_tests}
 use Rattle.std.proofs.lemmas.List.Sorted.{IsPermutation-sym, IsPermutation-map, All-permutation}
 use Rattle.std.proofs.lemmas.List.Elements.{recursion_from_All, All-from_recursion}
 use Rattle.sqlite_value.proofs.OrderLemmas.{value_cmp-Int, value_cmp_total}
-use Rattle.aq_tables.specs.Rowids.{Rise, ShowsRising, AreApart, is_after}
+use Rattle.aq_tables.specs.Rowids.{IsRowid, Rise, ShowsRising, AreApart, is_after}
 use Rattle.sqlite.specs.declared.types.Value.TheVariants.{Int}
 use Rattle.sqlite.specs.declared.error.Error.{Error}
 use Rattle.sqlite.specs.Order.{Row}
@@ -15,6 +16,8 @@ use Rattle.sqlite.specs.Tree.{rowid}
 use Rattle.sqlite_value.specs.Order.{value_cmp, column}
 use Rattle.sqlite_trees.specs.Tree.{IsAscending}
 use Rattle.sqlite_trees.specs.View.{is_int}
+use Rattle.sqlite_sql.specs.Numeral.{fits_i64}
+use Rattle.sqlite_rules.specs.Edit.{id_in}
 use Rattle.sqlite_keyed.proofs.ListLemmas.{map-map, along_permutation, all_of, all_weaker, ascending_weaker, ascending_from_map, ascending-append}
 use Rattle.sqlite_resolve.specs.Program.{program}
 use Rattle.aq_tables.specs.Standing.{Stands, HaveOtherRowids}
@@ -58,7 +61,7 @@ module _ (t : Table) (db : Database) (at tree : ℕ) (stands : Stands db.schema 
   unfolding program
   typed = rw (stands.low, stands.sole)
 
-  pub rowids_apart : ShowsRising (rowids_text t) db → IsAscending HaveOtherRowids (db.trees tree) × AllByRecursion (λ r. is_int (rowid r) ≡ true) (db.trees tree)
+  pub rowids_apart : ShowsRising (rowids_text t) db → IsAscending HaveOtherRowids (db.trees tree) × AllByRecursion (λ r. IsRowid (rowid r)) (db.trees tree)
   rowids_apart h =
       let rows = db.trees tree in
       let alone = λ (r : Row). rowid r ∷ [] in
@@ -69,7 +72,7 @@ module _ (t : Table) (db : Database) (at tree : ℕ) (stands : Stands db.schema 
       subst (IsPermutation _) (sym seen.is) (subst (λ l. IsPermutation l (map (λ (o : Output). o.1) seen.ordered)) (map-map _ _ _) (IsPermutation-map (λ (o : Output). o.1) _ _ seen.same)) in
       let same = IsPermutation-sym _ _ (subst (λ l. IsPermutation (map alone l) h.0) (all_pass rows) every) in
       let apart = pairs-permutation Other turn h.0 (map alone rows) same (ascending_weaker _ Other (λ c d less. ap is_eq less) h.0 h.2.0) in
-      let int = λ (r : Row). is_int (column r 0) ≡ true in
+      let int = λ (r : Row). IsRowid (column r 0) in
       let ints = recursion_from_All int (map alone rows) (All-permutation int h.0 (map alone rows) same (All-from_recursion int h.0 h.2.1)) in
       (ascending_from_map Other alone rows apart, from_map int alone rows ints)
     where
@@ -83,15 +86,20 @@ apart t (Err e) db h = h
 
 -- ---- one more
 
+-- what fits 64 bits, as a column tests it
+pub fits_column : (n : ℤ) → FitsSigned w64 n → fits_i64 n ≡ true
+fits_column (pos n) h = grind (arith, nat_tests)
+fits_column (negsuc n) h = grind (arith, nat_tests)
+
 -- they rise, and each number that comes after the last of them comes after all
 abbrev pub RiseTo : Option ℤ → List Row → Type 0
 RiseTo last rows = Rise rows × ((number : ℤ) → is_after last number ≡ true → AllByRecursion (λ r. value_cmp (column r 0) (Int number) ≡ Less) rows)
 
-pub rise_more : (last : Option ℤ) (rows : List Row) (row : Row) (number : ℤ) → column row 0 ≡ Int number → is_after last number ≡ true → RiseTo last rows → RiseTo (Some number) (rows ++ row ∷ [])
-rise_more last rows row number is after (rise, above) =
+pub rise_more : (last : Option ℤ) (rows : List Row) (row : Row) (number : ℤ) → column row 0 ≡ Int number → fits_i64 number ≡ true → is_after last number ≡ true → RiseTo last rows → RiseTo (Some number) (rows ++ row ∷ [])
+rise_more last rows row number is fits after (rise, above) =
     let below = above number after in
     let less = λ (a b : Row). value_cmp (column a 0) (column b 0) ≡ Less in (
-      (ascending-append less rows (row ∷ []) rise.0 (tt, tt) (all_weaker _ (λ r. AllByRecursion (less r) (row ∷ [])) (λ r h. (ap (value_cmp (column r 0)) is ∙ h, tt)) rows below), append_all _ rows row rise.1 (ap is_int is)),
+      (ascending-append less rows (row ∷ []) rise.0 (tt, tt) (all_weaker _ (λ r. AllByRecursion (less r) (row ∷ [])) (λ r h. (ap (value_cmp (column r 0)) is ∙ h, tt)) rows below), append_all _ rows row rise.1 (ap is_int is, ap (λ v. fits_i64 (id_in v)) is ∙ fits)),
       λ next later.
           let step : value_cmp (Int number) (Int next) ≡ Less = value_cmp-Int number next ∙ (rw later refl) in
           append_all _ rows row (all_weaker _ (λ r. value_cmp (column r 0) (Int next) ≡ Less) (λ r h. value_cmp_total.trans (column r 0) (Int number) (Int next) h step) rows below) (ap (λ v. value_cmp v (Int next)) is ∙ step),

@@ -1,5 +1,5 @@
 -- A statement that is refused for a rule of its table changes nothing.
-use Rattle.std.proofs.Common.{◌≡◌, inl, inr, ℕ, List, [], false, Err, refl, sym, subst, IsTrue}
+use Rattle.std.proofs.Common.{◌≡◌, inl, inr, ℕ, List, false, Err, sym, subst, IsTrue}
 use Rattle.std.proofs.lemmas.Bool.{cases_Bool}
 use Rattle.sqlite_schema.specs.declared.schema.Constraint.{Constraint}
 use Rattle.sqlite_trees.specs.declared.error.StoreError.{StoreError}
@@ -10,8 +10,7 @@ use Rattle.sqlite.specs.declared.error.Error.TheVariants.{SqliteFailure}
 use Rattle.sqlite.specs.Order.{Row}
 use Rattle.sqlite.specs.State.{State, ExecutesIn, ExecutesInside, IsNotRun, IsUnchanged, RunsCommand, shows_rows, store_error}
 use Rattle.sqlite_resolve.specs.declared.compiled.Compiled.{Compiled}
-use Rattle.aq_tables.specs.Batch.{Becomes, Changes}
-use Rattle.aq_tables.proofs.Making.{changes_nothing}
+use Rattle.aq_tables.specs.Sixteen.{IsStill}
 
 no_fault : (rule : Constraint) (cause : StoreError) → SqliteFailure (ConstraintViolation rule) ≡ store_error cause → ⊥
 no_fault rule OutOfMemory is = absurd cc
@@ -46,12 +45,7 @@ module _ (sql : List ℕ) (params : Row) (old new : State) (rule : Constraint) w
   inside_refused (inl ran) = refused ran.0
   inside_refused (inr barred) = barred.2
 
-  pub refused_changes : IsTrue old.in_transaction → ExecutesInside 0 sql params old new (Err error) → Changes [] old new
-  refused_changes begun ran =
+  pub refused_still : IsTrue old.in_transaction → ExecutesInside 0 sql params old new (Err error) → IsStill old new
+  refused_still begun ran =
       let same = inside_refused ran in
-      record {
-        was_open = λ some. absurd (some refl);
-        mode = subst IsTrue (sym same.0.mode) begun;
-        committed = same.0.committed_is;
-        becomes = subst (Becomes [] old.now) (sym same.0.now_is) (changes_nothing old begun).becomes;
-      }
+      record { now = same.0.now_is; mode = subst IsTrue (sym same.0.mode) begun; committed = same.0.committed_is }

@@ -1,9 +1,10 @@
 -- Statements within a transaction, one after the other.
-use Rattle.std.proofs.Common.{◌≡◌, true, ℕ, List, inl, inr, arith, Result, Ok, Err, refl, sym, subst, ◌∙◌}
+use Rattle.std.proofs.Common.{◌≡◌, true, ℕ, List, inl, inr, arith, Result, Ok, Err, IfErr, OnErr, refl, sym, subst, ◌∙◌}
 use Rattle.sqlite.specs.declared.error.Error.{Error}
 use Rattle.sqlite.specs.Order.{Row}
 use Rattle.sqlite.specs.Tree.{Trees}
 use Rattle.sqlite.specs.State.{State, HasCleanDisk, Survives, KeepsCommit, IsUnchanged, IsRolledBack, ExecutesInside}
+use Rattle.sqlite.specs.Steps.{FailsToCommit}
 use Rattle.sqlite.specs.Held.{Held, state}
 use Rattle.sqlite.proofs.StateLemmas.{survives_then}
 use Rattle.sqlite.proofs.Callers.{survives_begin}
@@ -34,6 +35,12 @@ unchanged_keeps old new h = record { was_open = λ _. h.0.was_open; committed = 
 
 pub undone_keeps : (old new : State) → IsRolledBack old new → KeepsCommit old new
 undone_keeps old new h = record { was_open = h.was_open; committed = λ is. (h.undone is).1 }
+
+-- a commit that fails commits nothing
+pub failed_keeps : {X : Type 0} (old last new : State) (r : Result X Error) → KeepsCommit old last → IfErr r (FailsToCommit last new) → OnErr r (KeepsCommit old new)
+failed_keeps old last new (Ok x) kept h = tt
+failed_keeps old last new (Err e) kept (inl failed) = kept_both old last new kept (undone_keeps last new failed.3)
+failed_keeps old last new (Err e) kept (inr ended) = kept_both old last new kept (unchanged_keeps last new ended.2)
 
 -- a statement inside a transaction commits nothing
 pub inside_keeps : (held : ℕ) (sql : List ℕ) (params : Row) (old new : State) (r : Result ℕ Error) → ExecutesInside held sql params old new r → KeepsCommit old new

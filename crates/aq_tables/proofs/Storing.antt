@@ -28,7 +28,8 @@ use Rattle.sqlite_rules.proofs.RuleLemmas.{keeps_at}
 use Rattle.sqlite_catalog.proofs.AlterLemmas.{keys_are_unique, place_has}
 use Rattle.aq_rules.specs.Kept.RowChanges.{row_key, is_same_row_key}
 use Rattle.aq_tables.specs.Forms.{table_of, column_of}
-use Rattle.aq_tables.specs.Rowids.{AreApart}
+use Rattle.sqlite_sql.specs.Numeral.{fits_i64}
+use Rattle.aq_tables.specs.Rowids.{AreApart, IsRowid}
 use Rattle.aq_tables.specs.Standing.{Ours, Stands, HasTable, HaveOtherRowids, HaveOtherKeys}
 use Rattle.aq_tables.specs.Told.{cell, optional}
 use Rattle.aq_tables.proofs.Cells.{kept}
@@ -210,12 +211,12 @@ module _ (ours : Ours) (db : Database) (sound : IsDatabase db) (at tree : ℕ) (
   pub keyed_by_rowid : ((a b : Row) → IsKnown ours a → IsKnown ours b → HaveOtherRowids a b → HaveOtherKeys (ours.says a) (ours.says b)) → AllByRecursion (IsKnown ours) rows → HaveApart ours db tree
   keyed_by_rowid other known = pairs (IsKnown ours) HaveOtherRowids (λ a b. HaveOtherKeys (ours.says a) (ours.says b)) rows known (apart at tree stands).0 (λ a b h k. other a b)
 
-  pub has_table : AllByRecursion IsCell ours.form.columns → Ends ours.form.key 0 ours.form.columns → ((r : Row) → Int (id_in (rowid r)) ∷ cells ours.form.key 0 ours.form.columns r ≡ ours.stored (id_in (rowid r)) (ours.says r))
+  pub has_table : AllByRecursion IsCell ours.form.columns → Ends ours.form.key 0 ours.form.columns → ((id : ℤ) → fits_i64 id ≡ true → ours.fits id ≡ true) → ((r : Row) → Int (id_in (rowid r)) ∷ cells ours.form.key 0 ours.form.columns r ≡ ours.stored (id_in (rowid r)) (ours.says r))
       → (AllByRecursion (IsKnown ours) rows → HaveApart ours db tree) → HasTable ours db at tree
-  has_table are_cells ends stored keys =
+  has_table are_cells ends fits stored keys =
       let ids = apart at tree stands in
       let known = all_from (IsKnown ours) rows (λ r h.
-      let int = all_has (λ (r : Row). is_int (rowid r) ≡ true) rows r ids.1 h in
-      let fits = and_parts _ _ (keeps_at Datatype db.schema db.trees table r (sound.obeys.rules Datatype) listed h) in
-      record { int = int; typed = row_is ours.form.key ours.form.columns r are_cells ends int fits.0 (keeps_at NotNull db.schema db.trees table r (sound.obeys.rules NotNull) listed h) ∙ stored r }) in
-      record { stands = stands; stored = record { ints = ids.1; apart = ids.0; typed = all_from _ rows (λ r h. (all_has (IsKnown ours) rows r known h).typed); keys = keys known } }
+      let int = (all_has (λ (r : Row). IsRowid (rowid r)) rows r ids.1 h).0 in
+      let suits = and_parts _ _ (keeps_at Datatype db.schema db.trees table r (sound.obeys.rules Datatype) listed h) in
+      record { int = int; typed = row_is ours.form.key ours.form.columns r are_cells ends int suits.0 (keeps_at NotNull db.schema db.trees table r (sound.obeys.rules NotNull) listed h) ∙ stored r }) in
+      record { stands = stands; stored = record { ints = all_from _ rows (λ r h. (all_has (λ (r : Row). IsRowid (rowid r)) rows r ids.1 h).0); fit = all_from _ rows (λ r h. fits (id_in (rowid r)) (all_has (λ (r : Row). IsRowid (rowid r)) rows r ids.1 h).1); apart = ids.0; typed = all_from _ rows (λ r h. (all_has (IsKnown ours) rows r known h).typed); keys = keys known } }

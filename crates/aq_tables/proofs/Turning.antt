@@ -40,10 +40,11 @@ use Rattle.aq_rules.specs.Kept.Rows as the_rows
 use Rattle.aq_rules.specs.Kept.RowChanges.{RowKey, row_key, is_same_row_key, put_row, drop_row}
 use Rattle.aq_tables.specs.Forms.{table_of}
 use Rattle.aq_tables.specs.Standing.{Ours, IsChildless, Stands, IsStored, HasTable, HaveOtherRowids, HaveOtherKeys}
+use Rattle.aq_tables.specs.Sixteen.{KeepsOthers}
 use Rattle.aq_tables.specs.Told.{in_order, told, HaveNot, Turns}
 use Rattle.aq_tables.proofs.InOrder.{order, same-flip, in_order_alike, drop-in_order, have_not}
 use Rattle.aq_tables.proofs.Statements.{deleted_by, inserted_by}
-use Rattle.aq_tables.proofs.Actions.{own_edit, others_keep}
+use Rattle.aq_tables.proofs.Actions.{own_edit, others_keep, inserts_keep}
 use Rattle.aq_tables.proofs.Parsing.{Means}
 use Rattle.aq_tables.proofs.Scans.{scan, scanned}
 use Rattle.aq_tables.proofs.Taking.{other_rowids, taken}
@@ -168,12 +169,12 @@ module _ (ours : Ours) (old new : State) (at tree : ℕ) (has : HasTable ours ol
     has = record { stands = subst (λ s. Stands s ours.form at tree) (sym schema) has.stands; stored = subst (IsStored ours) (sym are) stored };
     told_is = ap (told ours) are ∙ is;
     others = others;
-    sound = sound;
+    sound = λ _. sound;
   }
 
   pub drops : (key : RowKey) (text : List ℕ) (params : Row) (test : List Term) (count : ℕ)
       → Means old.now.schema text (Delete at (record { lets = []; body = scan tree test (col 1 0 ∷ []) [] }))
-      → ((r : Row) → IsTyped ours r → list_all (holds (params ∷ r ∷ [])) test ≡ is_same_row_key (row_key (ours.says r)) key)
+      → ((r : Row) → IsTyped ours r → ours.fits (id_in (rowid r)) ≡ true → list_all (holds (params ∷ r ∷ [])) test ≡ is_same_row_key (row_key (ours.says r)) key)
       → Executes text params old new (Ok count) → Turns ours (drop_row key) old.now new.now at tree
   drops key text params test count means tests h =
       let is = has.stands in
@@ -183,14 +184,35 @@ module _ (ours : Ours) (old new : State) (at tree : ℕ) (has : HasTable ours ol
       let q = λ (r : Row). not (p r) in
       let w = runs_as text params old new old.now.schema refl (Delete at (record { lets = []; body = scan tree test (col 1 0 ∷ []) [] })) means.is means.plain count h in
       let d = deleted_by old new at table _ _ params count is.has.stands w in
-      let seen = scanned tree is.low test (col 1 0 ∷ []) [] params p old.now.trees d.rows (all_weaker _ _ tests rows stored.typed) d.read.answer in
+      let seen = scanned tree is.low test (col 1 0 ∷ []) [] params p old.now.trees d.rows (all_both _ _ _ tests rows stored.typed stored.fit) d.read.answer in
       let read : IsPermutation (map (λ r. rowid r ∷ []) (filter p rows)) d.rows =
       subst (IsPermutation _) (sym seen.is) (subst (λ l. IsPermutation l (map (λ (o : Output). o.1) seen.ordered)) (map-map _ _ _) (IsPermutation-map (λ (o : Output). o.1) _ _ seen.same)) in
       let own = own_edit tree old.now.schema Enforced is.childless at table is.has.stands refl old.now.trees d.next _ d.written in
       turned (drop_row key) (filter q rows) (ap (λ (db : Database). db.schema) d.is)
       (ap (λ (db : Database). db.trees tree) d.is ∙ own.2 ∙ own.1.rows ∙ taken p rows d.rows stored.apart stored.ints read)
-      (record { ints = all-filter _ q rows stored.ints; apart = ascending-filter HaveOtherRowids q rows stored.apart; typed = all-filter _ q rows stored.typed; keys = ascending-filter _ q rows stored.keys })
+      (record { ints = all-filter _ q rows stored.ints; fit = all-filter _ q rows stored.fit; apart = ascending-filter HaveOtherRowids q rows stored.apart; typed = all-filter _ q rows stored.typed; keys = ascending-filter _ q rows stored.keys })
       (ap in_order (sym (filter-map (λ (row : the_rows.Row). not (is_same_row_key (row_key row) key)) ours.says rows)) ∙ drop-in_order key said said_apart)
+      (λ place t stands apart alone. ap (λ (db : Database). db.trees t.tree) d.is ∙ others_keep t.tree old.now.schema Enforced alone place t stands refl old.now.trees d.next _ (λ same. apart (sym same)) d.written)
+      w.sound
+
+  -- a DELETE of which no row passes the test leaves all
+  pub drops_none : (text : List ℕ) (params : Row) (test : List Term) (count : ℕ)
+      → Means old.now.schema text (Delete at (record { lets = []; body = scan tree test (col 1 0 ∷ []) [] }))
+      → ((r : Row) → IsTyped ours r → list_all (holds (params ∷ r ∷ [])) test ≡ false)
+      → Executes text params old new (Ok count) → Turns ours (λ l. l) old.now new.now at tree
+  drops_none text params test count means fails h =
+      let is = has.stands in
+      let stored = has.stored in
+      let table = table_of ours.form tree in
+      let p = λ (r : Row). false in
+      let w = runs_as text params old new old.now.schema refl (Delete at (record { lets = []; body = scan tree test (col 1 0 ∷ []) [] })) means.is means.plain count h in
+      let d = deleted_by old new at table _ _ params count is.has.stands w in
+      let seen = scanned tree is.low test (col 1 0 ∷ []) [] params p old.now.trees d.rows (all_weaker _ _ fails rows stored.typed) d.read.answer in
+      let read : IsPermutation (map (λ r. rowid r ∷ []) (filter p rows)) d.rows =
+      subst (IsPermutation _) (sym seen.is) (subst (λ l. IsPermutation l (map (λ (o : Output). o.1) seen.ordered)) (map-map _ _ _) (IsPermutation-map (λ (o : Output). o.1) _ _ seen.same)) in
+      let own = own_edit tree old.now.schema Enforced is.childless at table is.has.stands refl old.now.trees d.next _ d.written in
+      let left : new.now.trees tree ≡ rows = ap (λ (db : Database). db.trees tree) d.is ∙ own.2 ∙ own.1.rows ∙ taken p rows d.rows stored.apart stored.ints read ∙ all_pass rows in
+      turned (λ l. l) rows (ap (λ (db : Database). db.schema) d.is) left stored refl
       (λ place t stands apart alone. ap (λ (db : Database). db.trees t.tree) d.is ∙ others_keep t.tree old.now.schema Enforced alone place t stands refl old.now.trees d.next _ (λ same. apart (sym same)) d.written)
       w.sound
 
@@ -200,6 +222,7 @@ module _ (ours : Ours) (old new : State) (at tree : ℕ) (has : HasTable ours ol
     pub fresh : are_fresh rows news ≡ true
     pub left : new.now.trees tree ≡ put_all rows news
     pub others : Others
+    pub spared : KeepsOthers tree old.now new.now
     pub sound : IsDatabase new.now
 
   pub inserts : (text : List ℕ) (params : Row) (terms : List Term) (width : ℕ) (sources : List Row) (count : ℕ)
@@ -221,6 +244,7 @@ module _ (ours : Ours) (old new : State) (at tree : ℕ) (has : HasTable ours ol
         fresh = own.1.fresh;
         left = ap (λ (db : Database). db.trees tree) d.is ∙ own.2 ∙ own.1.rows;
         others = λ place t stands apart alone. ap (λ (db : Database). db.trees t.tree) d.is ∙ others_keep t.tree old.now.schema Enforced alone place t stands refl old.now.trees d.next _ (λ same. apart (sym same)) written;
+        spared = subst (KeepsOthers tree old.now) (sym d.is) (inserts_keep old.now.schema Enforced old.now.trees d.next table (numbered Chosen rows sources) written);
         sound = w.sound;
       }
 
@@ -228,16 +252,17 @@ module _ (ours : Ours) (old new : State) (at tree : ℕ) (has : HasTable ours ol
       → Means old.now.schema text (Insert at (Values terms width))
       → value_rows (stamped (table_of ours.form tree) params) width (length terms / width) terms ≡ source ∷ []
       → cast_row (table_of ours.form tree) source ≡ source
-      → with_rowid Chosen rows source ≡ ours.stored id row → rowid (ours.stored id row) ≡ Int id → ours.says (ours.stored id row) ≡ row
+      → with_rowid Chosen rows source ≡ ours.stored id row → rowid (ours.stored id row) ≡ Int id → ours.fits id ≡ true → ours.says (ours.stored id row) ≡ row
       → HaveNot (row_key row) (told ours rows)
       → Executes text params old new (Ok count) → Turns ours (put_row row) old.now new.now at tree
-  puts row text params terms width source id count means shows stays made keyed says none h =
+  puts row text params terms width source id count means shows stays made keyed fits says none h =
       let stored = has.stored in
       let x = ours.stored id row in
       let it = subst (λ (r : Row). Inserts (r ∷ [])) made (inserts text params terms width (source ∷ []) count means shows (ap (λ (r : Row). r ∷ []) stays) h) in
       let ids = other_ids x rows (fresh_alone rows x it.fresh) in
       let same = IsPermutation-sym _ _ (tree-permutes x rows ids) in
       let int : is_int (rowid x) ≡ true = ap is_int keyed in
+      let fit : ours.fits (id_in (rowid x)) ≡ true = ap (λ v. ours.fits (id_in v)) keyed ∙ fits in
       let typed : IsTyped ours x = ap₂ ours.stored (sym (ap id_in keyed)) (sym says) in
       let free : AllByRecursion (λ r. HaveOtherKeys (ours.says x) (ours.says r)) rows =
       all_unmap (λ other. HaveOtherKeys (ours.says x) other) ours.says rows
@@ -245,6 +270,7 @@ module _ (ours : Ours) (old new : State) (at tree : ℕ) (has : HasTable ours ol
       turned (put_row row) (put_stored x rows) it.schema it.left
       (record {
         ints = all-put_row _ x rows int stored.ints;
+        fit = all-put_row _ x rows fit stored.fit;
         apart = pairs-permute HaveOtherRowids other_rowids (x ∷ rows) (put_stored x rows) same (ids, stored.apart);
         typed = all-put_row _ x rows typed stored.typed;
         keys = pairs-permute _ (other_keys ours) (x ∷ rows) (put_stored x rows) same (free, stored.keys);

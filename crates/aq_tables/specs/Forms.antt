@@ -1,4 +1,4 @@
--- The four tables: what the CREATE of each defines, but for its tree.
+-- The tables of an office of any version: what the CREATE of each defines, but for its tree.
 use Rattle.std.specs.Prelude.{ℕ, Bool, true, false, if◌then◌else◌, List, [], ◌∷◌, map, Option, Some, None, is_some, codes}
 use Rattle.sqlite.specs.Collation.TheVariants.{Binary}
 use Rattle.sqlite.specs.declared.types.Value.TheVariants.{Null}
@@ -84,4 +84,15 @@ second_form = record {
   primary = 1 ∷ 2 ∷ 3 ∷ 4 ∷ [];
   uniques = (1 ∷ 2 ∷ 3 ∷ 4 ∷ []) ∷ [];
   orders = plain ∷ [];
+}
+
+abbrev pub third_form : Form
+third_form = record {
+  name = codes "observations3";
+  columns = column_of (codes "id") Integer false ∷ column_of (codes "value") Integer false ∷ column_of (codes "method") Integer false
+      ∷ column_of (codes "nullcode") Text true ∷ column_of (codes "quals") Text true ∷ [];
+  key = Some 0;
+  primary = 0 ∷ [];
+  uniques = [];
+  orders = [];
 }

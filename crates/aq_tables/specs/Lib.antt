@@ -1,3 +1,4 @@
+pub mod Number
 pub mod Forms
 pub mod Texts
 pub mod Standing
@@ -8,4 +9,5 @@ pub mod All
 pub mod Batch
 pub mod Crash
 pub mod Made
+pub mod Moves
 pub mod Sixteen

@@ -7,8 +7,8 @@ use Rattle.sqlite.specs.Listing.{understood, reads_listing}
 use Rattle.sqlite_resolve.specs.declared.compiled.Compiled.{Compiled}
 use Rattle.aq_rules.specs.Kept.Rows as the_rows
 use Rattle.aq_tables.specs.declared.reading.Table.{Table}
-use Rattle.aq_tables.specs.declared.reading.Table.TheVariants.{Records, Observations, Loads, Second}
-use Rattle.aq_tables.specs.Told.{record_shown, observation_shown, load_shown, second_shown}
+use Rattle.aq_tables.specs.declared.reading.Table.TheVariants.{Records, Observations, Loads, Second, Third}
+use Rattle.aq_tables.specs.Told.{record_shown, observation_shown, load_shown, second_shown, third_shown}
 
 -- it returns no rows of a write, and does not read the time
 abbrev pub IsBareText : List ℕ → Type 0
@@ -24,6 +24,7 @@ shown_by Records r = record_shown r
 shown_by Observations r = observation_shown r
 shown_by Loads r = load_shown r
 shown_by Second r = second_shown r
+shown_by Third r = third_shown r
 
 -- all rows that a text shows were added to those that were there
 abbrev pub Takes : (Row → the_rows.Row) → List ℕ → Database → List the_rows.Row → List the_rows.Row → Type 0

@@ -1,5 +1,5 @@
 -- A table of ours that stands in a database, whatever else the database has.
-use Rattle.std.specs.Prelude.{◌≡◌, ◌^◌, ◌==◌, nat_le, ℕ, ℤ, true, false, List, [], slice_get, find, Some}
+use Rattle.std.specs.Prelude.{◌≡◌, ◌^◌, ◌==◌, nat_le, ℕ, ℤ, Bool, true, false, List, [], slice_get, find, Some}
 use Rattle.std.specs.List.{AllByRecursion}
 use Rattle.std.specs.Ordering.{is_eq}
 use Rattle.sqlite.specs.Order.{Row}
@@ -16,11 +16,12 @@ use Rattle.aq_rules.specs.Kept.Rows as the_rows
 use Rattle.aq_rules.specs.Kept.RowChanges.{row_key, is_same_row_key}
 use Rattle.aq_tables.specs.Forms.{Form, table_of}
 
--- a table of ours: its form, what a stored row says, and how a row is stored under a rowid
+-- a table of ours: its form, what a stored row says, how a row is stored under a rowid, and which rowids it may have
 pub record Ours : Type 0 where
   pub form : Form
   pub says : Row → the_rows.Row
   pub stored : ℤ → the_rows.Row → Row
+  pub fits : ℤ → Bool
 
 -- the table that a name stands for
 pub record Has (schema : Schema) (name : List ℕ) (at : ℕ) (table : Table) : Type 0 where
@@ -50,6 +51,7 @@ HaveOtherKeys a b = is_same_row_key (row_key a) (row_key b) ≡ false
 -- The rows of a tree, in any order: no two have one rowid, or say rows with one key, and each is the stored form of what it says.
 pub record IsStored (ours : Ours) (rows : List Row) : Type 0 where
   pub ints : AllByRecursion (λ r. is_int (rowid r) ≡ true) rows
+  pub fit : AllByRecursion (λ r. ours.fits (id_in (rowid r)) ≡ true) rows
   pub apart : IsAscending HaveOtherRowids rows
   pub typed : AllByRecursion (λ r. r ≡ ours.stored (id_in (rowid r)) (ours.says r)) rows
   pub keys : IsAscending (λ a b. HaveOtherKeys (ours.says a) (ours.says b)) rows

@@ -1,5 +1,5 @@
 -- What the tables say, as the book's rows in the order of their keys, and what a statement does to that.
-use Rattle.std.specs.Prelude.{◌≡◌, ◌≢◌, ℕ, ℤ, false, List, [], ◌∷◌, ◌++◌, map, slice_get, Some, IsTrue, Option, None, Ok}
+use Rattle.std.specs.Prelude.{◌≡◌, ◌≢◌, ℕ, ℤ, Bool, true, false, List, [], ◌∷◌, ◌++◌, map, slice_get, Some, IsTrue, Option, None, Ok}
 use Rattle.std.specs.List.{AllByRecursion}
 use Rattle.sqlite.specs.declared.types.Value.{Value}
 use Rattle.sqlite.specs.declared.types.Value.TheVariants.{Null, Int, Real, Text, Blob}
@@ -8,14 +8,16 @@ use Rattle.sqlite.specs.Table.{Table}
 use Rattle.sqlite.specs.Effect.{Database, IsDatabase}
 use Rattle.sqlite.specs.State.{State, ExecutesInside}
 use Rattle.sqlite_value.specs.Order.{column, bytes}
+use Rattle.sqlite_sql.specs.Numeral.{fits_i64}
 use Rattle.sqlite_rules.specs.Edit.{id_in}
 use Rattle.aq_rules.specs.Kept.Rows as the_rows
 use Rattle.aq_rules.specs.Kept.Rows.{OfficeRow, ObsRow, ObsRow2, LoadRow, OfOfficeRow, OfObsRow, OfLoadRow, OfSecondRow}
-use Rattle.aq_rules.specs.Kept.RowChanges.{RowKey, OfficeRowKey, ObsRowKey, LoadRowKey, SecondRowKey, row_key, is_same_row_key, put_row, drop_row}
-use Rattle.aq_tables.specs.Forms.{records_form, observations_form, loads_form, second_form}
+use Rattle.aq_rules.specs.Kept.RowChanges.{RowKey, OfficeRowKey, ObsRowKey, LoadRowKey, SecondRowKey, row_key, is_same_row_key, put_row}
+use Rattle.aq_tables.specs.Number.{number_at, site_in, pollutant_in, poc_in, hour_in}
+use Rattle.aq_tables.specs.Forms.{records_form, observations_form, loads_form, second_form, third_form}
 use Rattle.aq_tables.specs.Standing.{Ours, HasTable, IsChildless}
 use Rattle.aq_tables.specs.declared.reading.Table.{Table as Which}
-use Rattle.aq_tables.specs.declared.reading.Table.TheVariants.{Records, Observations, Loads, Second}
+use Rattle.aq_tables.specs.declared.reading.Table.TheVariants.{Records, Observations, Loads, Second, Third}
 
 -- rows in the order of their keys: each is put into those that follow
 abbrev pub in_order : List the_rows.Row → List the_rows.Row
@@ -30,35 +32,32 @@ told ours rows = in_order (map ours.says rows)
 abbrev pub HaveNot : RowKey → List the_rows.Row → Type 0
 HaveNot key rows = AllByRecursion (λ (row : the_rows.Row). is_same_row_key (row_key row) key ≡ false) rows
 
--- What a statement does to a table: it says other rows, and each other table without foreign keys has the rows that it had.
+-- What a statement does to a table: it says other rows, and each other table without foreign keys has the rows that it had; if the database obeyed its schema, it does.
 pub record Turns (ours : Ours) (change : List the_rows.Row → List the_rows.Row) (old new : Database) (at tree : ℕ) : Type 0 where
   pub schema : new.schema ≡ old.schema
   pub has : HasTable ours new at tree
   pub told_is : told ours (new.trees tree) ≡ change (told ours (old.trees tree))
   pub others : (place : ℕ) (t : Table) → slice_get old.schema.tables place ≡ Some t → t.tree ≢ tree → AllByRecursion (IsChildless t.tree) old.schema.tables → new.trees t.tree ≡ old.trees t.tree
-  pub sound : IsDatabase new
+  pub sound : IsDatabase old → IsDatabase new
 
 -- a statement ran within the transaction
 abbrev pub Runs : List ℕ → Row → State → State → Type 0
 Runs text params old new = (count : ℕ) × ExecutesInside 0 text params old new (Ok count)
 
--- within the transaction, if the table stands and its rows allow it
-pub record Makes (ours : Ours) (Allows : List the_rows.Row → Type 0) (change : List the_rows.Row → List the_rows.Row) (old new : State) : Type 0 where
+-- a row is put within the transaction, if the table stands and none has its key
+pub record Puts (ours : Ours) (row : the_rows.Row) (old new : State) : Type 0 where
   pub was_open : IsTrue old.is_open
   pub mode : IsTrue new.in_transaction
   pub committed : new.committed ≡ old.committed
-  pub turns : (at tree : ℕ) → HasTable ours old.now at tree → Allows (told ours (old.now.trees tree)) → Turns ours change old.now new.now at tree
-
-abbrev pub Drops : Ours → RowKey → State → State → Type 0
-Drops ours key = Makes ours (λ _. Unit {0}) (drop_row key)
-
--- a row is put where none has its key
-abbrev pub Puts : Ours → the_rows.Row → State → State → Type 0
-Puts ours row = Makes ours (HaveNot (row_key row)) (put_row row)
+  pub turns : (at tree : ℕ) → HasTable ours old.now at tree → HaveNot (row_key row) (told ours (old.now.trees tree)) → Turns ours (put_row row) old.now new.now at tree
 
 -- rows were read after those that were there: all that the table says, in its order
 abbrev pub Reads : Ours → Database → List the_rows.Row → List the_rows.Row → Type 0
 Reads ours db before after = (at tree : ℕ) → HasTable ours db at tree → after ≡ before ++ told ours (db.trees tree)
+
+-- any rowid
+abbrev pub any_rowid : ℤ → Bool
+any_rowid id = true
 
 -- ---- records
 
@@ -81,7 +80,7 @@ abbrev pub record_values : OfficeRow → Row
 record_values row = Int row.kind ∷ Text row.key ∷ Text row.line ∷ []
 
 abbrev pub records : Ours
-records = record { form = records_form; says = record_said; stored = stored_record }
+records = record { form = records_form; says = record_said; stored = stored_record; fits = any_rowid }
 
 -- ---- a number that may be missing
 
@@ -115,7 +114,7 @@ abbrev pub observation_values : ObsRow → Row
 observation_values row = Int row.site ∷ Int row.pollutant ∷ Int row.poc ∷ Int row.hour ∷ cell row.value ∷ Text row.null ∷ Text row.quals ∷ []
 
 abbrev pub observations : Ours
-observations = record { form = observations_form; says = observation_said; stored = stored_observation }
+observations = record { form = observations_form; says = observation_said; stored = stored_observation; fits = any_rowid }
 
 -- ---- observations2
 
@@ -132,11 +131,39 @@ abbrev pub stored_second : ℤ → the_rows.Row → Row
 stored_second id (OfSecondRow row) = second_stored id row
 stored_second id row = []
 
-abbrev pub second_values : ObsRow2 → Row
-second_values row = Int row.site ∷ Int row.pollutant ∷ Int row.poc ∷ Int row.hour ∷ cell row.value ∷ cell row.method ∷ Text row.null ∷ Text row.quals ∷ []
-
 abbrev pub second : Ours
-second = record { form = second_form; says = second_said; stored = stored_second }
+second = record { form = second_form; says = second_said; stored = stored_second; fits = any_rowid }
+
+-- ---- observations3
+
+-- what a row of `observations3` says, whose rowid is the number of its key, and what an answer shows
+abbrev pub observation_with : ℤ → Option ℤ → Option ℤ → List ℕ → List ℕ → ObsRow2
+observation_with number value method null quals = record { site = site_in number; pollutant = pollutant_in number; poc = poc_in number; hour = hour_in number; value = value; method = method; null = null; quals = quals }
+
+abbrev pub third_said : Row → the_rows.Row
+third_said r = OfSecondRow (observation_with (id_in (column r 0)) (optional (column r 2)) (optional (column r 3)) (bytes (column r 4)) (bytes (column r 5)))
+
+abbrev pub third_shown : Row → the_rows.Row
+third_shown r = OfSecondRow (observation_with (id_in (column r 0)) (optional (column r 1)) (optional (column r 2)) (bytes (column r 3)) (bytes (column r 4)))
+
+-- the column that is the rowid stands as Null
+abbrev pub third_stored : ℤ → ObsRow2 → Row
+third_stored id row = Int id ∷ Null ∷ cell row.value ∷ cell row.method ∷ Text row.null ∷ Text row.quals ∷ []
+
+abbrev pub stored_third : ℤ → the_rows.Row → Row
+stored_third id (OfSecondRow row) = third_stored id row
+stored_third id row = []
+
+-- the number of an observation's key, if it has one
+abbrev pub number_of : ObsRow2 → Option ℤ
+number_of row = number_at row.site row.pollutant row.poc row.hour
+
+-- as the statement takes it; it is not put if its key has no number
+abbrev pub third_values : ObsRow2 → Row
+third_values row = cell (number_of row) ∷ cell row.value ∷ cell row.method ∷ Text row.null ∷ Text row.quals ∷ []
+
+abbrev pub third : Ours
+third = record { form = third_form; says = third_said; stored = stored_third; fits = fits_i64 }
 
 -- ---- loads
 
@@ -160,15 +187,16 @@ abbrev pub load_values : LoadRow → Row
 load_values row = Int row.number ∷ Blob row.digest ∷ Int row.lines ∷ Int row.accepted ∷ Text row.listed ∷ Text row.rest ∷ []
 
 abbrev pub loads : Ours
-loads = record { form = loads_form; says = load_said; stored = stored_load }
+loads = record { form = loads_form; says = load_said; stored = stored_load; fits = any_rowid }
 
--- ---- the four tables
+-- ---- the tables
 
 abbrev pub ours_of : Which → Ours
 ours_of Records = records
 ours_of Observations = observations
 ours_of Loads = loads
 ours_of Second = second
+ours_of Third = third
 
 -- the same of each of them
 pub record OfEach (Holds : Which → Type 0) : Type 0 where
@@ -176,22 +204,17 @@ pub record OfEach (Holds : Which → Type 0) : Type 0 where
   pub of_observations : Holds Observations
   pub of_loads : Holds Loads
   pub of_second : Holds Second
+  pub of_third : Holds Third
 
--- the table of a key, and the key as a statement takes it
-abbrev pub which_of : RowKey → Which
-which_of (OfficeRowKey kind key) = Records
-which_of (ObsRowKey site pollutant poc hour) = Observations
-which_of (LoadRowKey number) = Loads
-which_of (SecondRowKey site pollutant poc hour) = Second
-
+-- the key as a statement takes it: NULL, which no row has, for one without a number
 abbrev pub key_values : RowKey → Row
 key_values (OfficeRowKey kind key) = Int kind ∷ Text key ∷ []
 key_values (ObsRowKey site pollutant poc hour) = Int site ∷ Int pollutant ∷ Int poc ∷ Int hour ∷ []
 key_values (LoadRowKey number) = Int number ∷ []
-key_values (SecondRowKey site pollutant poc hour) = Int site ∷ Int pollutant ∷ Int poc ∷ Int hour ∷ []
+key_values (SecondRowKey site pollutant poc hour) = cell (number_at site pollutant poc hour) ∷ []
 
 abbrev pub row_values : the_rows.Row → Row
 row_values (OfOfficeRow row) = record_values row
 row_values (OfObsRow row) = observation_values row
 row_values (OfLoadRow row) = load_values row
-row_values (OfSecondRow row) = second_values row
+row_values (OfSecondRow row) = third_values row

@@ -1,13 +1,17 @@
-//! The four tables in a database of `sqlite`: what they are, the statements that read and change them,
-//! and what these mean for the rows that are told, over any store and whatever else the database has.
+//! The tables of an office in a database of `sqlite`: what they are, the statements that read and change
+//! them, and what these mean for the rows that are told, over any store and whatever else the database
+//! has.
 //!
 //! # What it has
 //!
-//! - `prepare(conn)`: looks whether each table that stands is ours, and makes those that are missing.
+//! - `prepare(conn, alloc)`: looks whether the tables that stand are those of an office, makes them in a
+//!   database of nobody, and moves observations into `observations3` that an earlier program kept in
+//!   `observations2`.
 //! - `commit(conn, batch)`: makes the changes of a batch in one transaction.
 //! - `read_all(conn, alloc)`: all rows, in the order of tables and keys.
-//! - In `specs/`: the tables, the rows that a database tells (`rows_of`), what a batch makes of them
-//!   (`Becomes`), and the words for what a crash leaves (`Survives`, `Leaves`, `IsMade`).
+//! - In `specs/`: the tables, the number under which an observation stands (`number_at`), the rows that a
+//!   database tells (`rows_of`), what a batch makes of them (`Becomes`), and the words for what a crash
+//!   leaves (`Survives`, `Leaves`, `IsMade`).
 //!
 //! # What it promises
 //!
@@ -17,18 +21,26 @@
 //! - A batch is made in one transaction: after `Ok` the tables are those with the batch and a crash
 //!   leaves nothing else; after an error they are as before while the connection is open, and a crash
 //!   leaves what it could leave before or the tables with the batch (`commit`).
+//! - An observation whose key has no number is not put: the batch is refused. To drop such a key is
+//!   `Ok` and changes nothing.
+//! - Which keys have a number is a law (`keys_that_have_a_number`). A key is that of its number
+//!   (`keys_are_those_of_their_numbers`), and a number that of its key
+//!   (`numbers_are_those_of_their_keys`).
 //! - All rows are read as they were committed, and nothing changes (`read_all`).
-//! - `prepare` looks first: it goes on only if each table that stands is as its statement makes it and
-//!   no two of its rows have one rowid. Then it makes the missing ones in one transaction, as the last
-//!   thing that it does. It changes no row, and leaves a database as it is that has tables but none of
-//!   these, or one of these in another form.
+//! - `prepare` looks first: it goes on only if the tables that stand are those of an office, each as its
+//!   statement makes it, or if there is none, and no two rows of one have one rowid. What it makes and
+//!   moves it commits in one transaction, as the last thing that it does, and the rows that are told are
+//!   the same before and after. After an error nothing was committed. It leaves a database as it is that
+//!   has some of the tables and not all, one of them in another form, or tables and none of these.
+//! - Other tables stand after `prepare` as before, with their indexes, and so do views (`LeavesOthers`).
+//!   They keep their rows, but for those that a foreign key's action takes out with `observations2`.
 //! - A transaction that is open already is refused by each call, and none is left open.
 //!
 //! # An example
 //!
 //! ```rust
 //! let mut conn = Connection::open_in_memory(alloc)?;
-//! prepare(&mut conn)?;
+//! prepare(&mut conn, alloc)?;
 //! commit(&mut conn, &[RowChange::put(Row::load(row))])?;
 //! let rows = read_all(&mut conn, alloc)?;
 //! ```
@@ -40,14 +52,19 @@ mod binding;
 mod forms;
 mod loads;
 mod missing;
+mod moving;
+mod number;
 mod observations;
 mod preparing;
 mod reading;
 mod records;
 mod rowids;
-mod second;
 mod sixteen;
+mod third;
 
 pub use all::read_all;
 pub use batch::commit;
+pub use number::{
+    keys_are_those_of_their_numbers, keys_that_have_a_number, numbers_are_those_of_their_keys,
+};
 pub use preparing::prepare;

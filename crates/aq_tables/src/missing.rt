@@ -1,8 +1,8 @@
-//! Which of the tables are missing.
-ghost use Rattle.std.specs.Prelude.{◌≡◌, ◌&&◌, ◌||◌, true, false, is_some, IsTrue, IfOk, OnOk};
+//! Which of the tables are missing, and whose database that is.
+ghost use Rattle.std.specs.Prelude.{◌≡◌, ◌&&◌, not, true, false, is_some, IsTrue, IfOk, OnOk};
 ghost use Rattle.std.specs.List.{list_any};
-ghost use Rattle.aq_tables.specs.Forms.{column_in, column_of, loads_form, observations_form, records_form, second_form};
-ghost use Rattle.aq_tables.specs.Made.{AreMissing, IsMissing, has_tables, is_ours};
+ghost use Rattle.aq_tables.specs.Forms.{column_in, column_of, loads_form, observations_form, records_form, second_form, third_form};
+ghost use Rattle.aq_tables.specs.Made.{AreMissing, IsMissing, has_tables, has_view, is_whole};
 
 use crate::forms::{ColumnForm, TableForm, is_missing};
 use sqlite::{Error, ErrorCode};
@@ -15,6 +15,7 @@ pub(crate) struct Missing {
     pub(crate) observations: bool,
     pub(crate) loads: bool,
     pub(crate) second: bool,
+    pub(crate) third: bool,
 }
 
 /// A column that is NOT NULL.
@@ -119,6 +120,25 @@ fn are_second_missing(schema: &Schema) -> Result<bool, Error>
     is_missing(schema, &form)
 }
 
+fn are_third_missing(schema: &Schema) -> Result<bool, Error>
+    ensures { IfOk result (λ missing. IsMissing missing schema.now third_form) }
+{
+    let columns = [
+        optional("id", Kind::Integer),
+        optional("value", Kind::Integer),
+        optional("method", Kind::Integer),
+        required("nullcode", Kind::Text),
+        required("quals", Kind::Text),
+    ];
+    let form = TableForm {
+        name: "observations3",
+        columns: &columns,
+        key: Some(0),
+        primary: &[0],
+    };
+    is_missing(schema, &form)
+}
+
 /// Whether one of these is a table that is kept aside, or belongs to one.
 fn is_any_aside(views: &[View]) -> bool
     ensures { result ≡ list_any (λ v. is_some v.foreign) views.now }
@@ -132,20 +152,11 @@ fn has_tables(schema: &Schema) -> bool
     schema.tables.len() != 0 || is_any_aside(schema.views.as_slice())
 }
 
-impl Missing {
-    ghost use Rattle.std.specs.Prelude.{◌≡◌, ◌&&◌, ◌||◌};
-
-    fn are_all(&self) -> bool
-        ensures { result ≡ (self.now.records && self.now.observations && self.now.loads && self.now.second) }
-    {
-        self.records && self.observations && self.loads && self.second
-    }
-
-    pub(crate) fn is_any(&self) -> bool
-        ensures { result ≡ (self.now.records || self.now.observations || self.now.loads || self.now.second) }
-    {
-        self.records || self.observations || self.loads || self.second
-    }
+/// Whether a view has the name that the table of before had.
+fn has_view(schema: &Schema) -> bool
+    ensures { result ≡ has_view schema.now }
+{
+    schema.view_named(b"observations2".as_slice()).is_some()
 }
 
 fn each_missing(schema: &Schema) -> Result<Missing, Error>
@@ -156,24 +167,49 @@ fn each_missing(schema: &Schema) -> Result<Missing, Error>
         observations: are_observations_missing(schema)?,
         loads: are_loads_missing(schema)?,
         second: are_second_missing(schema)?,
+        third: are_third_missing(schema)?,
     })
 }
 
-/// Whether one of the tables stands, or there is no table at all.
-fn are_ours(missing: &Missing, schema: &Schema) -> bool
-    ensures { AreMissing missing.now schema.now → result ≡ is_ours schema.now }
+/// Whether the tables of an earlier program stand, and not that of today.
+fn are_of_before(missing: &Missing) -> bool
+    ensures { result ≡ (not missing.now.records && not missing.now.observations && not missing.now.loads && missing.now.third) }
 {
-    !(missing.are_all() && has_tables(schema))
+    !missing.records && !missing.observations && !missing.loads && missing.third
 }
 
-/// The tables of ours that are missing. It is refused if one that stands has another form, and if the
-/// database has tables but none of ours.
+/// Whether the tables of today stand, and not that of before.
+fn are_of_today(missing: &Missing) -> bool
+    ensures { result ≡ (not missing.now.records && not missing.now.loads && not missing.now.third && missing.now.second) }
+{
+    !missing.records && !missing.loads && !missing.third && missing.second
+}
+
+/// Whether the tables are those of an office, of which none is missing, or of nobody.
+fn are_whole(missing: &Missing, schema: &Schema) -> bool
+    ensures { AreMissing missing.now schema.now → result ≡ is_whole schema.now }
+{
+    if are_of_today(missing) {
+        return true;
+    }
+    // A view that has the name of the table of before is of today alone.
+    if has_view(schema) {
+        return false;
+    }
+    if !has_tables(schema) {
+        return true;
+    }
+    are_of_before(missing)
+}
+
+/// The tables of ours that are missing. It is refused if one that stands has another form, and if they are
+/// neither those of an office nor of nobody: then some are missing, or the database is another program's.
 pub(crate) fn missing_of(schema: &Schema) -> Result<Missing, Error>
     ensures missing { IfOk result (λ missing. AreMissing missing schema.now) }
-    ensures ours { OnOk result (IsTrue (is_ours schema.now)) }
+    ensures whole { OnOk result (IsTrue (is_whole schema.now)) }
 {
     let missing = each_missing(schema)?;
-    if are_ours(&missing, schema) {
+    if are_whole(&missing, schema) {
         Ok(missing)
     } else {
         Err(Error::SqliteFailure(ErrorCode::NotADatabase))

@@ -4,27 +4,29 @@ ghost use Rattle.sqlite.specs.State.{HasCleanDisk, IsUnchanged, KeepsCommit, Sur
 ghost use Rattle.sqlite.specs.Held.{state};
 ghost use Rattle.sqlite_value.specs.Order.{column, bytes};
 ghost use Rattle.aq_tables.specs.Queries.{IsBareText, Takes, shown_by};
-ghost use Rattle.aq_tables.specs.Texts.{statements};
-ghost use Rattle.aq_tables.specs.Told.{Reads, load_shown, observation_shown, optional, ours_of, record_shown, second_shown};
+ghost use Rattle.aq_tables.specs.Texts.{read_text};
+ghost use Rattle.aq_tables.specs.Told.{Reads, load_shown, observation_shown, optional, ours_of, record_shown, second_shown, third_shown};
 
+use crate::number::{hour_of, poc_of, pollutant_of, site_of};
 use aq_base::Bytes;
 use aq_keeper::{LoadRow, ObsRow, ObsRow2, OfficeRow, Row};
 use sqlite::types::{Type, ValueRef};
 use sqlite::{Alter, Connection, Error, ErrorCode, Row as Columns};
 use std::alloc::Global;
 
-/// A table of the four.
+/// A table of an office of any version.
 #[derive(Clone, Copy)]
 pub(crate) enum Table {
     Records,
     Observations,
     Loads,
     Second,
+    Third,
 }
 
 /// All rows in the order of their keys, as a query.
 fn query_of(table: Table) -> &'static str
-    ensures { result.now ≡ (statements table).read }
+    ensures { result.now ≡ read_text table }
 {
     match table {
         Table::Records => "SELECT kind, rowkey, line FROM records ORDER BY kind, rowkey",
@@ -34,6 +36,7 @@ fn query_of(table: Table) -> &'static str
             "SELECT number, digest, lines, accepted, listed, rest FROM loads ORDER BY number",
         Table::Second =>
             "SELECT site, pollutant, poc, hour, value, method, nullcode, quals FROM observations2 ORDER BY site, pollutant, poc, hour",
+        Table::Third => "SELECT id, value, method, nullcode, quals FROM observations3 ORDER BY id",
     }
 }
 
@@ -111,7 +114,7 @@ fn observation_in(columns: &Columns, alloc: Global) -> Result<Row, Error>
     }))
 }
 
-/// The observation that the columns of an answer show.
+/// The observation that the columns of an answer from the table of before show.
 fn second_in(columns: &Columns, alloc: Global) -> Result<Row, Error>
     ensures { IfOk result (λ row. row ≡ second_shown columns.now) }
 {
@@ -127,6 +130,23 @@ fn second_in(columns: &Columns, alloc: Global) -> Result<Row, Error>
     }))
 }
 
+/// The observation that the columns of an answer show.
+fn third_in(columns: &Columns, alloc: Global) -> Result<Row, Error>
+    ensures { IfOk result (λ row. row ≡ third_shown columns.now) }
+{
+    let number: i64 = columns.get(0)?;
+    Ok(Row::second(ObsRow2 {
+        site: site_of(&number),
+        pollutant: pollutant_of(&number),
+        poc: poc_of(&number),
+        hour: hour_of(&number),
+        value: optional_at(columns, 1)?,
+        method: optional_at(columns, 2)?,
+        null: text_at(columns, 3, alloc)?,
+        quals: text_at(columns, 4, alloc)?,
+    }))
+}
+
 fn row_in(table: Table, columns: &Columns, alloc: Global) -> Result<Row, Error>
     ensures { IfOk result (λ row. row ≡ shown_by table columns.now) }
 {
@@ -135,6 +155,7 @@ fn row_in(table: Table, columns: &Columns, alloc: Global) -> Result<Row, Error>
         Table::Observations => observation_in(columns, alloc),
         Table::Loads => load_in(columns, alloc),
         Table::Second => second_in(columns, alloc),
+        Table::Third => third_in(columns, alloc),
     }
 }
 

@@ -1,6 +1,6 @@
 //! Whether no two rows of a table have the same rowid.
 ghost use Rattle.std.specs.Prelude.{◌≡◌, ◌&&◌, true, IfOk, OnOk};
-ghost use Rattle.sqlite.specs.State.{HasCleanDisk, IsUnchanged, Survives};
+ghost use Rattle.sqlite.specs.State.{HasCleanDisk, IsUnchanged, KeepsCommit, Survives};
 ghost use Rattle.sqlite.specs.Held.{state};
 ghost use Rattle.aq_tables.specs.Rowids.{AreApart, ShowsRising, is_after};
 ghost use Rattle.aq_tables.specs.Queries.{IsBareText};
@@ -19,6 +19,7 @@ fn rowids_of(table: Table) -> &'static str
         Table::Observations => "SELECT rowid FROM observations ORDER BY rowid",
         Table::Loads => "SELECT rowid FROM loads ORDER BY rowid",
         Table::Second => "SELECT rowid FROM observations2 ORDER BY rowid",
+        Table::Third => "SELECT rowid FROM observations3 ORDER BY rowid",
     }
 }
 
@@ -37,6 +38,7 @@ fn do_rise<S: Alter>(conn: &mut Connection<S>, text: &str) -> Result<bool, Error
     requires { IsBareText text.now }
     ensures rise { HasCleanDisk (state S.Store conn.new) → IfOk result (λ rise. rise ≡ true → ShowsRising text.now (state S.Store conn.old).now) }
     ensures same { HasCleanDisk (state S.Store conn.new) → OnOk result (IsUnchanged (state S.Store conn.old) (state S.Store conn.new)) }
+    ensures kept { HasCleanDisk (state S.Store conn.new) → KeepsCommit (state S.Store conn.old) (state S.Store conn.new) }
     ensures crash { Survives (state S.Store conn.old) (state S.Store conn.new) (λ _. ⊥) }
 {
     let mut last = None;
@@ -57,6 +59,7 @@ fn do_rise<S: Alter>(conn: &mut Connection<S>, text: &str) -> Result<bool, Error
 pub(crate) fn are_apart<S: Alter>(conn: &mut Connection<S>, table: Table) -> Result<bool, Error>
     ensures apart { HasCleanDisk (state S.Store conn.new) → IfOk result (λ apart. apart ≡ true → AreApart (ours_of table).form (state S.Store conn.old).now) }
     ensures same { HasCleanDisk (state S.Store conn.new) → OnOk result (IsUnchanged (state S.Store conn.old) (state S.Store conn.new)) }
+    ensures kept { HasCleanDisk (state S.Store conn.new) → KeepsCommit (state S.Store conn.old) (state S.Store conn.new) }
     ensures crash { Survives (state S.Store conn.old) (state S.Store conn.new) (λ _. ⊥) }
 {
     do_rise(conn, rowids_of(table))

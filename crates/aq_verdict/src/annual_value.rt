@@ -78,7 +78,7 @@ fn valid_years(years: &[PmYear; 3], level: i32, value: Option<i32>) -> [bool; 3]
     ]
 }
 
-// A capture of 75 in each quarter, or eleven samples in each and a value above the level (own).
+// A capture of 75 in each quarter, or eleven samples in each and a value above the level (own wording of 40 CFR Part 50, Appendix N, 4.1).
 fn is_annual_year(year: &PmYear, level: i32, value: Option<i32>) -> bool
     ensures { result ≡ is_annual_year level value (mean_of of_summaries year.now.quarters) (counts_in of_summaries year.now) }
 {

@@ -86,7 +86,7 @@ fn valid_years(years: &[PmYear; 3], value: Option<i32>) -> [bool; 3]
     ]
 }
 
-// A capture of 75 in each quarter, or one sample and a value above the level (own).
+// A capture of 75 in each quarter, or one sample and a value above the level (own wording of 40 CFR Part 50, Appendix N, 4.2).
 fn is_daily_year(year: &PmYear, value: Option<i32>) -> bool
     ensures { result ≡ is_daily_year value (percentile_of of_summaries year.now) (counts_in of_summaries year.now) }
 {

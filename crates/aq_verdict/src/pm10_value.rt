@@ -56,7 +56,7 @@ pub fn year_estimate(year: &Pm10Year) -> Option<i32>
     )
 }
 
-/// The lower estimate of a year, in tenths (own).
+/// The lower estimate of a year, in tenths (own wording of 40 CFR Part 50, Appendix K, 2.3(c)).
 pub fn year_lower(year: &Pm10Year) -> Option<i32>
     ensures { result ≡ year_of_quarters quarter_lower year.now }
 {
@@ -82,7 +82,7 @@ pub fn quarter_estimate(quarter: &Pm10Quarter) -> Option<i32>
 }
 
 /// The lower estimate of a quarter, in hundredths: its days times the part of its scheduled days that
-/// exceed; 0 if nothing is scheduled (own).
+/// exceed; 0 if nothing is scheduled (own wording of 40 CFR Part 50, Appendix K, 2.3(c)).
 pub fn quarter_lower(quarter: &Pm10Quarter) -> Option<i32>
     ensures { result ≡ quarter_lower quarter.now }
 {
@@ -122,7 +122,7 @@ fn is_complete_quarter(quarter: &Pm10Quarter) -> bool
         && 3 * u32::from(quarter.scheduled()) <= 4 * u32::from(quarter.captured())
 }
 
-// Four exceedances, or a lower estimate above the level (own).
+// Four exceedances, or a lower estimate above the level (own wording of 40 CFR Part 50, Appendix K, 2.3(c)).
 fn is_unambiguous(years: &[Pm10Year; 3]) -> bool
     ensures { result ≡ is_unambiguous years.now }
 {

@@ -1,4 +1,4 @@
--- A pair of combined sites, read as one site: a site, and the one that is joined to it from a day on (own). The rules are those of a site: each is written once, over what it reads (`window_by`, `windows_by`, `year_by`, `credit_by`, `counts_by` and the verdicts), so what stands here is only what the pair reads. One office with the rows of both under one site would not do: monitors of both may have one POC, and an event of one would exclude what the other measured.
+-- A pair of combined sites, read as one site: a site, and the one that is joined to it from a day on (own wording of 40 CFR Part 50, Appendix U, 2(c)). The rules are those of a site: each is written once, over what it reads (`window_by`, `windows_by`, `year_by`, `credit_by`, `counts_by` and the verdicts), so what stands here is only what the pair reads. One office with the rows of both under one site would not do: monitors of both may have one POC, and an event of one would exclude what the other measured.
 use Rattle.std.specs.Prelude.{ℕ, Bool, not, ◌&&◌, ◌||◌, ◌==◌, nat_lt, nat_le, if◌then◌else◌, List, ◌++◌, map, filter, filter_map, Option, None, option_map, option_and_then, is_some, ℤ}
 use Rattle.std.specs.List.{list_any}
 use Rattle.std.specs.Option.{option_or}

@@ -11,7 +11,7 @@ use Rattle.aq_rules.specs.Kept.Rows.{Row, OfOfficeRow, OfObsRow, OfLoadRow, OfSe
 
 -- the tables' names, by number from 0
 abbrev pub table_names : List (List ℕ)
-table_names = codes "records" ∷ codes "observations" ∷ codes "loads" ∷ codes "observations2" ∷ []
+table_names = codes "records" ∷ codes "observations" ∷ codes "loads" ∷ codes "observations3" ∷ []
 
 abbrev pub table_name : ℕ → List ℕ
 table_name table = get_or table_names table []

@@ -15,7 +15,7 @@ days_of year = range_with_len (year_first year) (days_in_year year)
 unfoldable pub ozone_days : Office → Site → ℕ → List OzoneDay
 ozone_days office site year = map (ozone_day office site) (days_of year)
 
--- a valid day's maximum is ranked, in season or not (own). A valid day without a maximum is not ranked
+-- a valid day's maximum is ranked, in season or not (own wording of 40 CFR Part 50, Appendix U, 3(c)). A valid day without a maximum is not ranked
 abbrev pub ranked_maximum : OzoneDay → Option ℤ
 ranked_maximum day = if day.valid then day.maximum else None
 

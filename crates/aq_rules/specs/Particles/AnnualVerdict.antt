@@ -1,4 +1,4 @@
--- The verdict on an annual PM2.5 standard (40 CFR Part 50, Appendix N, 4.1). The conditions of a valid year and the tests are (own).
+-- The verdict on an annual PM2.5 standard (40 CFR Part 50, Appendix N, 4.1). The conditions of a valid year and the tests stand in this project's own words.
 use Rattle.std.specs.Prelude.{ℕ, Bool, ◌&&◌, ◌||◌, nat_le, if◌then◌else◌, List, [], map, flat_map, Option, Some, None, option_map, option_and_then, ℤ, int_lt}
 use Rattle.std.specs.List.{list_all}
 use Rattle.aq_base.specs.Site.{Site}

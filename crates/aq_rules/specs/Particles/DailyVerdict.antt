@@ -1,4 +1,4 @@
--- The verdict on the 24-hour PM2.5 standard of 35 µg/m3 (40 CFR Part 50, Appendix N, 4.2). The conditions of a valid year and the test are (own).
+-- The verdict on the 24-hour PM2.5 standard of 35 µg/m3 (40 CFR Part 50, Appendix N, 4.2). The conditions of a valid year and the test stand in this project's own words.
 use Rattle.std.specs.Prelude.{ℕ, Bool, ◌&&◌, ◌||◌, nat_le, if◌then◌else◌, List, [], ◌∷◌, map, flat_map, sum_by, Option, Some, None, option_map, option_and_then, ℤ, pos, int_lt}
 use Rattle.aq_base.specs.Decimal.{half_up}
 use Rattle.aq_base.specs.Site.{Site}

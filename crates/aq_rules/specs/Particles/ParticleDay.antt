@@ -37,7 +37,7 @@ cell_of office monitor duration day entry =
     then option_map (λ value. record { value = value; excluded = excluded office.records entry.0 entry.1.quals }) entry.1.value
     else None
 
--- 18 hours or more make a day: their mean, truncated (own)
+-- 18 hours or more make a day: their mean, truncated (own wording of 40 CFR Part 50, Appendix N, 3.0)
 abbrev pub mean_of_hours : ℕ → ℤ → Option ℤ
 mean_of_hours count sum = if nat_le 18 count then Some (truncated sum (pos count)) else None
 
@@ -45,7 +45,7 @@ mean_of_hours count sum = if nat_le 18 count then Some (truncated sum (pos count
 abbrev pub LEAST_HIGH_MEAN : ℤ
 LEAST_HIGH_MEAN = (pos 10 *ℤ level_of Daily2006) +ℤ pos 5
 
--- and for PM2.5 fewer also do if their sum over 24, zero for the missing ones, is 35.5 or more (own)
+-- and for PM2.5 fewer also do if their sum over 24, zero for the missing ones, is 35.5 or more (own wording of 40 CFR Part 50, Appendix N, 3.0)
 abbrev pub mean_or_high_sum : ℕ → ℤ → Option ℤ
 mean_or_high_sum count sum =
     if nat_le 18 count then Some (truncated sum (pos count))

@@ -84,7 +84,7 @@ quarter_estimate q =
     if q.strata == 0 then None
     else Some (half_up (pos (100 * q.calendar_days * q.sixtieths)) (pos (60 * q.strata)))
 
--- the lower estimate of a quarter, in hundredths: its days times the exceedances on scheduled days that are not excluded, over the scheduled days; 0 if nothing is scheduled (own)
+-- the lower estimate of a quarter, in hundredths: its days times the exceedances on scheduled days that are not excluded, over the scheduled days; 0 if nothing is scheduled (own wording of 40 CFR Part 50, Appendix K, 2.3(c))
 abbrev pub quarter_lower : Pm10Quarter → Option ℤ
 quarter_lower q =
     if q.scheduled == 0 then Some (pos 0)

@@ -19,7 +19,7 @@ is_complete_year quarters = list_all is_complete_quarter quarters
 abbrev pub exceedances_in : List Pm10Quarter → ℕ
 exceedances_in quarters = sum_by (λ (q : Pm10Quarter). q.exceedances) quarters
 
--- unambiguous, complete or not: four exceedances, or a lower estimate above 1.0 (own)
+-- unambiguous, complete or not: four exceedances, or a lower estimate above 1.0 (own wording of 40 CFR Part 50, Appendix K, 2.3(c))
 abbrev pub is_unambiguous : List (List Pm10Quarter) → Bool
 is_unambiguous years = nat_le 4 (sum_by exceedances_in years) || is_above (level_of Pm10Of1987) (mean_of_years quarter_lower years)
 

@@ -1,4 +1,4 @@
--- The substitution tests for incomplete PM2.5 quarters (40 CFR Part 50, Appendix N, 4.1(c) and 4.2(c)): the list of such a quarter gets copies of one value, and the design value is worked out again. The counts and thresholds are (own).
+-- The substitution tests for incomplete PM2.5 quarters (40 CFR Part 50, Appendix N, 4.1(c) and 4.2(c)): the list of such a quarter gets copies of one value, and the design value is worked out again. The counts and thresholds stand in this project's own words.
 use Rattle.std.specs.Prelude.{ℕ, ◌-◌, nat_le, if◌then◌else◌, List, [], ◌∷◌, map, zip, filter_map, replicate, sum_by, slice_get, Option, Some, None, option_map, ℤ}
 use Rattle.aq_rules.specs.Lists.{least, greatest}
 use Rattle.aq_rules.specs.Particles.QuarterCounts.{QuarterCounts, capture}

@@ -14,7 +14,7 @@ pub fn tables_have_names()
     ensures records { table_name 0 ≡ codes "records" }
     ensures observations { table_name 1 ≡ codes "observations" }
     ensures loads { table_name 2 ≡ codes "loads" }
-    ensures with_methods { table_name 3 ≡ codes "observations2" }
+    ensures with_methods { table_name 3 ≡ codes "observations3" }
 {}
 
 /// Keys are ordered by table, then by their columns, whole numbers as such and texts by their bytes. In a

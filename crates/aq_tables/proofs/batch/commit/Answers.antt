@@ -1,14 +1,14 @@
-use Rattle.std.proofs.Common.{◌≡◌, List, true, refl, sym, subst, arith, rules}
+use Rattle.std.proofs.Common.{◌≡◌, Bool, List, true, refl, sym, subst, arith, rules}
 use Rattle.sqlite.specs.State.{State, HasCleanDisk}
 use Rattle.sqlite.specs.Held.{Held, state}
 use Rattle.sqlite_trees.specs.declared.store.Store.{Ghosts}
 use Rattle.aq_rules.specs.Kept.RowChanges.{RowChange}
-use Rattle.aq_tables.specs.Batch.{Becomes, Changes, Leaves}
+use Rattle.aq_tables.specs.Batch.{Becomes, Changes, KnowsFirst, Leaves}
 use Rattle.aq_tables.proofs.Steps.{survives_whole}
 use Rattle.aq_tables.proofs.batch.commit.Goals as goal
 
-leaves : {S : Type 0} (batch : List RowChange) (g : Ghosts S) (first : Held S) (last : State) → Changes batch (state g (record first { in_transaction = true })) last → Leaves batch (state g first) last.now.trees
-leaves batch g first last made = record { was_open = made.was_open; db = last.now; becomes = made.becomes; is = refl }
+leaves : {S : Type 0} (knows : Bool) (batch : List RowChange) (g : Ghosts S) (first : Held S) (last : State) → KnowsFirst knows (state g first).now.schema → Changes knows batch (state g (record first { in_transaction = true })) last → Leaves batch (state g first) last.now.trees
+leaves knows batch g first last known made = record { was_open = made.was_open; db = last.now; becomes = made.becomes known; is = refl }
 
 pub returns-clause-done : goal.returns-clause-done
 returns-clause-done g c clean =
@@ -18,22 +18,27 @@ returns-clause-done g c clean =
     let same : end ≡ c.conn-2-1.given.0 = search rules in
     let late : HasCleanDisk (state g.S.Store end) = search rules in
     let made = c.in_ok-make_all.ensures.done (omega (arith, c.commit.ensures.survives.clean)) (rw c.transaction-tx.ensures.begun) in
-    let becomes : Becomes c.args.batch.now old.now last.now = rw c.transaction-tx.ensures.begun at made.becomes in
+    let becomes : Becomes c.args.batch.now old.now last.now = (rw c.transaction-tx.ensures.begun at made.becomes) c.first_stands-first.ensures in
     subst (λ h. Becomes c.args.batch.now old.now (state g.S.Store h).committed) same (subst (Becomes c.args.batch.now old.now) (sym (c.in_ok-commit.ensures.ok late).1.committed_is) becomes)
+
+pub returns-clause-numbered : goal.returns-clause-numbered
+returns-clause-numbered g c clean =
+    let late : HasCleanDisk (state g.S.Store c.commit.new.self.0) = search rules in
+    (c.in_ok-make_all.ensures.done (omega (arith, c.commit.ensures.survives.clean)) (rw c.transaction-tx.ensures.begun)).numbered
 
 pub returns-clause-crash : goal.returns-clause-crash
 returns-clause-crash g c =
     let begun = c.transaction-tx.ensures.begun in
     let last = state g.S.Store c.make_all.new.tx.conn.now in
     survives_whole g.S.Store (Leaves c.args.batch.now (state g.S.Store c.args.conn.now)) c.args.conn.now c.commit.new.self.0 c.conn-2-1.given.0 last (search rules) (rw begun at c.make_all.ensures.survives)
-    (λ clean. leaves c.args.batch.now g.S.Store c.args.conn.now last (rw begun at (c.in_ok-make_all.ensures.done clean (rw begun)))) c.commit.ensures.survives
+    (λ clean. leaves c.first_stands-first.result c.args.batch.now g.S.Store c.args.conn.now last c.first_stands-first.ensures (rw begun at (c.in_ok-make_all.ensures.done clean (rw begun)))) c.commit.ensures.survives
 
 pub returns-in_err-commit-clause-crash : goal.returns-in_err-commit-clause-crash
 returns-in_err-commit-clause-crash g c =
     let begun = c.transaction-tx.ensures.begun in
     let last = state g.S.Store c.make_all.new.tx.conn.now in
     survives_whole g.S.Store (Leaves c.args.batch.now (state g.S.Store c.args.conn.now)) c.args.conn.now c.commit.new.self.0 c.conn-2-1.given.0 last (search rules) (rw begun at c.make_all.ensures.survives)
-    (λ clean. leaves c.args.batch.now g.S.Store c.args.conn.now last (rw begun at (c.in_ok-make_all.ensures.done clean (rw begun)))) c.commit.ensures.survives
+    (λ clean. leaves c.first_stands-first.result c.args.batch.now g.S.Store c.args.conn.now last c.first_stands-first.ensures (rw begun at (c.in_ok-make_all.ensures.done clean (rw begun)))) c.commit.ensures.survives
 
 pub returns-clause-left : goal.returns-clause-left
 returns-clause-left g c clean trees h =

@@ -1,15 +1,16 @@
-use Rattle.aq_rules.specs.Kept.RowChanges.{OfficeRowKey, ObsRowKey, LoadRowKey, SecondRowKey}
+use Rattle.std.proofs.Common.{inl, refl}
+use Rattle.aq_rules.specs.Kept.RowChanges.{OfficeRowKey, LoadRowKey, SecondRowKey}
 use Rattle.aq_tables.proofs.RowTurns.{dropped}
 use Rattle.aq_tables.proofs.batch.drop_key.Goals as goal
 
 pub returns-in-Office-clause-done : goal.returns-in-Office-clause-done
-returns-in-Office-clause-done g c clean begun = rw (← c.key.view_is, c.in-Office.is) (dropped (OfficeRowKey c.in-Office.kind c.in-Office.key) c.run.result _ _ (rw (c.key_values.ensures, c.as_slice.ensures) at (c.run.ensures.done clean begun)))
+returns-in-Office-clause-done g c clean begun = rw (← c.key.view_is, c.in-Office.is) (dropped c.args.first (OfficeRowKey c.in-Office.kind c.in-Office.key) c.run.result _ _ (inl refl) (rw (c.key_values.ensures, c.as_slice.ensures) at (c.run.ensures.done clean begun)))
 
 pub returns-in-Observation-clause-done : goal.returns-in-Observation-clause-done
-returns-in-Observation-clause-done g c clean begun = rw (← c.key.view_is, c.in-Observation.is) (dropped (ObsRowKey c.in-Observation.site c.in-Observation.pollutant c.in-Observation.poc c.in-Observation.hour) c.run-in-Observation.result _ _ (rw c.place_values.ensures at (c.run-in-Observation.ensures.done clean begun)))
+returns-in-Observation-clause-done g c clean begun = rw (← c.key.view_is, c.in-Observation.is) (c.drop_first.ensures.done c.in-Observation.site c.in-Observation.pollutant c.in-Observation.poc c.in-Observation.hour c.place_values.ensures clean begun)
 
 pub returns-in-Load-clause-done : goal.returns-in-Load-clause-done
-returns-in-Load-clause-done g c clean begun = rw (← c.key.view_is, c.in-Load.is) (dropped (LoadRowKey c.in-Load.number) c.run-in-Load.result _ _ (rw c.key_values-in-Load.ensures at (c.run-in-Load.ensures.done clean begun)))
+returns-in-Load-clause-done g c clean begun = rw (← c.key.view_is, c.in-Load.is) (dropped c.args.first (LoadRowKey c.in-Load.number) c.run-in-Load.result _ _ (inl refl) (rw c.key_values-in-Load.ensures at (c.run-in-Load.ensures.done clean begun)))
 
 pub returns-in-Second-clause-done : goal.returns-in-Second-clause-done
-returns-in-Second-clause-done g c clean begun = rw (← c.key.view_is, c.in-Second.is) (dropped (SecondRowKey c.in-Second.site c.in-Second.pollutant c.in-Second.poc c.in-Second.hour) c.run-in-Second.result _ _ (rw c.place_values-in-Second.ensures at (c.run-in-Second.ensures.done clean begun)))
+returns-in-Second-clause-done g c clean begun = rw (← c.key.view_is, c.in-Second.is) (dropped c.args.first (SecondRowKey c.in-Second.site c.in-Second.pollutant c.in-Second.poc c.in-Second.hour) c.run-in-Second.result _ _ (inl refl) (rw c.key_values-in-Second.ensures at (c.run-in-Second.ensures.done clean begun)))

@@ -15,8 +15,8 @@ returns-in_ok-drop_same-in-Put-clause-done g c clean begun =
     let new = state g.S.Store c.put_row.new.tx.conn.now in
     let before : HasCleanDisk mid = omega (arith, c.put_row.ensures.survives.clean) in
     let dropped = c.in_ok-drop_same-in-Put.ensures.done before begun in
-    rw (← c.change.view_is, c.in-Put.is) (if_ok c.put_row.result (λ h. put_changes c.in-Put.row old mid new dropped h) (c.put_row.ensures.done clean dropped.mode))
+    rw (← c.change.view_is, c.in-Put.is) (if_ok c.put_row.result (λ h. put_changes c.args.first c.in-Put.row old mid new dropped h) (c.put_row.ensures.done clean dropped.mode))
 
 pub returns-in-Drop-clause-done : goal.returns-in-Drop-clause-done
 returns-in-Drop-clause-done g c clean begun =
-    rw (← c.change.view_is, c.in-Drop.is) (if_ok c.drop_key.result (λ h. drop_changes c.in-Drop.key (state g.S.Store c.args.tx.now.conn.now) (state g.S.Store c.drop_key.new.tx.conn.now) h) (c.drop_key.ensures.done clean begun))
+    rw (← c.change.view_is, c.in-Drop.is) (if_ok c.drop_key.result (λ h. drop_changes c.args.first c.in-Drop.key (state g.S.Store c.args.tx.now.conn.now) (state g.S.Store c.drop_key.new.tx.conn.now) h) (c.drop_key.ensures.done clean begun))

@@ -8,7 +8,7 @@ use Rattle.aq_tables.proofs.Steps.{survives_here, survives_both, kept_here, kept
 use Rattle.aq_tables.proofs.batch.make_all.Goals as goal
 
 pub loop-changes-init : goal.loop-changes-init
-loop-changes-init g c = (search rules, tt, refl, survives_here _ _, [], search rules, λ clean begun. (changes_nothing _ begun, kept_here _))
+loop-changes-init g c = (search rules, tt, refl, survives_here _ _, [], search rules, λ clean begun. (changes_nothing c.args.first _ begun, kept_here _))
 
 pub loop-changes-preserved : goal.loop-changes-preserved
 loop-changes-preserved g c =
@@ -26,7 +26,7 @@ loop-changes-preserved g c =
           let before : HasCleanDisk mid = omega (arith, c.make_together.ensures.survives.clean) in
           let done = was.6 before begun in
           let more = c.in_ok-make_together.ensures.done clean done.0.mode in
-          (changes_then _ _ old mid new done.1.was_open done.0 more, kept_both old mid new done.1 (c.make_together.ensures.kept clean done.0.mode)),
+          (changes_then c.args.first _ _ old mid new done.1.was_open done.0 more, kept_both old mid new done.1 (c.make_together.ensures.kept clean done.0.mode)),
     )
 
 pub returns-in_err-make_together-clause-survives : goal.returns-in_err-make_together-clause-survives
@@ -45,4 +45,4 @@ returns-clause-done g c clean begun =
     let was = c.loop-changes.invariant in
     let none = nil_from_length _ c.in-None.ensures.steps.1.0 in
     let all = rw (none, append-nil) at was.5 in
-    subst (λ l. Changes l (state g.S.Store c.args.tx.now.conn.now) (state g.S.Store c.loop-changes.tx.conn.now)) all (was.6 clean begun).0
+    subst (λ l. Changes c.args.first l (state g.S.Store c.args.tx.now.conn.now) (state g.S.Store c.loop-changes.tx.conn.now)) all (was.6 clean begun).0

@@ -15,4 +15,4 @@ invariant-loop-changes g l =
     × (l.tx.conn.ghost_name ≡ l.fn.tx.conn.ghost_name)
     × Survives old now (λ _. ⊥)
     × (done : List RowChange) × (done ++ chunks_rest l.changes-iterator ≡ l.batch)
-    × (HasCleanDisk now → IsTrue old.in_transaction → Changes done old now × KeepsCommit old now)
+    × (HasCleanDisk now → IsTrue old.in_transaction → Changes l.fn.first done old now × KeepsCommit old now)

@@ -7,7 +7,7 @@ use Rattle.aq_tables.proofs.Steps.{survives_here, survives_both, kept_here, kept
 use Rattle.aq_tables.proofs.batch.make_each.Goals as goal
 
 pub loop-place-init : goal.loop-place-init
-loop-place-init g c = (refl, survives_here _ _, λ clean begun. (changes_nothing _ begun, kept_here _))
+loop-place-init g c = (refl, survives_here _ _, λ clean begun. (changes_nothing c.args.first _ begun, kept_here _))
 
 pub loop-place-preserved : goal.loop-place-preserved
 loop-place-preserved g c =
@@ -21,7 +21,7 @@ loop-place-preserved g c =
           let done = c.loop-place.invariant.2 before begun in
           let one = c.in_ok-make.ensures.done clean done.0.mode in
           let all : take (c.loop-place.place + 1) c.args.changes.now ≡ take c.loop-place.place c.args.changes.now ++ (c.index-changes-place.result ∷ []) = grind (arith, common_steps) in
-          (rw all (changes_then _ _ old mid new done.1.was_open done.0 one), kept_both old mid new done.1 (c.make.ensures.kept clean done.0.mode)),
+          (rw all (changes_then c.args.first _ _ old mid new done.1.was_open done.0 one), kept_both old mid new done.1 (c.make.ensures.kept clean done.0.mode)),
     )
 
 pub returns-in_err-make-clause-survives : goal.returns-in_err-make-clause-survives

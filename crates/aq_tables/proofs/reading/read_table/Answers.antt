@@ -1,6 +1,6 @@
 use Rattle.sqlite.specs.Held.{state}
 use Rattle.aq_tables.specs.Queries.{shown_by}
-use Rattle.aq_tables.specs.Texts.{statements}
+use Rattle.aq_tables.specs.Texts.{read_text}
 use Rattle.aq_tables.specs.Told.{ours_of}
 use Rattle.aq_tables.proofs.Answered.{tells}
 use Rattle.aq_tables.proofs.RowTurns.{row_reads}
@@ -14,4 +14,4 @@ pub returns-clause-rows : goal.returns-clause-rows
 returns-clause-rows g c clean =
     let db = (state g.S.Store c.args.conn.now).now in
     let takes = rw c.query_of.ensures at (c.take_all.ensures.rows clean) in
-    tells (ours_of c.args.table) (statements c.args.table).read (shown_by c.args.table) db c.args.found.now.items c.take_all.new.found.items c.take_all.result (row_reads c.args.table db) takes
+    tells (ours_of c.args.table) (read_text c.args.table) (shown_by c.args.table) db c.args.found.now.items c.take_all.new.found.items c.take_all.result (row_reads c.args.table db) takes

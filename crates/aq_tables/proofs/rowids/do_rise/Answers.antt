@@ -1,13 +1,14 @@
 use Rattle.std.proofs.Common.{[], ◌∷◌, ◌++◌, refl, sym, ap, ◌∙◌, rules, arith, w64, to_z, of_z, FitsSigned, to_z-of_z}
 use Rattle.std.proofs.lemmas.Bool.{and_parts}
 use Rattle.sqlite.specs.declared.types.Value.TheVariants.{Int}
-use Rattle.sqlite.specs.State.{HasCleanDisk, Survives, CommitsShowing}
+use Rattle.sqlite.specs.State.{HasCleanDisk, Survives, CommitsShowing, FailsToQuery}
 use Rattle.sqlite.specs.Held.{state}
 use Rattle.sqlite.proofs.Callers.{unchanged_then}
 use Rattle.aq_tables.specs.Rowids.{is_after}
 use Rattle.aq_tables.proofs.Steps.{survives_both}
-use Rattle.aq_tables.proofs.Answered.{commits_nothing, begun_here, shown_from}
-use Rattle.aq_tables.proofs.RowidsApart.{rise_more}
+use Rattle.aq_tables.proofs.Answered.{commits_nothing, refused_keeps, begun_here, shown_from}
+use Rattle.sqlite_sql.specs.Numeral.{fits_i64}
+use Rattle.aq_tables.proofs.RowidsApart.{fits_column, rise_more}
 use Rattle.aq_tables.proofs.rowids.do_rise.Goals as goal
 
 pub returns-in_err-rows-clause-crash : goal.returns-in_err-rows-clause-crash
@@ -17,6 +18,13 @@ returns-in_err-rows-clause-crash g c =
     let held = c.query.follows.holds-at-none in
     let kept : Survives old new (CommitsShowing c.args.text.now [] old) = search rules in
     commits_nothing c.args.text.now c.requires old new kept
+
+pub returns-in_err-rows-clause-kept : goal.returns-in_err-rows-clause-kept
+returns-in_err-rows-clause-kept g c clean =
+    let old = state g.S.Store c.args.conn.now in
+    let new = state g.S.Store c.query.follows.lender-at-none in
+    let failed : FailsToQuery c.args.text.now [] old new c.in_err-rows.field-0.0 = search rules in
+    refused_keeps c.args.text.now c.requires old new _ failed
 
 pub rows-init : goal.rows-init
 rows-init g c =
@@ -51,6 +59,6 @@ rows-preserved g c =
                 let number = to_z w64 (of_z w64 c.in_ok-number.number) in
                 let fits : FitsSigned w64 c.in_ok-number.number = search rules in
                 let both = and_parts c.rows.rise (is_after c.rows.last number) (sym c.still_rise-rise.ensures ∙ rise) in
-                rise_more c.rows.last was.0 c.in-Some.row.now number (c.in_ok-number.ensures.ok.1 ∙ ap Int (sym (to_z-of_z fits))) both.1 (was.3 both.0),
+                rise_more c.rows.last was.0 c.in-Some.row.now number (c.in_ok-number.ensures.ok.1 ∙ ap Int (sym (to_z-of_z fits))) (ap fits_i64 (to_z-of_z fits) ∙ fits_column _ fits) both.1 (was.3 both.0),
           ),
     )

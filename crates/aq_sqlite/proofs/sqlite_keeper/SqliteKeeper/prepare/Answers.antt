@@ -1,5 +1,5 @@
 use Rattle.sqlite.specs.Held.{state}
-use Rattle.aq_sqlite.proofs.Keeping.{on_ok, stands_made, told_made, left_made}
+use Rattle.aq_sqlite.proofs.Keeping.{on_err, on_ok, stands_made, told_made, left_made}
 use Rattle.aq_sqlite.proofs.sqlite_keeper.SqliteKeeper.prepare.Goals as goal
 
 pub invariant_of-self : goal.invariant_of-self
@@ -16,3 +16,6 @@ returns-clause-left g c = left_made c.prepare-made.result (state g.S.Store c.arg
 
 pub returns-clause-office : goal.returns-clause-office
 returns-clause-office g c = rw c.counted.ensures.same (on_ok _ c.prepare-made.result c.prepare-made.ensures.office)
+
+pub returns-clause-kept : goal.returns-clause-kept
+returns-clause-kept g c clean = rw c.counted.ensures.same (on_err _ c.prepare-made.result (c.prepare-made.ensures.kept clean))

@@ -1,0 +1,41 @@
+use Rattle.std.proofs.Common.{◌≡◌, [], ◌∷◌, ◌++◌, ◌+◌, take, refl, ◌∙◌, arith}
+use Rattle.std.proofs.lemmas.Grind.{common_steps}
+use Rattle.sqlite.specs.State.{HasCleanDisk}
+use Rattle.sqlite.specs.Held.{state}
+use Rattle.aq_tables.proofs.RowsMoved.{moves_none, moves_put, moves_then}
+use Rattle.aq_tables.proofs.Steps.{survives_here, survives_both, kept_here, kept_both}
+use Rattle.aq_tables.proofs.moving.put_each.Goals as goal
+
+pub loop-place-init : goal.loop-place-init
+loop-place-init g c = (refl, survives_here _ _, λ clean begun. (moves_none _ begun, kept_here _))
+
+pub loop-place-preserved : goal.loop-place-preserved
+loop-place-preserved g c =
+    let old = state g.S.Store c.args.tx.now.conn.now in
+    let mid = state g.S.Store c.loop-place.tx.conn.now in
+    let new = state g.S.Store c.put_one.new.tx.conn.now in (
+      c.put_one.ensures.same_reference ∙ c.loop-place.invariant.0,
+      survives_both old mid new c.loop-place.invariant.1 c.put_one.ensures.survives,
+      λ clean begun.
+          let before : HasCleanDisk mid = omega (arith, c.put_one.ensures.survives.clean) in
+          let done = c.loop-place.invariant.2 before begun in
+          let one = c.in_ok-put_one.ensures.done clean done.0.mode in
+          let all : take (c.loop-place.place + 1) c.args.rows.now ≡ take c.loop-place.place c.args.rows.now ++ (c.index-rows-place.result ∷ []) = grind (arith, common_steps) in
+          (rw all (moves_then _ _ old mid new done.0 (moves_put (c.index-rows-place.result ∷ []) (one.0 ∷ []) mid new (λ i. one.1 i ∷ []) one.2)), kept_both old mid new done.1 (c.put_one.ensures.kept clean done.0.mode)),
+    )
+
+pub returns-in_err-put_one-clause-survives : goal.returns-in_err-put_one-clause-survives
+returns-in_err-put_one-clause-survives g c =
+    survives_both (state g.S.Store c.args.tx.now.conn.now) (state g.S.Store c.loop-place.tx.conn.now) (state g.S.Store c.put_one.new.tx.conn.now) c.loop-place.invariant.1 c.put_one.ensures.survives
+
+pub returns-in_err-put_one-clause-kept : goal.returns-in_err-put_one-clause-kept
+returns-in_err-put_one-clause-kept g c clean begun =
+    let mid = state g.S.Store c.loop-place.tx.conn.now in
+    let before : HasCleanDisk mid = omega (arith, c.put_one.ensures.survives.clean) in
+    let done = c.loop-place.invariant.2 before begun in
+    kept_both (state g.S.Store c.args.tx.now.conn.now) mid (state g.S.Store c.put_one.new.tx.conn.now) done.1 (c.put_one.ensures.kept clean done.0.mode)
+
+pub returns-clause-done : goal.returns-clause-done
+returns-clause-done g c clean begun =
+    let all : take c.loop-place.place c.args.rows.now ≡ c.args.rows.now = grind (arith, common_steps) in
+    rw all at (c.loop-place.invariant.2 clean begun).0
