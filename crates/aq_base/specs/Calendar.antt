@@ -2,7 +2,7 @@
 -- Day 0 is 1 January of FIRST_YEAR, and the last day is 31 December of LAST_YEAR. All other definitions cite this pair.
 use Rattle.std.specs.Prelude.{ℕ, zero, suc, ◌+◌, ◌-◌, ◌*◌, ◌/◌, ◌%◌, Bool, ◌&&◌, ◌||◌, ◌==◌, nat_le, if◌then◌else◌, Option, Some, None, sum, count_by, map}
 use Rattle.std.specs.List.{range_with_len}
-use Rattle.aq_base.specs.declared.day.TheConstants.{FIRST_YEAR, LAST_YEAR}
+use Rattle.aq_base.specs.declared.day.TheConstants.{FIRST_YEAR, LAST_YEAR, FIRST_DESIGN_YEAR}
 
 -- how many years the profile has
 abbrev pub years : ℕ
@@ -11,6 +11,10 @@ years = LAST_YEAR + 1 - FIRST_YEAR
 -- a year of the profile, none of which is a century without a leap day
 abbrev pub is_year : ℕ → Bool
 is_year year = nat_le FIRST_YEAR year && nat_le year LAST_YEAR
+
+-- a year of which there are design values: it ends three years of the profile
+abbrev pub is_design_year : ℕ → Bool
+is_design_year year = nat_le FIRST_DESIGN_YEAR year && nat_le year LAST_YEAR
 
 abbrev pub days_in_year : ℕ → ℕ
 days_in_year year = if year % 4 == 0 then 366 else 365

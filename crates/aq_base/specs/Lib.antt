@@ -16,3 +16,4 @@ pub mod SitePlaces
 pub mod Areas
 pub mod OfficeKeys
 pub mod Faults
+pub mod Questions

@@ -1,7 +1,7 @@
 //! Days, hours and quarters of the profile, by their numbers. All hours are local standard time.
 ghost use Rattle.std.specs.Prelude.{◌≡◌, ℕ, ◌+◌, ◌-◌, ◌*◌, ◌<◌, ◌≤◌};
 ghost use Rattle.aq_base.specs.Calendar.{days_of_years, years};
-ghost use Rattle.aq_base.specs.declared.day.TheConstants.{FIRST_YEAR, HOURS_BEFORE_2000, LAST_DAY, LAST_HOUR, QUARTERS};
+ghost use Rattle.aq_base.specs.declared.day.TheConstants.{FIRST_DESIGN_YEAR, FIRST_YEAR, HOURS_BEFORE_2000, LAST_DAY, LAST_HOUR, QUARTERS};
 
 use std::marker::Model;
 
@@ -10,6 +10,9 @@ pub const FIRST_YEAR: u16 = 1990;
 
 /// The profile ends on 31 December of this year (own).
 pub const LAST_YEAR: u16 = 2059;
+
+/// The first year that ends three years of the profile: the first of which there are design values.
+pub const FIRST_DESIGN_YEAR: u16 = FIRST_YEAR + 2;
 
 /// The number of the profile's last day: each year that 4 divides has a leap day, the year 2000 too.
 pub const LAST_DAY: u16 = 365 * (LAST_YEAR + 1 - FIRST_YEAR) + LAST_YEAR / 4
@@ -26,13 +29,15 @@ pub const HOURS_BEFORE_2000: u32 = 87_648;
 /// How many calendar quarters the profile has.
 pub const QUARTERS: u16 = 4 * (LAST_YEAR + 1 - FIRST_YEAR);
 
-/// The last day and hour and the number of quarters are those of the profile's years.
+/// The last day and hour and the number of quarters are those of the profile's years, and design values
+/// begin with 1992.
 #[tactic(auto, unfolding(crate::specs::Calendar::days_of_years))]
 pub fn last_numbers_are_those_of_the_years()
     ensures day { LAST_DAY + 1 ≡ days_of_years years }
     ensures hour { LAST_HOUR + 1 ≡ 24 * (LAST_DAY + 1) }
     ensures stored { HOURS_BEFORE_2000 ≡ 24 * days_of_years (2000 - FIRST_YEAR) }
     ensures quarters { QUARTERS ≡ 4 * years }
+    ensures design { FIRST_DESIGN_YEAR ≡ 1992 }
 {}
 
 /// A day of the profile, by the number of days since its first. Contracts see the number.

@@ -10,6 +10,7 @@
 //! - `Rule`, `LoadReply`, `Listed`, `Rest`: the rules of lines, and what became of the lines of a load.
 //! - `Standard`, `Verdict`; `Ask`, `Shown`: the six standards; a question, and an observation of an
 //!   export.
+//! - `Question`, `Topic`: each question that there is, and its row in the table of questions.
 //! - `Area`, `SiteList`; `Assumed`, `AssumedList`, `DecisiveEvent`: areas; assumed concurrences.
 //! - `Items`, `Bytes`, `Steps`: lists that grow, and a count of look-ups that exists for clauses alone.
 //! - `Memory`, `Failed`: want of memory, and an object of the outside that failed.
@@ -17,8 +18,8 @@
 //! # What it promises
 //!
 //! - A `SiteId`, `Day`, `Hour`, `Quarter`, `Quals`, `SiteList` or `AssumedList` is in its range, always.
-//! - The open types (`MonitorId`, `Observation`, the office records, keys and lines, `Ask`, `Area`,
-//!   `Assumed`, `DecisiveEvent`) keep the ranges of their parts alone. They do not keep that a POC is 1
+//! - The open types (`MonitorId`, `Observation`, the office records, keys and lines, `Ask`, `Question`,
+//!   `Area`, `Assumed`, `DecisiveEvent`) keep the ranges of their parts alone. They do not keep that a POC is 1
 //!   to 99 (0 in a designation of no monitor), an interval 1, 2, 3 or 6, a year one of the profile, an
 //!   event's number 1 to 999,999, a season in its year, an area's state and county of two and three
 //!   digits, a method 0 to 999, or that an observation has exactly one of a value and a null code:
@@ -50,6 +51,7 @@ mod monitor;
 mod observation;
 mod office;
 mod quals;
+mod question;
 mod refusal;
 mod reply;
 mod rule;
@@ -62,7 +64,8 @@ pub use ask::{Ask, Shown};
 pub use assumed::{Assumed, AssumedList, DecisiveEvent, MOST_ASSUMED};
 pub use code::Code;
 pub use day::{
-    Day, FIRST_YEAR, HOURS_BEFORE_2000, Hour, LAST_DAY, LAST_HOUR, LAST_YEAR, QUARTERS, Quarter,
+    Day, FIRST_DESIGN_YEAR, FIRST_YEAR, HOURS_BEFORE_2000, Hour, LAST_DAY, LAST_HOUR, LAST_YEAR,
+    QUARTERS, Quarter,
 };
 pub use items::{Bytes, Items};
 pub use limits::{
@@ -74,6 +77,7 @@ pub use monitor::{Duration, MonitorId, Pollutant};
 pub use observation::{LAST_METHOD, ObsKey, Observation};
 pub use office::{OfficeKey, OfficeLine, OfficeRecord};
 pub use quals::{MOST_QUALIFIERS, Quals};
+pub use question::{Question, Topic};
 pub use refusal::{Failed, Memory};
 pub use reply::{Listed, ListedLine, LoadReply, Rest, RestRule};
 pub use rule::Rule;

@@ -5,6 +5,7 @@ use Rattle.std.specs.List.{list_any, filter_map, cons_option, Contains}
 use Rattle.std.proofs.lemmas.Bool.{false≢true}
 use Rattle.std.proofs.lemmas.Option.{none-some}
 use Rattle.aq_rules.specs.Office.Office.{is_same, rises, row_at}
+use Rattle.aq_rules.proofs.Elements.{Every, every-to}
 use Rattle.aq_rules.proofs.Lookups.{same-itself, same-is, none-behind, rises-rest}
 
 pub some_is : {X : Type 0} (x y : X) → Some x ≡ Some y → x ≡ y
@@ -33,7 +34,7 @@ any-find {X = X} test (x ∷ rows) any = by (test x) (any-find test rows) any
     by true rest any = (x, refl)
     by false rest any = rest any
 
-any-of_found : {X : Type 0} (at test : X → Bool) (rows : List X) (r : X) → find at rows ≡ Some r → test r ≡ true → list_any test rows ≡ true
+pub any-of_found : {X : Type 0} (at test : X → Bool) (rows : List X) (r : X) → find at rows ≡ Some r → test r ≡ true → list_any test rows ≡ true
 any-of_found at test [] r found holds = absurd (none-some r found)
 any-of_found at test (x ∷ rows) r found holds = by (at x) (λ later. any-of_found at test rows r later holds) found
   where
@@ -62,6 +63,12 @@ module _ {X : Type 0} (rank : X → List ℕ) where
 
   stands-first : (x : X) (rows : List X) → Stands (x ∷ rows) x
   stands-first x rows = ap (λ b. cond b (Some x) (row_at rank (rank x) rows)) (same-itself (rank x))
+
+  -- in a rising list each row is found under its own rank
+  pub own-rows : (rows : List X) → rises rank rows ≡ true → Every (Stands rows) rows
+  own-rows [] up = tt
+  own-rows (x ∷ rows) up =
+      (stands-first x rows, every-to (Stands rows) (Stands (x ∷ rows)) (λ r at. stands-after x r rows up at) rows (own-rows rows (rises-rest rank x rows up)))
 
   found-stands : (test : X → Bool) (rows : List X) (r : X) → rises rank rows ≡ true → find test rows ≡ Some r → Stands rows r
   found-stands test [] r up found = absurd (none-some r found)

@@ -27,7 +27,7 @@ use Rattle.aq_rules.proofs.Elements.{Every, every-to}
 
 -- ---- the records after one have its kind or a greater one
 
-abbrev kind : OfficeRecord → ℕ
+abbrev pub kind : OfficeRecord → ℕ
 kind r = kind_of (key_of r)
 
 kind-before : (a b : ℕ) (xs ys : List ℕ) → comes_before (a ∷ xs) (b ∷ ys) ≡ true → a ≤ b
@@ -109,7 +109,7 @@ not_registers site pollutant (Approved a b) h = refl
 not_registers site pollutant (Combined a b c d) h = refl
 
 module _ (office : Office) (xs ys : List OfficeRecord) (is : office.records ≡ xs ++ ys) where
-  abbrev front : Office
+  abbrev pub front : Office
   front = record { records = xs; observations = []; loads = [] }
 
   above : (n k : ℕ) → n < k → Every (λ s. k ≤ kind s) ys → Every (λ s. n < kind s) ys
@@ -132,7 +132,7 @@ module _ (office : Office) (xs ys : List OfficeRecord) (is : office.records ≡ 
       ∙ ap (option_or (find (λ s. is_same (record_rank s) (k ∷ rest)) xs)) (none_found (λ s. is_same (record_rank s) (k ∷ rest)) ys (every-to (λ s. k < kind s) (λ s. is_same (record_rank s) (k ∷ rest) ≡ false) (λ s h. other_kind k rest s h) ys every))
       ∙ or_none (find (λ s. is_same (record_rank s) (k ∷ rest)) xs)
 
-  monitor-front : (r : OfficeRecord) → Every (λ s. kind r ≤ kind s) ys → has_its_monitor office r ≡ true → has_its_monitor front r ≡ true
+  pub monitor-front : (r : OfficeRecord) → Every (λ s. kind r ≤ kind s) ys → has_its_monitor office r ≡ true → has_its_monitor front r ≡ true
   monitor-front (Monitor id duration eligible) every h = h
   monitor-front (Primary site pollutant from poc) every h =
       let many = has-front site pollutant (above 1 2 (omega arith) every) in
@@ -149,7 +149,7 @@ module _ (office : Office) (xs ys : List OfficeRecord) (is : office.records ≡ 
       let parts = and_parts (has_monitor office site pollutant) (has_monitor office joined pollutant) h in
       and_from (has_monitor front site pollutant) (has_monitor front joined pollutant) (sym (has-front site pollutant low) ∙ parts.0) (sym (has-front joined pollutant low) ∙ parts.1)
 
-  event-front : (r : OfficeRecord) → Every (λ s. kind r ≤ kind s) ys → has_its_event office r ≡ true → has_its_event front r ≡ true
+  pub event-front : (r : OfficeRecord) → Every (λ s. kind r ≤ kind s) ys → has_its_event office r ≡ true → has_its_event front r ≡ true
   event-front (Monitor id duration eligible) every h = h
   event-front (Primary site pollutant from poc) every h = h
   event-front (Schedule site pollutant from interval anchor) every h = h

@@ -98,3 +98,14 @@ pub mod EventsRise
 mod MethodUnread
 pub mod MigratedRows
 pub mod DropsAndPuts
+pub mod AskedInRange
+pub mod AskedAlike
+pub mod WholeLines
+pub mod LastRows
+pub mod RecordsLoadBack
+pub mod ObservationsLoadBack
+pub mod ExtractRows
+pub mod ChangesLoad
+pub mod ChangesDone
+pub mod BroughtUp
+pub mod UpToDate

@@ -15,7 +15,7 @@ use Rattle.aq_rules.specs.Particles.ParticleDay.{site_day, net_day, unless_exclu
 use Rattle.aq_rules.specs.Particles.QuarterCounts.{Makeup, days_of_quarter, scheduled_days, is_sampled, is_kept, makeup_by, in_time_by, is_in_time, gives_credit, credits, quarter_counts, quarter_values, pm25_quarter, pm25_year}
 use Rattle.aq_rules.specs.Combined.Pair.{Pair, pair_day, is_pair_scheduled, is_pair_sampled, pair_net_day, would_give_credit, makeups_after, credits_before, has_makeup_day, pair_credits, pair_counts, pair_quarter, pair_pm25_year}
 use Rattle.aq_rules.proofs.Days.{twelve_months}
-use Rattle.aq_rules.proofs.Elements.{Every}
+use Rattle.aq_rules.proofs.Elements.{Every, filter-none}
 use Rattle.aq_rules.proofs.KeyOrder.{months_in_order}
 use Rattle.aq_rules.proofs.Ranges.{range-agree}
 use Rattle.aq_rules.proofs.PairAlone.{either, filter_map-agree, year_end}
@@ -37,7 +37,7 @@ filter-range f g a n same = range-agree (λ (h : ℕ → Bool) ks. filter h ks) 
 any-range : (f g : ℕ → Bool) (a n : ℕ) → ((k : ℕ) → a ≤ k → k < a + n → f k ≡ g k) → list_any f (range_with_len a n) ≡ list_any g (range_with_len a n)
 any-range f g a n same = range-agree (λ (h : ℕ → Bool) ks. list_any h ks) (λ b k rest. b || rest) (λ h k ks. refl) (λ f g. refl) f g a n same
 
--- what all pass takes nothing away, and what none passes leaves nothing
+-- what all pass takes nothing away
 filter-both : {X : Type 0} (P : X → Type 0) (all f g : X → Bool) → ((x : X) → P x → all x ≡ true) → ((x : X) → P x → f x ≡ g x)
     → (xs : List X) → Every P xs → filter f (filter all xs) ≡ filter g xs
 filter-both P all f g passes same [] every = refl
@@ -46,10 +46,6 @@ filter-both {X = X} P all f g passes same (x ∷ xs) every =
     let pass : all x ≡ true = passes x every.0 in
     let here : f x ≡ g x = same x every.0 in
     ap (λ b. filter f (cond b (x ∷ filter all xs) (filter all xs))) pass ∙ (λ i. cond (here i) (x ∷ rest i) (rest i))
-
-filter-none : {X : Type 0} (P : X → Type 0) (f : X → Bool) → ((x : X) → P x → f x ≡ false) → (xs : List X) → Every P xs → filter f xs ≡ []
-filter-none P f fails [] every = refl
-filter-none P f fails (x ∷ xs) every = rw (fails x every.0) (filter-none P f fails xs every.1)
 
 not_below : (a b : ℕ) → a < b → nat_le b a ≡ false
 not_below a b less = by_test (nat_le b a) refl

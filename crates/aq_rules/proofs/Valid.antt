@@ -109,7 +109,7 @@ in_profile y m d k j a b p q one r =
     sums : (f m d w n t y z g e : ℕ) → 1 ≤ d → d ≤ w → n ≡ m + w → n ≤ t → t ≡ y → y ≡ z → g ≡ f + z → g ≤ e → e ≡ LAST_DAY + 1 → f + m + (d - 1) < LAST_DAY + 1
     sums f m d w n t y z g e h1 h2 h3 h4 h5 h6 h7 h8 h9 = omega arith
 
-date_number : (y m d : ℕ) → is_date y m d ≡ true → day_number y m d < LAST_DAY + 1
+pub date_number : (y m d : ℕ) → is_date y m d ≡ true → day_number y m d < LAST_DAY + 1
 date_number y m d h =
     let a = and_parts (is_year y && nat_le 1 m && nat_le m 12 && nat_le 1 d) (nat_le d (days_in_month y m)) h in
     let b = and_parts (is_year y && nat_le 1 m && nat_le m 12) (nat_le 1 d) a.0 in

@@ -43,7 +43,7 @@ use Rattle.aq_rules.proofs.ValidRecords.{site_is, joined, Alike, replaced, Keeps
 
 -- ---- tests
 
-untrue : (b : Bool) → not b ≡ false → b ≡ true
+pub untrue : (b : Bool) → not b ≡ false → b ≡ true
 untrue true h = refl
 untrue false h = absurd (false≢true (sym h))
 
@@ -71,7 +71,7 @@ none_of_three p a b c h =
     let rest = none_of_two p b c first.1 in
     (first.0, rest.0, rest.1)
 
-none_of_four : (p : Rule → Bool) (a b c d : Rule) → find p (a ∷ b ∷ c ∷ d ∷ []) ≡ None → (p a ≡ false) × (p b ≡ false) × (p c ≡ false) × (p d ≡ false)
+pub none_of_four : (p : Rule → Bool) (a b c d : Rule) → find p (a ∷ b ∷ c ∷ d ∷ []) ≡ None → (p a ≡ false) × (p b ≡ false) × (p c ≡ false) × (p d ≡ false)
 none_of_four p a b c d h =
     let first = find_none-first p a (b ∷ c ∷ d ∷ []) h in
     let rest = none_of_three p b c d first.1 in
@@ -119,7 +119,7 @@ kept_low (Some Day) hour h = let low = leb-true hour LAST_HOUR h in le-leb (hour
     lower : (hour last : ℕ) → hour ≤ last → 24 * (hour / 24) + 0 ≤ last
     lower hour last h = omega arith
 
-sample_fits : (office : Office) (monitor : MonitorId) (hour : ℕ) (content : Observation) → is_some (duration_at office monitor) ≡ true
+pub sample_fits : (office : Office) (monitor : MonitorId) (hour : ℕ) (content : Observation) → is_some (duration_at office monitor) ≡ true
     → nat_le hour LAST_HOUR ≡ true → is_content monitor.pollutant content ≡ true → fits_monitors office (kept_key office monitor hour, content) ≡ true
 sample_fits office monitor hour content there low good =
     let duration = found (duration_at office monitor) there in
@@ -271,7 +271,7 @@ same_pollutant Pm10 Pm10 e = refl
 abbrev parts_monitor : Site → Pollutant → ℕ → MonitorId
 parts_monitor site pollutant poc = record { site = site; pollutant = pollutant; poc = poc }
 
-monitor_is : (a b : MonitorId) → key_numbers (MonitorKey a) ≡ key_numbers (MonitorKey b) → a ≡ b
+pub monitor_is : (a b : MonitorId) → key_numbers (MonitorKey a) ≡ key_numbers (MonitorKey b) → a ≡ b
 monitor_is a b e =
     let site : a.site ≡ b.site = site_is a.site b.site (cc) in
     let pollutant : a.pollutant ≡ b.pollutant = same_pollutant a.pollutant b.pollutant (cc) in

@@ -1,6 +1,6 @@
 -- The reply of a load is in order, and a load leaves the office valid.
 use Rattle.std.proofs.Common.{◌≡◌, ℕ, zero, suc, ◌+◌, ◌-◌, ◌<◌, ◌≤◌, Bool, true, false, cond, not, ◌&&◌, ◌||◌, List, [], ◌∷◌, ◌++◌, length, take, drop, Some, None, Option, refl, ap, ◌∙◌, inl, inr, arith, subst}
-use Rattle.std.specs.Prelude.{find, filter, count_by, sum_by, nat_le, nat_lt, ◌==◌}
+use Rattle.std.specs.Prelude.{filter, count_by, sum_by, nat_le, nat_lt, ◌==◌}
 use Rattle.std.specs.List.{list_all, filter_map, cons_option}
 use Rattle.std.specs.Option.{option_or}
 use Rattle.std.proofs.Math.ListN.{drop_of_length-le}
@@ -19,6 +19,7 @@ use Rattle.aq_rules.specs.Lines.Reading.{LineValue, breaks, reading_rules, readi
 use Rattle.aq_rules.specs.Office.Office.{Office, rises, rises_from, is_rest, is_reply}
 use Rattle.aq_rules.specs.Office.Refusal.{breaks_office, office_rules}
 use Rattle.aq_rules.specs.Office.Load.{broken_by, refusal, after, listed_for, refusals, refused_under, rest_for, rest_of, reply_for, reply}
+use Rattle.aq_rules.proofs.Elements.{found_passes}
 use Rattle.aq_rules.proofs.Least.{is_built, reading_rules-built, office_rules-built}
 use Rattle.aq_rules.proofs.RowsPlaced.{count-cons}
 
@@ -112,16 +113,6 @@ module _ {X : Type 0} where
       choose : (o : Option X) → ((x : X) → o ≡ Some x → q x ≡ true) → list_all q (filter_map h ys) ≡ true → list_all q (cons_option o (filter_map h ys)) ≡ true
       choose None is rest = rest
       choose (Some x) is rest = and_from (q x) _ (is x refl) rest
-
-  found_passes : (p q : X → Bool) (xs : List X) (x : X) → list_all q xs ≡ true → find p xs ≡ Some x → q x ≡ true
-  found_passes p q [] x all is = cc
-  found_passes p q (y ∷ ys) x all is =
-      let parts = and_parts (q y) (list_all q ys) all in
-      choose (p y) parts.0 is (found_passes p q ys x parts.1)
-    where
-      choose : (b : Bool) → q y ≡ true → cond b (Some y) (find p ys) ≡ Some x → (find p ys ≡ Some x → q x ≡ true) → q x ≡ true
-      choose true here is later = let same : y ≡ x = cc in subst (λ z. q z ≡ true) same here
-      choose false here is later = later is
 
 -- ---- rules have numbers of at most 36
 

@@ -13,3 +13,6 @@ pub mod WhatIf
 pub mod Combined
 pub mod Areas
 pub mod Shown
+pub mod Listed
+pub mod Extracts
+pub mod Questions

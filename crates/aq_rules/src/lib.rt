@@ -11,6 +11,8 @@
 //! - `Kept`: summaries of quarters and years, rows and their changes, migration, and what reads what.
 //! - `WhatIf`, `Combined`, `Areas`: assumed concurrences, combined sites, areas and their history.
 //! - `Shown`: sheets with their text and JSON, exports, answers, the generated loads.
+//! - `Listed`, `Extracts`: what stands and the days behind a number, listed; what an extract changes.
+//! - `Questions`: the table of questions, read in words and in paths, and the answer to each.
 //!
 //! # What it promises
 //!
@@ -30,6 +32,12 @@
 //!   kept.
 //! - Every sheet that answers a question is well formed, a report's row says what the value sheet of its
 //!   site says, and the fields of an export of a valid office need no quotes.
+//! - Records and observations of a valid office that are printed as lines load back, piece by piece
+//!   (`records_load_back`, `observations_load_back`). A load of what an extract changes is accepted line by
+//!   line, whole or piece by piece, and brings what stands up to date; the same extract then changes nothing
+//!   (`extracts_bring_up_to_date`).
+//! - The words of a question and the parts of its path are two readings of one row of the table
+//!   (`words_and_paths_ask_alike`), and what they ask is in range (`questions_asked_are_in_range`).
 //! - A standard is met only by a design value at or below its level, and that of ozone or PM2.5 is not
 //!   met only by one above it.
 //!
@@ -45,12 +53,15 @@
 
 pub mod areas;
 pub mod combined;
+pub mod extracts;
 pub mod kept;
 pub mod lines;
+pub mod listed;
 pub mod lists;
 pub mod office;
 pub mod ozone;
 pub mod particles;
+pub mod questions;
 pub mod shown;
 pub mod standards;
 pub mod what_if;

@@ -1,6 +1,7 @@
 //! The order of an office's records.
 
 pub mod exclusion;
+pub mod limits;
 pub mod load;
 pub mod methods;
 pub mod monitors;

@@ -1,0 +1,14 @@
+use Rattle.std.proofs.Common.{refl}
+use Rattle.std.specs.Fmt.{digits}
+use Rattle.aq_base.specs.Calendar.{days_of_months, days_of_years, month_of, year_of}
+use Rattle.aq_base.specs.Decimal.{last_digits}
+use Rattle.aq_rules.specs.Lines.Canonical.{office_texts}
+use Rattle.aq_rules.specs.Lines.OfficeForms.{xa_key, xa_record, xb_key, xb_record, xc_record, xe_key, xe_record, xm_record, xo_key, xo_record, xp_key, xp_record, xs_key, xs_record, xu_key, xu_record}
+use Rattle.aq_rules.specs.Lines.RdForm.{content_in, delete_in, monitor_in, put_in, start_in}
+use Rattle.aq_rules.specs.Lines.Spellings.{date_in, event_code_in, event_number_in, interval_in, parameter_of, qualifiers_in, site_in, time_in, value_in, year_in}
+use Rattle.aq_rules.specs.Listed.Records.{records_answer}
+use Rattle.aq_rules.proofs.listed.texts.records_of_each_kind_load_back.Goals as goal
+
+pub returns : goal.returns
+unfolding digits content_in date_in days_of_months days_of_years delete_in event_code_in event_number_in interval_in last_digits monitor_in month_of office_texts parameter_of put_in qualifiers_in records_answer site_in start_in time_in value_in xa_key xa_record xb_key xb_record xc_record xe_key xe_record xm_record xo_key xo_record xp_key xp_record xs_key xs_record xu_key xu_record year_in year_of
+returns c = record { accepted = refl; records = refl }
