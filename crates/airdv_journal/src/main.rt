@@ -4,14 +4,18 @@
 //!
 //! # What it has
 //!
-//! - `main`: a journal (aq_journal) over that file (aq_file), handed to `run_over`.
+//! - `main`: a journal (aq_journal) over the disk of that file (`FileDisk` of aq_file, opened by `AtName`),
+//!   handed to `run_over`.
 //!
 //! # What it promises
 //!
 //! - What is promised of a journal stands in the door page of aq_journal, and of the commands in that of
-//!   aq_desk. The file tells none of its bytes, so over it the clauses on told tables and on a crash say
-//!   nothing: what the trait `Disk` says of a write, a sync and a crash is assumed of it.
-//! - `main` has no contract: it is trusted, and tried on the built program by `bin/tries-journal`.
+//!   aq_desk. The disk of the file tells its bytes, so the keeper tells its tables from its first call on,
+//!   under one premise: what is read is what an honest file held (`is_clean` of the kit). What the kit's
+//!   trait of a disk says of a write, a sync and a crash is trusted of a real file. The type that `main`
+//!   names says nothing of what the file holds (`Unknown`).
+//! - `main` has no contract: which file is opened, and that it hands on the keeper and ends with the
+//!   status, are trusted, and tried on the built program by `bin/tries-journal`.
 //!
 //! # An example
 //!
@@ -23,7 +27,7 @@
 //! ```
 #![tactic(auto)]
 
-use aq_file::FileDisk;
+use aq_file::{AtName, FileDisk, Unknown};
 use aq_journal::JournalKeeper;
 use aq_program::run_over;
 use std::process::ExitCode;
@@ -32,6 +36,7 @@ use std::process::ExitCode;
 const FILE: &str = "airdv.journal";
 
 fn main(rt: HostRuntime) -> ExitCode {
-    let mut keeper = JournalKeeper::new(FileDisk::new(&rt, FILE));
+    let file = AtName::<Unknown>::new(&rt, FILE);
+    let mut keeper = JournalKeeper::new(FileDisk::new(rt.alloc(), file));
     run_over(rt, &mut keeper)
 }

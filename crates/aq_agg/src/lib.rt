@@ -43,8 +43,6 @@ mod ranked_bag;
 mod stratum_sum;
 mod sum_count;
 mod tally;
-#[cfg(test)]
-mod tests;
 
 pub use aggregate::Aggregate;
 pub use laws::{

@@ -32,8 +32,6 @@ mod area_history;
 mod area_value;
 mod critical_value;
 mod exact_mean;
-#[cfg(test)]
-mod tests;
 mod two_years;
 
 pub use area_history::{AreaHistory, MOST_END_YEARS, history};

@@ -20,6 +20,7 @@ use aq_num::{read_decimal, round_half_up, trunc_div, write_fixed};
 use aq_pm25::rank_of;
 use aq_rd::{has_office_tag, print_rd, read_rd, site_word, tag_of};
 use aq_registry::Registry;
+use aq_reports::{error_sheet, text_of};
 use aq_serve::MemorySink;
 use aq_words::read_words;
 use std::alloc::Global;
@@ -55,11 +56,12 @@ fn number_answer(alloc: Global, name: &str, arguments: &str) -> Result<String, T
         "sites" => sites(alloc, arguments),
         "holds" => holds(alloc, arguments),
         "covers" => covers(alloc, arguments),
+        "error" => error(alloc, arguments),
         _ => Err(Trouble::Wrong("there is no such call")),
     }
 }
 
-const NOT_SO: Trouble = Trouble::Wrong("it is not called so");
+pub(crate) const NOT_SO: Trouble = Trouble::Wrong("it is not called so");
 
 fn text(alloc: Global, text: &str) -> Result<String, Trouble> {
     Ok(String::from_str(alloc, text)?)
@@ -184,7 +186,7 @@ fn body(alloc: Global, arguments: &str) -> Result<String, Trouble> {
 }
 
 /// The first word of a text and what stands after it.
-fn cut(text: &str) -> (&str, &str) {
+pub(crate) fn cut(text: &str) -> (&str, &str) {
     match text.split_once(' ') {
         Some(parts) => parts,
         None => (text, ""),
@@ -369,7 +371,7 @@ fn without_memory(alloc: Global) -> Result<String, Trouble> {
 }
 
 /// Puts a word after those that are there, with a space between them.
-fn add_word(words: &mut String, word: &str) -> Result<(), Memory> {
+pub(crate) fn add_word(words: &mut String, word: &str) -> Result<(), Memory> {
     if !words.is_empty() {
         words.push_str(" ")?;
     }
@@ -505,4 +507,14 @@ fn apply_line(registry: &mut Registry, line: &[u8]) -> Result<(), Trouble> {
         Ok(_) => Ok(()),
         Err(_) => Err(NOT_SO),
     }
+}
+
+/// `NAME`: the sheet of an error, of two of the names.
+fn error(alloc: Global, arguments: &str) -> Result<String, Trouble> {
+    let sheet = match arguments {
+        "NotFound" => error_sheet(alloc, "NotFound")?,
+        "Forbidden" => error_sheet(alloc, "Forbidden")?,
+        _ => return Err(NOT_SO),
+    };
+    shown(alloc, &text_of(alloc, &sheet)?)
 }

@@ -22,7 +22,17 @@ fn try_call(alloc: Global, line: &str) -> Result<Option<String>, Memory> {
     let Some((name, arguments)) = call.split_once(' ') else {
         return Ok(Some(format!(in alloc; "`{call}` has no arguments")?));
     };
-    match answer(alloc, name, arguments) {
+    verdict(alloc, call, wanted, answer(alloc, name, arguments))
+}
+
+/// How a call's answer differs from what is wanted, in words, if it does.
+pub(crate) fn verdict(
+    alloc: Global,
+    call: &str,
+    wanted: &str,
+    found: Result<String, Trouble>,
+) -> Result<Option<String>, Memory> {
+    match found {
         Ok(found) if found.as_str() == wanted => Ok(None),
         Ok(found) => Ok(Some(format!(in alloc; "{call} is {found}, wanted {wanted}")?)),
         Err(Trouble::Memory) => Err(Memory),

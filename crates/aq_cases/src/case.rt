@@ -86,6 +86,8 @@ pub enum Subject {
     Replies(usize),
     /// The rows that the keeper has after the run.
     Tables,
+    /// Calls over the office of these rows, each with its answer.
+    Asked,
 }
 
 /// How much of it the wanted text says.

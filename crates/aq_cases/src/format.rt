@@ -35,6 +35,8 @@
 //!   after them says less: that it `starts` or `ends` so, that it `has` each of these lines, `lacks` all of
 //!   them, or `contains` each of them somewhere. `output again` is that of the run before. What a run does not
 //!   speak of is not compared.
+//! - `asked`, a block: calls over the office of the tables after the run, `CALL => ANSWER`, by the names of the
+//!   module `asked`.
 //! - `input`, `output`, `errors`, `door` or `transfer`, with `fails at NUMBERS`: these calls fail. Of the
 //!   door `listen` and `accept` are counted, and of a transfer `read` and `write`.
 //! - `output`, `errors` or `connection`, with `has room for NUMBER`: so many bytes can be written there.
@@ -349,6 +351,7 @@ fn open_wanted(alloc: Global, run: &mut Run, word: &str, rest: &str) -> Result<B
         "output" => Subject::Output,
         "errors" => Subject::Errors,
         "tables" => Subject::Tables,
+        "asked" if rest.is_empty() => Subject::Asked,
         "replies" => match run.given.connections.len().checked_sub(1) {
             Some(last) => Subject::Replies(last),
             None => return Err(Trouble::Wrong("there is no connection above")),

@@ -1,10 +1,12 @@
 //! A program for the gate alone: it runs the cases that stand in files of `data/` over sources, sinks,
 //! doors and keepers in memory, and prints a line for each. A case says which words and lines go in, and
-//! what has to come out.
+//! what has to come out. Batches are tried over databases too, one of them in a real file.
 //!
 //! # What it has
 //!
 //! - `data/*.txt`: the cases, plain text that a reviewer can read. `format` says how one is written.
+//! - `data/kept.batches` and `data/others.databases`: batches over databases, and databases that are refused.
+//!   `batches` says how they are written.
 //! - `data/index.txt`: the files that are run if the words name none. A file of `data/` that it does not name
 //!   counts as a failure.
 //! - `stdout`: a line for each case; the gate compares it, as two compilers build the program.
@@ -26,34 +28,32 @@
 #![tactic(auto)]
 
 mod answers;
+mod asked;
+mod batches;
 mod blocks;
 mod calls;
 mod case;
 mod compare;
-mod database;
 mod dates;
 mod format;
+mod lent;
 mod rows;
 mod spelling;
 mod taking;
+mod tally;
 mod trial;
 mod trouble;
 
 use aq_base::Memory;
+use batches::{try_batches, try_databases};
 use case::Case;
 use format::read_cases;
 use std::alloc::Global;
 use std::io::ErrorKind;
 use std::process::ExitCode;
 use std::{env, fs, io};
+use tally::Tally;
 use trial::try_case;
-
-/// How many cases were tried, and how many of them differed.
-#[derive(Drop)]
-struct Tally {
-    cases: u32,
-    failures: u32,
-}
 
 fn main(rt: HostRuntime) -> io::Result<ExitCode> {
     let mut tally = Tally {
@@ -91,8 +91,14 @@ fn see_all_named(rt: &HostRuntime, index: &str, tally: &mut Tally) -> io::Result
 /// Tries the cases of a file.
 fn try_file(rt: &HostRuntime, name: &str, tally: &mut Tally) -> io::Result<()> {
     let text = fs::read_to_string(rt, name)?;
-    let cases = known(read_cases(rt.alloc(), text.as_str()))?;
     println!(rt; "# {name}")?;
+    if name.ends_with(".batches") {
+        return try_batches(rt, text.as_str(), tally);
+    }
+    if name.ends_with(".databases") {
+        return try_databases(rt, text.as_str(), tally);
+    }
+    let cases = known(read_cases(rt.alloc(), text.as_str()))?;
     for case in cases {
         try_one(rt, case, tally)?;
     }
@@ -103,13 +109,11 @@ fn try_file(rt: &HostRuntime, name: &str, tally: &mut Tally) -> io::Result<()> {
 fn try_one(rt: &HostRuntime, case: Case, tally: &mut Tally) -> io::Result<()> {
     let alloc: Global = rt.alloc();
     let name = case.name.clone()?;
-    tally.cases = tally.cases.saturating_add(1);
-    match known(try_case(alloc, case))? {
+    let difference = known(try_case(alloc, case))?;
+    tally.add(difference.is_none());
+    match difference {
         None => println!(rt; "ok {name}"),
-        Some(difference) => {
-            tally.failures = tally.failures.saturating_add(1);
-            println!(rt; "DIFFERS {name}: {difference}")
-        }
+        Some(difference) => println!(rt; "DIFFERS {name}: {difference}"),
     }
 }
 

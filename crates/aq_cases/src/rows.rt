@@ -6,7 +6,7 @@
 //! - `observations3 SITE, POLLUTANT, POC, HOUR, VALUE, METHOD, NULL CODE, QUALIFIERS`
 use crate::trouble::Trouble;
 use aq_base::{Bytes, Memory};
-use aq_keeper::{LoadRow, ObsRow, ObsRow2, OfficeRow, Row, RowContent};
+use aq_keeper::{LoadRow, ObsRow, ObsRow2, OfficeRow, Row, RowContent, RowKey};
 use std::alloc::Global;
 
 const NO_ROW: Trouble = Trouble::Wrong("no row");
@@ -23,7 +23,8 @@ pub fn read_rows(alloc: Global, text: &[u8]) -> Result<Vec<Row>, Trouble> {
     Ok(rows)
 }
 
-fn read_row(alloc: Global, line: &str) -> Result<Row, Trouble> {
+/// The row of a line.
+pub fn read_row(alloc: Global, line: &str) -> Result<Row, Trouble> {
     let Some((table, columns)) = line.split_once(' ') else {
         return Err(NO_ROW);
     };
@@ -99,6 +100,26 @@ fn read_load(alloc: Global, columns: &str) -> Result<LoadRow, Trouble> {
         listed: bytes_in(alloc, listed)?,
         rest: bytes_in(alloc, last)?,
     })
+}
+
+/// The key of a load, `loads NUMBER`, or of an observation, `TABLE SITE, POLLUTANT, POC, HOUR`.
+pub fn read_key(line: &str) -> Result<RowKey, Trouble> {
+    let Some((table, columns)) = line.split_once(' ') else {
+        return Err(NO_ROW);
+    };
+    if table == "loads" {
+        return Ok(RowKey::load(number_in(columns)?));
+    }
+    let (site, rest) = cut(columns)?;
+    let (pollutant, rest) = cut(rest)?;
+    let (poc, hour) = cut(rest)?;
+    let (site, pollutant) = (number_in(site)?, number_in(pollutant)?);
+    let (poc, hour) = (number_in(poc)?, number_in(hour)?);
+    match table {
+        "observations" => Ok(RowKey::observation(site, pollutant, poc, hour)),
+        "observations3" => Ok(RowKey::second(site, pollutant, poc, hour)),
+        _ => Err(NO_ROW),
+    }
 }
 
 /// The first column and the others.

@@ -2,10 +2,12 @@
 ghost use Rattle.std.specs.Prelude.{◌≡◌, true, map, IfOk};
 ghost use Rattle.aq_rules.specs.Kept.RowChanges.{row_key, keys_rise};
 
+use crate::asked::try_asked;
+use crate::batches::new_keeper;
 use crate::calls::try_calls;
 use crate::case::{Case, Extent, Failing, Given, Place, Run, Subject, Wanted};
 use crate::compare::difference;
-use crate::database::new_keeper;
+use crate::lent::LentKeeper;
 use crate::rows::{read_rows, rows_text};
 use crate::taking::TakingKeeper;
 use crate::trouble::Trouble;
@@ -192,10 +194,11 @@ fn perform<K: Keeper>(
     let mut input = MemorySource::new(input, failing_reads);
     let mut output = MemorySink::new(alloc, room.output, failing_writes)?;
     let mut errors = MemorySink::new(alloc, room.errors, failing_errors)?;
+    let mut lent = LentKeeper::new(keeper);
     let status = aq_desk::run(
         alloc,
         words,
-        keeper,
+        &mut lent,
         &mut door,
         &mut input,
         &mut output,
@@ -250,6 +253,7 @@ fn compare<K: Keeper>(
             None => said(alloc, "there is no such connection"),
         },
         Subject::Tables => compare_tables(alloc, extent, text, keeper),
+        Subject::Asked => ask_office(alloc, text, keeper),
     }
 }
 
@@ -266,6 +270,19 @@ fn compare_tables<K: Keeper>(
     };
     let found = difference(alloc, extent, wanted, rows.as_bytes())?;
     told(alloc, "tables", found)
+}
+
+/// The first difference of calls over the office of a keeper's rows.
+fn ask_office<K: Keeper>(
+    alloc: Global,
+    calls: &[u8],
+    keeper: &mut K,
+) -> Result<Option<String>, Memory> {
+    let (Ok(rows), Ok(calls)) = (keeper.read_all(alloc), str::from_utf8(calls)) else {
+        return said(alloc, "the tables cannot be read");
+    };
+    let found = try_asked(alloc, rows.as_slice(), calls)?;
+    told(alloc, "asked", found)
 }
 
 /// A difference, with the name of what differs.

@@ -15,7 +15,7 @@
 //!   kept of its three years and the verdict (`design_value`, clause `value`).
 //! - For ozone it makes at most three times the steps that the source says of a year (clause `steps`):
 //!   200 for each day and for the one after the last, over a shelf and a registry. For particles it makes
-//!   none if the source keeps their years (clause `kept`).
+//!   none if the source keeps their years (clause `particles`).
 //! - What a source gives is the book's year of the site in its office (the trait `Years`), and so is
 //!   what is computed from a shelf and a registry (`FromShelf`).
 //!

@@ -35,6 +35,7 @@ pub fn design_value<Y: Years, L: Ledger>(
     ensures value { design_of result ≡ design_value standard (Y.office source.now) site year }
     ensures steps { standard ≡ Ozone2015 → steps.new ≤ steps.old + 3 * Y.ozone_steps }
     ensures kept { Y.keeps_particles ≡ true → steps.new ≤ steps.old + 3 * Y.ozone_steps }
+    ensures particles { Y.keeps_particles ≡ true → (standard ≡ Ozone2015 → ⊥) → steps.new ≤ steps.old }
 {
     match standard {
         Standard::Ozone2015 => ozone_value(source, site, year, steps),

@@ -1,17 +1,19 @@
 -- What a run says of its command.
 use Rattle.std.proofs.Common.{◌≡◌, ℕ, Bool, false, List, [], Option, Some, None, refl, sym, ap, subst, inr, arith}
-use Rattle.std.specs.Prelude.{Result, Ok, Err, IfSome}
+use Rattle.std.specs.Prelude.{◌↔◌, IsNone, Result, Ok, Err, IfSome}
 use Rattle.std.proofs.lemmas.Bool.{false≢true}
-use Rattle.aq_keeper.specs.Told.{told_through}
+use Rattle.aq_keeper.specs.Told.{KeeperView, told_through}
 use Rattle.aq_rules.specs.Kept.Rows.{Row}
 use Rattle.aq_desk.proofs.Fronts.{behind_nothing}
 use Rattle.aq_desk.proofs.Outcomes.{nothing_written}
 use Rattle.aq_desk.proofs.Serving.{serve_status}
 use Rattle.aq_desk.proofs.Tables.{keeps_same, of_any, of_told, with_tables}
-use Rattle.aq_desk.specs.Command.{Follows, IsWhole, Outcome, Printout, RisesAt, Tells, leaving, message_for}
+use Rattle.aq_desk.proofs.Unread.{stays_at}
+use Rattle.aq_desk.specs.Command.{Follows, IsStatus, IsWhole, Outcome, Printout, RisesAt, Tells, leaving, message_for}
 use Rattle.aq_desk.specs.Ending.{no_command}
+use Rattle.aq_serve.specs.Door.{DoorView}
 use Rattle.aq_serve.specs.Outside.{IsAll, OfTold, SinkView, SourceView}
-use Rattle.aq_desk.specs.Run.{Acts, KeeperRises, Runs, Surroundings, hosting_for, hosting_in, outcome_of, reads_input}
+use Rattle.aq_desk.specs.Run.{Acts, IsRun, KeeperRises, Runs, Surroundings, around_in, hosting_for, hosting_in, outcome_of, reads_input}
 use Rattle.aq_desk.specs.Serve.{Around, HasServed, Hosting, serve_outcome}
 use Rattle.aq_desk.specs.Simulate.{simulate_outcome}
 use Rattle.aq_desk.specs.Stop.{EndsAs, IsMeasured, Obeys, Performs, ending_of, status_of}
@@ -151,7 +153,7 @@ keeper_rises asked status m n rises = record { rises = rises.rises; stays = λ _
 -- ---- a run of the command that the words name
 
 module _ (command : Command) (found : Option Command) (answer : Result Unit Stop) (status : ℕ) (same : Some command ≡ found) (is : status ≡ status_of answer) where
-  pub runs : (before after : Surroundings) → Acts command answer before.input.left before.output after.output before.around after.around → Tells (ending_of answer).message before.errors after.errors → Runs found status before after
+  pub runs : (before after : Surroundings) → Acts command answer before.input.left before.output after.output (around_in before) (around_in after) → Tells (ending_of answer).message before.errors after.errors → Runs found status before after
   runs before after acts tells =
       let P = λ (c : Option Command). Runs c status before after in
       let Q = λ (s : ℕ). Runs (Some command) s before after in
@@ -162,41 +164,96 @@ module _ (command : Command) (found : Option Command) (answer : Result Unit Stop
         body = acts.body;
         are_told = acts.are_told;
         is_told = acts.is_told;
-        prints = λ none. performs_follows outcome answer before.output after.output before.around.tables after.around.tables (acts.performs none);
+        prints = λ none. performs_follows outcome answer before.output after.output before.keeper.tables after.keeper.tables (acts.performs none);
         serves = acts.serves;
         tells = subst R (message-is outcome answer acts.ends) tells;
         measured = acts.measured;
       }))
 
-  pub run_keeper : (m n : ℕ) → KeeperRises (hosting_in command) (status_of answer) m n → KeeperRises (hosting_for found) status m n
-  run_keeper m n rises =
-      let P = λ (c : Option Command). KeeperRises (hosting_for c) status m n in
-      let Q = λ (s : ℕ). KeeperRises (hosting_in command) s m n in
-      subst P same (subst Q (sym is) rises)
+  pub is_run : {K D S O : Type 0} (before after : Surroundings) (keeper later_keeper : K) (door later_door : D) (input later_input : S) (output later_output : O)
+      → IsRun (Some command) (status_of answer) before after keeper later_keeper door later_door input later_input output later_output
+      → IsRun found status before after keeper later_keeper door later_door input later_input output later_output
+  is_run before after keeper later_keeper door later_door input later_input output later_output run =
+      let P = λ (c : Option Command). IsRun c status before after keeper later_keeper door later_door input later_input output later_output in
+      let Q = λ (s : ℕ). IsRun (Some command) s before after keeper later_keeper door later_door input later_input output later_output in
+      subst P same (subst Q (sym is) run)
 
 -- and of words that name none
-pub none_runs : (found : Option Command) (around : Around) (input later : SourceView) (output errors told : SinkView) → None ≡ found → Tells no_command.message errors told
-    → Runs found 2 (record { around = around; input = input; output = output; errors = errors }) (record { around = around; input = later; output = output; errors = told })
-none_runs found around input later output errors told same tells =
-    let P = λ (c : Option Command). Runs c 2 (record { around = around; input = input; output = output; errors = errors }) (record { around = around; input = later; output = output; errors = told }) in
-    let tables : OfTold (told_through around.tables around.tables) (λ rows. IsAll (told_through around.tables around.tables) rows) = of_told (told_through around.tables around.tables) (λ rows. IsAll (told_through around.tables around.tables) rows) (λ rows told. told) in
-    let read : OfTold input.left (λ _. Unit {0}) = of_any input.left (λ _. Unit {0}) (λ _. tt) in
-    subst P same (record {
-      rows = tables.all;
-      body = read.all;
-      are_told = tables.is_all;
-      is_told = read.is_all;
-      prints = λ _. record {
-        answered = λ _. refl;
-        whole = λ _. sym (behind_nothing output.written);
-        front = nothing_written output.written [];
-        written = λ four. absurd (omega (arith, four));
-        tables = keeps_same tables.all 2 around.tables tables.is_all;
-      };
-      serves = tt;
-      tells = tells;
-      measured = unmeasured read.all 2 (λ ten. omega (arith, ten));
-    })
+module _ (door : DoorView) (keeper : KeeperView) (input : SourceView) (output errors told : SinkView) where
+  abbrev with_errors : SinkView → Surroundings
+  with_errors written = record { door = door; keeper = keeper; input = input; output = output; errors = written }
+
+  none_runs : Tells no_command.message errors told → Runs None 2 (with_errors errors) (with_errors told)
+  none_runs tells =
+      let tables : OfTold (told_through keeper.tables keeper.tables) (λ rows. IsAll (told_through keeper.tables keeper.tables) rows) = of_told (told_through keeper.tables keeper.tables) (λ rows. IsAll (told_through keeper.tables keeper.tables) rows) (λ rows told. told) in
+      let read : OfTold input.left (λ _. Unit {0}) = of_any input.left (λ _. Unit {0}) (λ _. tt) in
+      record {
+        rows = tables.all;
+        body = read.all;
+        are_told = tables.is_all;
+        is_told = read.is_all;
+        prints = λ _. record {
+          answered = λ _. refl;
+          whole = λ _. sym (behind_nothing output.written);
+          front = nothing_written output.written [];
+          written = λ four. absurd (omega (arith, four));
+          tables = keeps_same tables.all 2 keeper.tables tables.is_all;
+        };
+        serves = tt;
+        tells = tells;
+        measured = unmeasured read.all 2 (λ ten. omega (arith, ten));
+      }
+
+  pub no_run : {K D S O : Type 0} (found : Option Command) (kept : K) (hosted : D) (read : S) (written : O) → None ≡ found → Tells no_command.message errors told
+      → IsRun found 2 (with_errors errors) (with_errors told) kept kept hosted hosted read read written written
+  no_run found kept hosted read written same tells =
+      let P = λ (c : Option Command). IsRun c 2 (with_errors errors) (with_errors told) kept kept hosted hosted read read written written in
+      subst P same (record {
+        headline = none_runs tells;
+        reasons = record {
+          statuses = grind arith;
+          no_command = ((λ _. refl), (λ _. refl));
+          input_failed = stays_at 3 2 input.faults (λ three. omega (arith, three));
+          output_failed = stays_at 4 2 output.faults (λ four. omega (arith, four));
+          keeper_failed = keeper_rises None 2 keeper.faults keeper.faults (stays_at 5 2 keeper.faults (λ five. omega (arith, five)));
+          door_failed = stays_at 8 2 door.accepts (λ eight. omega (arith, eight));
+          only_serve = λ eight. absurd (omega (arith, eight));
+          read = λ uses. absurd (false≢true uses);
+          only_migrates = λ asks. absurd (false≢true asks);
+        };
+        silent = λ _. refl;
+        gone = λ uses. absurd (false≢true uses);
+        unused_input = λ _. refl;
+        unused_keeper = λ _. refl;
+        unused_output = λ _. refl;
+        unused_door = λ _. refl;
+      })
+
+-- ---- what a status may be
+
+-- none is that of words that are no command
+status-is : (answer : Result Unit Stop) → IsStatus (status_of answer) × (status_of answer ≡ 2 → ⊥)
+status-is (Ok nothing) = (grind arith, (λ two. omega (arith, two)))
+status-is (Err InputFailed) = (grind arith, (λ two. omega (arith, two)))
+status-is (Err OutputFailed) = (grind arith, (λ two. omega (arith, two)))
+status-is (Err KeeperFailed) = (grind arith, (λ two. omega (arith, two)))
+status-is (Err DoorFailed) = (grind arith, (λ two. omega (arith, two)))
+status-is (Err (Damaged place)) = (grind arith, (λ two. omega (arith, two)))
+status-is (Err Memory) = (grind arith, (λ two. omega (arith, two)))
+status-is (Err (Conflict number kept sent)) = (grind arith, (λ two. omega (arith, two)))
+status-is (Err TooManyBytes) = (grind arith, (λ two. omega (arith, two)))
+status-is (Err (TooManyLines lines)) = (grind arith, (λ two. omega (arith, two)))
+status-is (Err LoadsFull) = (grind arith, (λ two. omega (arith, two)))
+status-is (Err (NoSite site)) = (grind arith, (λ two. omega (arith, two)))
+status-is (Err (NoEvent number)) = (grind arith, (λ two. omega (arith, two)))
+status-is (Err (NoCombination site)) = (grind arith, (λ two. omega (arith, two)))
+status-is (Err NoSiteInArea) = (grind arith, (λ two. omega (arith, two)))
+
+pub is_status : (answer : Result Unit Stop) → IsStatus (status_of answer)
+is_status answer = let both = status-is answer in both.0
+
+pub names_command : (command : Command) (answer : Result Unit Stop) → (status_of answer ≡ 2) ↔ IsNone (Some command)
+names_command command answer = let both = status-is answer in ((λ two. absurd (both.1 two)), (λ none. absurd (false≢true (sym none))))
 
 pub tells_nothing : (errors : SinkView) → Tells [] errors errors
 tells_nothing errors = record { front = nothing_written errors.written []; whole = inr (sym (behind_nothing errors.written)) }

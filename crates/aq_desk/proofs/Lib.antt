@@ -13,4 +13,5 @@ pub mod Serving
 pub mod TableNames
 pub mod Telling
 pub mod Causes
+pub mod Faultless
 pub mod Reading

@@ -7,7 +7,7 @@ use Rattle.aq_base.specs.Faults.{HasRisen}
 use Rattle.aq_book.proofs.OpenedFronts.{no-opening_damage}
 use Rattle.aq_book.specs.Migrating.{IsMigrationFault}
 use Rattle.aq_keeper.proofs.Telling.{stays, stays_as, stays_join, stays_still}
-use Rattle.aq_keeper.specs.Told.{Stays, told_through}
+use Rattle.aq_keeper.specs.Told.{KeeperView, Stays, told_through}
 use Rattle.aq_rules.specs.Kept.Migration.{are_version_1, can_be_opened, migrated, migration_batch, opening_damage}
 use Rattle.aq_rules.specs.Kept.RowChanges.{RowChange, with_row_changes}
 use Rattle.aq_rules.specs.Kept.Rows.{Place, Row, are_office_rows, damage, office_in, office_of_rows, rows_of}
@@ -19,7 +19,7 @@ use Rattle.aq_desk.proofs.Tables.{cut_gives, keeps_at_most_opened, keeps_still, 
 use Rattle.aq_desk.proofs.Unread.{stopped_by}
 use Rattle.aq_desk.specs.Command.{AtMostOpened, Outcome, RisesAt, leaving, opened_rows, unwritten}
 use Rattle.aq_desk.specs.Ending.{damaged}
-use Rattle.aq_desk.specs.Office.{HasOpened, IsOpened, IsUnopened, over_damage, over_office}
+use Rattle.aq_desk.specs.Office.{HasOpened, IsOpened, IsUnopened, OnlyMigrates, over_damage, over_office}
 use Rattle.aq_serve.specs.Outside.{IsAll, OfTold}
 use Rattle.aq_desk.specs.Stop.{Gives, IsUnprinted, ending_at, status_of, stop_of_book}
 use Rattle.aq_desk.specs.declared.stop.Stop.{Stop}
@@ -169,6 +169,46 @@ pub unfilled : {A : Type 0} (answer : Result A Stop) (before read after : Option
     → Stays before read → k ≡ m → HasOpened office read after → n ≡ k → IfErr answer (IsUnopened before after m n)
 unfilled answer before read after m k n office is stays steady has same =
     subst (λ r. IfErr r (IsUnopened before after m n)) (sym (stopped_by answer Memory is)) (inr (read_opened before read after office stays has).tables, same ∙ steady)
+
+-- ---- what was committed
+
+-- nothing, by a call that reads
+pub read_migrates : (before after : KeeperView) → after.commits ≡ before.commits → OnlyMigrates before after
+read_migrates before after same = of_any (told_through before.tables after.tables) (λ rows. are_version_1 rows ≡ false → after.commits ≡ before.commits) (λ rows new. same)
+
+module _ (before read after : KeeperView) (rows : List Row) (told : IfSome read.tables (λ told. rows ≡ told)) (kept : Stays before.tables read.tables) (same : read.commits ≡ before.commits)
+    (untouched : are_version_1 rows ≡ false → after.commits ≡ read.commits) where
+  then-migrates : (IsSome after.tables → IsSome read.tables) → OnlyMigrates before after
+  then-migrates tells = over-since before.tables read.tables after.tables (λ rows. are_version_1 rows ≡ false → after.commits ≡ before.commits) tells kept (record {
+    all = rows;
+    is_all = told-rows read.tables after.tables rows told;
+    says = λ new. untouched new ∙ same;
+  })
+
+  -- nor of rows of today, if the office was opened
+  pub opened_migrates : (office : Office) → HasOpened office read.tables after.tables → OnlyMigrates before after
+  opened_migrates office has = then-migrates (tells_before opened_rows read.tables after.tables has.tables)
+
+  -- or was not
+  pub unopened_migrates : (m n : ℕ) (stop : Stop) → IsUnopened read.tables after.tables m n stop → OnlyMigrates before after
+  unopened_migrates m n KeeperFailed cause = then-migrates (tells_still read.tables after.tables cause.0)
+  unopened_migrates m n Memory cause = then-migrates (at-most cause.0)
+    where
+      at-most : AtMostOpened read.tables after.tables → IsSome after.tables → IsSome read.tables
+      at-most (inl stays) = tells_still read.tables after.tables stays
+      at-most (inr opened) = tells_before opened_rows read.tables after.tables opened
+  unopened_migrates m n (Damaged place) cause = then-migrates (tells_still read.tables after.tables cause.0)
+  unopened_migrates m n InputFailed cause = absurd cause
+  unopened_migrates m n OutputFailed cause = absurd cause
+  unopened_migrates m n DoorFailed cause = absurd cause
+  unopened_migrates m n (Conflict number kept sent) cause = absurd cause
+  unopened_migrates m n TooManyBytes cause = absurd cause
+  unopened_migrates m n (TooManyLines lines) cause = absurd cause
+  unopened_migrates m n LoadsFull cause = absurd cause
+  unopened_migrates m n (NoSite site) cause = absurd cause
+  unopened_migrates m n (NoEvent number) cause = absurd cause
+  unopened_migrates m n (NoCombination site) cause = absurd cause
+  unopened_migrates m n NoSiteInArea cause = absurd cause
 
 -- migrated rows are an office's, so none is damaged
 pub undamaged_old : (rows standing : List Row) (place : Place) → ((rs : List Row) → (damage rs ≡ None) ↔ IsTrue (are_office_rows rs)) → ((rs : List Row) → IsTrue (are_version_1 rs) → IsTrue (are_office_rows (migrated rs)))

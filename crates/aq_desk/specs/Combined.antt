@@ -9,6 +9,7 @@ use Rattle.aq_rules.specs.Shown.Sheet.{text_of}
 use Rattle.aq_words.specs.declared.words.Combined.{Combined}
 use Rattle.aq_desk.specs.Command.{Printout, printed, unwritten}
 use Rattle.aq_desk.specs.Ending.{no_combination}
+use Rattle.aq_desk.specs.WhatIf.{of_site}
 
 -- of a site to which one is joined
 abbrev pub of_pair : Site → (DesignValue → Printout) → Option DesignValue → Printout
@@ -17,5 +18,6 @@ of_pair site printout (Some value) = printout value
 
 unfoldable pub combined_printout : Combined → Office → Printout
 combined_printout question office =
-    of_pair question.site (λ value. printed (text_of (value_sheet question.standard question.site question.year value)))
-    (pair_value question.standard office question.site question.year)
+    of_site office question.site
+    (of_pair question.site (λ value. printed (text_of (value_sheet question.standard question.site question.year value)))
+    (pair_value question.standard office question.site question.year))

@@ -1,8 +1,8 @@
 -- The office that a command opens: that of the rows which the keeper hands out, of which those of version 1 are migrated first (own).
-use Rattle.std.specs.Prelude.{◌≡◌, ℕ, List, Option, Some, None}
+use Rattle.std.specs.Prelude.{◌≡◌, ℕ, false, List, Option, Some, None}
 use Rattle.std.specs.Option.{option_map}
-use Rattle.aq_keeper.specs.Told.{Stays, told_through}
-use Rattle.aq_rules.specs.Kept.Migration.{opening_damage}
+use Rattle.aq_keeper.specs.Told.{KeeperView, Stays, told_through}
+use Rattle.aq_rules.specs.Kept.Migration.{are_version_1, opening_damage}
 use Rattle.aq_rules.specs.Kept.Rows.{Place, Row, office_in, rows_of}
 use Rattle.aq_rules.specs.Office.Office.{IsOffice, Office}
 use Rattle.aq_base.specs.Faults.{HasRisen}
@@ -39,3 +39,7 @@ IsUnopened before after m n Memory = AtMostOpened before after × (n ≡ m)
 IsUnopened before after m n (Damaged place) =
     Stays before after × (n ≡ m) × OfTold (told_through before after) (λ rows. opening_damage rows ≡ Some (record { table = place.table; index = place.index }))
 IsUnopened before after m n _ = ⊥
+
+-- nothing was committed, unless the rows that were told are of version 1
+abbrev pub OnlyMigrates : KeeperView → KeeperView → Type 0
+OnlyMigrates before after = OfTold (told_through before.tables after.tables) (λ rows. are_version_1 rows ≡ false → after.commits ≡ before.commits)

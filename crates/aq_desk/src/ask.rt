@@ -1,9 +1,10 @@
 //! The commands that ask, and of these `show`, `report` and `export`.
-ghost use Rattle.std.specs.Prelude.{◌≡◌, IfErr, IfOk, IsTrue};
+ghost use Rattle.std.specs.Prelude.{◌≡◌, false, IfErr, IfOk, IsTrue};
 ghost use Rattle.aq_keeper.specs.Told.{told_through};
 ghost use Rattle.aq_desk.specs.Ask.{HasSite, ask_outcome, without_answer};
 ghost use Rattle.aq_desk.specs.Command.{RisesAt, WritesNothing};
 ghost use Rattle.aq_desk.specs.Ending.{no_site};
+ghost use Rattle.aq_desk.specs.Office.{OnlyMigrates};
 ghost use Rattle.aq_serve.specs.Outside.{OfTold};
 ghost use Rattle.aq_desk.specs.Stop.{Gives, IsUnprinted, Performs, status_of};
 ghost use Rattle.aq_desk.specs.declared.status.TheConstants.{DOOR_FAILED, INPUT_FAILED, KEEPER_FAILED, OUTPUT_FAILED, TOO_LARGE};
@@ -39,7 +40,7 @@ pub(crate) trait Question {
         ensures refused { IfErr result (IsUnanswered (printout self.now book.now)) };
 }
 
-/// Prints the answer to a question over the office of the tables.
+/// Prints the answer to a question over the office of the tables, which are let go before.
 pub(crate) fn ask<Q: Question, K: Keeper, O: Sink>(
     alloc: Global,
     question: &Q,
@@ -59,12 +60,14 @@ pub(crate) fn ask<Q: Question, K: Keeper, O: Sink>(
     ensures keeper_failed { RisesAt KEEPER_FAILED (status_of result) (K.seen keeper.old).faults
         (K.seen keeper.new).faults }
     ensures silent { WritesNothing (status_of result) → output.new ≡ output.old }
+    ensures gone { (K.seen keeper.new).is_held ≡ false }
+    ensures only_migrates { OnlyMigrates (K.seen keeper.old) (K.seen keeper.new) }
 {
     let text = asked(alloc, question, keeper)?;
     print_text(text.as_slice(), output)
 }
 
-/// The text of the answer over the office of the tables.
+/// The text of the answer over the office of the tables, which are let go.
 fn asked<Q: Question, K: Keeper>(alloc: Global, question: &Q, keeper: &mut K) -> Result<Bytes, Stop>
     requires { IsTrue (Q.is_asked question.now) }
     ensures told { OfTold (told_through (K.seen keeper.old).tables (K.seen keeper.new).tables)
@@ -73,6 +76,28 @@ fn asked<Q: Question, K: Keeper>(alloc: Global, question: &Q, keeper: &mut K) ->
     ensures unprinted { IfErr result IsUnprinted }
     ensures keeper_failed { RisesAt KEEPER_FAILED (status_of result) (K.seen keeper.old).faults
         (K.seen keeper.new).faults }
+    ensures gone { (K.seen keeper.new).is_held ≡ false }
+    ensures only_migrates { OnlyMigrates (K.seen keeper.old) (K.seen keeper.new) }
+{
+    let text = answered(alloc, question, keeper);
+    keeper.let_go();
+    text
+}
+
+/// The text of the answer over the office of the tables.
+fn answered<Q: Question, K: Keeper>(
+    alloc: Global,
+    question: &Q,
+    keeper: &mut K,
+) -> Result<Bytes, Stop>
+    requires { IsTrue (Q.is_asked question.now) }
+    ensures told { OfTold (told_through (K.seen keeper.old).tables (K.seen keeper.new).tables)
+        (λ rows. Gives (ask_outcome (Q.printout question.now) rows) result
+        (K.seen keeper.old).tables (K.seen keeper.new).tables) }
+    ensures unprinted { IfErr result IsUnprinted }
+    ensures keeper_failed { RisesAt KEEPER_FAILED (status_of result) (K.seen keeper.old).faults
+        (K.seen keeper.new).faults }
+    ensures only_migrates { OnlyMigrates (K.seen keeper.old) (K.seen keeper.new) }
 {
     let book = open(alloc, keeper)?;
     question.text(alloc, &book)

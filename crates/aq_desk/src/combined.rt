@@ -1,7 +1,7 @@
 //! The command `combined`.
 ghost use Rattle.std.specs.Prelude.{◌≡◌, ◌<◌, option_map, IfErr, IfOk, IsTrue};
 ghost use Rattle.aq_rules.specs.Combined.Pair as pairs;
-ghost use Rattle.aq_rules.specs.Shown.Answer.{is_design_year};
+ghost use Rattle.aq_rules.specs.Shown.Answer.{is_design_year, is_registered};
 ghost use Rattle.aq_verdict.specs.Designs.{design_of};
 ghost use Rattle.aq_desk.specs.Ask.{IsUnanswered};
 ghost use Rattle.aq_desk.specs.Combined.{combined_printout};
@@ -9,7 +9,7 @@ ghost use Rattle.aq_desk.specs.Command.{printed};
 
 use crate::ask::Question;
 use crate::stop::Stop;
-use aq_base::{Bytes, Steps};
+use aq_base::{Bytes, SiteId, Steps};
 use aq_book::Book;
 use aq_combine::pair_value;
 use aq_reports::{text_of, value_sheet};
@@ -53,11 +53,21 @@ fn combined_text<L: Ledger>(
         site,
         year,
     } = *question;
+    if !is_registered(book, site) {
+        return Err(Stop::NoSite(site));
+    }
     let Some(value) = value_of_pair(book, question, &mut steps) else {
         return Err(Stop::NoCombination(site));
     };
     let sheet = value_sheet(alloc, standard, site, year, &value)?;
     Ok(Bytes::from_vec(text_of(alloc, &sheet)?))
+}
+
+/// Whether a monitor of a site is registered.
+fn is_registered(book: &Book, site: SiteId) -> bool
+    ensures { result ≡ is_registered book.now site }
+{
+    book.registry().has_site(site)
 }
 
 /// The design value of the site and the one that is joined to it, if one is.

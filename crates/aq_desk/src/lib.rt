@@ -1,6 +1,6 @@
 //! The desk: the top call `run`, which obeys the words of a command over a keeper, a door and three
-//! streams, and whose clause `headline` is the program's promise. `docs/PROVED.md` tells it in words;
-//! `specs/Run.antt` has it.
+//! streams, and whose clause `run` is the program's promise (`IsRun` in `specs/Run.antt`). `docs/PROVED.md`
+//! tells it in words.
 //!
 //! # What it has
 //!
@@ -14,7 +14,7 @@
 //! # What it promises
 //!
 //! - The headline: for each command and each status, what is written, what the tables are after it, and
-//!   over what rows and bytes that is said (`headline`, by `Runs` in `specs/Run.antt`). Of `serve` it
+//!   over what rows and bytes that is said (`headline`, by `Runs`). Of `serve` it
 //!   says what each connection was answered.
 //! - The causes: 2 comes exactly if the words are no command; 3, 4, 5 and 8 come only if a count of
 //!   faults rose, which else stays, but for the keeper's while `serve` answers 503; with 2, 3, 5, 6, 8,
@@ -27,8 +27,12 @@
 //!   is that of 7 (`end_without_memory`). No status and no output depends on that stream.
 //! - A command leaves as it was what it does not use (`unused_input`, `unused_keeper`, `unused_output`,
 //!   `unused_door`).
+//! - A command that prints has let the keeper's tables go when anything is written on the output
+//!   (`gone`).
+//! - A question commits nothing but a migration (`only_migrates`).
 //! - Over a keeper that tells its tables to the end, what is said of them is exact
-//!   (`told_runs_are_exact`).
+//!   (`told_runs_are_exact`). If no count of faults rises, nothing is left out
+//!   (`runs_without_faults_are_complete`).
 //!
 //! `docs/PROVED.md` has each of these in full.
 //!
@@ -59,6 +63,8 @@ mod writing;
 
 pub use aq_office::{Posted, post};
 pub use aq_words::{AreaQuestion, Combined, Command, Decisive, WhatIf, read_words};
-pub use command::{end_without_memory, perform, run, told_runs_are_exact};
+pub use command::{
+    end_without_memory, perform, run, runs_without_faults_are_complete, told_runs_are_exact,
+};
 pub use status::statuses_are_these_numbers;
 pub use stop::Stop;

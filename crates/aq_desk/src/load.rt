@@ -1,5 +1,5 @@
 //! The command `load`.
-ghost use Rattle.std.specs.Prelude.{◌≡◌, ◌≤◌, length, true, IfErr, IfSome, IsSome, IsTrue};
+ghost use Rattle.std.specs.Prelude.{◌≡◌, ◌≤◌, ◌⊎◌, length, true, false, IfErr, IfSome, IsSome, IsTrue};
 ghost use Rattle.aq_keeper.specs.Told.{told_through};
 ghost use Rattle.aq_rules.specs.Limits.{MOST_BYTES, MOST_LINES};
 ghost use Rattle.aq_rules.specs.Lines.Lines.{line_count};
@@ -23,7 +23,8 @@ use aq_office::{Posted, post_uncounted};
 use aq_serve::{Sink, Source};
 use std::alloc::Global;
 
-/// Takes the input as a numbered load over the office of the tables, and prints its sheet.
+/// Takes the input as a numbered load over the office of the tables, and prints its sheet. Before that the
+/// tables are let go.
 pub(crate) fn load<K: Keeper, S: Source, O: Sink>(
     alloc: Global,
     number: u32,
@@ -44,6 +45,7 @@ pub(crate) fn load<K: Keeper, S: Source, O: Sink>(
         (K.seen keeper.new).faults }
     ensures no_door { status_of result ≡ DOOR_FAILED → ⊥ }
     ensures silent { WritesNothing (status_of result) → output.new ≡ output.old }
+    ensures gone { (output.new ≡ output.old) ⊎ ((K.seen keeper.new).is_held ≡ false) }
 {
     let body = read_body(alloc, input)?;
     answer(alloc, number, &body, keeper, output)
@@ -71,9 +73,33 @@ fn answer<K: Keeper, O: Sink>(
     ensures keeper_failed { RisesAt KEEPER_FAILED (status_of result) (K.seen keeper.old).faults
         (K.seen keeper.new).faults }
     ensures silent { WritesNothing (status_of result) → output.new ≡ output.old }
+    ensures gone { (K.seen keeper.new).is_held ≡ false }
 {
-    let text = take(alloc, number, body, keeper)?;
+    let text = take_and_let_go(alloc, number, body, keeper)?;
     print_text(text.as_slice(), output)
+}
+
+/// Takes a body within the limits, lets the tables go, and answers the text of the load's sheet.
+fn take_and_let_go<K: Keeper>(
+    alloc: Global,
+    number: u32,
+    body: &[u8],
+    keeper: &mut K,
+) -> Result<Bytes, Stop>
+    requires number { IsTrue (is_load_number number) }
+    requires bytes { length body.now ≤ MOST_BYTES }
+    requires lines { line_count body.now ≤ MOST_LINES }
+    ensures told { OfTold (told_through (K.seen keeper.old).tables (K.seen keeper.new).tables)
+        (λ rows. Gives (load_answer number body.now rows) result (K.seen keeper.old).tables
+        (K.seen keeper.new).tables) }
+    ensures unprinted { IfErr result IsUnprinted }
+    ensures keeper_failed { RisesAt KEEPER_FAILED (status_of result) (K.seen keeper.old).faults
+        (K.seen keeper.new).faults }
+    ensures gone { (K.seen keeper.new).is_held ≡ false }
+{
+    let text = take(alloc, number, body, keeper);
+    keeper.let_go();
+    text
 }
 
 /// Takes a body within the limits, and answers the text of the load's sheet: the load stands then.

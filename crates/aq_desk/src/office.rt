@@ -2,7 +2,7 @@
 ghost use Rattle.std.specs.Prelude.{◌≡◌, false, IfErr, IfOk, IfSome, OnOk};
 ghost use Rattle.aq_rules.specs.Kept.Migration.{are_version_1};
 ghost use Rattle.aq_rules.specs.Kept.Rows.{are_office_rows};
-ghost use Rattle.aq_desk.specs.Office.{HasOpened, IsUnopened};
+ghost use Rattle.aq_desk.specs.Office.{HasOpened, IsUnopened, OnlyMigrates};
 
 use crate::stop::Stop;
 use aq_book::{Book, OpenFault, migrate};
@@ -21,6 +21,7 @@ pub(crate) fn open<K: Keeper>(alloc: Global, keeper: &mut K) -> Result<Book, Sto
     ensures stopped { IfErr result (IsUnopened (K.seen keeper.old).tables
         (K.seen keeper.new).tables (K.seen keeper.old).faults (K.seen keeper.new).faults) }
     ensures steady { OnOk result ((K.seen keeper.new).faults ≡ (K.seen keeper.old).faults) }
+    ensures only_migrates { OnlyMigrates (K.seen keeper.old) (K.seen keeper.new) }
 {
     // The rows are gone before the book fills its cells.
     let opened = {

@@ -41,7 +41,7 @@ pub enum Stop {
     NoSite(SiteId),
     /// With the first number of a list that no event has.
     NoEvent(u32),
-    /// With the site to which none is joined.
+    /// With the site, which is registered, and to which none is joined.
     NoCombination(SiteId),
     /// No registered site of the area measures the pollutant.
     NoSiteInArea,

@@ -47,8 +47,6 @@ mod particles;
 mod reach;
 mod spans;
 mod strata;
-#[cfg(test)]
-mod tests;
 
 pub use cell_name::CellName;
 pub use change::OfficeChange;

@@ -1,2 +1,3 @@
--- A file of which a sync failed.
-pub mod Syncs
+-- What a file tells that is opened late, what a crash leaves of it, and how far it has come.
+pub mod Late
+pub mod States

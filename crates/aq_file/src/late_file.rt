@@ -1,154 +1,208 @@
-//! A file that is opened at its first call, for this program alone. Where a sync fails, the system may keep what was
-//! written as if it stood: it answers the next sync, and gives in a read what the disk does not have. So the file is
-//! synced and the system's copies of it are dropped before anything is read, and after a sync that failed no call is
-//! answered.
-ghost use Rattle.std.specs.Io.{ReadsAtMost};
+//! A file that is opened late, and let go.
+ghost use Rattle.std.specs.Prelude.{◌≡◌, ◌<◌, ◌≤◌, ◌^◌, length, false, IsTrue, IfOk, OnOk, OnErr};
+ghost use Rattle.sqlite_disk.specs.Disk.{Holds, Torn as TornAt};
+ghost use Rattle.aq_journal.specs.Disks.{Gives, Torn, Only, NothingNew, Follows, written};
+ghost use Rattle.aq_file.specs.Late.{IsRead, StaysUnusable};
 
-use std::fs::{File, OpenOptions};
+use crate::opener::Opener;
+use aq_keeper::KeeperFault;
+use sqlite_disk::Disk;
 use std::io::{self, ErrorKind};
-use std::os::fd::AsRawFd;
-use std::os::unix::fs::FileExt;
+use std::snapshot::Snapshot;
 
-/// So often is a read that a signal interrupts made again.
+/// So often is a call that a signal interrupts made again.
 const MOST_TRIES: u32 = 1_000;
 
-/// What is known of the bytes on the disk.
-#[derive(Clone, Copy, Debug, PartialEq, Eq)]
-pub(crate) enum Standing {
-    /// No sync failed, and no refresh.
-    Certain,
-    /// One did.
-    Doubtful,
-}
-
-/// A file of the working folder. It is made if it is missing, and from its first call until it is dropped no other
-/// program that opens it so can have it. After a sync that failed no call is answered, and the lock is kept: only a
-/// program that opens the file anew finds out what stands.
+/// How far a file has come.
 #[derive(Drop)]
-pub(crate) struct LateFile<'a> {
-    rt: &'a HostRuntime,
-    name: &'a str,
-    file: Option<File>,
-    standing: Standing,
+pub(crate) enum Stage<F: Drop> {
+    /// It was not opened yet.
+    Late,
+    /// It is this program's alone.
+    Opened(F),
+    /// Others may have it. What it was then, if it was opened.
+    LetGo(Option<Snapshot<F>>),
 }
 
-impl<'a> LateFile<'a> {
-    ghost use Rattle.std.specs.Prelude.{◌≡◌, ◌<◌, ◌^◌, is_some, true, false, IfOk, IsErr, OnOk, OnErr};
-    ghost use Rattle.std.specs.Io.{ReadsAtMost};
-    ghost use Rattle.aq_file.specs.Syncs.{StaysRefused, IsRemembered};
-    ghost use Rattle.aq_file.specs.declared.late_file.Standing.TheVariants.{Certain, Doubtful};
+/// A file that is opened by `refresh`, and is then this program's alone until it is let go. An opening that is
+/// refused is tried again by the next one. Before the opening no other call is answered, and none behind a sync that
+/// failed: only what opens the file anew finds out what stands.
+#[derive(Drop)]
+pub(crate) struct LateFile<F: Disk + Drop, O: Opener<F> + Drop> {
+    opener: O,
+    stage: Stage<F>,
+}
 
-    pub(crate) fn new(rt: &'a HostRuntime, name: &'a str) -> LateFile<'a>
-        ensures { result.standing ≡ Certain }
+impl<F: Disk + Drop, O: Opener<F> + Drop> LateFile<F, O> {
+    ghost use Rattle.std.specs.Prelude.{◌≡◌, ◌⊎◌, ◌<◌, ◌≤◌, ◌^◌, length, IfSome, IfOk, OnOk, OnErr};
+    ghost use Rattle.std.specs.Option.{option_map};
+    ghost use Rattle.aq_journal.specs.Disks.{IfTells, Gives, IsWritten, Torn, TornIfTold, Only, NothingNew, Follows, written};
+    ghost use Rattle.aq_file.specs.Late.{leaves, stands, tells};
+    ghost use Rattle.aq_file.specs.States.{IsLate, IsLetGo, IsShut, StaysShut, state};
+    ghost use Rattle.aq_file.specs.declared.late_file.Stage.TheVariants.{Late};
+
+    /// The file that this opens.
+    pub(crate) fn new(opener: O) -> LateFile<F, O>
+        ensures { result ≡ record { opener = opener; stage = Late } }
     {
         LateFile {
-            rt,
-            name,
-            file: None,
-            standing: Standing::Certain,
+            opener,
+            stage: Stage::Late,
         }
     }
 
     /// How many bytes the file has.
     pub(crate) fn length(&mut self) -> io::Result<u64>
+        ensures length { IfOk result (λ n. IfSome (tells F.Disk O.bytes (state self.new)) (λ bytes. n ≡ length bytes)) }
         ensures bound { IfOk result (λ n. n < 2 ^ 63) }
-        ensures refused { StaysRefused self.old.standing self.new.standing result }
+        ensures same { IfTells (tells F.Disk O.bytes (state self.new)) (tells F.Disk O.bytes (state self.new) ≡ tells F.Disk O.bytes (state self.old)) }
+        ensures crash { NothingNew (leaves F.Disk O.bytes (state self.old)) (leaves F.Disk O.bytes (state self.new)) }
+        ensures shut { StaysShut F.Disk self.old self.new result }
     {
-        self.open()?;
-        let length = self.opened()?.metadata()?.len();
-        if length > i64::MAX as u64 {
-            return Err(ErrorKind::InvalidData.into());
+        match &mut self.stage {
+            Stage::Opened(file) => length_of(file),
+            _ => Err(ErrorKind::NotFound.into()),
         }
-        Ok(length)
     }
 
     /// Reads bytes from a place on: none only at the end of the file, or where the buffer has no room.
     pub(crate) fn read(&mut self, at: u64, buffer: &mut [u8]) -> io::Result<usize>
-        ensures within { ReadsAtMost result buffer.new }
-        ensures refused { StaysRefused self.old.standing self.new.standing result }
+        ensures within { IfOk result (λ n. n ≤ length buffer.new) }
+        ensures gives { IfOk result (λ n. IfSome (tells F.Disk O.bytes (state self.new)) (λ bytes. Gives bytes at buffer.new n)) }
+        ensures same { IfTells (tells F.Disk O.bytes (state self.new)) (tells F.Disk O.bytes (state self.new) ≡ tells F.Disk O.bytes (state self.old)) }
+        ensures crash { NothingNew (leaves F.Disk O.bytes (state self.old)) (leaves F.Disk O.bytes (state self.new)) }
+        ensures shut { StaysShut F.Disk self.old self.new result }
     {
-        self.open()?;
-        read_from(self.opened()?, at, buffer)
+        match &mut self.stage {
+            Stage::Opened(file) => read_from(file, at, buffer),
+            _ => Err(ErrorKind::NotFound.into()),
+        }
     }
 
-    /// Writes all bytes at a place.
+    /// Writes all bytes at a place that is not behind the end.
     pub(crate) fn write(&mut self, at: u64, bytes: &[u8]) -> io::Result<()>
-        ensures refused { StaysRefused self.old.standing self.new.standing result }
+        ensures written { OnOk result (IfTells (tells F.Disk O.bytes (state self.new)) (tells F.Disk O.bytes (state self.new) ≡ option_map (written at bytes.now) (tells F.Disk O.bytes (state self.old)))) }
+        ensures failed { OnErr result (IfTells (tells F.Disk O.bytes (state self.new)) (TornIfTold at (length bytes.now) (tells F.Disk O.bytes (state self.old)) (tells F.Disk O.bytes (state self.new)))) }
+        ensures stands { OnOk result (Follows (IsWritten at bytes.now) (stands F.Disk O.bytes (state self.old)) (stands F.Disk O.bytes (state self.new))) }
+        ensures crash { Follows (Torn at (length bytes.now)) (leaves F.Disk O.bytes (state self.old)) (leaves F.Disk O.bytes (state self.new)) }
+        ensures shut { StaysShut F.Disk self.old self.new result }
     {
-        self.open()?;
-        self.opened()?.write_all_at(bytes, at)
+        match &mut self.stage {
+            Stage::Opened(file) => write_to(file, at, bytes),
+            _ => Err(ErrorKind::NotFound.into()),
+        }
     }
 
     /// Waits until all that was written is on the disk.
     pub(crate) fn sync(&mut self) -> io::Result<()>
-        ensures refused { StaysRefused self.old.standing self.new.standing result }
-        ensures remembered { IsRemembered self.old.file self.new.standing result }
+        ensures synced { OnOk result (NothingNew (stands F.Disk O.bytes (state self.old)) (leaves F.Disk O.bytes (state self.new))) }
+        ensures only { OnOk result (IfSome (tells F.Disk O.bytes (state self.new)) (λ bytes. Only bytes (leaves F.Disk O.bytes (state self.new)))) }
+        ensures same { tells F.Disk O.bytes (state self.new) ≡ tells F.Disk O.bytes (state self.old) }
+        ensures crash { NothingNew (leaves F.Disk O.bytes (state self.old)) (leaves F.Disk O.bytes (state self.new)) }
+        ensures shut { StaysShut F.Disk self.old self.new result }
+
+        // Behind a sync that fails no call is answered.
+        ensures doubt { OnErr result (IsLate self.old.stage ⊎ IsShut F.Disk self.new) }
+    {
+        match &mut self.stage {
+            Stage::Opened(file) => sync_of(file),
+            _ => Err(ErrorKind::NotFound.into()),
+        }
+    }
+
+    /// Opens the file, unless that is done, and syncs it. As it is opened the system's copies of it are dropped, and
+    /// no call is answered behind a sync that failed: so what is read is what is on the disk.
+    pub(crate) fn refresh(&mut self) -> Result<(), KeeperFault>
+        ensures only { OnOk result (IfSome (tells F.Disk O.bytes (state self.new)) (λ bytes. Only bytes (leaves F.Disk O.bytes (state self.new)))) }
+        ensures same { tells F.Disk O.bytes (state self.new) ≡ tells F.Disk O.bytes (state self.old) }
+        ensures crash { NothingNew (leaves F.Disk O.bytes (state self.old)) (leaves F.Disk O.bytes (state self.new)) }
+        ensures shut { StaysShut F.Disk self.old self.new result }
     {
         self.open()?;
-        let answer = self.opened()?.sync_data();
-        self.noted(answer)
-    }
-
-    /// Syncs the file, and drops the copies that the system holds of it.
-    pub(crate) fn refresh(&mut self) -> io::Result<()>
-        ensures refused { StaysRefused self.old.standing self.new.standing result }
-        ensures remembered { IsRemembered self.old.file self.new.standing result }
-    {
-        self.open()?;
-        let answer = refresh(self.opened()?);
-        self.noted(answer)
-    }
-
-    /// The file, which is open.
-    fn opened(&self) -> io::Result<&File>
-        ensures { IsErr result → is_some self.now.file ≡ false }
-    {
-        match &self.file {
-            Some(file) => Ok(file),
-            None => Err(ErrorKind::NotFound.into()),
+        match self.sync() {
+            Ok(()) => Ok(()),
+            Err(_) => Err(KeeperFault::Failed),
         }
     }
 
-    /// Opens the file, unless that is done. If it cannot be opened or locked, the next call tries again. If it is
-    /// and cannot be synced, it stays in doubt.
-    fn open(&mut self) -> io::Result<()>
-        ensures ok { OnOk result (is_some self.new.file ≡ true) }
-        ensures refused { StaysRefused self.old.standing self.new.standing result }
-        ensures remembered { IsRemembered self.old.file self.new.standing result }
+    /// Opens the file, unless that is done.
+    fn open(&mut self) -> Result<(), KeeperFault>
+        ensures same { tells F.Disk O.bytes (state self.new) ≡ tells F.Disk O.bytes (state self.old) }
+        ensures crash { NothingNew (leaves F.Disk O.bytes (state self.old)) (leaves F.Disk O.bytes (state self.new)) }
+        ensures shut { IsShut F.Disk self.old → IsShut F.Disk self.new }
     {
-        if self.standing == Standing::Doubtful {
-            return Err(ErrorKind::Other.into());
+        match &self.stage {
+            Stage::Late => {}
+            _ => return Ok(()),
         }
-        if self.file.is_some() {
-            return Ok(());
-        }
-        let file = locked(self.rt, self.name)?;
-        let folder = File::open(self.rt, ".")?;
-        let answer = settle(&file, &folder);
-        self.file = Some(file);
-        self.noted(answer)
+        self.stage = Stage::Opened(self.opener.open()?);
+        Ok(())
     }
 
-    /// Passes on the answer of a sync or a refresh, and remembers that it failed.
-    fn noted(&mut self, answer: io::Result<()>) -> io::Result<()>
-        ensures same { result ≡ answer }
-        ensures kept { self.new.file ≡ self.old.file }
-        ensures ok { OnOk answer (self.new.standing ≡ self.old.standing) }
-        ensures err { OnErr answer (self.new.standing ≡ Doubtful) }
+    /// Gives up the file. From then on no call is answered.
+    pub(crate) fn let_go(&mut self)
+        ensures same { state self.new ≡ state self.old }
+        ensures gone { IsLetGo self.new.stage }
     {
-        if answer.is_err() {
-            self.standing = Standing::Doubtful;
-        }
-        answer
+        self.stage = match &self.stage {
+            Stage::Late => Stage::LetGo(None),
+            Stage::Opened(file) => Stage::LetGo(Some(Snapshot::of(file))),
+            Stage::LetGo(_) => return,
+        };
     }
 }
 
-/// One read, made again if a signal interrupts it.
-fn read_from(file: &File, at: u64, buffer: &mut [u8]) -> io::Result<usize>
-    ensures { ReadsAtMost result buffer.new }
+/// Answers that no sync of a file has failed.
+fn see_usable<F: Disk>(file: &F) -> io::Result<()>
+    ensures usable { OnOk result (IsTrue (F.is_usable file.now)) }
+    ensures not { OnErr result (F.is_usable file.now ≡ false) }
+{
+    if !file.may_be_used() {
+        return Err(ErrorKind::Other.into());
+    }
+    Ok(())
+}
+
+/// How many bytes a file has.
+fn length_of<F: Disk>(file: &mut F) -> io::Result<u64>
+    ensures bound { IfOk result (λ n. n < 2 ^ 63) }
+    ensures length { IfOk result (λ n. IsTrue (F.is_clean file.new) → n ≡ length (F.seen file.old)) }
+    ensures read { IsRead F.Disk file.old file.new }
+    ensures shut { StaysUnusable F.Disk file.old file.new result }
+{
+    see_usable(file)?;
+    let length = file.len()? as u64;
+    if length > i64::MAX as u64 {
+        return Err(ErrorKind::InvalidData.into());
+    }
+    Ok(length)
+}
+
+/// Reads what is there, as far as there is room.
+fn read_from<F: Disk>(file: &mut F, at: u64, buffer: &mut [u8]) -> io::Result<usize>
+    ensures within { IfOk result (λ n. n ≤ length buffer.new) }
+    ensures gives { IfOk result (λ n. IsTrue (F.is_clean file.new) → Gives (F.seen file.old) at buffer.new n) }
+    ensures read { IsRead F.Disk file.old file.new }
+    ensures shut { StaysUnusable F.Disk file.old file.new result }
+{
+    see_usable(file)?;
+    let at = at as usize;
+    let n = file.len()?.saturating_sub(at).min(buffer.len());
+    if n == 0 {
+        return Ok(0);
+    }
+    read_piece(file, at, &mut buffer[..n])?;
+    Ok(n)
+}
+
+/// Reads a whole piece, made again if a signal interrupts it.
+fn read_piece<F: Disk>(file: &mut F, at: usize, piece: &mut [u8]) -> io::Result<()>
+    requires { IsTrue (F.is_usable file.old) }
+    ensures holds { OnOk result (IsTrue (F.is_clean file.new) → 0 < length piece.new → Holds (F.seen file.old) at piece.new) }
+    ensures read { IsRead F.Disk file.old file.new }
 {
     for _ in 0..MOST_TRIES {
-        match file.read_at(buffer, at) {
+        match file.read_at(at, piece) {
             Err(error) if error.kind() == ErrorKind::Interrupted => {}
             answer => return answer,
         }
@@ -156,34 +210,48 @@ fn read_from(file: &File, at: u64, buffer: &mut [u8]) -> io::Result<usize>
     Err(ErrorKind::Interrupted.into())
 }
 
-/// The file of the working folder with this name, locked.
-fn locked(rt: &HostRuntime, name: &str) -> io::Result<File> {
-    let mut file = OpenOptions::new()
-        .read(true)
-        .write(true)
-        .create(true)
-        .open(rt, name)?;
-    // What is meant for a standard stream that was closed must not land in the file.
-    if file.as_raw_fd() <= 2 {
-        file = file.try_clone()?;
+/// Writes all bytes at a place that is not behind the end.
+fn write_to<F: Disk>(file: &mut F, at: u64, bytes: &[u8]) -> io::Result<()>
+    ensures clean { IsTrue (F.is_clean file.new) → IsTrue (F.is_clean file.old) }
+    ensures written { OnOk result (IsTrue (F.is_clean file.new) → F.seen file.new ≡ written at bytes.now (F.seen file.old)) }
+    ensures torn { Torn at (length bytes.now) (F.seen file.old) (F.seen file.new) }
+    ensures crash { Follows (Torn at (length bytes.now)) (F.may_leave file.old) (F.may_leave file.new) }
+    ensures shut { StaysUnusable F.Disk file.old file.new result }
+{
+    see_usable(file)?;
+    let at = at as usize;
+    if at > file.len()? {
+        return Err(ErrorKind::InvalidInput.into());
     }
-    file.try_lock()?;
-    Ok(file)
+    write_piece(file, at, bytes)
 }
 
-/// Syncs a file and its folder, and drops the system's copies of the file: it may have been written by a program
-/// whose sync failed, or that was killed at once, so that not even its name is on the disk.
-fn settle(file: &File, folder: &File) -> io::Result<()> {
-    refresh(file)?;
-    folder.sync_all()
+/// Writes a whole piece, made again if a signal interrupts it.
+fn write_piece<F: Disk>(file: &mut F, at: usize, piece: &[u8]) -> io::Result<()>
+    requires { IsTrue (F.is_usable file.old) }
+    ensures clean { IsTrue (F.is_clean file.new) → IsTrue (F.is_clean file.old) }
+    ensures holds { OnOk result (0 < length piece.now → Holds (F.seen file.new) at piece.now) }
+    ensures torn { TornAt at (length piece.now) (F.seen file.old) (F.seen file.new) }
+    ensures crash { Follows (TornAt at (length piece.now)) (F.may_leave file.old) (F.may_leave file.new) }
+{
+    for _ in 0..MOST_TRIES {
+        match file.write_at(at, piece) {
+            Err(error) if error.kind() == ErrorKind::Interrupted => {}
+            answer => return answer,
+        }
+    }
+    Err(ErrorKind::Interrupted.into())
 }
 
-/// Syncs a file, and drops the system's copies of it, which are no longer needed.
-fn refresh(file: &File) -> io::Result<()> {
-    file.sync_all()?;
-    let answer = libc::posix_fadvise(file.as_raw_fd(), 0, 0, libc::POSIX_FADV_DONTNEED);
-    if answer != 0 {
-        return Err(io::Error::from_raw_os_error(answer));
-    }
-    Ok(())
+/// Syncs a file.
+fn sync_of<F: Disk>(file: &mut F) -> io::Result<()>
+    ensures only { OnOk result (Only (F.seen file.old) (F.may_leave file.new)) }
+    ensures clean { F.is_clean file.new ≡ F.is_clean file.old }
+    ensures seen { F.seen file.new ≡ F.seen file.old }
+    ensures crash { NothingNew (F.may_leave file.old) (F.may_leave file.new) }
+    ensures doubt { OnErr result (F.is_usable file.new ≡ false) }
+    ensures shut { StaysUnusable F.Disk file.old file.new result }
+{
+    see_usable(file)?;
+    file.sync()
 }

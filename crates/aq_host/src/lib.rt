@@ -17,7 +17,11 @@
 //!   connection gives is what is read, and what is written reaches it, as far as the stream's own
 //!   clauses go; it tells no bytes, and it tells the port that it was given (`TcpDoor`).
 //! - A failure is never told as the end of connections (`accept`, clause `more`).
-//! - Of time nothing is proved: the deadlines are tried by tests in code and by `bin/tries-serve`.
+//! - Behind `accept` no deadline stands. A request keeps the one that it began with until a part of its
+//!   reply is taken, and the reply its own until it is taken whole: then neither stands (`accept`, `read`
+//!   and `write`, clause `deadlines`).
+//! - Of time nothing else is proved. The kit's trait of a stream cannot say how long a call may wait: that
+//!   it is set before each, and to what, is told by a test in code, and tried by `bin/tries-serve`.
 //!
 //! # An example
 //!

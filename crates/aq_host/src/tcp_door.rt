@@ -1,7 +1,9 @@
 //! The door of the network: connections over TCP, from this machine alone. It tells none of their
 //! bytes. What a connection gives is passed on as it is, and what is given reaches it.
-ghost use Rattle.std.specs.Prelude.{◌≤◌, length, IfOk};
+ghost use Rattle.std.specs.Prelude.{◌≡◌, ◌+◌, ◌<◌, ◌≤◌, length, IfOk, OnErr};
+ghost use Rattle.std.specs.Duration.{as_nanos};
 ghost use Rattle.std.specs.Io.KnownBytes.{ReadConsumes, WriteAppends};
+ghost use Rattle.aq_host.specs.InTime.{AfterRead, AfterWrite};
 
 use crate::streams::{read_from, write_to};
 use aq_base::Failed;
@@ -87,9 +89,10 @@ impl<N: Net + Clock + Drop> TcpDoor<N> {
 }
 
 impl<N: Net + Clock + Drop> Door for TcpDoor<N> {
-    ghost use Rattle.std.specs.Prelude.{◌≡◌, true, false, None, IfOk, OnErr};
+    ghost use Rattle.std.specs.Prelude.{◌≡◌, true, false, None, IfOk, OnOk, OnErr};
     ghost use Rattle.std.specs.Option.{is_some, option_and_then, option_map};
     ghost use Rattle.std.specs.Io.KnownBytes.{ReadConsumes, WriteAppends};
+    ghost use Rattle.aq_host.specs.InTime.{AfterRead, AfterWrite, none_begun};
     ghost use Rattle.aq_serve.specs.Door.{HasCause, HasSameTransfers, IsAccepted, IsSameDoor, Reads, Writes, faults_after};
 
     ghost seen = { λ door. record {
@@ -131,6 +134,7 @@ impl<N: Net + Clock + Drop> Door for TcpDoor<N> {
         // Connections come as long as the port is listened on: a failure is never told as their end.
         ensures more { IfOk result (λ is_there. is_there ≡ true) }
         ensures faults { self.new.accepts ≡ faults_after self.old.accepts result }
+        ensures deadlines { OnOk result (self.new.deadlines ≡ none_begun) }
     {
         let accepted = match &self.listener {
             Some((_, listener)) => accept_from(listener),
@@ -165,6 +169,7 @@ impl<N: Net + Clock + Drop> Door for TcpDoor<N> {
             (option_and_then (λ stream. N.Stream.remaining stream) self.new.stream)
             result buffer.new }
         ensures faults { self.new.reads ≡ faults_after self.old.reads result }
+        ensures deadlines { AfterRead self.old.deadlines self.new.deadlines result }
     {
         let got = match &mut self.stream {
             Some(stream) => read_in_time(&self.net, stream, &mut self.deadlines, buffer),
@@ -192,18 +197,16 @@ impl<N: Net + Clock + Drop> Door for TcpDoor<N> {
             (option_and_then (λ stream. N.Stream.contents stream) self.new.stream)
             result piece.now }
         ensures faults { self.new.writes ≡ faults_after self.old.writes result }
+        ensures deadlines { AfterWrite self.old.deadlines self.new.deadlines piece.now result }
     {
         let taken = match &mut self.stream {
             Some(stream) => write_in_time(&self.net, stream, &mut self.deadlines, piece),
             None => unreachable!(),
         };
-        match taken {
-            Ok(n) if n > 0 || piece.is_empty() => Ok(n),
-            _ => {
-                self.writes = self.writes.saturating_add(1);
-                Err(Failed)
-            }
+        if taken.is_err() {
+            self.writes = self.writes.saturating_add(1);
         }
+        taken
     }
 
     fn finish(&mut self) {
@@ -257,6 +260,7 @@ fn read_in_time<C: Clock, S: Read + OpenStream>(
     ensures within { IfOk result (λ n. n ≤ length buffer.new) }
     ensures passed { ReadConsumes (S.remaining stream.old)
         (S.remaining stream.new) result buffer.new }
+    ensures deadlines { AfterRead deadlines.old deadlines.new result }
 {
     let now = clock.monotonic().map_err(|_| Failed)?;
     let begins = Duration::from_secs(IDLE);
@@ -266,15 +270,15 @@ fn read_in_time<C: Clock, S: Read + OpenStream>(
     };
     stream.set_read_timeout(Some(patience)).map_err(|_| Failed)?;
     let got = read_from(stream, buffer)?;
-    if deadlines.request.is_none() {
-        // It began within the time that the connection may lie idle.
-        let begun = now.saturating_add(begins);
-        deadlines.request = Some(begun.saturating_add(Duration::from_secs(PATIENCE)));
-    }
+    // A request that begins does so within the time that the connection may lie idle.
+    let begun = now.saturating_add(begins);
+    let until = begun.saturating_add(Duration::from_secs(PATIENCE));
+    deadlines.request = Some(deadlines.request.unwrap_or(until));
     Ok(got)
 }
 
-/// One write, in the time that the reply has left. A reply is given whole, or what is left of it.
+/// One write, in the time that the reply has left. A reply is given whole, or what is left of it. One that
+/// takes nothing of it is a fault.
 fn write_in_time<C: Clock, S: Write + OpenStream>(
     clock: &C,
     stream: &mut S,
@@ -282,18 +286,21 @@ fn write_in_time<C: Clock, S: Write + OpenStream>(
     piece: &[u8],
 ) -> Result<usize, Failed>
     ensures within { IfOk result (λ n. n ≤ length piece.now) }
+    ensures some { IfOk result (λ n. 0 < length piece.now → 0 < n) }
     ensures passed { WriteAppends (S.contents stream.old) (S.contents stream.new) result piece.now }
+    ensures deadlines { AfterWrite deadlines.old deadlines.new piece.now result }
 {
     let now = clock.monotonic().map_err(|_| Failed)?;
-    let until = match deadlines.reply {
-        Some(until) => until,
-        None => now.saturating_add(Duration::from_secs(PATIENCE)),
-    };
+    let begun = now.saturating_add(Duration::from_secs(PATIENCE));
+    let until = deadlines.reply.unwrap_or(begun);
     let patience = left_until(until, now)?;
     stream
         .set_write_timeout(Some(patience))
         .map_err(|_| Failed)?;
     let taken = write_to(stream, piece)?;
+    if taken == 0 && !piece.is_empty() {
+        return Err(Failed);
+    }
     deadlines.request = None;
     deadlines.reply = if taken < piece.len() {
         Some(until)
@@ -304,10 +311,19 @@ fn write_in_time<C: Clock, S: Write + OpenStream>(
 }
 
 /// How long it is until then, if that is not past.
-fn left_until(until: Duration, now: Duration) -> Result<Duration, Failed> {
+fn left_until(until: Duration, now: Duration) -> Result<Duration, Failed>
+    ensures left { IfOk result (λ left. as_nanos now + as_nanos left ≡ as_nanos until) }
+    ensures some { IfOk result (λ left. 0 < as_nanos left) }
+    ensures past { OnErr result (as_nanos until ≤ as_nanos now) }
+{
     match until.checked_sub(now) {
-        Some(left) if !left.is_zero() => Ok(left),
-        _ => Err(Failed),
+        Some(left) => {
+            if left.is_zero() {
+                return Err(Failed);
+            }
+            Ok(left)
+        }
+        None => Err(Failed),
     }
 }
 

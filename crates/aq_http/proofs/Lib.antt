@@ -6,3 +6,4 @@ pub mod Reading
 pub mod Replies
 pub mod Routed
 pub mod Steps
+pub mod Walking

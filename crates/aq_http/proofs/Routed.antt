@@ -16,6 +16,7 @@ use Rattle.std.proofs.lemmas.List.Sums.{position_or_len_is}
 use Rattle.matchit.specs.Seek.{first}
 use Rattle.aq_http.specs.declared.verb.Verb.{Verb}
 use Rattle.aq_http.specs.Routes.{all_routes, found, found_on, path_of, route_of, with_read}
+use Rattle.aq_http.proofs.Walking.{walk, walks}
 
 no_success : (e : InsertError) → ◌≡◌ {A = Result (Unit {0}) InsertError} (Ok tt) (Err e) → ⊥
 no_success e q = cc
@@ -75,3 +76,9 @@ found-by verb target route plain is =
     let path = path_of target in
     let text : is_utf8 path ≡ true = is_utf8-from_IsUtf8 path (IsUtf8-from_ascii path (ascii path plain)) in
     ap (λ t. found_on verb (routed t (first all_routes path)) path) text ∙ ap (λ r. found_on verb r path) is
+
+-- the same by the walk, for a path whose rows run out long before its end
+pub found-walked : (verb : Verb) (target : List ℕ) (route : Option Route) → list_all (λ b. nat_lt b 128) (path_of target) ≡ true
+    → option_map (λ r. r.value) (walk 0 all_routes (path_of target)) ≡ route → found verb target ≡ found_on verb route (path_of target)
+found-walked verb target route plain is =
+    found-by verb target route plain (ap (λ row. option_map (λ r. r.value) row) (walks 0 all_routes (path_of target)) ∙ is)

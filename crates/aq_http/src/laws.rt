@@ -2,7 +2,8 @@
 ghost use Rattle.std.specs.Prelude.{◌≡◌, ◌≢◌, ℕ, true, ◌∷◌, [], map, replicate, codes, ◌+◌, ◌<◌, ◌≤◌, List, ◌++◌, length, IsTrue};
 ghost use Rattle.aq_rules.specs.Limits.{MOST_BYTES};
 ghost use Rattle.aq_http.specs.declared.limits.TheConstants.{MOST_HEAD};
-ghost use Rattle.aq_base.specs.declared.ask.Ask.TheVariants.{Reply};
+ghost use Rattle.aq_base.specs.declared.ask.Ask.TheVariants.{Days, Pm10, Pm25, Reply, Report, Value, Windows};
+ghost use Rattle.aq_base.specs.declared.standard.Standard.TheVariants.{Ozone2015, Pm10Of1987};
 ghost use Rattle.aq_http.specs.declared.routes.Found.TheVariants.{Ask as Asks, Load, NotAllowed, Status};
 ghost use Rattle.aq_http.specs.declared.verb.Verb.TheVariants.{Get, Other, Post};
 ghost use Rattle.aq_http.specs.Head.{HeadStep, IsHeadStep, More as MoreOfHead, verb_of};
@@ -34,8 +35,9 @@ pub fn steps_are_bounded()
 /// On `/loads/5` GET asks for the reply to load 5, POST brings the load in, and another verb, as HEAD, is
 /// not allowed (405). A number has no leading zero and is not percent-decoded (400 for GET and POST). A
 /// slash at the end, an empty part, and a target that does not begin with a slash take no route,
-/// whatever the verb (404).
-pub fn targets_of_loads()
+/// whatever the verb (404). Each further route asks its question of the site 06-037-1103: 2 January 1990 is
+/// day 1 of the profile.
+pub fn worked_targets()
     ensures head { verb_of (codes "HEAD") ≡ Other }
     ensures get { found Get (codes "/loads/5") ≡ Asks (Reply 5) }
     ensures post { found Post (codes "/loads/5") ≡ Load 5 }
@@ -45,4 +47,10 @@ pub fn targets_of_loads()
     ensures no_slash { map (λ verb. found verb (codes "loads/5")) (Get ∷ Post ∷ Other ∷ []) ≡ replicate 3 (Status 404) }
     ensures leading_zero { map (λ verb. found verb (codes "/loads/05")) (Get ∷ Post ∷ Other ∷ []) ≡ Status 400 ∷ Status 400 ∷ NotAllowed true ∷ [] }
     ensures not_decoded { found Get (codes "/loads/%35") ≡ Status 400 }
+    ensures windows { found Get (codes "/ozone/06-037-1103/windows/1990-01-02") ≡ Asks (Windows (record { state = 6; county = 37; number = 1103 }) 1) }
+    ensures days { found Get (codes "/ozone/06-037-1103/days/2024") ≡ Asks (Days (record { state = 6; county = 37; number = 1103 }) 2024) }
+    ensures pm25 { found Get (codes "/pm25/06-037-1103/quarters/2024") ≡ Asks (Pm25 (record { state = 6; county = 37; number = 1103 }) 2024) }
+    ensures pm10 { found Get (codes "/pm10/06-037-1103/quarters/2024") ≡ Asks (Pm10 (record { state = 6; county = 37; number = 1103 }) 2024) }
+    ensures value { found Get (codes "/dv/O3-2015/06-037-1103/2024") ≡ Asks (Value Ozone2015 (record { state = 6; county = 37; number = 1103 }) 2024) }
+    ensures report { found Get (codes "/report/PM10-24H-1987/2024") ≡ Asks (Report Pm10Of1987 2024) }
 {}

@@ -12,7 +12,7 @@
 //! - `Verb`: GET, POST, or another.
 //! - `Routes::find(verb, target)`: what is asked, as a `Found`.
 //! - `reply_bytes`: the bytes of a reply.
-//! - `MOST_HEAD`, `MOST_HEADERS`: how much a head may have.
+//! - `MOST_HEAD`, `MOST_HEADERS`: how much a head may have (`limits_of_a_head_are_these_numbers`).
 //!
 //! # What it promises
 //!
@@ -22,7 +22,8 @@
 //!   sends, is refused with 403.
 //! - A refusal and a whole request stay, whatever bytes come after (`steps_stay`); more are wanted only
 //!   of fewer than a head and a body may have together (`steps_are_bounded`).
-//! - What a target asks is the definition's (`Routes::find`), with worked targets (`targets_of_loads`).
+//! - What a target asks is the definition's (`Routes::find`), with worked targets of each route
+//!   (`worked_targets`).
 //! - The bytes of a reply are the definition's (`reply_bytes`).
 //!
 //! # An example
@@ -47,8 +48,8 @@ mod step;
 mod verb;
 
 pub use head::{Head, HeadStep, read_head};
-pub use laws::{steps_are_bounded, steps_stay, targets_of_loads};
-pub use limits::{MOST_HEAD, MOST_HEADERS};
+pub use laws::{steps_are_bounded, steps_stay, worked_targets};
+pub use limits::{MOST_HEAD, MOST_HEADERS, limits_of_a_head_are_these_numbers};
 pub use reply::reply_bytes;
 pub use routes::{Found, Routes};
 pub use step::{Step, next_request};

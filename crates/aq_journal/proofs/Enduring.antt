@@ -1,15 +1,15 @@
 -- What a crash leaves through the steps of a call, over any disk.
-use Rattle.std.proofs.Common.{◌≡◌, ◌⊎◌, inl, inr, ⊎_elim, ℕ, ◌+◌, ◌^◌, ◌<◌, List, [], ◌∷◌, length, Option, Some, None, refl, sym, ap, subst, ◌∙◌, arith}
+use Rattle.std.proofs.Common.{◌≡◌, ◌⊎◌, inl, inr, ⊎_elim, ℕ, ◌+◌, ◌^◌, ◌<◌, true, List, [], ◌∷◌, length, Option, Some, None, refl, sym, ap, subst, ◌∙◌, arith}
 use Rattle.std.specs.Prelude.{IfSome, OnErr, Result, Ok, Err, is_some}
 use Rattle.aq_rules.specs.Kept.Rows.{Row}
 use Rattle.aq_rules.specs.Kept.RowChanges.{RowChange}
 use Rattle.aq_journal.specs.declared.disk.Disk.{Ghosts}
 use Rattle.aq_journal.specs.declared.gate.Gate.{Gate}
 use Rattle.aq_journal.specs.declared.gate.Gate.TheVariants.{Unsynced, Unread, Shut, Doubtful}
-use Rattle.aq_journal.specs.Disks.{Only}
+use Rattle.aq_journal.specs.Disks.{IfTells, Only}
 use Rattle.aq_journal.specs.JournalFormat.{tables_in}
 use Rattle.aq_journal.specs.Calls.{Since, IsTorn, Puts, HasPut, IsQuiet}
-use Rattle.aq_journal.specs.Keeping.{IsSynced, IsAmong, IsBehind, IsHeld, Stands, Endures, Leaves, IsLeft, told, in_doubt, with_batch}
+use Rattle.aq_journal.specs.Keeping.{IsSynced, IsAmong, IsBehind, HasRoom, IsHeld, Stands, Endures, Leaves, IsLeft, told, in_doubt, with_batch}
 use Rattle.aq_journal.proofs.Moments.{since_as, since_then, quiet_none}
 use Rattle.aq_journal.proofs.Gates.{Told, IfTold, AreOf, left_of, stage_left, stage_torn, staged, gate_left, gate_torn, gate_shut, gate_opened}
 
@@ -71,6 +71,15 @@ no_doubt gate later so None also is = tt
 new_doubt : (gate later : Gate) (so sn : Told) (also : Option (List Row)) → in_doubt later sn ≡ also → IfSome sn (λ file. IsAmong (in_doubt later sn) (told gate so) (in_doubt gate so) also)
 new_doubt gate later so (Some b) also is = inr (inr is)
 new_doubt gate later so None also is = tt
+
+-- what is known of a file if it is told
+if_some : (so : Told) (P : List ℕ → Type 0) → IfTells so (IfSome so P) → IfSome so P
+if_some (Some a) P holds = holds refl
+if_some None P holds = tt
+
+-- of a disk that tells no more only the room behind its gate is known
+pub held_if : {D : Type 0} (d : Ghosts D) (disk : D) (gate : Gate) → HasRoom gate → IfTells (d.seen disk) (IsHeld d disk gate) → IsHeld d disk gate
+held_if d disk gate room held = record { room = room; file = if_some (d.seen disk) (λ file. Stands gate file (d.may_leave disk)) (λ still. (held still).file) }
 
 module _ {D : Type 0} (d : Ghosts D) (reads : (disk : D) → IfSome (d.seen disk) (d.may_leave disk)) (only_now : (disk : D) (image : List ℕ) → d.left_since disk (d.moment disk) image → d.may_leave disk image) where
   pub left_held : (disk : D) (gate : Gate) → IsHeld d disk gate → IsLeft d disk gate
@@ -321,8 +330,10 @@ module _ {D : Type 0} (d : Ghosts D) (reads : (disk : D) → IfSome (d.seen disk
   shut_done_at old new gate end is held put has =
       subst (λ (g : Gate). IsHeld d old g → Step d old new g (Shut end) (told g (d.seen old)) (told g (d.seen old))) (sym is) (λ had. shut_done old new end (told (Doubtful end) (d.seen old)) had put has) held
 
-  pub refreshed_at : (old new : D) (gate : Gate) → gate ≡ Unsynced → IsQuiet d old new → IfSome (d.seen old) (λ file. Only file (d.may_leave new)) → Step d old new gate Unread (told gate (d.seen old)) (told gate (d.seen old))
-  refreshed_at old new gate is quiet only = subst (λ (g : Gate). Step d old new g Unread (told g (d.seen old)) (told g (d.seen old))) (sym is) (refreshed old new (told Unsynced (d.seen old)) quiet only)
+  pub refreshed_at : (old new : D) (gate : Gate) → gate ≡ Unsynced → IsQuiet d old new → IfSome (d.seen new) (λ file. Only file (d.may_leave new)) → Step d old new gate Unread (told gate (d.seen old)) (told gate (d.seen old))
+  refreshed_at old new gate is quiet only =
+      subst (λ (g : Gate). Step d old new g Unread (told g (d.seen old)) (told g (d.seen old))) (sym is)
+      (refreshed old new (told Unsynced (d.seen old)) quiet (subst (λ (seen : Told). IfSome seen (λ file. Only file (d.may_leave new))) quiet.seen only))
 
   pub stage_failed_at : (old new : D) (gate : Gate) (end : ℕ) (batch : List RowChange) (behind : List ℕ) → gate ≡ Shut end → IsHeld d old gate → Puts d (end + 1) behind old new → Step d old new gate gate (told gate (d.seen old)) (with_batch batch (told gate (d.seen old)))
   stage_failed_at old new gate end batch behind is held put =
@@ -338,17 +349,25 @@ module _ {D : Type 0} (d : Ghosts D) (reads : (disk : D) → IfSome (d.seen disk
   added_at old mid new gate end batch behind is held at room put has put-gate has-gate =
       subst (λ (g : Gate). IsHeld d old g → Step d old new g (Shut (end + length behind)) (with_batch batch (told g (d.seen old))) (with_batch batch (told g (d.seen old)))) (sym is) (λ had. added old mid new end batch behind had at room put has put-gate has-gate) held
 
-  -- calls one after the other, of which the first leaves the tables as they are
-  pub endures_next : (old mid new : D) (gate between later : Gate) (make : Option (List Row) → Option (List Row)) → told between (d.seen mid) ≡ told gate (d.seen old)
-      → Endures d old mid gate between (told gate (d.seen old)) → Endures d mid new between later (make (told between (d.seen mid))) → Endures d old new gate later (make (told gate (d.seen old)))
-  endures_next old mid new gate between later make same first second =
-      endures_then d reads only_now old mid new gate between later (told gate (d.seen old)) (make (told gate (d.seen old))) same (inl refl) first
-      (subst (λ (rows : Option (List Row)). Endures d mid new between later (make rows)) same second)
+  -- ---- calls one after the other, of which the first leaves the tables as they are, over a disk that tells still
+
+  pub endures_next : (old mid new : D) (gate between later : Gate) (make : Option (List Row) → Option (List Row)) → IfTells (d.seen mid) (told between (d.seen mid) ≡ told gate (d.seen old))
+      → IfTells (d.seen mid) (Endures d old mid gate between (told gate (d.seen old))) → IfTells (d.seen new) (Endures d mid new between later (make (told between (d.seen mid)))) → IfTells (d.seen new) (Endures d old new gate later (make (told gate (d.seen old))))
+  endures_next old mid new gate between later make same first second still =
+      let after = second still in
+      let before : is_some (d.seen mid) ≡ true = sym after.tells ∙ still in
+      endures_then d reads only_now old mid new gate between later (told gate (d.seen old)) (make (told gate (d.seen old))) (same before) (inl refl) (first before)
+      (subst (λ (rows : Option (List Row)). Endures d mid new between later (make rows)) (same before) after)
 
   -- what is to be told is not told yet
-  pub endures_also : (old new : D) (gate later : Gate) (make : Option (List Row) → Option (List Row)) → IsHeld d new later → told later (d.seen new) ≡ told gate (d.seen old) → Endures d old new gate later (told gate (d.seen old)) → Endures d old new gate later (make (told gate (d.seen old)))
-  endures_also old new gate later make held same first =
-      endures_next old new new gate later later make same first (quiet_endures d reads only_now new new later (make (told later (d.seen new))) (quiet_none d new) held)
+  pub endures_also : (old new : D) (gate later : Gate) (make : Option (List Row) → Option (List Row)) → IsHeld d new later → IfTells (d.seen new) (told later (d.seen new) ≡ told gate (d.seen old)) → IfTells (d.seen new) (Endures d old new gate later (told gate (d.seen old)))
+      → IfTells (d.seen new) (Endures d old new gate later (make (told gate (d.seen old))))
+  endures_also old new gate later make held same first = endures_next old new new gate later later make same first (λ still. quiet_endures d reads only_now new new later (make (told later (d.seen new))) (quiet_none d new) held)
+
+  -- what is told behind both
+  pub told_next : (old mid new : D) (gate between later : Gate) (make : Option (List Row) → Option (List Row)) (also : Option (List Row)) → IfTells (d.seen mid) (told between (d.seen mid) ≡ told gate (d.seen old)) → IfTells (d.seen new) (Endures d mid new between later also)
+      → IfTells (d.seen new) (told later (d.seen new) ≡ make (told between (d.seen mid))) → IfTells (d.seen new) (told later (d.seen new) ≡ make (told gate (d.seen old)))
+  told_next old mid new gate between later make also same second is still = is still ∙ ap make (same (sym (second still).tells ∙ still))
 
 -- a fact that holds whatever is answered
 pub on_err : {T E P : Type 0} (answer : Result T E) → P → OnErr answer P

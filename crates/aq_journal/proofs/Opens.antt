@@ -1,14 +1,16 @@
 -- A journal's file that is read whole, begun, or read.
 use Rattle.std.proofs.Common.{◌≡◌, ◌⊎◌, inl, inr, ℕ, zero, suc, ◌+◌, ◌-◌, ◌^◌, ◌<◌, ◌≤◌, List, [], ◌∷◌, ◌++◌, length, take, drop, Option, Some, None, refl, sym, ap, subst, ◌∙◌, arith}
-use Rattle.std.specs.Prelude.{IfSome, is_some}
+use Rattle.std.specs.Prelude.{IfSome, OnOk, OnErr, Result, Ok, Err, is_some}
 use Rattle.std.specs.Option.{option_map, option_and_then}
 use Rattle.std.proofs.lemmas.List.{drop_all, length-append}
 use Rattle.aq_rules.specs.Kept.Rows.{Row}
 use Rattle.aq_rules.specs.Kept.RowChanges.{RowChange}
+use Rattle.aq_keeper.specs.Told.{Stays}
+use Rattle.aq_keeper.proofs.Telling.{stays_so}
 use Rattle.aq_journal.specs.declared.disk.Disk.{Ghosts}
 use Rattle.aq_journal.specs.declared.gate.Gate.{Gate}
 use Rattle.aq_journal.specs.declared.gate.Gate.TheVariants.{Unsynced, Unread, Shut, Doubtful}
-use Rattle.aq_journal.specs.Disks.{Gives, written, IsWritten, Follows}
+use Rattle.aq_journal.specs.Disks.{IfTells, Gives, written, IsWritten, Follows}
 use Rattle.aq_journal.specs.JournalFormat.{IsJournalOf, header, frames_of, journal_of, tables_of, tables_in, batches_in}
 use Rattle.aq_journal.specs.Scanning.{IsEnded}
 use Rattle.aq_journal.specs.Calls.{IsTorn, Puts, HasPut}
@@ -47,12 +49,9 @@ filled_more None at n old new is front gives = tt
 abbrev pub Whole : ℕ → List ℕ → Told → Type 0
 Whole at bytes so = IfSome so (λ file. length file ≤ length bytes → take at bytes ≡ file)
 
-pub whole_is : (so sm : Told) (size n : ℕ) (buffer bytes : List ℕ) → sm ≡ so → IfSome so (λ file. size ≡ length file) → length buffer ≡ size → Whole n buffer sm → bytes ≡ take n buffer → IfSome so (λ file. bytes ≡ file)
-whole_is so sm size n buffer bytes same sized long whole taken = each so sized (subst (λ (seen : Told). Whole n buffer seen) same whole)
-  where
-    each : (seen : Told) → IfSome seen (λ file. size ≡ length file) → Whole n buffer seen → IfSome seen (λ file. bytes ≡ file)
-    each (Some file) size-is all = taken ∙ all (omega (arith, size-is, long))
-    each None size-is all = tt
+pub whole_is : (so : Told) (size n : ℕ) (buffer bytes : List ℕ) → IfSome so (λ file. size ≡ length file) → length buffer ≡ size → Whole n buffer so → bytes ≡ take n buffer → IfSome so (λ file. bytes ≡ file)
+whole_is (Some file) size n buffer bytes size-is long all taken = taken ∙ all (omega (arith, size-is, long))
+whole_is None size n buffer bytes size-is long all taken = tt
 
 -- ---- the empty journal
 
@@ -167,9 +166,29 @@ file_rows None bytes rows same is = tt
 pub rows_read : (gate : Gate) (so : Told) (bytes : List ℕ) (rows : List Row) → IsSettled gate → IfSome so (λ file. bytes ≡ file) → tables_in bytes ≡ Some rows → IfSome (told gate so) (λ stood. rows ≡ stood)
 rows_read gate so bytes rows settled same is = subst (λ (each : Option (List Row)). IfSome each (λ stood. rows ≡ stood)) (sym (settled_told gate so settled)) (file_rows so bytes rows same is)
 
--- what is known before a call that changes nothing
-pub same_file : (so sm : Told) (bytes : List ℕ) → sm ≡ so → IfSome so (λ file. bytes ≡ file) → IfSome sm (λ file. bytes ≡ file)
-same_file so sm bytes same is = subst (λ (seen : Told). IfSome seen (λ file. bytes ≡ file)) (sym same) is
+told_none : (gate : Gate) → told gate None ≡ None
+told_none Unsynced = refl
+told_none Unread = refl
+told_none (Shut end) = refl
+told_none (Doubtful end) = refl
+
+-- what is known of tables that are told still
+pub rows_still : (gate : Gate) (sn : Told) (tables : Option (List Row)) (P : List Row → Type 0) → IfTells sn (told gate sn ≡ tables) → IfSome tables P → IfSome (told gate sn) P
+rows_still gate (Some a) tables P same holds = subst (λ (rows : Option (List Row)). IfSome rows P) (sym (same refl)) holds
+rows_still gate None tables P same holds = subst (λ (rows : Option (List Row)). IfSome rows P) (sym (told_none gate)) tt
+
+-- the same in the words of a keeper
+pub stays_if : (gate : Gate) (sn : Told) (expected : Option (List Row)) → IfTells sn (told gate sn ≡ expected) → Stays expected (told gate sn)
+stays_if gate (Some a) expected same = stays_so expected (told gate (Some a)) (same refl)
+stays_if gate None expected same = subst (λ (rows : Option (List Row)). Stays expected rows) (sym (told_none gate)) tt
+
+pub ok_stays_if : {T E : Type 0} (answer : Result T E) (gate : Gate) (sn : Told) (expected : Option (List Row)) → OnOk answer (IfTells sn (told gate sn ≡ expected)) → OnOk answer (Stays expected (told gate sn))
+ok_stays_if (Ok done) gate sn expected same = stays_if gate sn expected same
+ok_stays_if (Err fault) gate sn expected same = tt
+
+pub err_stays_if : {T E : Type 0} (answer : Result T E) (gate : Gate) (sn : Told) (expected : Option (List Row)) → OnErr answer (IfTells sn (told gate sn ≡ expected)) → OnErr answer (Stays expected (told gate sn))
+err_stays_if (Ok done) gate sn expected same = tt
+err_stays_if (Err fault) gate sn expected same = stays_if gate sn expected same
 
 pub ended_rows : (bytes : List ℕ) (batches : List (List RowChange)) (end : ℕ) → IsEnded bytes batches end → tables_in bytes ≡ Some (tables_of batches)
 ended_rows bytes batches end is = journal_tables bytes batches (ended_is bytes batches end is)

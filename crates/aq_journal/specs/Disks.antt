@@ -1,5 +1,5 @@
 -- What the calls of a disk do to its bytes, and what a crash may leave of them, at any moment (own).
-use Rattle.std.specs.Prelude.{◌≡◌, ◌⊎◌, ℕ, ◌+◌, ◌-◌, ◌<◌, ◌≤◌, min, max, List, ◌++◌, length, take, drop, replicate, Option, Some, None, Result, Ok, Err}
+use Rattle.std.specs.Prelude.{◌≡◌, ◌⊎◌, ℕ, ◌+◌, ◌-◌, ◌<◌, ◌≤◌, min, max, true, List, ◌++◌, length, take, drop, replicate, Option, Some, None, is_some, Result, Ok, Err}
 use Rattle.aq_base.specs.Faults.{HasRisen}
 use Rattle.aq_base.specs.declared.refusal.Failed.{Failed}
 
@@ -7,6 +7,10 @@ use Rattle.aq_base.specs.declared.refusal.Failed.{Failed}
 abbrev pub HasCause : {A : Type 0} → ℕ → ℕ → Result A Failed → Type 0
 HasCause before after (Ok answer) = after ≡ before
 HasCause before after (Err failed) = HasRisen before after
+
+-- A disk may stop telling within a call, and never begins to. So what a call promises of what is told is said of a disk that still tells as the call ends.
+abbrev pub IfTells : Option (List ℕ) → Type 0 → Type 0
+IfTells seen P = is_some seen ≡ true → P
 
 -- ---- bytes
 

@@ -1,5 +1,5 @@
 -- What a keeper over a disk is, what it tells, and what a crash leaves of its tables.
-use Rattle.std.specs.Prelude.{◌≡◌, ◌⊎◌, ℕ, ◌+◌, ◌-◌, ◌^◌, ◌<◌, ◌≤◌, min, List, [], ◌∷◌, ◌++◌, length, take, drop, Option, IfSome, is_some}
+use Rattle.std.specs.Prelude.{◌≡◌, ◌⊎◌, ℕ, ◌+◌, ◌-◌, ◌^◌, ◌<◌, ◌≤◌, min, Bool, List, [], ◌∷◌, ◌++◌, length, take, drop, Option, IfSome, is_some}
 use Rattle.std.specs.Option.{option_map, option_and_then}
 use Rattle.std.specs.List.{AllByRecursion}
 use Rattle.aq_rules.specs.Kept.Rows.{Row}
@@ -10,11 +10,13 @@ use Rattle.aq_journal.specs.declared.gate.Gate.TheVariants.{Unsynced, Unread, Sh
 use Rattle.aq_journal.specs.Calls.{Since, Onwards}
 use Rattle.aq_journal.specs.JournalFormat.{BatchFits, IsJournalOf, header, frames_of, journal_of, sized, body_of, tables_in}
 
--- the disk, the gate that ends the journal, and how many files were no journal and batches too great
+-- the disk, the gate that ends the journal, how many calls were refused (a file that is no journal, a batch that is too great, or none to be had any more), how many were commits, and whether the tables are held still
 pub record KeeperState (D : Type 0) : Type 0 where
   pub disk : D
   pub gate : Gate
   pub refusals : ℕ
+  pub commits : ℕ
+  pub is_held : Bool
 
 -- the faults of the disk, and the keeper's own; the greatest value stands for all above it
 abbrev pub both_counts : ℕ → ℕ → ℕ

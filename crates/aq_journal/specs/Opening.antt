@@ -34,6 +34,11 @@ FailsOnlyIf (Ok answer) Why = Unit {0}
 FailsOnlyIf (Err fault.Failed) Why = Why
 FailsOnlyIf (Err fault.Memory) Why = Unit {0}
 
+-- what a refused refresh is to a journal
+abbrev pub trouble_of : KeeperFault → Trouble
+trouble_of fault.Failed = Failed
+trouble_of fault.Memory = Memory
+
 -- the keeper counts what it refuses
 abbrev pub refusals_after : {A : Type 0} → ℕ → Result A Trouble → ℕ
 refusals_after before (Ok answer) = before

@@ -3,6 +3,7 @@ use Rattle.std.specs.Prelude.{◌≡◌, ◌⊎◌, Bool, true, List, [], ◌∷
 use Rattle.aq_rules.specs.Kept.Rows.{Row}
 use Rattle.aq_rules.specs.Kept.RowChanges.{RowChange, with_row_changes}
 use Rattle.aq_journal.specs.declared.disk.Disk.{Ghosts}
+use Rattle.aq_journal.specs.Disks.{IfTells}
 use Rattle.aq_journal.specs.Keeping.{KeeperState, Endures, told, with_batch}
 
 pub data Call : Type 0 where
@@ -18,7 +19,7 @@ abbrev pub made_by : Call → Option (List Row) → Option (List Row)
 made_by Reads rows = rows
 made_by (Commits batch) rows = with_batch batch rows
 
--- what the clauses of a call say, whatever it answered
+-- what the clauses of a call say, whatever it answered, if the disk tells still
 pub record IsCall {D : Type 0} (d : Ghosts D) (call : Call) (old new : KeeperState D) : Type 0 where
   pub tables : (told_by d new ≡ told_by d old) ⊎ (told_by d new ≡ made_by call (told_by d old))
   pub crash : Endures d old.disk new.disk old.gate new.gate (made_by call (told_by d old))
@@ -26,7 +27,7 @@ pub record IsCall {D : Type 0} (d : Ghosts D) (call : Call) (old new : KeeperSta
 -- calls, each with the keeper after it
 abbrev pub AreCalls : {D : Type 0} → Ghosts D → KeeperState D → List (Call × KeeperState D) → Type 0
 AreCalls d before [] = Unit {0}
-AreCalls d before (call ∷ calls) = IsCall d call.0 before call.1 × AreCalls d call.1 calls
+AreCalls d before (call ∷ calls) = IfTells (d.seen call.1.disk) (IsCall d call.0 before call.1) × AreCalls d call.1 calls
 
 -- the keeper after the last of them
 abbrev pub after_all : {D : Type 0} → KeeperState D → List (Call × KeeperState D) → KeeperState D

@@ -1,6 +1,6 @@
 //! Calls of a disk one after the other.
 ghost use Rattle.std.specs.Prelude.{◌≡◌, ◌+◌, ◌-◌, ◌<◌, ◌≤◌, ◌^◌, length, take, drop, IfSome, IfOk, OnOk};
-ghost use Rattle.aq_journal.specs.Disks.{HasCause, Gives};
+ghost use Rattle.aq_journal.specs.Disks.{HasCause, Gives, IfTells};
 ghost use Rattle.aq_journal.specs.Calls.{Puts, HasPut, IsQuiet};
 
 use crate::disk::Disk;
@@ -22,8 +22,8 @@ impl From<Failed> for Trouble {
 /// Writes bytes at a place, and syncs.
 pub(crate) fn put<D: Disk>(disk: &mut D, at: u64, bytes: &[u8]) -> Result<(), Failed>
     requires { at + length bytes.now < 2 ^ 63 }
-    ensures images { Puts D.Disk at bytes.now disk.old disk.new }
-    ensures done { OnOk result (HasPut D.Disk at bytes.now disk.old disk.new) }
+    ensures images { IfTells (D.seen disk.new) (Puts D.Disk at bytes.now disk.old disk.new) }
+    ensures done { OnOk result (IfTells (D.seen disk.new) (HasPut D.Disk at bytes.now disk.old disk.new)) }
     ensures cause { HasCause (D.faults disk.old) (D.faults disk.new) result }
 {
     disk.write_at(at, bytes)?;
@@ -34,8 +34,8 @@ pub(crate) fn put<D: Disk>(disk: &mut D, at: u64, bytes: &[u8]) -> Result<(), Fa
 pub(crate) fn fill<D: Disk>(disk: &mut D, bytes: &mut [u8]) -> Result<usize, Failed>
     ensures length { length bytes.new ≡ length bytes.old }
     ensures within { IfOk result (λ n. n ≤ length bytes.new) }
-    ensures read { IfOk result (λ n. IfSome (D.seen disk.old) (λ file. length file ≤ length bytes.new → take n bytes.new ≡ file)) }
-    ensures quiet { IsQuiet D.Disk disk.old disk.new }
+    ensures read { IfOk result (λ n. IfSome (D.seen disk.new) (λ file. length file ≤ length bytes.new → take n bytes.new ≡ file)) }
+    ensures quiet { IfTells (D.seen disk.new) (IsQuiet D.Disk disk.old disk.new) }
     ensures cause { HasCause (D.faults disk.old) (D.faults disk.new) result }
 {
     let mut at = 0;
@@ -58,8 +58,8 @@ fn read_into<D: Disk>(disk: &mut D, bytes: &mut [u8], at: usize) -> Result<usize
     ensures length { length bytes.new ≡ length bytes.old }
     ensures front { take at bytes.new ≡ take at bytes.old }
     ensures within { IfOk result (λ n. n ≤ length bytes.new - at) }
-    ensures gives { IfOk result (λ n. IfSome (D.seen disk.old) (λ file. Gives file at (drop at bytes.new) n)) }
-    ensures quiet { IsQuiet D.Disk disk.old disk.new }
+    ensures gives { IfOk result (λ n. IfSome (D.seen disk.new) (λ file. Gives file at (drop at bytes.new) n)) }
+    ensures quiet { IfTells (D.seen disk.new) (IsQuiet D.Disk disk.old disk.new) }
     ensures cause { HasCause (D.faults disk.old) (D.faults disk.new) result }
 {
     disk.read(at as u64, &mut bytes[at..])

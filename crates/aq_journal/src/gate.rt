@@ -1,13 +1,14 @@
 //! The gate that ends a journal, and what is written there.
 ghost use Rattle.std.specs.Prelude.{◌≡◌, ◌+◌, ◌<◌, ◌^◌, List, length, OnOk, OnErr};
 ghost use Rattle.aq_rules.specs.Kept.RowChanges.{RowChange};
-ghost use Rattle.aq_journal.specs.Disks.{HasCause};
+ghost use Rattle.aq_journal.specs.Disks.{HasCause, IfTells};
 ghost use Rattle.aq_journal.specs.Keeping.{IsBehind, IsHeld, Endures, told, with_batch};
-ghost use Rattle.aq_journal.specs.Opening.{IsSettled};
+ghost use Rattle.aq_journal.specs.Opening.{IsSettled, IsTrouble};
 ghost use Rattle.aq_journal.specs.declared.gate.Gate.TheVariants.{Shut};
 
 use crate::calls::put;
 use crate::disk::Disk;
+use crate::trouble::Trouble;
 use aq_base::Failed;
 
 /// The gate that ends a journal.
@@ -25,13 +26,13 @@ pub(crate) enum Gate {
 
 /// Refreshes a disk that was not synced yet, and shuts a gate that may be open. The gate is written again: behind
 /// a sync that failed, one that is answered says nothing of what was written before.
-pub(crate) fn settle<D: Disk>(disk: &mut D, gate: &mut Gate) -> Result<(), Failed>
+pub(crate) fn settle<D: Disk>(disk: &mut D, gate: &mut Gate) -> Result<(), Trouble>
     requires held { IsHeld D.Disk disk.old gate.old }
     ensures held { IsHeld D.Disk disk.new gate.new }
-    ensures told { told gate.new (D.seen disk.new) ≡ told gate.old (D.seen disk.old) }
+    ensures told { IfTells (D.seen disk.new) (told gate.new (D.seen disk.new) ≡ told gate.old (D.seen disk.old)) }
     ensures settled { OnOk result (IsSettled gate.new) }
-    ensures crash { Endures D.Disk disk.old disk.new gate.old gate.new (told gate.old (D.seen disk.old)) }
-    ensures cause { HasCause (D.faults disk.old) (D.faults disk.new) result }
+    ensures crash { IfTells (D.seen disk.new) (Endures D.Disk disk.old disk.new gate.old gate.new (told gate.old (D.seen disk.old))) }
+    ensures cause { IsTrouble (D.faults disk.old) (D.faults disk.new) ⊥ result }
 {
     match *gate {
         Gate::Unsynced => {
@@ -60,10 +61,10 @@ pub(crate) fn add<D: Disk>(
     requires room { end + 1 + length behind.now < 2 ^ 63 }
     requires held { IsHeld D.Disk disk.old gate.old }
     ensures held { (batch : List RowChange) → IsBehind batch behind.now → IsHeld D.Disk disk.new gate.new }
-    ensures done { (batch : List RowChange) → IsBehind batch behind.now → OnOk result (told gate.new (D.seen disk.new) ≡ with_batch batch (told gate.old (D.seen disk.old))) }
-    ensures kept { (batch : List RowChange) → IsBehind batch behind.now → OnErr result (told gate.new (D.seen disk.new) ≡ told gate.old (D.seen disk.old)) }
+    ensures done { (batch : List RowChange) → IsBehind batch behind.now → OnOk result (IfTells (D.seen disk.new) (told gate.new (D.seen disk.new) ≡ with_batch batch (told gate.old (D.seen disk.old)))) }
+    ensures kept { (batch : List RowChange) → IsBehind batch behind.now → OnErr result (IfTells (D.seen disk.new) (told gate.new (D.seen disk.new) ≡ told gate.old (D.seen disk.old))) }
     ensures shut { OnOk result (gate.new ≡ Shut (end + length behind.now)) }
-    ensures crash { (batch : List RowChange) → IsBehind batch behind.now → Endures D.Disk disk.old disk.new gate.old gate.new (with_batch batch (told gate.old (D.seen disk.old))) }
+    ensures crash { (batch : List RowChange) → IsBehind batch behind.now → IfTells (D.seen disk.new) (Endures D.Disk disk.old disk.new gate.old gate.new (with_batch batch (told gate.old (D.seen disk.old)))) }
     ensures cause { HasCause (D.faults disk.old) (D.faults disk.new) result }
 {
     put(disk, end + 1, behind)?;

@@ -1,5 +1,6 @@
 //! A journal that is read and added to, whatever is known of its gate.
 ghost use Rattle.std.specs.Prelude.{◌≡◌, ◌⊎◌, ◌+◌, ◌^◌, ◌<◌, IfSome, IfOk, OnOk, OnErr, None};
+ghost use Rattle.aq_journal.specs.Disks.{IfTells};
 ghost use Rattle.aq_journal.specs.Keeping.{IsCertain, IsHeld, Endures, told, with_batch};
 ghost use Rattle.aq_journal.specs.Opening.{IsTrouble, IsTooGreat};
 ghost use Rattle.aq_journal.specs.declared.gate.Gate.TheVariants.{Shut};
@@ -24,10 +25,10 @@ pub(crate) fn read_all<D: Disk>(
     requires held { IsHeld D.Disk disk.old gate.old }
     ensures rows { IfOk result (λ rows. IfSome (told gate.new (D.seen disk.new)) (λ told. rows ≡ told)) }
     ensures held { IsHeld D.Disk disk.new gate.new }
-    ensures told { told gate.new (D.seen disk.new) ≡ told gate.old (D.seen disk.old) }
+    ensures told { IfTells (D.seen disk.new) (told gate.new (D.seen disk.new) ≡ told gate.old (D.seen disk.old)) }
     ensures settled { OnOk result (IsCertain gate.new (D.seen disk.new)) }
-    ensures crash { Endures D.Disk disk.old disk.new gate.old gate.new (told gate.old (D.seen disk.old)) }
-    ensures cause { IsTrouble (D.faults disk.old) (D.faults disk.new) (told gate.old (D.seen disk.old) ≡ None) result }
+    ensures crash { IfTells (D.seen disk.new) (Endures D.Disk disk.old disk.new gate.old gate.new (told gate.old (D.seen disk.old))) }
+    ensures cause { IsTrouble (D.faults disk.old) (D.faults disk.new) (told gate.new (D.seen disk.new) ≡ None) result }
 {
     settle(disk, gate)?;
     let scanned = read_journal(alloc, disk, gate)?;
@@ -43,11 +44,11 @@ pub(crate) fn commit<D: Disk>(
 ) -> Result<(), Trouble>
     requires held { IsHeld D.Disk disk.old gate.old }
     ensures held { IsHeld D.Disk disk.new gate.new }
-    ensures done { OnOk result (told gate.new (D.seen disk.new) ≡ with_batch batch.now (told gate.old (D.seen disk.old))) }
-    ensures kept { OnErr result (told gate.new (D.seen disk.new) ≡ told gate.old (D.seen disk.old)) }
+    ensures done { OnOk result (IfTells (D.seen disk.new) (told gate.new (D.seen disk.new) ≡ with_batch batch.now (told gate.old (D.seen disk.old)))) }
+    ensures kept { OnErr result (IfTells (D.seen disk.new) (told gate.new (D.seen disk.new) ≡ told gate.old (D.seen disk.old))) }
     ensures settled { OnOk result (IsCertain gate.new (D.seen disk.new)) }
-    ensures crash { Endures D.Disk disk.old disk.new gate.old gate.new (with_batch batch.now (told gate.old (D.seen disk.old))) }
-    ensures cause { IsTrouble (D.faults disk.old) (D.faults disk.new) ((told gate.old (D.seen disk.old) ≡ None) ⊎ IsTooGreat batch.now gate.new) result }
+    ensures crash { IfTells (D.seen disk.new) (Endures D.Disk disk.old disk.new gate.old gate.new (with_batch batch.now (told gate.old (D.seen disk.old)))) }
+    ensures cause { IsTrouble (D.faults disk.old) (D.faults disk.new) ((told gate.new (D.seen disk.new) ≡ None) ⊎ IsTooGreat batch.now gate.new) result }
 {
     let end = end_of(alloc, disk, gate)?;
     let behind = behind_of(alloc, batch)?;
@@ -62,11 +63,11 @@ pub(crate) fn commit<D: Disk>(
 fn end_of<D: Disk>(alloc: Global, disk: &mut D, gate: &mut Gate) -> Result<u64, Trouble>
     requires held { IsHeld D.Disk disk.old gate.old }
     ensures held { IsHeld D.Disk disk.new gate.new }
-    ensures told { told gate.new (D.seen disk.new) ≡ told gate.old (D.seen disk.old) }
+    ensures told { IfTells (D.seen disk.new) (told gate.new (D.seen disk.new) ≡ told gate.old (D.seen disk.old)) }
     ensures shut { IfOk result (λ end. gate.new ≡ Shut end) }
     ensures room { IfOk result (λ end. end + 1 < 2 ^ 63) }
-    ensures crash { Endures D.Disk disk.old disk.new gate.old gate.new (told gate.old (D.seen disk.old)) }
-    ensures cause { IsTrouble (D.faults disk.old) (D.faults disk.new) (told gate.old (D.seen disk.old) ≡ None) result }
+    ensures crash { IfTells (D.seen disk.new) (Endures D.Disk disk.old disk.new gate.old gate.new (told gate.old (D.seen disk.old))) }
+    ensures cause { IsTrouble (D.faults disk.old) (D.faults disk.new) (told gate.new (D.seen disk.new) ≡ None) result }
 {
     settle(disk, gate)?;
     if let Gate::Shut(end) = *gate {

@@ -18,16 +18,21 @@
 //! - Over a disk that tells its bytes, the keeper tells the tables of its journal: what it reads is that
 //!   (`rows`), a commit that answers `Ok` is the batch done to the tables (`done`), and after any other
 //!   answer they are as before (`kept`).
+//! - A disk may stop telling within a call, as a file does of which an answer was wrong, and never begins to.
+//!   So what is told, and what a crash leaves, is said of a disk that tells still as the call ends (`IfTells`).
 //! - The keeper refreshes the disk first of all. Until that was answered a crash leaves only what it could
 //!   leave before. From then on a crash at any moment, during a call or between two, leaves a disk whose
 //!   tables are those told before, or those with one batch more: that of the commit, or of one that failed
 //!   since the last call that answered `Ok` (`crash`, `left`, `settled`). So a test that the tables pass
 //!   after a call that answered `Ok`, as that the row of a load stands, is passed by whatever a crash may
 //!   leave from then on, if each later batch spares it (`what_is_acknowledged_outlives_a_crash`).
-//! - It fails only where the disk failed, the file is no journal, or the batch is too great (`why`), and
-//!   its count of faults rises exactly where it answers `Failed` (`cause`).
-//! - All this rests on what the trait `Disk` says of a write, a sync and a crash, which the disk in
-//!   memory keeps (`MemoryDisk`); of a real disk it is assumed.
+//! - It fails only where the disk failed, no tables are told (the file is no journal, or the disk tells no more),
+//!   the batch is too great, or its tables were let go (`why`), and its count of faults rises exactly where it
+//!   answers `Failed` (`cause`).
+//! - After `let_go` each call is `Failed` (`gone`). What was told stays told, and a crash leaves what it could
+//!   leave before: for the law on crashes it is a call that reads.
+//! - All this rests on what the trait `Disk` says of a write, a sync and a crash. The disk in memory keeps it
+//!   (`MemoryDisk`), and so does the disk of a file (`FileDisk` of aq_file), over what the kit says of one.
 //! - Of a sync that fails the trait promises nothing. What was written before it and not again may stand or
 //!   not, whatever a read gives, and however many later syncs are answered (`once_synced`). Bytes that are
 //!   written again and synced stand. All of the above is proved over that: before anything rests on bytes
@@ -66,6 +71,3 @@ pub use disk::Disk;
 pub use journal_keeper::JournalKeeper;
 pub use laws::{batches_are_read_back, journals_are_read_back};
 pub use memory_disk::MemoryDisk;
-
-#[cfg(test)]
-mod tests;

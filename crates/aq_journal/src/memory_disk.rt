@@ -3,6 +3,7 @@ ghost use Rattle.aq_journal.specs.Disks.{Gives, written};
 
 use crate::disk::Disk;
 use aq_base::{Bytes, Failed, Memory};
+use aq_keeper::KeeperFault;
 use std::alloc::Global;
 use std::marker::Model;
 
@@ -218,12 +219,19 @@ impl Disk for MemoryDisk {
         Ok(())
     }
 
-    fn refresh(&mut self) -> Result<(), Failed> {
-        self.begin()?;
+    fn refresh(&mut self) -> Result<(), KeeperFault> {
+        if self.begin().is_err() {
+            return Err(KeeperFault::Failed);
+        }
         if self.note(Call::Synced).is_err() {
             self.count_fault();
-            return Err(Failed);
+            return Err(KeeperFault::Failed);
         }
         Ok(())
     }
+
+    /// Nobody else can have what stands in memory.
+    fn let_go(&mut self)
+        ensures { self.new ≡ self.old }
+    {}
 }

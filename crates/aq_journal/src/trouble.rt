@@ -32,6 +32,20 @@ pub(crate) fn counted<T>(refusals: &mut u64, answer: Result<T, Trouble>) -> Resu
     }
 }
 
+impl From<KeeperFault> for Trouble {
+    ghost use Rattle.std.specs.Prelude.{◌≡◌};
+    ghost use Rattle.aq_journal.specs.Opening.{trouble_of};
+
+    ghost from_gives = { λ fault trouble. trouble ≡ trouble_of fault };
+
+    fn from(fault: KeeperFault) -> Self {
+        match fault {
+            KeeperFault::Failed => Trouble::Failed,
+            KeeperFault::Memory => Trouble::Memory,
+        }
+    }
+}
+
 impl From<Memory> for Trouble {
     ghost use Rattle.std.specs.Prelude.{◌≡◌};
     ghost use Rattle.aq_journal.specs.declared.trouble.Trouble.TheVariants as trouble;

@@ -1,14 +1,20 @@
--- What contracts see of a keeper: tables that it tells or does not tell, and its count of faults (own).
-use Rattle.std.specs.Prelude.{◌≡◌, ℕ, Option, Some, None, IfSome, Result, Ok, Err, List}
+-- What contracts see of a keeper: tables that it tells or does not tell, its counts of faults and of commits, and whether it has its tables still (own).
+use Rattle.std.specs.Prelude.{◌≡◌, ℕ, Bool, false, Option, Some, None, IfSome, Result, Ok, Err, List}
 use Rattle.aq_base.specs.Faults.{HasRisen, next, memory_text, failed_text}
 use Rattle.aq_keeper.specs.declared.keeper.KeeperFault.{KeeperFault}
 use Rattle.aq_keeper.specs.declared.keeper.KeeperFault.TheVariants.{Failed, Memory}
 use Rattle.aq_rules.specs.Kept.Rows.{Row}
 
--- a keeper: the rows of its tables in the order of tables and keys, if it tells them, and how often it has failed
+-- a keeper: the rows of its tables in the order of tables and keys, if it tells them, how often it has failed, how many batches it was asked to commit, and whether it has its tables still, or has let them go
 pub record KeeperView : Type 0 where
   pub tables : Option (List Row)
   pub faults : ℕ
+  pub commits : ℕ
+  pub is_held : Bool
+
+-- the same once it has let them go: what was told stays told
+abbrev pub let_go : KeeperView → KeeperView
+let_go keeper = record keeper { is_held = false }
 
 -- A store may fail within a call, and its keeper then tells no more; it never begins to tell. So what a call
 -- promises of what is told is said of what is told as it ends: it is as expected, and what was expected was told.

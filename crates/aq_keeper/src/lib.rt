@@ -9,9 +9,10 @@
 //!   them.
 //! - `RowKey` with its `KeyContent`: the key of a row in its table.
 //! - `RowChange` with its `ChangeContent`: a row that is put, or the key of one that is dropped.
-//! - `Keeper`: `read_all` answers all rows, `commit` changes them by a batch; `KeeperFault`: why not.
+//! - `Keeper`: `read_all` answers all rows, `commit` changes them by a batch, `let_go` gives the tables
+//!   up; `KeeperFault`: why not.
 //! - `MemoryKeeper`: one in memory that fails at the calls that it is told to; `SteadyKeeper`: one that
-//!   never fails.
+//!   never fails while it has its tables.
 //! - `are_in_order`, `do_keys_rise`: whether rows, or changes of a batch, are in order.
 //!
 //! # What it promises
@@ -21,8 +22,10 @@
 //! - Of what is told as a call ends: what it reads is that, a commit that answers `Ok` is the batch, in
 //!   the order of a batch, done to the tables, and after any other answer they are as before (the trait
 //!   `Keeper`).
-//! - The keepers in memory tell theirs; one fails exactly at the calls that it is told to, the other
-//!   never (`MemoryKeeper`, `SteadyKeeper`). Of one that still tells as a call ends, all this is exact
+//! - Behind `let_go` what was told stays told, and each other call fails.
+//! - Each commit is counted, whatever becomes of it, and nothing else is (`commits`).
+//! - The keepers in memory tell theirs; while they have them one fails exactly at the calls that it is
+//!   told to, the other never (`MemoryKeeper`, `SteadyKeeper`). Of one that still tells as a call ends, all this is exact
 //!   (`told_tables_are_exact`).
 //!
 //! # An example
@@ -43,6 +46,7 @@ mod order;
 mod row;
 mod steady_keeper;
 mod tables;
+mod tables_apart;
 mod told;
 
 pub use change::{ChangeContent, RowChange};

@@ -1,86 +1,108 @@
 use crate::change::RowChange;
 use crate::keeper::{Keeper, KeeperFault};
-use crate::row::{Row, Rows};
-use crate::tables::{add_copies, changes_in, later_for, make_all};
+use crate::row::Rows;
+use crate::tables_apart::TablesApart;
 use std::alloc::Global;
 use std::marker::Model;
 
-/// A keeper in memory that never fails. It has a list for each table, so that a change moves rows of its own
-/// table alone. Contracts see the rows of its tables.
+/// A keeper in memory that never fails while it has its tables. A change moves rows of its own table alone.
+/// Contracts see its state.
 #[derive(Drop)]
 pub struct SteadyKeeper {
-    records: Vec<Row>,
-    observations: Vec<Row>,
-    loads: Vec<Row>,
-    seconds: Vec<Row>,
+    tables: TablesApart,
+    is_held: bool,
+    faults: u64,
+    commits: u64,
 }
 
 impl Model for SteadyKeeper {
-    ghost use Rattle.std.specs.Prelude.{List, ◌++◌};
-    ghost use Rattle.aq_rules.specs.Kept.Rows as rows;
-    ghost use Rattle.aq_keeper.specs.Rising.{IsTable};
+    ghost use Rattle.aq_keeper.specs.Memories.{SteadyState};
 
-    ghost Value = { List rows.Row };
+    ghost Value = { SteadyState };
 
-    ghost view = { λ keeper. keeper.records.items ++ keeper.observations.items ++ keeper.loads.items ++ keeper.seconds.items };
-
-    ghost invariant = { λ keeper. IsTable 0 keeper.records.items × IsTable 1 keeper.observations.items × IsTable 2 keeper.loads.items × IsTable 3 keeper.seconds.items };
+    ghost view = { λ keeper. record { tables = keeper.tables; is_held = keeper.is_held; faults = keeper.faults; commits = keeper.commits } };
 }
 
 impl SteadyKeeper {
-    ghost use Rattle.std.specs.Prelude.{◌≡◌, []};
+    ghost use Rattle.std.specs.Prelude.{◌≡◌, true, []};
+    ghost use Rattle.aq_base.specs.Faults.{HasRisen};
 
     /// A keeper of empty tables. It takes no memory.
     pub fn new(alloc: Global) -> SteadyKeeper
-        ensures { result ≡ [] }
+        ensures { result ≡ record { tables = []; is_held = true; faults = 0; commits = 0 } }
     {
         SteadyKeeper {
-            records: Vec::new(alloc),
-            observations: Vec::new(alloc),
-            loads: Vec::new(alloc),
-            seconds: Vec::new(alloc),
+            tables: TablesApart::new(alloc),
+            is_held: true,
+            faults: 0,
+            commits: 0,
         }
+    }
+
+    /// Counts a call that is made when the tables are gone.
+    fn fail(&mut self)
+        ensures tables { self.new.tables ≡ self.old.tables }
+        ensures held { self.new.is_held ≡ self.old.is_held }
+        ensures commits { self.new.commits ≡ self.old.commits }
+        ensures risen { HasRisen self.old.faults self.new.faults }
+    {
+        self.faults = self.faults.saturating_add(1);
     }
 }
 
 impl Keeper for SteadyKeeper {
-    ghost use Rattle.std.specs.Prelude.{◌≡◌, true, map, IfOk, IfErr, OnOk, OnErr, Some};
+    ghost use Rattle.std.specs.Prelude.{◌≡◌, true, false, map, Err, IfOk, IfErr, OnOk, OnErr, Some};
     ghost use Rattle.aq_rules.specs.Kept.RowChanges.{batch_rises, changed_key, with_row_changes};
-    ghost use Rattle.aq_keeper.specs.declared.keeper.KeeperFault.TheVariants.{Memory};
+    ghost use Rattle.aq_base.specs.Faults.{next};
+    ghost use Rattle.aq_keeper.specs.Memories.{steady_view};
+    ghost use Rattle.aq_keeper.specs.Told.{HasCause};
+    ghost use Rattle.aq_keeper.specs.declared.keeper.KeeperFault.TheVariants.{Failed, Memory};
 
-    ghost seen = { λ keeper. record { tables = Some keeper; faults = 0 } };
+    ghost seen = { λ keeper. steady_view keeper };
 
     fn read_all(&mut self, alloc: Global) -> Result<Rows, KeeperFault>
-        ensures rows { IfOk result (λ rows. rows ≡ self.old) }
-        ensures kept { self.new ≡ self.old }
-        ensures memory { IfErr result (λ fault. fault ≡ Memory) }
+        ensures rows { IfOk result (λ rows. rows ≡ self.old.tables) }
+        ensures kept { self.new.tables ≡ self.old.tables }
+        ensures cause { let old = steady_view self.old in let new = steady_view self.new in HasCause old.faults new.faults result }
+        ensures commits { self.new.commits ≡ self.old.commits }
+        ensures held { self.new.is_held ≡ self.old.is_held }
+        ensures gone { self.old.is_held ≡ false → result ≡ Err Failed }
+
+        // Only want of memory may stop it while it has its tables.
+        ensures memory { self.old.is_held ≡ true → IfErr result (λ fault. fault ≡ Memory) }
     {
-        let mut copies = Vec::new(alloc);
-        add_copies(alloc, &mut copies, &self.records)?;
-        add_copies(alloc, &mut copies, &self.observations)?;
-        add_copies(alloc, &mut copies, &self.loads)?;
-        add_copies(alloc, &mut copies, &self.seconds)?;
-        Ok(Rows::from_vec(copies))
+        if !self.is_held {
+            self.fail();
+            return Err(KeeperFault::Failed);
+        }
+        Ok(self.tables.read(alloc)?)
     }
 
     fn commit(&mut self, alloc: Global, batch: &[RowChange]) -> Result<(), KeeperFault>
         requires rising { batch_rises (map changed_key batch.now) ≡ true }
-        ensures done { OnOk result (self.new ≡ with_row_changes self.old batch.now) }
-        ensures kept { OnErr result (self.new ≡ self.old) }
-        ensures memory { IfErr result (λ fault. fault ≡ Memory) }
+        ensures done { OnOk result (self.new.tables ≡ with_row_changes self.old.tables batch.now) }
+        ensures kept { OnErr result (self.new.tables ≡ self.old.tables) }
+        ensures cause { let old = steady_view self.old in let new = steady_view self.new in HasCause old.faults new.faults result }
+        ensures commits { self.new.commits ≡ next self.old.commits }
+        ensures held { self.new.is_held ≡ self.old.is_held }
+        ensures gone { self.old.is_held ≡ false → result ≡ Err Failed }
+
+        // Only want of memory may stop it while it has its tables.
+        ensures memory { self.old.is_held ≡ true → IfErr result (λ fault. fault ≡ Memory) }
     {
-        let records = changes_in(alloc, batch, 0)?;
-        let observations = changes_in(alloc, batch, 1)?;
-        let loads = changes_in(alloc, batch, 2)?;
-        let seconds = changes_in(alloc, batch, 3)?;
-        let later_records = later_for(alloc, &mut self.records, records.len())?;
-        let later_observations = later_for(alloc, &mut self.observations, observations.len())?;
-        let later_loads = later_for(alloc, &mut self.loads, loads.len())?;
-        let later_seconds = later_for(alloc, &mut self.seconds, seconds.len())?;
-        make_all(&mut self.records, later_records, records);
-        make_all(&mut self.observations, later_observations, observations);
-        make_all(&mut self.loads, later_loads, loads);
-        make_all(&mut self.seconds, later_seconds, seconds);
+        self.commits = self.commits.saturating_add(1);
+        if !self.is_held {
+            self.fail();
+            return Err(KeeperFault::Failed);
+        }
+        self.tables.change(alloc, batch)?;
         Ok(())
+    }
+
+    fn let_go(&mut self) {
+        if self.is_held {
+            self.is_held = false;
+            self.faults = 0;
+        }
     }
 }

@@ -1,9 +1,9 @@
 //! The commit of a year of hours to a file, by either keeper.
 use aq_base::{Bytes, Memory};
-use aq_file::FileDisk;
+use aq_file::{AtName, FileDisk};
 use aq_journal::JournalKeeper;
 use aq_keeper::{Keeper, KeeperFault, LoadRow, ObsRow2, OfficeRow, Row, RowChange, do_keys_rise};
-use aq_sqlite::FileKeeper;
+use aq_sqlite::{AtPath, FileKeeper, Holds, LateKeeper, Unknown};
 use std::alloc::Global;
 use std::io::{self, ErrorKind};
 use std::time::{Duration, Instant};
@@ -28,13 +28,20 @@ pub struct CommitTimes {
 
 /// What the keeper of a file of tables takes.
 pub fn table_times(rt: &HostRuntime, path: &str) -> io::Result<CommitTimes> {
-    let mut keeper = FileKeeper::at_path(rt, String::from_str(rt.alloc(), path)?);
+    table_times_from::<Unknown>(rt, path)
+}
+
+/// The same, whatever the file holds at first.
+fn table_times_from<S: Holds>(rt: &HostRuntime, path: &str) -> io::Result<CommitTimes> {
+    let path = String::from_str(rt.alloc(), path)?;
+    let mut keeper: FileKeeper<'_, S> = LateKeeper::new(AtPath::new(rt, path));
     commit_times(rt, &mut keeper)
 }
 
 /// What the keeper of a journal takes, which is a file of the working folder.
 pub fn journal_times(rt: &HostRuntime, name: &str) -> io::Result<CommitTimes> {
-    let mut keeper = JournalKeeper::new(FileDisk::new(rt, name));
+    let file = AtName::<Unknown>::new(rt, name);
+    let mut keeper = JournalKeeper::new(FileDisk::new(rt.alloc(), file));
     commit_times(rt, &mut keeper)
 }
 

@@ -53,6 +53,7 @@ pub fn post<K: Keeper, L: Ledger>(
         (standing_of book (K.seen keeper.old))
         (standing_of ends.0 (K.seen keeper.new)) ends.1) }
     ensures valid { IfOk result (λ ends. IsOffice ends.0) }
+    ensures held { (K.seen keeper.new).is_held ≡ (K.seen keeper.old).is_held }
     ensures lost { OnErr result (LosesLoad number (sha256 body.now) body.now
         (standing_of book (K.seen keeper.old))
         (standing_of book (K.seen keeper.new))) }
@@ -87,6 +88,7 @@ pub fn post_uncounted<K: Keeper>(
         (standing_of book (K.seen keeper.old))
         (standing_of ends.0 (K.seen keeper.new)) ends.1) }
     ensures valid { IfOk result (λ ends. IsOffice ends.0) }
+    ensures held { (K.seen keeper.new).is_held ≡ (K.seen keeper.old).is_held }
     ensures lost { OnErr result (LosesLoad number (sha256 body.now) body.now
         (standing_of book (K.seen keeper.old))
         (standing_of book (K.seen keeper.new))) }
@@ -112,6 +114,7 @@ fn counted<K: Keeper, L: Ledger>(
         (standing_of book (K.seen keeper.old))
         (standing_of ends.0 (K.seen keeper.new)) ends.1) }
     ensures valid { IfOk result (λ ends. IsOffice ends.0) }
+    ensures held { (K.seen keeper.new).is_held ≡ (K.seen keeper.old).is_held }
     ensures lost { OnErr result (LosesLoad number (sha256 body.now) body.now
         (standing_of book (K.seen keeper.old))
         (standing_of book (K.seen keeper.new))) }
@@ -138,6 +141,7 @@ fn take<K: Keeper, L: Ledger>(
         (standing_of book (K.seen keeper.old))
         (standing_of ends.0 (K.seen keeper.new))) }
     ensures valid { IfOk result (λ ends. IsOffice ends.0) }
+    ensures held { (K.seen keeper.new).is_held ≡ (K.seen keeper.old).is_held }
     ensures lost { OnErr result (LosesLoad number digest body.now
         (standing_of book (K.seen keeper.old))
         (standing_of book (K.seen keeper.new))) }

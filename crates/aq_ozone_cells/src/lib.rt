@@ -60,8 +60,6 @@ mod ozone_cells;
 mod ranked_maxima;
 mod settling;
 mod site_key;
-#[cfg(test)]
-mod tests;
 mod weeks;
 mod year_tallies;
 

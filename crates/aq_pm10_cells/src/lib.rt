@@ -53,8 +53,6 @@ mod settling;
 mod strata;
 mod strata_totals;
 mod tallies;
-#[cfg(test)]
-mod tests;
 
 pub use cells::Pm10Cells;
 pub use filling::filled;

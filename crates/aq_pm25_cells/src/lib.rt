@@ -47,8 +47,6 @@ mod filling;
 mod levels;
 mod settling;
 mod tallies;
-#[cfg(test)]
-mod tests;
 
 pub use cells::Pm25Cells;
 pub use filling::filled;

@@ -10,9 +10,9 @@
 //!
 //! # What it promises
 //!
-//! - `obey` takes the words, any keeper, any door and the three streams, and has every clause of `run`
-//!   of aq_desk as its own; without memory for the words it ends with 7 and uses nothing but the errors
-//!   stream.
+//! - `obey` takes the words, any keeper, any door and the three streams, and is a run as `run` of aq_desk
+//!   is (clause `run`, by `IsRun`); without memory for the words it ends with 7 and uses nothing but the
+//!   errors stream.
 //! - `run_over` and `without_memory` have no clauses: that they hand on what they are given is trusted,
 //!   and tried on the built programs.
 //!
@@ -20,7 +20,8 @@
 //!
 //! ```rust
 //! fn main(rt: HostRuntime) -> ExitCode {
-//!     let mut keeper = JournalKeeper::new(FileDisk::new(&rt, "airdv.journal"));
+//!     let file = AtName::<Unknown>::new(&rt, "airdv.journal");
+//!     let mut keeper = JournalKeeper::new(FileDisk::new(rt.alloc(), file));
 //!     run_over(rt, &mut keeper)
 //! }
 //! ```

@@ -94,6 +94,8 @@ pub mod Critical
 pub mod AreaHistories
 pub mod GoverningSites
 pub mod WellFormedAreas
+pub mod WellFormedLists
+pub mod WellFormedDays
 pub mod EventsRise
 mod MethodUnread
 pub mod MigratedRows

@@ -1,6 +1,6 @@
--- The PM2.5 values of a site in a valid office are in range, and what is kept of its quarters and years keeps its facts.
-use Rattle.std.proofs.Common.{◌≡◌, ℕ, zero, suc, ◌+◌, ◌*◌, ◌/◌, ◌%◌, ◌<◌, ◌≤◌, Bool, true, false, ◌&&◌, cond, List, [], ◌∷◌, length, map, take, refl, sym, subst, ◌∙◌, arith}
-use Rattle.std.specs.Prelude.{ℤ, pos, negsuc, ◌≤ℤ◌, int_le, Option, Some, None, option_map, option_and_then, IsTrue, ◌==◌, slice_get, nat_le, sum}
+-- The values of particles of a site in a valid office are in range, and what is kept of its PM2.5 quarters and years keeps its facts.
+use Rattle.std.proofs.Common.{◌≡◌, ℕ, zero, suc, ◌+◌, ◌*◌, ◌/◌, ◌%◌, ◌<◌, ◌≤◌, Bool, true, false, ◌&&◌, cond, List, [], ◌∷◌, length, map, take, refl, sym, subst, arith}
+use Rattle.std.specs.Prelude.{ℤ, pos, negsuc, ◌≤ℤ◌, int_le, Option, Some, None, option_map, option_and_then, ⊤, IsTrue, ◌==◌, slice_get, nat_le, sum}
 use Rattle.std.specs.List.{filter_map, cons_option, find, list_all, list_any, range_with_len}
 use Rattle.std.proofs.lemmas.List.Elements.{All-cons, All-nil}
 use Rattle.aq_base.specs.Calendar.{quarter_number, quarter_year, days_in_month, days_in_quarter}
@@ -16,7 +16,7 @@ use Rattle.aq_base.specs.declared.monitor.Duration.{Duration}
 use Rattle.aq_base.specs.declared.monitor.Duration.TheVariants.{Hour, Day}
 use Rattle.aq_base.specs.declared.monitor.MonitorId.{MonitorId}
 use Rattle.aq_base.specs.declared.monitor.Pollutant.{Pollutant}
-use Rattle.aq_base.specs.declared.monitor.Pollutant.TheVariants.{Pm25}
+use Rattle.aq_base.specs.declared.monitor.Pollutant.TheVariants.{Ozone, Pm25, Pm10}
 use Rattle.aq_base.specs.declared.observation.ObsKey.{ObsKey}
 use Rattle.aq_base.specs.declared.observation.Observation.{Observation}
 use Rattle.aq_rules.specs.Lines.Spellings.{is_in_range}
@@ -26,7 +26,7 @@ use Rattle.aq_rules.specs.Office.Monitors.{is_same_site, is_same_pollutant, is_s
 use Rattle.aq_rules.specs.Office.Exclusion.{excluded}
 use Rattle.aq_rules.specs.Office.Designation.{primary_on}
 use Rattle.aq_rules.specs.Ozone.SiteHour.{Cell, Sample, is_of_poc}
-use Rattle.aq_rules.specs.Particles.ParticleDay.{starts_on, cell_of, mean_or_high_sum, day_value, day_cell, day_of_samples, monitor_day, sample_on, samples_on, eligible_pocs, site_day, net_day, unless_excluded}
+use Rattle.aq_rules.specs.Particles.ParticleDay.{starts_on, cell_of, counting_poc, mean_of_hours, mean_or_high_sum, day_value, day_cell, day_of_samples, monitor_day, sample_on, samples_on, eligible_pocs, site_day, net_day, unless_excluded}
 use Rattle.aq_rules.specs.Particles.QuarterCounts.{days_of_quarter, quarter_counts, pm25_quarter, quarter_values, quarters_of, pm25_year, values_in}
 use Rattle.aq_rules.specs.Kept.Summaries.{is_value, PmQuarter, KeepsPmQuarter, KeepsPmYear, eight_greatest, summary_of_quarter, pm25_summary}
 use Rattle.aq_rules.proofs.Elements.{Every, every-append}
@@ -34,7 +34,7 @@ use Rattle.aq_rules.specs.Office.Sameness.{same_pollutant}
 use Rattle.aq_rules.proofs.Pm25Facts.{least-there, greatest-there, sum-within, no-sum, top-falls, top-count, top-greatest}
 use Rattle.aq_rules.proofs.Pm10Facts.{length-days, length-filter-le}
 use Rattle.aq_rules.proofs.Pm25Counts.{HoldsDays, counts-keep}
-use Rattle.aq_rules.proofs.ValueRange.{InRangeTo, SumTo, IfValueTo, CellTo, IfCellTo, SampleTo, from_test, to_test, total-between, trunc-in_range, value-onto, least-in_range, greatest-in_range, every-ranked, cell-onto, found-in_range, chosen-in_range}
+use Rattle.aq_rules.proofs.ValueRange.{InRangeTo, SumTo, IfValueTo, CellTo, IfCellTo, SampleTo, IfSampleTo, from_test, to_test, total-between, trunc-in_range, value-onto, least-in_range, greatest-in_range, every-ranked, cell-onto, found-in_range, chosen-in_range}
 
 -- the greatest value that a line can state
 abbrev top : ℕ
@@ -58,6 +58,12 @@ IfCell = IfCellTo top
 abbrev SampleIn : Sample → Type 0
 SampleIn = SampleTo top
 
+-- the values of particles are tenths of a µg/m3
+abbrev IsParticle : Pollutant → Type 0
+IsParticle Ozone = ⊥
+IsParticle Pm25 = ⊤
+IsParticle Pm10 = ⊤
+
 -- ---- means
 
 -- and of few hours over 24
@@ -79,6 +85,13 @@ hours-in_range n t h = by_tests (nat_le 18 n) (int_le (pos 8520) t) refl refl
         high-in_range t n few high h
     by_tests false false e f = tt
 
+means-in_range : (n : ℕ) (t : ℤ) → Between n t → IfValue (mean_of_hours n t)
+means-in_range n t h = by_test (nat_le 18 n) refl
+  where
+    by_test : (b : Bool) → nat_le 18 n ≡ b → IfValue (cond b (Some (truncated t (pos n))) None)
+    by_test true e = let many : 18 ≤ n = grind (arith, nat_tests) in trunc-in_range top t n (omega arith) h
+    by_test false e = tt
+
 first-in_range : (values : List ℤ) → Every InRange values → IfValue (slice_get values 0)
 first-in_range [] every = tt
 first-in_range (v ∷ vs) every = every.0
@@ -89,12 +102,12 @@ pub measured-in_range : (pollutant : Pollutant) (v : ℤ) (null : Option Code) �
 measured-in_range pollutant v None h = h
 measured-in_range pollutant v (Some code) h = cc
 
-of_value : (out : Bool) (pollutant : Pollutant) (value : Option ℤ) (null : Option Code) → pollutant ≡ Pm25 → is_measured pollutant value null ≡ true
+of_value : (out : Bool) (pollutant : Pollutant) (value : Option ℤ) (null : Option Code) → IsParticle pollutant → is_measured pollutant value null ≡ true
     → IfCell (option_map (λ v. record { value = v; excluded = out }) value)
 of_value out pollutant None null is h = tt
-of_value out pollutant (Some v) null is h =
-    let P : Pollutant → Type 0 = λ p. is_in_range p v ≡ true in
-    from_test top v (subst P is (measured-in_range pollutant v null h))
+of_value out Ozone (Some v) null is h = absurd is
+of_value out Pm25 (Some v) null is h = from_test top v (measured-in_range Pm25 v null h)
+of_value out Pm10 (Some v) null is h = from_test top v (measured-in_range Pm10 v null h)
 
 pub measured-of : (office : Office) (entry : ObsKey × Observation) → fits_monitors office entry ≡ true → is_measured entry.0.monitor.pollutant entry.1.value entry.1.null ≡ true
 measured-of office entry fits =
@@ -104,7 +117,7 @@ measured-of office entry fits =
     let b = and_parts _ _ c.0 in
     (and_parts (is_measured entry.0.monitor.pollutant entry.1.value entry.1.null) _ b.0).0
 
-cell-in_range : (office : Office) (monitor : MonitorId) (duration : Duration) (day : ℕ) (entry : ObsKey × Observation) → monitor.pollutant ≡ Pm25 → fits_monitors office entry ≡ true
+cell-in_range : (office : Office) (monitor : MonitorId) (duration : Duration) (day : ℕ) (entry : ObsKey × Observation) → IsParticle monitor.pollutant → fits_monitors office entry ≡ true
     → IfCell (cell_of office monitor duration day entry)
 cell-in_range office monitor duration day entry is fits =
     by_test (is_same_monitor entry.0.monitor monitor) (starts_on duration day entry.0.hour) refl
@@ -116,9 +129,9 @@ cell-in_range office monitor duration day entry is fits =
     by_test true true e =
         let site_and = and_parts _ (entry.0.monitor.poc == monitor.poc) e in
         let pollutant = (and_parts (is_same_site entry.0.monitor.site monitor.site) (is_same_pollutant entry.0.monitor.pollutant monitor.pollutant) site_and.0).1 in
-        of_value (excluded office.records entry.0 entry.1.quals) entry.0.monitor.pollutant entry.1.value entry.1.null (same_pollutant entry.0.monitor.pollutant monitor.pollutant pollutant ∙ is) (measured-of office entry fits)
+        of_value (excluded office.records entry.0 entry.1.quals) entry.0.monitor.pollutant entry.1.value entry.1.null (subst IsParticle (sym (same_pollutant entry.0.monitor.pollutant monitor.pollutant pollutant)) is) (measured-of office entry fits)
 
-cells-in_range : (office : Office) (monitor : MonitorId) (duration : Duration) (day : ℕ) (entries : List (ObsKey × Observation)) → monitor.pollutant ≡ Pm25
+cells-in_range : (office : Office) (monitor : MonitorId) (duration : Duration) (day : ℕ) (entries : List (ObsKey × Observation)) → IsParticle monitor.pollutant
     → list_all (fits_monitors office) entries ≡ true → Every CellIn (filter_map (cell_of office monitor duration day) entries)
 cells-in_range office monitor duration day [] is fits = tt
 cells-in_range office monitor duration day (entry ∷ entries) is fits =
@@ -130,26 +143,28 @@ values-in_range : (cells : List Cell) → Every CellIn cells → Every InRange (
 values-in_range [] every = tt
 values-in_range (cell ∷ cells) every = (every.0, values-in_range cells every.1)
 
-day_value-in_range : (duration : Duration) (values : List ℤ) → Every InRange values → IfValue (day_value Pm25 duration values)
-day_value-in_range Hour values every = hours-in_range (length values) (total values) (total-between top values every)
-day_value-in_range Day values every = first-in_range values every
+day_value-in_range : (pollutant : Pollutant) (duration : Duration) (values : List ℤ) → IsParticle pollutant → Every InRange values → IfValue (day_value pollutant duration values)
+day_value-in_range Ozone duration values is every = absurd is
+day_value-in_range Pm25 Hour values is every = hours-in_range (length values) (total values) (total-between top values every)
+day_value-in_range Pm25 Day values is every = first-in_range values every
+day_value-in_range Pm10 Hour values is every = means-in_range (length values) (total values) (total-between top values every)
+day_value-in_range Pm10 Day values is every = first-in_range values every
 
 with_value : (out : Bool) (o : Option ℤ) → IfValue o → IfCell (option_map (λ value. record { value = value; excluded = out }) o)
 with_value out None h = tt
 with_value out (Some v) h = h
 
-day_cell-in_range : (pollutant : Pollutant) (duration : Duration) (cells : List Cell) → pollutant ≡ Pm25 → Every CellIn cells → IfCell (day_cell pollutant duration cells)
+day_cell-in_range : (pollutant : Pollutant) (duration : Duration) (cells : List Cell) → IsParticle pollutant → Every CellIn cells → IfCell (day_cell pollutant duration cells)
 day_cell-in_range pollutant duration cells is every =
-    let P : Pollutant → Type 0 = λ p. IfCell (day_cell p duration cells) in
-    subst P (sym is)
-    (with_value (list_any (λ (c : Cell). c.excluded) cells) (day_value Pm25 duration (map (λ (c : Cell). c.value) cells)) (day_value-in_range duration (map (λ (c : Cell). c.value) cells) (values-in_range cells every)))
+    let values = map (λ (c : Cell). c.value) cells in
+    with_value (list_any (λ (c : Cell). c.excluded) cells) (day_value pollutant duration values) (day_value-in_range pollutant duration values is (values-in_range cells every))
 
-day_of_samples-in_range : (office : Office) (monitor : MonitorId) (duration : Duration) (day : ℕ) → IsOffice office → monitor.pollutant ≡ Pm25 → IfCell (day_of_samples office monitor duration day)
+day_of_samples-in_range : (office : Office) (monitor : MonitorId) (duration : Duration) (day : ℕ) → IsOffice office → IsParticle monitor.pollutant → IfCell (day_of_samples office monitor duration day)
 day_of_samples-in_range office monitor duration day valid is =
     day_cell-in_range monitor.pollutant duration (filter_map (cell_of office monitor duration day) office.observations) is
     (cells-in_range office monitor duration day office.observations is valid.observations_fit)
 
-monitor_day-in_range : (office : Office) (monitor : MonitorId) (day : ℕ) → IsOffice office → monitor.pollutant ≡ Pm25 → IfCell (monitor_day office monitor day)
+monitor_day-in_range : (office : Office) (monitor : MonitorId) (day : ℕ) → IsOffice office → IsParticle monitor.pollutant → IfCell (monitor_day office monitor day)
 unfolding monitor_day
 monitor_day-in_range office monitor day valid is = by_case (is_eligible office.records monitor) (duration_at office monitor)
   where
@@ -163,23 +178,35 @@ sample-onto : (poc : ℕ) (o : Option Cell) (samples : List Sample) → IfCell o
 sample-onto poc None samples h every = every
 sample-onto poc (Some cell) samples h every = (h, every)
 
-samples-in_range : (office : Office) (site : Site) (day : ℕ) (pocs : List ℕ) → IsOffice office → Every SampleIn (filter_map (sample_on office site Pm25 day) pocs)
-samples-in_range office site day [] valid = tt
-samples-in_range office site day (poc ∷ pocs) valid =
-    let monitor : MonitorId = record { site = site; pollutant = Pm25; poc = poc } in
-    sample-onto poc (monitor_day office monitor day) (filter_map (sample_on office site Pm25 day) pocs)
-    (monitor_day-in_range office monitor day valid refl) (samples-in_range office site day pocs valid)
+samples-in_range : (office : Office) (site : Site) (pollutant : Pollutant) (day : ℕ) (pocs : List ℕ) → IsOffice office → IsParticle pollutant
+    → Every SampleIn (filter_map (sample_on office site pollutant day) pocs)
+samples-in_range office site pollutant day [] valid is = tt
+samples-in_range office site pollutant day (poc ∷ pocs) valid is =
+    let monitor : MonitorId = record { site = site; pollutant = pollutant; poc = poc } in
+    sample-onto poc (monitor_day office monitor day) (filter_map (sample_on office site pollutant day) pocs)
+    (monitor_day-in_range office monitor day valid is) (samples-in_range office site pollutant day pocs valid is)
 
 pub site_day-in_range : (office : Office) (site : Site) (day : ℕ) → IsOffice office → IfCell (site_day office site Pm25 day)
 unfolding site_day
 site_day-in_range office site day valid =
-    let every = samples-in_range office site day (eligible_pocs office.records site Pm25) valid in
+    let every = samples-in_range office site Pm25 day (eligible_pocs office.records site Pm25) valid tt in
     chosen-in_range top (find (is_of_poc (primary_on office.records site Pm25 day)) (samples_on office site Pm25 day)) (samples_on office site Pm25 day)
     (found-in_range top (is_of_poc (primary_on office.records site Pm25 day)) (samples_on office site Pm25 day) every) every
 
+of_sample : (o : Option Sample) → IfSampleTo top o → IfCell (option_map (λ (s : Sample). s.cell) o)
+of_sample None h = tt
+of_sample (Some sample) h = h
+
+pub pm10_day-in_range : (office : Office) (site : Site) (day : ℕ) → IsOffice office → IfCell (site_day office site Pm10 day)
+unfolding site_day
+pm10_day-in_range office site day valid =
+    let counts = is_of_poc (counting_poc office site day) in
+    of_sample (find counts (samples_on office site Pm10 day))
+    (found-in_range top counts (samples_on office site Pm10 day) (samples-in_range office site Pm10 day (eligible_pocs office.records site Pm10) valid tt))
+
 -- ---- the quarter
 
-net-in_range : (o : Option Cell) → IfCell o → IfValue (option_and_then unless_excluded o)
+pub net-in_range : (o : Option Cell) → IfCell o → IfValue (option_and_then unless_excluded o)
 net-in_range None h = tt
 net-in_range (Some cell) h = elim cell.excluded as (λ b. IfValue (cond b None (Some cell.value))) [ true ↦ tt | false ↦ h ]
 

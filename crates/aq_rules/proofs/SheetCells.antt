@@ -29,7 +29,7 @@ use Rattle.aq_rules.proofs.Held.{Held, IfHeld, half_up-held}
 digit-byte : (n : ℕ) → is_word_byte (48 + n % 10) ≡ true
 digit-byte n = let few : n % 10 < 10 = omega arith in grind (arith, nat_tests)
 
-bytes-join : (a b : List ℕ) → list_all is_word_byte a ≡ true → list_all is_word_byte b ≡ true → list_all is_word_byte (a ++ b) ≡ true
+pub bytes-join : (a b : List ℕ) → list_all is_word_byte a ≡ true → list_all is_word_byte b ≡ true → list_all is_word_byte (a ++ b) ≡ true
 bytes-join [] b h k = k
 bytes-join (x ∷ a) b h k =
     let parts = and_parts (is_word_byte x) (list_all is_word_byte a) h in and_from (is_word_byte x) (list_all is_word_byte (a ++ b)) parts.0 (bytes-join a b parts.1 k)

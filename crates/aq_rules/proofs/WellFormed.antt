@@ -73,7 +73,7 @@ rest-row rest h =
     row-of load_columns (rest_row rest) refl
     (refl, (count (rule_number rest.rule) (omega arith), (rule-word rest.rule, (count rest.count (omega (arith, h.1)), tt))))
 
-every-passes : {X : Type 0} (p : X → Bool) (xs : List X) → list_all p xs ≡ true → Every (λ x. p x ≡ true) xs
+pub every-passes : {X : Type 0} (p : X → Bool) (xs : List X) → list_all p xs ≡ true → Every (λ x. p x ≡ true) xs
 every-passes p [] h = tt
 every-passes p (x ∷ xs) h = let parts = and_parts (p x) (list_all p xs) h in (parts.0, every-passes p xs parts.1)
 

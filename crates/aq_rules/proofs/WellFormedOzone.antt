@@ -30,11 +30,11 @@ use Rattle.aq_rules.proofs.SheetCells.{site-word, day-word, hour-word, truth-wor
 
 -- ---- averages
 
-record WindowIn (row : WindowRow) : Type 0 where
-  net : IfHeld 999 9999 row.net
-  net_hours : row.net_hours ≤ 8
-  full : IfHeld 999 9999 row.full
-  full_hours : row.full_hours ≤ 8
+pub record WindowIn (row : WindowRow) : Type 0 where
+  pub net : IfHeld 999 9999 row.net
+  pub net_hours : row.net_hours ≤ 8
+  pub full : IfHeld 999 9999 row.full
+  pub full_hours : row.full_hours ≤ 8
 
 full-in : (cells : List Cell) → Every CellIn cells → Every InRange (full_values cells)
 full-in [] every = tt
@@ -58,7 +58,7 @@ window-in office site start valid =
       full_hours = omega (arith, length-map cells (λ (c : Cell). c.value), few);
     }
 
-windows-in : (office : Office) (site : Site) (starts : List ℕ) → IsOffice office → Every WindowIn (map (window office site) starts)
+pub windows-in : (office : Office) (site : Site) (starts : List ℕ) → IsOffice office → Every WindowIn (map (window office site) starts)
 windows-in office site [] valid = tt
 windows-in office site (start ∷ starts) valid = (window-in office site start valid, windows-in office site starts valid)
 

@@ -7,7 +7,7 @@ ghost use Rattle.aq_base.specs.declared.observation.Observation.{Observation};
 ghost use Rattle.aq_base.specs.declared.rule.Rule.TheVariants.{AlreadyThere, BadAction, BadDate, BadTag, BadValue, FieldCount, UnknownMonitor, WrongDuration};
 ghost use Rattle.aq_rules.specs.Extracts.BroughtUpToDate.{after_changes, changes_text, updated, updated_office, wanted_at};
 ghost use Rattle.aq_rules.specs.Extracts.Changes.{DaySpan, OfLines, RefusedAt, Says, change_values, changes_answer, extract_of};
-ghost use Rattle.aq_rules.specs.Extracts.ExtractExamples.{eight_lines, first_week, hours_of_extract, line_at, on_that_day, one_day, standing, three_changes, varied, with_lines};
+ghost use Rattle.aq_rules.specs.Extracts.ExtractExamples.{against_key, by_key, eight_lines, first_week, five_monitors, hours_of_extract, line_at, on_that_day, one_day, standing, three_changes, two_codes, two_days, varied, with_lines};
 ghost use Rattle.aq_rules.specs.Extracts.Try.{try_answer};
 ghost use Rattle.aq_rules.specs.Limits.{MOST_OBSERVATIONS};
 ghost use Rattle.aq_rules.specs.Listed.LoadsBack.{LoadsTo};
@@ -41,8 +41,8 @@ pub fn extracts_become_lines()
 {}
 
 /// What an extract says otherwise of a standing hour is an update: a code that it lacks, a method where none
-/// stands, another method, and a null code. A value that is cut to the standing one is none. Hours of other
-/// monitors and days stay.
+/// stands, another method, a null code, and the same codes in another order. A value that is cut to the standing
+/// one is none. Hours of other monitors and days stay.
 pub fn contents_that_differ_are_updates()
     ensures code { changes_answer on_that_day varied
         (codes "RD|I|06|037|1103|44201|1|1|007|087|20240701|12:00|0.071\nRD|I|06|037|1103|44201|1|1|007|000|20240701|13:00|0.071\nRD|I|06|037|1103|44201|1|1|007|087|20240701|14:00|0.0719\n")
@@ -51,17 +51,38 @@ pub fn contents_that_differ_are_updates()
         (codes "RD|I|06|037|1103|44201|1|1|007|087|20240701|14:00||AN\nRD|I|06|037|1103|44201|1|1|007|047|20240701|12:00|0.071||||RT\n")
         ≡ OfLines (codes "RD|D|06|037|1103|44201|1||||20240701|13:00\n"
         ++ codes "RD|U|06|037|1103|44201|1|1|007|047|20240701|12:00|0.071||||RT\nRD|U|06|037|1103|44201|1|1|007|087|20240701|14:00||AN\n") }
+    ensures order { changes_answer on_that_day two_codes (codes "RD|I|06|037|1103|44201|1|1|007|087|20240701|12:00|0.071||||RF|RT\n")
+        ≡ OfLines (codes "RD|U|06|037|1103|44201|1|1|007|087|20240701|12:00|0.071||||RF|RT\n") }
+    ensures same_order { changes_answer on_that_day two_codes (codes "RD|I|06|037|1103|44201|1|1|007|087|20240701|12:00|0.071||||RT|RF\n") ≡ OfLines [] }
     ensures other_monitor { changes_answer on_that_day varied (line_at (codes "I") (codes "2") (codes "20240701") (codes "13:00"))
         ≡ OfLines (codes "RD|D|06|037|1103|44201|2||||20240701|12:00\nRD|I|06|037|1103|44201|2|1|007|087|20240701|13:00|0.071\n") }
 {}
 
-/// A sample of 24 hours stands at hour 00 of its day, whatever start the extract's line names.
+/// The lines of an extract come in any order, here the last one first. Deletions, updates and insertions go by
+/// site, pollutant, POC and hour each: ozone comes before PM2.5 and PM2.5 before PM10, and POC 2 before POC 12.
+pub fn changes_go_by_key()
+    ensures insertions { changes_answer on_that_day five_monitors (against_key (codes "I") (codes "20240701") (codes "RT"))
+        ≡ OfLines (by_key (codes "I") (codes "20240701") (codes "RT")) }
+    ensures updates { changes_answer on_that_day (with_lines five_monitors (by_key (codes "I") (codes "20240701") (codes "RT")))
+        (against_key (codes "I") (codes "20240701") (codes "RF"))
+        ≡ OfLines (by_key (codes "U") (codes "20240701") (codes "RF")) }
+    ensures deletions { changes_answer two_days (with_lines five_monitors (by_key (codes "I") (codes "20240701") (codes "RT")))
+        (against_key (codes "I") (codes "20240702") (codes "RT"))
+        ≡ OfLines (codes "RD|D|06|037|1103|44201|2||||20240701|10:00\nRD|D|06|037|1103|44201|2||||20240701|11:00\nRD|D|06|037|1103|44201|12||||20240701|09:00\n"
+        ++ codes "RD|D|06|037|1103|88101|1||||20240701|00:00\nRD|D|06|037|1103|81102|1||||20240701|00:00\nRD|D|06|037|1104|44201|1||||20240701|08:00\n"
+        ++ by_key (codes "I") (codes "20240702") (codes "RT")) }
+{}
+
+/// A sample of 24 hours stands at hour 00 of its day, whatever start the extract's line names. An hour of a
+/// monitor of days has the wrong duration, also where its day has been named before.
 pub fn samples_of_a_day_are_one()
     ensures noon { changes_answer first_week one_day (codes "RD|I|06|037|1103|88101|1|7|105|145|20240107|12:00|12.0\n")
         ≡ OfLines (codes "RD|U|06|037|1103|88101|1|7|105|145|20240107|00:00|12.0\n") }
     ensures twice { changes_answer first_week one_day (codes "RD|I|06|037|1103|88101|1|7|105|145|20240107|00:00|12.0\nRD|I|06|037|1103|88101|1|7|105|145|20240107|12:00|12.0\n")
         ≡ RefusedAt 2 AlreadyThere }
     ensures hours { changes_answer first_week one_day (codes "RD|I|06|037|1103|88101|1|1|105|145|20240107|00:00|12.0\n") ≡ RefusedAt 1 WrongDuration }
+    ensures hours_again { changes_answer first_week one_day (codes "RD|I|06|037|1103|88101|1|7|105|145|20240107|00:00|12.0\nRD|I|06|037|1103|88101|1|1|105|145|20240107|12:00|12.0\n")
+        ≡ RefusedAt 2 WrongDuration }
     ensures dropped { changes_answer first_week one_day (codes "# an extract\n\nRD|I|06|037|1103|88101|1|7|105|145|20240104|00:00|12.0\n")
         ≡ OfLines (codes "RD|D|06|037|1103|88101|1||||20240107|00:00\nRD|I|06|037|1103|88101|1|7|105|145|20240104|00:00|12.0\n") }
 {}

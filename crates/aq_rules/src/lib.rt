@@ -30,8 +30,10 @@
 //!   (`hours_out_of_reach_are_as_before`).
 //! - The PM2.5 verdicts on lists of values are those on the sums, counts and eight greatest that are
 //!   kept.
-//! - Every sheet that answers a question is well formed, a report's row says what the value sheet of its
-//!   site says, and the fields of an export of a valid office need no quotes.
+//! - The sheets of loads, windows, days, quarters, values and reports of a valid office are well formed. So are
+//!   the lists of what stands and of the days behind a number, and the sheets of decisive events and areas if
+//!   their numbers are of 64 bits. A report's row says what the value sheet of its site says, and the fields of
+//!   an export of a valid office need no quotes.
 //! - Records and observations of a valid office that are printed as lines load back, piece by piece
 //!   (`records_load_back`, `observations_load_back`). A load of what an extract changes is accepted line by
 //!   line, whole or piece by piece, and brings what stands up to date; the same extract then changes nothing

@@ -1,21 +1,19 @@
 -- One connection after the other.
 use Rattle.std.proofs.Common.{◌≡◌, ℕ, ◌+◌, ◌<◌, ◌⊎◌, inl, inr, Bool, true, false, List, [], ◌∷◌, ◌++◌, length, map, refl, sym, ap, ◌∙◌, subst, arith, append_assoc, Result, Ok, Err, Option, Some, None}
-use Rattle.std.specs.Prelude.{◌==◌}
 use Rattle.std.proofs.lemmas.List.{append-nil}
 use Rattle.aq_base.specs.Faults.{HasRisen}
 use Rattle.aq_base.specs.declared.refusal.Memory.{Memory}
 use Rattle.aq_rules.specs.Office.Office.{Office}
-use Rattle.aq_serve.specs.Door.{Both, DoorView, Ends, Exchange, HasSameTransfers, IsAccepted, IsAcceptedNow, IsDry, IsIdle, IsSameDoor, Nobody, Passes, TakesNext, Wire}
+use Rattle.aq_serve.specs.Door.{Both, DoorView, Ends, Exchange, HasSameTransfers, IsAccepted, IsAcceptedNow, IsDry, IsFinished, IsIdle, IsSameDoor, Nobody, Passes, TakesNext, Wire}
 use Rattle.aq_keeper.specs.Standing.{AreOfOffice, Keeps, Standing}
 use Rattle.aq_serve.specs.Service.{Counts}
-use Rattle.aq_serve.specs.Session.{IsFront, IsSession, Turn, failed_commits, office_behind}
-use Rattle.aq_serve.specs.Serving.{AreAll, AreVisits, EndsBy, HavePassed, IsVisitBy, NobodyComes, Rises, Serves, StandsBehind, Visit, World, all_turns, bytes_of, cuts_by_read, cuts_by_write, is_cut_by_read, is_cut_by_write, line_of, office_left}
+use Rattle.aq_serve.specs.Session.{IsFront, IsSession, Turn, office_behind}
+use Rattle.aq_serve.specs.Serving.{AreAll, ArePaid, AreVisits, EndsBy, Faults, HavePassed, IsVisitBy, NobodyComes, Serves, StandsBehind, Visit, World, bytes_of, faults_in, is_cut_by_read, is_cut_by_write, line_of, office_left}
 use Rattle.aq_serve.specs.Talking.{IsAll, Talks, TalksBy, Visited}
 use Rattle.aq_serve.specs.declared.ending.End.{End}
 use Rattle.aq_serve.specs.declared.ending.End.TheVariants.{Whole, CutByRead, CutByWrite}
 use Rattle.aq_serve.specs.declared.ending.ServeFault.{ServeFault}
 use Rattle.aq_serve.specs.declared.ending.ServeFault.TheVariants as fault
-use Rattle.aq_serve.proofs.Counts.{count-append, count_first, rises_by, rises_join, rises_same}
 use Rattle.aq_keeper.proofs.TablesOfOffice.{become_join, become_same, keeps_join, told_after}
 
 -- ---- the door
@@ -24,25 +22,32 @@ abbrev left_of : Option Wire → List ℕ
 left_of None = []
 left_of (Some w) = w.line.left
 
-passed_one : (a b c d : Wire) (visit : Visit) → TakesNext a b → Passes visit.got visit.sent b c → Ends c d → visit.left ≡ c.line.left
+passed_one : (a b c d : Wire) (reads writes : ℕ) (visit : Visit) → TakesNext a b → Passes visit.got visit.sent b c → Ends reads writes c d
+    → visit.left ≡ c.line.left → visit.after.reads ≡ reads → visit.after.writes ≡ writes
     → HavePassed (visit ∷ []) a d
-passed_one a b c d visit takes passes ends left = record {
+passed_one a b c d reads writes visit takes passes ends left reads_are writes_are = record {
   coming = takes.coming
       ∙ (λ i. (passes.left ∙ ap (λ l. visit.got ++ l) (sym left)) i ∷ (sym passes.coming ∙ sym ends.coming) i);
   past = ends.past
-      ∙ (λ i. (passes.past ∙ takes.past) i ++ record { left = sym left i; written = (passes.written ∙ ap (λ w. w ++ visit.sent) takes.written) i } ∷ []);
+      ∙ (λ i. (passes.past ∙ takes.past) i ++ record {
+        line = record { left = sym left i; written = (passes.written ∙ ap (λ w. w ++ visit.sent) takes.written) i };
+        reads = sym reads_are i;
+        writes = sym writes_are i;
+      } ∷ []);
 }
 
-passed : (a b c d : Option Wire) (visit : Visit) → Both TakesNext a b → Exchange visit.got visit.sent b c → Both Ends c d → visit.left ≡ left_of c
+passed : (a b c d : Option Wire) (reads writes : ℕ) (visit : Visit) → Both TakesNext a b → Exchange visit.got visit.sent b c → Both (Ends reads writes) c d
+    → visit.left ≡ left_of c → visit.after.reads ≡ reads → visit.after.writes ≡ writes
     → Both (HavePassed (visit ∷ [])) a d
-passed None None None None visit takes passes ends left = tt
-passed (Some a) (Some b) (Some c) (Some d) visit takes passes ends left = passed_one a b c d visit takes passes ends left
-passed None None None (Some d) visit takes passes ends left = absurd ends
-passed None None (Some c) d visit takes passes ends left = absurd passes
-passed None (Some b) c d visit takes passes ends left = absurd takes
-passed (Some a) None c d visit takes passes ends left = absurd takes
-passed (Some a) (Some b) None d visit takes passes ends left = absurd passes
-passed (Some a) (Some b) (Some c) None visit takes passes ends left = absurd ends
+passed None None None None reads writes visit takes passes ends left reads_are writes_are = tt
+passed (Some a) (Some b) (Some c) (Some d) reads writes visit takes passes ends left reads_are writes_are =
+    passed_one a b c d reads writes visit takes passes ends left reads_are writes_are
+passed None None None (Some d) reads writes visit takes passes ends left reads_are writes_are = absurd ends
+passed None None (Some c) d reads writes visit takes passes ends left reads_are writes_are = absurd passes
+passed None (Some b) c d reads writes visit takes passes ends left reads_are writes_are = absurd takes
+passed (Some a) None c d reads writes visit takes passes ends left reads_are writes_are = absurd takes
+passed (Some a) (Some b) None d reads writes visit takes passes ends left reads_are writes_are = absurd passes
+passed (Some a) (Some b) (Some c) None reads writes visit takes passes ends left reads_are writes_are = absurd ends
 
 none_passed : (a : Option Wire) → Both (HavePassed []) a a
 none_passed None = tt
@@ -77,7 +82,7 @@ passed_join (Some a) (Some b) None visit visits one more = absurd more
 -- what is known of the door from before a connection to behind it
 pub record IsRound (a b c d : DoorView) : Type 0 where
   pub takes : Both TakesNext a.wire b.wire
-  pub ends : Both Ends c.wire d.wire
+  pub ends : IsFinished c d
   pub listens : d.listens ≡ a.listens
   pub is_open : d.is_open ≡ a.is_open
   pub accepts : d.accepts ≡ a.accepts
@@ -85,7 +90,7 @@ pub record IsRound (a b c d : DoorView) : Type 0 where
   pub ended : HasSameTransfers c d
 
 pub round_of : (a b c d : DoorView) (is_there : Bool) → is_there ≡ true → IsAccepted is_there a b → b.listens ≡ a.listens → b.accepts ≡ a.accepts → HasSameTransfers a b
-    → IsSameDoor b c → Both Ends c.wire d.wire → d.is_open ≡ false → d.listens ≡ c.listens → d.accepts ≡ c.accepts → HasSameTransfers c d
+    → IsSameDoor b c → IsFinished c d → d.is_open ≡ false → d.listens ≡ c.listens → d.accepts ≡ c.accepts → HasSameTransfers c d
     → a.is_open ≡ false → IsRound a b c d
 round_of a b c d is_there there accepted listens accepts taken same ends shut listens_still accepts_still ended was_shut =
     let now : IsAcceptedNow a b = subst (λ t. IsAccepted t a b) there accepted in
@@ -112,10 +117,10 @@ all_bytes office got turns c session (inl dry) = subst (λ i. IsSession office i
 all_bytes office got turns c session (inr any) = any (left_of c.wire)
 
 visit_by : (end : End) (b c : World) (got sent : List ℕ) (turns : List Turn) → TalksBy (Ok end) 0 b c got sent turns
-    → IsVisitBy end b.service.office (record { got = got; left = left_of c.door.wire; turns = turns; sent = sent; end = end })
-visit_by Whole b c got sent turns t = record { session = all_bytes b.service.office got turns c.door t.session t.whole; sent = t.all }
-visit_by CutByRead b c got sent turns t = record { session = t.session; sent = t.all }
-visit_by CutByWrite b c got sent turns t = record { front = t.front; cut = t.cut }
+    → (from to : Faults) → IsVisitBy end b.service.office (record { got = got; left = left_of c.door.wire; turns = turns; sent = sent; end = end; before = from; after = to })
+visit_by Whole b c got sent turns t from to = record { session = all_bytes b.service.office got turns c.door t.session t.whole; sent = t.all }
+visit_by CutByRead b c got sent turns t from to = record { session = t.session; sent = t.all }
+visit_by CutByWrite b c got sent turns t from to = record { front = t.front; cut = t.cut }
 
 reads_by : (end : End) (b c : World) (got sent : List ℕ) (turns : List Turn) → TalksBy (Ok end) 0 b c got sent turns
     → Counts (is_cut_by_read end) b.door.reads c.door.reads
@@ -146,18 +151,20 @@ pub visited : (a b c d : DoorView) (s t : Standing) (end : End)
     → Visited (record { door = a; service = s }) (record { door = d; service = t })
 visited a b c d s t end round talk = record {
   visit = visit;
-  is = visit_by end before after talk.got talk.sent talk.turns talk.ends;
-  wire = passed a.wire b.wire c.wire d.wire visit round.takes talk.wire round.ends refl;
+  is = visit_by end before after talk.got talk.sent talk.turns talk.ends visit.before visit.after;
+  wire = passed a.wire b.wire c.wire d.wire c.reads c.writes visit round.takes talk.wire round.ends refl round.ended.reads round.ended.writes;
   door = record { listens = round.listens; is_open = round.is_open; accepts = round.accepts };
   office = office_by end before after talk.got talk.sent talk.turns talk.ends;
   tables = tables_by end before after talk.got talk.sent talk.turns talk.ends;
-  faults = talk.faults;
-  reads = subst (λ n. Rises n d.reads (cuts_by_read (visit ∷ []))) round.taken.reads
-      (subst (λ n. Rises b.reads n (cuts_by_read (visit ∷ []))) (sym round.ended.reads)
-      (rises_by (λ (v : Visit). is_cut_by_read v.end) visit b.reads c.reads (reads_by end before after talk.got talk.sent talk.turns talk.ends)));
-  writes = subst (λ n. Rises n d.writes (cuts_by_write (visit ∷ []))) round.taken.writes
-      (subst (λ n. Rises b.writes n (cuts_by_write (visit ∷ []))) (sym round.ended.writes)
-      (rises_by (λ (v : Visit). is_cut_by_write v.end) visit b.writes c.writes (writes_by end before after talk.got talk.sent talk.turns talk.ends)));
+  begins = refl;
+  paid = record {
+    reads = subst (λ n. Counts (is_cut_by_read end) n d.reads) round.taken.reads
+        (subst (λ n. Counts (is_cut_by_read end) b.reads n) (sym round.ended.reads) (reads_by end before after talk.got talk.sent talk.turns talk.ends));
+    writes = subst (λ n. Counts (is_cut_by_write end) n d.writes) round.taken.writes
+        (subst (λ n. Counts (is_cut_by_write end) b.writes n) (sym round.ended.writes) (writes_by end before after talk.got talk.sent talk.turns talk.ends));
+    loads = talk.faults;
+  };
+  finishes = refl;
 }
   where
     before : World
@@ -167,7 +174,15 @@ visited a b c d s t end round talk = record {
     after = record { door = c; service = t }
 
     visit : Visit
-    visit = record { got = talk.got; left = left_of c.wire; turns = talk.turns; sent = talk.sent; end = end }
+    visit = record {
+      got = talk.got;
+      left = left_of c.wire;
+      turns = talk.turns;
+      sent = talk.sent;
+      end = end;
+      before = faults_in (record { door = a; service = s });
+      after = faults_in (record { door = d; service = t });
+    }
 
 -- memory was not to be had in it
 pub visit_lost : (a b c d : DoorView) (s t : Standing) (memory : Memory)
@@ -178,22 +193,36 @@ visit_lost a b c d s t memory round talk n some = record {
   lost = visit ∷ [];
   few = omega (arith, some);
   are = tt;
-  wire = passed a.wire b.wire c.wire d.wire visit round.takes talk.wire round.ends refl;
+  wire = passed a.wire b.wire c.wire d.wire c.reads c.writes visit round.takes talk.wire round.ends refl round.ended.reads round.ended.writes;
   listens = round.listens;
   is_open = round.is_open;
-  faults = subst (λ l. Rises s.faults t.faults (failed_commits l)) (sym (append-nil talk.turns)) talk.faults;
-  reads = rises_same a.reads d.reads (round.ended.reads ∙ talk.ends.reads ∙ round.taken.reads);
-  writes = rises_same a.writes d.writes (round.ended.writes ∙ talk.ends.writes ∙ round.taken.writes);
+  paid = (
+    refl,
+    record {
+      reads = round.ended.reads ∙ talk.ends.reads ∙ round.taken.reads;
+      writes = round.ended.writes ∙ talk.ends.writes ∙ round.taken.writes;
+      loads = talk.faults;
+    },
+    refl,
+  );
   ends = record {
     visit = visit;
     one = refl;
-    is = record { front = talk.ends.front; sent = talk.ends.all; tables = stands };
+    is = record { end = refl; front = talk.ends.front; sent = talk.ends.all; tables = stands };
     accepts = round.accepts;
   };
 }
   where
     visit : Visit
-    visit = record { got = talk.got; left = left_of c.wire; turns = talk.turns; sent = talk.sent; end = Whole }
+    visit = record {
+      got = talk.got;
+      left = left_of c.wire;
+      turns = talk.turns;
+      sent = talk.sent;
+      end = Whole;
+      before = faults_in (record { door = a; service = s });
+      after = faults_in (record { door = d; service = t });
+    }
 
     stands : AreOfOffice s → StandsBehind s.office talk.got talk.turns s t
     stands told =
@@ -213,9 +242,7 @@ unvisited n a b s ending wire listens open_too transfers ends = record {
   wire = wire;
   listens = listens;
   is_open = open_too;
-  faults = rises_same s.faults s.faults refl;
-  reads = rises_same a.reads b.reads transfers.reads;
-  writes = rises_same a.writes b.writes transfers.writes;
+  paid = λ i. record { reads = transfers.reads i; writes = transfers.writes i; loads = s.faults };
   ends = ends;
 }
 
@@ -266,6 +293,7 @@ ends_more (Err fault.Memory) n k b m a v visits lost one e = record {
   visit = e.visit;
   one = e.one;
   is = record {
+    end = e.is.end;
     front = subst (λ o. IsFront (office_left o visits) e.visit.got e.visit.turns) v.office e.is.front;
     sent = e.is.sent;
     tables = stands;
@@ -293,11 +321,6 @@ one_more n k b m a ending one v s = record {
   wire = passed_join b.door.wire m.door.wire a.door.wire v.visit (s.visits ++ s.lost) v.wire s.wire;
   listens = s.listens ∙ v.door.listens;
   is_open = s.is_open ∙ v.door.is_open;
-  faults = subst (Rises b.service.faults a.service.faults) (sym (count-append (λ (t : Turn). t.status == 503) v.visit.turns (all_turns (s.visits ++ s.lost))))
-      (rises_join b.service.faults m.service.faults a.service.faults _ _ v.faults s.faults);
-  reads = subst (Rises b.door.reads a.door.reads) (sym (count_first (λ (x : Visit). is_cut_by_read x.end) v.visit s.visits))
-      (rises_join b.door.reads m.door.reads a.door.reads _ _ v.reads s.reads);
-  writes = subst (Rises b.door.writes a.door.writes) (sym (count_first (λ (x : Visit). is_cut_by_write x.end) v.visit s.visits))
-      (rises_join b.door.writes m.door.writes a.door.writes _ _ v.writes s.writes);
+  paid = (v.begins, v.paid, subst (λ f. ArePaid f (s.visits ++ s.lost) (faults_in a)) (sym v.finishes) s.paid);
   ends = ends_more ending n k b m a v s.visits s.lost one s.ends;
 }

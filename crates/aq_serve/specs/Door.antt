@@ -7,11 +7,17 @@ pub record Line : Type 0 where
   pub left : List ℕ
   pub written : List ℕ
 
+-- a finished connection, and the counts of `read` and of `write` as it was finished
+pub record EndedLine : Type 0 where
+  pub line : Line
+  pub reads : ℕ
+  pub writes : ℕ
+
 -- the bytes of each connection still to come, the accepted connection, and those that are finished; if none is accepted, `line` means nothing
 pub record Wire : Type 0 where
   pub coming : List (List ℕ)
   pub line : Line
-  pub past : List Line
+  pub past : List EndedLine
 
 -- a door: the port on which it listens, or none yet; a connection is accepted and not finished, or none is; a count for `listen` and `accept`, one for `read`, and one for `write`
 pub record DoorView : Type 0 where
@@ -62,10 +68,14 @@ pub record Passes (got sent : List ℕ) (before after : Wire) : Type 0 where
   pub coming : after.coming ≡ before.coming
   pub past : after.past ≡ before.past
 
--- the connection is put after those that are finished
-pub record Ends (before after : Wire) : Type 0 where
+-- the connection is put after those that are finished, with these counts
+pub record Ends (reads writes : ℕ) (before after : Wire) : Type 0 where
   pub coming : after.coming ≡ before.coming
-  pub past : after.past ≡ before.past ++ before.line ∷ []
+  pub past : after.past ≡ before.past ++ record { line = before.line; reads = reads; writes = writes } ∷ []
+
+-- the same with the counts as they stand
+abbrev pub IsFinished : DoorView → DoorView → Type 0
+IsFinished before after = Both (Ends before.reads before.writes) before.wire after.wire
 
 abbrev pub Exchange : List ℕ → List ℕ → Option Wire → Option Wire → Type 0
 Exchange got sent before after = Both (Passes got sent) before after

@@ -1,13 +1,15 @@
 -- What contracts see of the door in memory, which fails at the calls that it is told to.
 use Rattle.std.specs.Prelude.{◌≡◌, ℕ, ◌-◌, Bool, false, cond, nat_le, List, [], ◌∷◌, length, map, take, drop, get_or, Option, Some}
 use Rattle.aq_base.specs.Faults.{is_listed, next}
-use Rattle.aq_serve.specs.Door.{DoorView, Line, Wire}
+use Rattle.aq_serve.specs.Door.{DoorView, EndedLine, Line, Wire}
 
--- a connection: its bytes that are left, those that were written on it, and how many there is room for
+-- a connection: its bytes that are left, those that were written on it, how many there is room for, and the counts of `read` and of `write` as it was finished
 pub record LineState : Type 0 where
   pub left : List ℕ
   pub written : List ℕ
   pub room : ℕ
+  pub reads : ℕ
+  pub writes : ℕ
 
 -- All connections, and how many of them were accepted. The calls of `listen` and `accept` are numbered together, and those of `read` and `write`.
 pub record DoorState : Type 0 where
@@ -24,10 +26,17 @@ pub record DoorState : Type 0 where
   pub writes : ℕ
 
 abbrev pub no_line : LineState
-no_line = record { left = []; written = []; room = 0 }
+no_line = record { left = []; written = []; room = 0; reads = 0; writes = 0 }
 
 abbrev pub line_of : LineState → Line
 line_of line = record { left = line.left; written = line.written }
+
+abbrev pub ended_line_of : LineState → EndedLine
+ended_line_of line = record { line = line_of line; reads = line.reads; writes = line.writes }
+
+-- how many written bytes each connection has room for
+abbrev pub rooms_of : DoorState → List ℕ
+rooms_of door = map (λ (line : LineState). line.room) door.lines
 
 -- how many connections are finished
 abbrev pub finished : DoorState → ℕ
@@ -41,7 +50,7 @@ abbrev pub wire_of : DoorState → Wire
 wire_of door = record {
   coming = map (λ (line : LineState). line.left) (drop door.accepted door.lines);
   line = line_of (current door);
-  past = map line_of (take (finished door) door.lines);
+  past = map ended_line_of (take (finished door) door.lines);
 }
 
 abbrev pub view_of : DoorState → DoorView
@@ -61,10 +70,11 @@ fails_to_accept door = is_listed door.failing_accepts (next door.accept_calls)
 abbrev pub fails_to_transfer : DoorState → Bool
 fails_to_transfer door = is_listed door.failing_transfers (next door.transfer_calls)
 
--- From call to call: a call is counted once, and the calls that fail stay listed. The other counts and lists stay as they are.
+-- From call to call: a call is counted once, the calls that fail stay listed, and each connection keeps its room. The other counts and lists stay as they are.
 pub record KeepsLists (before after : DoorState) : Type 0 where
   pub failing_accepts : after.failing_accepts ≡ before.failing_accepts
   pub failing_transfers : after.failing_transfers ≡ before.failing_transfers
+  pub rooms : rooms_of after ≡ rooms_of before
 
 pub record CountsAccept (before after : DoorState) : Type 0 where
   pub lists : KeepsLists before after

@@ -1,9 +1,10 @@
 -- Connections that are served one after the other: what became of each, and how serving ends (own).
-use Rattle.std.specs.Prelude.{◌≡◌, ℕ, ◌+◌, ◌-◌, ◌^◌, ◌<◌, ◌≤◌, ◌⊎◌, Bool, true, false, List, [], ◌∷◌, ◌++◌, length, map, flat_map, count_by, IfSome, Option, Result, Ok, Err}
+use Rattle.std.specs.Prelude.{◌≡◌, ℕ, ◌+◌, ◌-◌, ◌^◌, ◌<◌, ◌≤◌, ◌⊎◌, Bool, true, false, List, [], ◌∷◌, ◌++◌, length, map, IfSome, Option, Result, Ok, Err}
 use Rattle.aq_base.specs.Faults.{HasRisen}
 use Rattle.aq_rules.specs.Office.Office.{Office}
-use Rattle.aq_serve.specs.Door.{Both, DoorView, Line, Wire}
+use Rattle.aq_serve.specs.Door.{Both, DoorView, EndedLine, Wire}
 use Rattle.aq_keeper.specs.Standing.{AreOfOffice, Become, Keeps, Standing}
+use Rattle.aq_serve.specs.Service.{Counts}
 use Rattle.aq_serve.specs.Session.{IsCut, IsFront, IsSession, Turn, failed_commits, office_behind, replies}
 use Rattle.aq_serve.specs.declared.ending.End.{End}
 use Rattle.aq_serve.specs.declared.ending.End.TheVariants.{Whole, CutByRead, CutByWrite}
@@ -15,13 +16,21 @@ pub record Rises (before after n : ℕ) : Type 0 where
   pub grows : before ≤ after
   pub many : after < 2 ^ 64 - 1 → before + n ≤ after
 
--- a connection: the bytes that were read of it and those that were not, the turns, and what was sent
+-- counts of faults: those of `read`, those of `write`, and the loads that the keeper failed to take
+pub record Faults : Type 0 where
+  pub reads : ℕ
+  pub writes : ℕ
+  pub loads : ℕ
+
+-- a connection: the bytes that were read of it and those that were not, the turns, and what was sent; and the counts as it began, and as it was finished
 pub record Visit : Type 0 where
   pub got : List ℕ
   pub left : List ℕ
   pub turns : List Turn
   pub sent : List ℕ
   pub end : End
+  pub before : Faults
+  pub after : Faults
 
 -- it is served whole: the session is that of all its bytes, and all replies were sent
 pub record IsWholeVisit (office : Office) (visit : Visit) : Type 0 where
@@ -67,22 +76,29 @@ is_cut_by_write CutByWrite = true
 is_cut_by_write Whole = false
 is_cut_by_write CutByRead = false
 
-abbrev pub cuts_by_read : List Visit → ℕ
-cuts_by_read visits = count_by (λ (visit : Visit). is_cut_by_read visit.end) visits
+-- in a connection the count of `read` rose exactly if a read cut it, and that of `write` if a write did; and the keeper's rose by the loads that it failed to take
+pub record IsPaid (visit : Visit) : Type 0 where
+  pub reads : Counts (is_cut_by_read visit.end) visit.before.reads visit.after.reads
+  pub writes : Counts (is_cut_by_write visit.end) visit.before.writes visit.after.writes
+  pub loads : Rises visit.before.loads visit.after.loads (failed_commits visit.turns)
 
-abbrev pub cuts_by_write : List Visit → ℕ
-cuts_by_write visits = count_by (λ (visit : Visit). is_cut_by_write visit.end) visits
-
-abbrev pub all_turns : List Visit → List Turn
-all_turns visits = flat_map (λ (visit : Visit). visit.turns) visits
+-- so in each of these connections, which begin with these counts, and leave those; each has those that the one before left
+abbrev pub ArePaid : Faults → List Visit → Faults → Type 0
+ArePaid before [] after = after ≡ before
+ArePaid before (visit ∷ visits) after = (visit.before ≡ before) × IsPaid visit × ArePaid visit.after visits after
 
 -- ---- the door
 
 abbrev pub bytes_of : Visit → List ℕ
 bytes_of visit = visit.got ++ visit.left
 
-abbrev pub line_of : Visit → Line
-line_of visit = record { left = visit.left; written = visit.sent }
+-- the line as the door tells it, with its counts as the connection was finished
+abbrev pub line_of : Visit → EndedLine
+line_of visit = record {
+  line = record { left = visit.left; written = visit.sent };
+  reads = visit.after.reads;
+  writes = visit.after.writes;
+}
 
 -- these connections were accepted, and are finished
 pub record HavePassed (visits : List Visit) (before after : Wire) : Type 0 where
@@ -100,6 +116,9 @@ pub record World : Type 0 where
   pub door : DoorView
   pub service : Standing
 
+abbrev pub faults_in : World → Faults
+faults_in world = record { reads = world.door.reads; writes = world.door.writes; loads = world.service.faults }
+
 -- the tables are those after these turns, or after one more of the session
 pub record StandsBehind (office : Office) (input : List ℕ) (turns : List Turn) (before after : Standing) : Type 0 where
   pub more : List Turn
@@ -107,8 +126,9 @@ pub record StandsBehind (office : Office) (input : List ℕ) (turns : List Turn)
   pub front : IsFront office input (turns ++ more)
   pub tables : Become before (office_behind office (turns ++ more)) after
 
--- in this connection memory was not to be had: the replies to its first requests were sent whole, and no other
+-- in this connection memory was not to be had: no read and no write failed, the replies to its first requests were sent whole, and no other
 pub record IsLost (office : Office) (visit : Visit) (before after : Standing) : Type 0 where
+  pub end : visit.end ≡ Whole
   pub front : IsFront office visit.got visit.turns
   pub sent : visit.sent ≡ replies visit.turns
   pub tables : AreOfOffice before → StandsBehind office visit.got visit.turns before after
@@ -151,7 +171,5 @@ pub record Serves (n : ℕ) (before after : World) (ending : Result Unit ServeFa
   pub wire : Both (HavePassed (visits ++ lost)) before.door.wire after.door.wire
   pub listens : after.door.listens ≡ before.door.listens
   pub is_open : after.door.is_open ≡ before.door.is_open
-  pub faults : Rises before.service.faults after.service.faults (failed_commits (all_turns (visits ++ lost)))
-  pub reads : Rises before.door.reads after.door.reads (cuts_by_read visits)
-  pub writes : Rises before.door.writes after.door.writes (cuts_by_write visits)
+  pub paid : ArePaid (faults_in before) (visits ++ lost) (faults_in after)
   pub ends : EndsBy ending n visits lost before after

@@ -12,7 +12,7 @@ use Rattle.aq_http.specs.Step.{IsStep, More, Refuse}
 use Rattle.aq_serve.specs.Door.{Both, DoorView, Exchange, IsDry, IsSameDoor}
 use Rattle.aq_keeper.specs.Standing.{AreOfOffice, Become, Keeps, Standing}
 use Rattle.aq_serve.specs.Session.{AreTurns, IsCut, IsTurn, Turn, failed_commits, office_behind, replies}
-use Rattle.aq_serve.specs.Serving.{HavePassed, IsVisit, Rises, Serves, Visit, World, cuts_by_read, cuts_by_write}
+use Rattle.aq_serve.specs.Serving.{HavePassed, IsPaid, IsVisit, Rises, Serves, Visit, World, faults_in}
 use Rattle.aq_serve.specs.declared.limits.TheConstants.{MOST_REQUESTS}
 use Rattle.aq_serve.specs.declared.ending.End.{End}
 use Rattle.aq_serve.specs.declared.ending.End.TheVariants.{Whole, CutByRead, CutByWrite}
@@ -243,9 +243,9 @@ pub record Visited (before after : World) : Type 0 where
   pub door : IsSameDoor before.door after.door
   pub office : after.service.office ≡ office_behind before.service.office visit.turns
   pub tables : Keeps before.service after.service
-  pub faults : Rises before.service.faults after.service.faults (failed_commits visit.turns)
-  pub reads : Rises before.door.reads after.door.reads (cuts_by_read (visit ∷ []))
-  pub writes : Rises before.door.writes after.door.writes (cuts_by_write (visit ∷ []))
+  pub begins : visit.before ≡ faults_in before
+  pub paid : IsPaid visit
+  pub finishes : visit.after ≡ faults_in after
 
 abbrev pub ServesNext : World → World → Result Bool ServeFault → Type 0
 ServesNext before after (Ok true) = Visited before after

@@ -2,7 +2,7 @@
 //! count rises at a call that fails, and at no other; one at its greatest value counts as risen.
 ghost use Rattle.std.specs.Prelude.{◌≡◌, true, false, Some, IfOk, OnOk, OnErr};
 ghost use Rattle.std.specs.Option.{is_some};
-ghost use Rattle.aq_serve.specs.Door.{Both, DoorView, Ends, HasCause, HasSameTransfers, IsAccepted, IsSameDoor, Reads, Writes};
+ghost use Rattle.aq_serve.specs.Door.{DoorView, HasCause, HasSameTransfers, IsAccepted, IsFinished, IsSameDoor, Reads, Writes};
 
 use aq_base::Failed;
 
@@ -55,10 +55,11 @@ pub trait Door {
         ensures door { IsSameDoor (seen self.old) (seen self.new) }
         ensures reads { (seen self.new).reads ≡ (seen self.old).reads };
 
-    /// Ends the accepted connection. It does not fail.
+    /// Ends the accepted connection, and notes the counts of reads and writes as they stand. It does not
+    /// fail.
     fn finish(&mut self)
         requires open { (seen self.old).is_open ≡ true }
-        ensures ended { Both Ends (seen self.old).wire (seen self.new).wire }
+        ensures ended { IsFinished (seen self.old) (seen self.new) }
         ensures open { (seen self.new).is_open ≡ false }
         ensures listens { (seen self.new).listens ≡ (seen self.old).listens }
         ensures accepts { (seen self.new).accepts ≡ (seen self.old).accepts }

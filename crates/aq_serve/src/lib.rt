@@ -10,7 +10,7 @@
 //! - `Service`: answers a whole request over an office, with the keeper that is lent to it.
 //! - `serve`: serves connections of a door, one after the other; `ServeFault`, `End`: why it ended.
 //! - `error_reply`: the bytes of a reply with an error; `MOST_REQUESTS`: a connection has at most so
-//!   many.
+//!   many (`limits_of_a_connection_are_these_numbers`).
 //!
 //! # What it promises
 //!
@@ -18,11 +18,11 @@
 //!   `Door`).
 //! - The source, the sink and the door in memory fail exactly at the calls that they are told to, the
 //!   sink and the door also where a piece finds no room; the first two say their count after each call,
-//!   and the door counts each call once and keeps its lists (`MemorySource`, `MemorySink`,
-//!   `MemoryDoor`).
+//!   and the door counts each call once, and keeps its lists and the room of each connection
+//!   (`MemorySource`, `MemorySink`, `MemoryDoor`).
 //! - Connections are served as the headline of `serve` in `docs/PROVED.md` says, over any service and
-//!   any door: each is served whole, or cut by a read or a write that failed, and the next one is served
-//!   over the office that it left (`serve`, by `Serves` in `specs/Serving.antt`).
+//!   any door: each is served whole, or cut by a read or a write that failed in it, and the next one is
+//!   served over the office that it left (`serve`, by `Serves` in `specs/Serving.antt`).
 //!
 //! # An example
 //!
@@ -53,7 +53,7 @@ mod unanswered;
 
 pub use door::Door;
 pub use ending::{End, ServeFault};
-pub use limits::MOST_REQUESTS;
+pub use limits::{MOST_REQUESTS, limits_of_a_connection_are_these_numbers};
 pub use memory_door::MemoryDoor;
 pub use memory_sink::MemorySink;
 pub use memory_source::MemorySource;

@@ -64,7 +64,7 @@ impl MemoryDoor {
         failing_transfers: Vec<u64>,
     ) -> Result<MemoryDoor, Memory>
         ensures { IfOk result (λ door. door ≡ record {
-          lines = map (λ bytes. record { left = bytes.items; written = []; room = room }) connections.items;
+          lines = map (λ bytes. record { left = bytes.items; written = []; room = room; reads = 0; writes = 0 }) connections.items;
           accepted = 0;
           listens = None;
           is_open = false;
@@ -139,7 +139,7 @@ fn lines_of(
     room: usize,
 ) -> Result<Vec<MemoryLine>, Memory>
     ensures { IfOk result (λ lines. lines.items ≡
-        map (λ bytes. record { left = bytes.items; written = []; room = room })
+        map (λ bytes. record { left = bytes.items; written = []; room = room; reads = 0; writes = 0 })
         connections.items) }
 {
     let mut lines = Vec::new(alloc);
@@ -152,7 +152,7 @@ fn lines_of(
 impl Door for MemoryDoor {
     ghost use Rattle.std.specs.Prelude.{◌≡◌, ◌↔◌, ◌||◌, true, false, Some, IsTrue, IsErr, IfOk, OnOk, OnErr};
     ghost use Rattle.std.specs.Option.{is_some};
-    ghost use Rattle.aq_serve.specs.Door.{Both, Ends, HasCause, HasSameTransfers, IsAccepted, IsSameDoor, Reads, Writes};
+    ghost use Rattle.aq_serve.specs.Door.{HasCause, HasSameTransfers, IsAccepted, IsFinished, IsSameDoor, Reads, Writes};
     ghost use Rattle.aq_serve.specs.Memories.{CountsAccept, CountsNothing, CountsTransfer, current, fails_to_accept, fails_to_transfer, finds_no_room, view_of};
 
     ghost seen = { view_of };
@@ -250,14 +250,14 @@ impl Door for MemoryDoor {
 
     fn finish(&mut self)
         requires open { self.old.is_open ≡ true }
-        ensures ended { Both Ends (view_of self.old).wire (view_of self.new).wire }
+        ensures ended { IsFinished (view_of self.old) (view_of self.new) }
         ensures open { self.new.is_open ≡ false }
         ensures listens { self.new.listens ≡ self.old.listens }
         ensures accepts { self.new.accepts ≡ self.old.accepts }
         ensures transfers { HasSameTransfers (view_of self.old) (view_of self.new) }
         ensures calls { CountsNothing self.old self.new }
     {
-        let _ = self.accepted;
+        self.lines[self.accepted - 1].finish(self.reads, self.writes);
         self.is_open = false;
     }
 }

@@ -11,6 +11,8 @@ pub(crate) struct MemoryLine {
     at: usize,
     written: Vec<u8>,
     room: usize,
+    reads: u64,
+    writes: u64,
 }
 
 impl Model for MemoryLine {
@@ -19,7 +21,7 @@ impl Model for MemoryLine {
 
     ghost Value = { LineState };
 
-    ghost view = { λ line. record { left = drop line.at line.input.items; written = line.written.items; room = line.room } };
+    ghost view = { λ line. record { left = drop line.at line.input.items; written = line.written.items; room = line.room; reads = line.reads; writes = line.writes } };
 
     ghost invariant = { λ line. (line.at ≤ vec_len line.input) × (vec_len line.written ≤ line.room) × (line.room ≤ vec_capacity line.written) };
 }
@@ -31,13 +33,15 @@ impl MemoryLine {
     /// A connection with these bytes, and room for so many written ones, which it takes at once.
     pub(crate) fn new(alloc: Global, input: Vec<u8>, room: usize) -> Result<MemoryLine, Memory>
         ensures { IfOk result (λ line. line ≡
-            record { left = input.items; written = []; room = room }) }
+            record { left = input.items; written = []; room = room; reads = 0; writes = 0 }) }
     {
         Ok(MemoryLine {
             input,
             at: 0,
             written: Vec::with_capacity(alloc, room)?,
             room,
+            reads: 0,
+            writes: 0,
         })
     }
 
@@ -53,6 +57,14 @@ impl MemoryLine {
         ensures { self.new ≡ record self.old { written = [] } }
     {
         self.written.clear();
+    }
+
+    /// Notes the counts as it is finished.
+    pub(crate) fn finish(&mut self, reads: u64, writes: u64)
+        ensures { self.new ≡ record self.old { reads = reads; writes = writes } }
+    {
+        self.reads = reads;
+        self.writes = writes;
     }
 
     /// Moves bytes from the front of what is left into the buffer, as far as there is room.

@@ -1,5 +1,5 @@
 -- Loads that are taken one after the other.
-use Rattle.std.proofs.Common.{◌≡◌, ℕ, suc, ◌+◌, ◌-◌, ◌*◌, ◌≤◌, ◌<◌, inl, inr, Bool, false, List, ◌++◌, length, flat_map, Vec, Global, Option, Some, None, refl, sym, ap, subst, ◌∙◌, arith}
+use Rattle.std.proofs.Common.{◌≡◌, ℕ, suc, ◌+◌, ◌-◌, ◌*◌, ◌≤◌, ◌<◌, inl, inr, Bool, true, false, List, ◌++◌, length, flat_map, Vec, Global, Option, Some, None, refl, sym, ap, subst, ◌∙◌, arith}
 use Rattle.std.specs.Prelude.{◌||◌, ◌==◌, nat_lt, if◌then◌else◌, fold, Result, IfOk}
 use Rattle.std.specs.List.{range_with_len}
 use Rattle.std.proofs.lemmas.Bool.Decides.{nat_tests}
@@ -53,6 +53,11 @@ module _ (start sites years load : ℕ) (first : 1 ≤ load) (last : load ≤ lo
 not_risen : (before after : ℕ) → before ≡ 0 → after ≡ 0 → HasRisen before after → ⊥
 not_risen before after none still (inl rose) = omega (arith, still, rose)
 not_risen before after none still (inr full) = omega (arith, none, full.0)
+
+-- a keeper that has its tables has not failed
+pub not_failed : (is_held : Bool) (faults : ℕ) → is_held ≡ true → (if is_held then 0 else faults) ≡ 0
+not_failed true faults held = refl
+not_failed false faults held = absurd (cc)
 
 -- over a keeper that never fails it is what the load comes to
 pub posted_office : (comes : loads.Posted) (told : Posted) (lines : ℕ) (before after : Standing) → before.faults ≡ 0 → after.faults ≡ 0 → IsPosted comes lines before after told → after.office ≡ office_after comes before.office

@@ -1,5 +1,5 @@
 //! Generated loads, taken one after the other.
-ghost use Rattle.std.specs.Prelude.{◌≡◌, ◌+◌, ◌-◌, ◌*◌, ◌≤◌, length, IfOk, OnOk};
+ghost use Rattle.std.specs.Prelude.{◌≡◌, ◌+◌, ◌-◌, ◌*◌, ◌≤◌, true, length, IfOk, OnOk};
 ghost use Rattle.sha2.specs.Sha256.{sha256};
 ghost use Rattle.aq_rules.specs.Limits.{MOST_BYTES, MOST_LINES, MOST_GENERATED_SITES, FEWEST_GENERATED_YEARS, MOST_GENERATED_YEARS};
 ghost use Rattle.aq_rules.specs.Lines.Lines.{line_count};
@@ -66,6 +66,8 @@ fn take_load(
     requires last { load ≤ load_count sites years }
     requires room { taken.old.lines ≤ 400 * MOST_LINES }
     requires valid { IsOffice taken.old.book }
+    requires held { keeper.old.is_held ≡ true }
+    ensures held { keeper.new.is_held ≡ true }
     ensures valid { OnOk result (IsOffice taken.new.book) }
     ensures book { OnOk result (taken.new.book ≡ post taken.old.book load (sha256 (generated_load start sites years load)) (generated_load start sites years load)) }
     ensures lines { OnOk result (taken.new.lines ≡ taken.old.lines + line_count (generated_load start sites years load)) }
@@ -89,6 +91,8 @@ fn take(
     requires lines { line_count body.now ≤ MOST_LINES }
     requires room { taken.old.lines ≤ 400 * MOST_LINES }
     requires valid { IsOffice taken.old.book }
+    requires held { keeper.old.is_held ≡ true }
+    ensures held { keeper.new.is_held ≡ true }
     ensures valid { OnOk result (IsOffice taken.new.book) }
     ensures book { OnOk result (taken.new.book ≡ post taken.old.book number (sha256 body.now) body.now) }
     ensures lines { OnOk result (taken.new.lines ≡ taken.old.lines + line_count body.now) }

@@ -1,5 +1,5 @@
 -- What a call keeps of what a keeper tells, and what a crash leaves after it.
-use Rattle.std.proofs.Common.{◌≡◌, ◌≢◌, ◌∙◌, ◌⊎◌, inl, inr, ◌&&◌, Bool, true, false, List, [], Some, Result, Ok, Err, IsTrue, OnOk, OnErr, IfOk, IfSome, is_ok, refl, sym, ap, subst, arith}
+use Rattle.std.proofs.Common.{◌≡◌, ◌∙◌, ◌⊎◌, inl, inr, ◌&&◌, Bool, true, false, List, [], ◌∷◌, Some, Result, Ok, Err, IsTrue, OnOk, OnErr, IfOk, IfSome, is_ok, refl, sym, ap, subst, arith}
 use Rattle.std.specs.Option.{option_map}
 use Rattle.std.proofs.Math.Logic.{∥∥₁_elim, ∥∥₁_map}
 use Rattle.std.specs.Coded.{coded_list}
@@ -19,7 +19,7 @@ use Rattle.aq_keeper.specs.Told.{Stays}
 use Rattle.aq_tables.specs.All.{HasTables, rows_of}
 use Rattle.aq_tables.specs.Batch.{Becomes, Leaves}
 use Rattle.aq_sqlite.specs.Telling.{told, told_if, with_batch}
-use Rattle.aq_sqlite.specs.Crash.{AlsoLeaves, LeavesOnly}
+use Rattle.aq_sqlite.specs.Crash.{AlsoLeaves, IsKept, LeavesOnly}
 use Rattle.aq_sqlite.specs.Faults.{answered}
 
 rows_set : IsSet (List Row)
@@ -52,6 +52,10 @@ if_told : (p n : Bool) (P : List Row → Type 0) (rows : List Row) → (IsTrue p
 if_told false n P rows h = tt
 if_told true false P rows h = tt
 if_told true true P rows h = h refl refl
+
+told_stays : (o : Bool) (rows : List Row) → Stays (Some rows) (told_if (true && o) rows)
+told_stays true rows = refl
+told_stays false rows = tt
 
 told_is : (p o : Bool) (rows : List Row) → IsTrue p → IsTrue o → told_if (p && o) rows ≡ Some rows
 told_is p o rows prepared open_ = rw (prepared, open_) refl
@@ -102,6 +106,14 @@ module _ {X : Type 0} (result : Result X Error) (old new : State) where
   pub left_made : (settled : (trees : Trees) → IsTrue new.is_open → new.may_leave trees → trees ≡ new.committed.trees) → (IsTrue new.is_open → IsDatabase new.committed)
       → (prepared : Bool) → IfSome (told prepared new) (λ rows. LeavesOnly (λ left. left ≡ rows) new)
   left_made settled sound prepared = if_told prepared new.is_open (λ rows. LeavesOnly (λ left. left ≡ rows) new) (rows_of new.committed) (λ p n c db is may. ap rows_of (same_database db new.committed is (sound n) (settled db.trees n may)))
+
+  -- and the law on calls one after the other may begin
+  pub kept_made : (settled : (trees : Trees) → IsTrue new.is_open → new.may_leave trees → trees ≡ new.committed.trees) → (IsTrue new.is_open → IsDatabase new.committed)
+      → (prepared : Bool) → IfSome (told prepared new) (λ rows. IsKept (record { rows = rows; left = rows ∷ [] }) new)
+  kept_made settled sound prepared = if_told prepared new.is_open (λ rows. IsKept (record { rows = rows; left = rows ∷ [] }) new) (rows_of new.committed) (λ p n. record {
+    told_is = told_stays new.is_open (rows_of new.committed);
+    left = λ c db is may. inl (ap rows_of (same_database db new.committed is (sound n) (settled db.trees n may)));
+  })
 
   pub told_made : OnOk result (IsTrue new.is_open → rows_of new.committed ≡ rows_of old.committed) → IfSome (told (is_ok result) new) (λ rows. rows_of old.committed ≡ rows)
   told_made same = if_told _ _ _ _ (λ made n. sym (if_made result _ same made n))
@@ -167,8 +179,8 @@ module _ (prepared : Bool) (old new : State)
         go (Ok x) m n l = λ c db is may. let o = it.was_open c (n c) in with_rows _ p o (left_changed batch old.committed new.committed db (m c o) (it.sound o) is (l c db.trees may) (stands p o))
         go (Err e) m n l = tt
 
-    pub crash_rows : IsTrue prepared → batch ≢ [] → AlsoLeaves (λ rows. with_batch batch (told prepared old) ≡ Some rows) old new
-    crash_rows p changes = record {
+    pub crash_rows : IsTrue prepared → AlsoLeaves (λ rows. with_batch batch (told prepared old) ≡ Some rows) old new
+    crash_rows p = record {
       clean = λ c. omega (arith, it.crash.clean, c);
       crash = λ c db is may. either db is (it.crash.crash c db.trees may);
     }
@@ -177,5 +189,5 @@ module _ (prepared : Bool) (old new : State)
             → old.may_leave db.trees ⊎ (with_batch batch (told prepared old) ≡ Some (rows_of db))
         either db is (inl before) = inl before
         either db is (inr (leaves, settled)) =
-            let o = leaves.was_open changes in
+            let o = leaves.was_open in
             inr (with_rows _ p o (left_changed batch old.committed leaves.db db (subst (λ a. Becomes batch a leaves.db) (settled o) leaves.becomes) (it.sound o) is leaves.is (stands p o)))

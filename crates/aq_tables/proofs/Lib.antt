@@ -36,3 +36,8 @@ pub mod Viewing
 pub mod Prepared
 pub mod ThirdPut
 pub mod SixteenRefused
+pub mod Causes
+pub mod Refused
+pub mod ReadRefused
+pub mod MakingRefused
+pub mod RowidsFall

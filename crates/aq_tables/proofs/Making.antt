@@ -1,5 +1,6 @@
 -- Changes within a transaction, one after the other.
-use Rattle.std.proofs.Common.{◌≡◌, ◌≢◌, ◌⊎◌, inl, inr, ℕ, Bool, true, false, arith, length, List, [], ◌∷◌, ◌++◌, Some, refl, sym, ap, subst, ◌∙◌, slice_get, IsTrue}
+use Rattle.sqlite.specs.declared.types.Value.TheVariants.{Null}
+use Rattle.std.proofs.Common.{◌≡◌, ◌≢◌, ◌⊎◌, inl, inr, ℕ, pos, Bool, Result, OnOk, true, false, arith, length, List, [], ◌∷◌, ◌++◌, Some, refl, sym, ap, subst, ◌∙◌, slice_get, IsTrue}
 use Rattle.std.specs.List.{AllByRecursion}
 use Rattle.std.proofs.lemmas.List.Sums.{fold-append}
 use Rattle.sqlite.specs.Schema.{Schema}
@@ -11,12 +12,15 @@ use Rattle.std.proofs.lemmas.Bool.{false≢true}
 use Rattle.aq_rules.specs.Kept.Rows.{ObsRow2, OfSecondRow}
 use Rattle.sqlite_keyed.proofs.ListLemmas.{all-append, all_map}
 use Rattle.aq_tables.specs.Standing.{Ours, HasTable, IsChildless}
-use Rattle.aq_tables.specs.Told.{told, records, observations, loads, third, HaveNot, Turns}
+use Rattle.aq_tables.specs.Told.{told, records, observations, loads, third, HaveNot, Runs, Turns}
+use Rattle.aq_tables.specs.Texts.{drop_text}
 use Rattle.aq_tables.specs.Sixteen.{IsStill, PutsAll, puts_of}
 use Rattle.aq_tables.specs.All.{HasTables, observations_in, rows_in}
-use Rattle.aq_tables.specs.Batch.{Becomes, Changes, DropsKey, IsNumbered, KnowsFirst, PutsRow, Turned, is_of_first, table_at}
+use Rattle.aq_tables.specs.Batch.{Becomes, Changes, DropsKey, IsNumbered, KnowsFirst, OthersStay, PutsRow, Turned, is_of_first, table_at}
 use Rattle.aq_tables.proofs.InOrder.{dropped}
 use Rattle.aq_tables.proofs.InPlace.{at_last, at_next, drop-is_at, put-is_at, put-dropped}
+use Rattle.aq_tables.proofs.Prepared.{if_ok}
+use Rattle.aq_tables.proofs.RowTurns.{dropped_none}
 use Rattle.aq_tables.proofs.OneTable.{before, behind, last_turned, nothing_first, observations_are, told-rises, turned}
 
 -- a row that is put behind a drop of its key takes the place of one
@@ -68,7 +72,7 @@ nothing_dropped first (ObsRowKey site pollutant poc hour) old new is none knows 
     let d = rows_in third old in
     let left : drop_row key (a ++ [] ++ c ++ d) ≡ a ++ [] ++ c ++ d = at_next key (drop_row key) is_at a [] c d (before key records old (λ r. refl)) (behind key loads old (λ r. refl)) (behind key third old (λ r. refl)) in
     let all = ap (λ (l : List the_rows.Row). a ++ l ++ c ++ observations_in old) missing ∙ ap (λ (l : List the_rows.Row). a ++ [] ++ c ++ l) (observations_are old has.no_second) in
-    record { schema = same.schema; tables = same.tables; told_is = same.told_is ∙ all ∙ sym left ∙ ap (drop_row key) (sym all); sound = same.sound }
+    record { schema = same.schema; tables = same.tables; told_is = same.told_is ∙ all ∙ sym left ∙ ap (drop_row key) (sym all); others = same.others; sound = same.sound }
 
 pub drop_changes : (first : Bool) (key : RowKey) (old new : State) → DropsKey first key old new → Changes first (DropRow key ∷ []) old new
 drop_changes first key old new d = go (is_of_first key) first refl refl
@@ -88,7 +92,23 @@ drop_changes first key old new d = go (is_of_first key) first refl refl
     }
 
 pub changes_nothing : (first : Bool) (s : State) → IsTrue s.in_transaction → Changes first [] s s
-changes_nothing first s begun = record { was_open = λ some. absurd (some refl); mode = begun; committed = refl; numbered = tt; becomes = λ knows has. record { schema = refl; tables = has; told_is = refl; sound = λ h. h } }
+changes_nothing first s begun = record { was_open = λ some. absurd (some refl); mode = begun; committed = refl; numbered = tt; becomes = λ knows has. record { schema = refl; tables = has; told_is = refl; others = λ place t stands other alone. refl; sound = λ h. h } }
+
+-- a statement that drops nothing
+drops_nothing : (first : Bool) (old new : State) → DropsKey false (ObsRowKey (pos 0) (pos 0) (pos 0) (pos 0)) old new → Changes first [] old new × IsTrue old.is_open
+drops_nothing first old new d = (
+  record {
+    was_open = λ _. d.was_open;
+    mode = d.mode;
+    committed = d.committed;
+    numbered = tt;
+    becomes = λ knows has. last_turned (λ rows. rows) old.now new.now refl has (d.idle refl refl has.of_third.at has.of_third.tree has.of_third.has);
+  },
+  d.was_open,
+)
+
+pub nothing_made : {X E : Type 0} (first : Bool) (r : Result X E) (old new : State) → OnOk r (Runs (drop_text (SecondRowKey (pos 0) (pos 0) (pos 0) (pos 0))) (Null ∷ []) old new) → OnOk r (Changes first [] old new × IsTrue old.is_open)
+nothing_made first r old new h = if_ok r (drops_nothing first old new) (dropped_none (ObsRowKey (pos 0) (pos 0) (pos 0) (pos 0)) r old new refl h)
 
 pub changes_then : (first : Bool) (a b : List RowChange) (old mid new : State) → (IsTrue mid.is_open → IsTrue old.is_open) → Changes first a old mid → Changes first b mid new → Changes first (a ++ b) old new
 changes_then first a b old mid new was p q = record {
@@ -99,7 +119,14 @@ changes_then first a b old mid new was p q = record {
   becomes = λ knows has.
       let one = p.becomes knows has in
       let two = q.becomes (subst (KnowsFirst first) (sym one.schema) knows) one.tables in
-      record { schema = two.schema ∙ one.schema; tables = two.tables; told_is = two.told_is ∙ ap (λ rows. with_row_changes rows b) one.told_is ∙ sym (fold-append with_row_change _ a b); sound = λ h. two.sound (one.sound h) };
+      let more = subst (λ (s : Schema). OthersStay s mid.now.trees new.now.trees) one.schema two.others in
+      record {
+        schema = two.schema ∙ one.schema;
+        tables = two.tables;
+        told_is = two.told_is ∙ ap (λ rows. with_row_changes rows b) one.told_is ∙ sym (fold-append with_row_change _ a b);
+        others = λ place t stands other alone. more place t stands other alone ∙ one.others place t stands other alone;
+        sound = λ h. two.sound (one.sound h);
+      };
 }
   where
     first_open : (a : List RowChange) → (a ≢ [] → IsTrue old.is_open) → (b ≢ [] → IsTrue mid.is_open) → a ++ b ≢ [] → IsTrue old.is_open

@@ -13,11 +13,13 @@ use Rattle.aq_rules.specs.Kept.Rows as the_rows
 use Rattle.aq_rules.specs.Kept.RowChanges.{RowKey, OfficeRowKey, ObsRowKey, LoadRowKey, SecondRowKey, row_key, key_before}
 use Rattle.aq_tables.specs.Standing.{Ours, Stands, IsStored, HasTable, HaveOtherKeys}
 use Rattle.aq_tables.specs.Forms.{second_form}
-use Rattle.aq_tables.specs.Told.{told, Turns, Reads, records, observations, loads, second, third}
+use Rattle.aq_tables.specs.declared.reading.Table.{Table as Which}
+use Rattle.aq_tables.specs.declared.reading.Table.TheVariants.{Records, Observations, Loads, Third}
+use Rattle.aq_tables.specs.Told.{told, Turns, Reads, ours_of, records, observations, loads, second, third}
 use Rattle.aq_tables.specs.All.{HasOurs, MayHave, HasTables, tree_named, rows_in, observations_in, rows_of}
 use Rattle.sqlite.specs.Schema.{Schema}
 use Rattle.sqlite_schema.specs.Names.{table_named}
-use Rattle.aq_tables.specs.Batch.{KnowsFirst, is_of_first, table_at, Turned}
+use Rattle.aq_tables.specs.Batch.{KnowsFirst, OthersStay, is_of_first, table_at, Turned}
 use Rattle.aq_tables.proofs.InOrder.{Before, all-in_order, rises}
 use Rattle.aq_tables.proofs.InPlace.{AreBehind, IsAt, at_first, at_next, at_third, at_last}
 
@@ -116,6 +118,12 @@ module _ (change : List the_rows.Row → List the_rows.Row) (old new : Database)
       let d = stays ours third has tables.of_third named t in
       (d.has, observations_are new (still_missing ours second has t tables.no_second) ∙ d.rows, observations_are old tables.no_second)
 
+  -- each other table is another than this one
+  others_stay : (which : Which) (has : HasOurs (ours_of which) old) → Turns (ours_of which) change old new has.at has.tree → OthersStay old.schema old.trees new.trees
+  others_stay which has t place u stands other alone =
+      let s = has.has.stands in
+      t.others place u stands (λ same. other which (rw (s.has.named, s.has.stands) (ap Some (sym same)))) alone
+
   -- a change of the observations alone
   pub last_turned : change (rows_in records old ++ rows_in observations old ++ rows_in loads old ++ rows_in third old) ≡ rows_in records old ++ rows_in observations old ++ rows_in loads old ++ change (rows_in third old)
       → (has : HasTables old) → Turns third change old new has.of_third.at has.of_third.tree → Turned change old new
@@ -130,6 +138,7 @@ module _ (change : List the_rows.Row → List the_rows.Row) (old new : Database)
         schema = t.schema;
         tables = record { of_records = a.has; of_observations = b.may; of_loads = c.has; of_third = record { at = mine.at; tree = mine.tree; has = t.has }; no_second = none };
         told_is = (λ i. a.rows i ++ b.rows i ++ c.rows i ++ (observations_are new none ∙ own_rows third mine t) i) ∙ sym is ∙ ap (λ l. change (front l)) (sym (observations_are old has.no_second));
+        others = others_stay Third mine t;
         sound = t.sound;
       }
 
@@ -147,6 +156,7 @@ module _ (change : List the_rows.Row → List the_rows.Row) (old new : Database)
           told_is = (λ i. own_rows records mine t i ++ b.rows i ++ c.rows i ++ d.1 i)
               ∙ sym (at_first key change is _ _ _ _ (behind key observations old p) (behind key loads old q) (behind key third old r))
               ∙ ap (λ (l : List the_rows.Row). change (rows_in records old ++ rows_in observations old ++ rows_in loads old ++ l)) (sym d.2);
+          others = others_stay Records mine t;
           sound = t.sound;
         }
 
@@ -162,6 +172,7 @@ module _ (change : List the_rows.Row → List the_rows.Row) (old new : Database)
           told_is = (λ i. a.rows i ++ own_rows observations mine t i ++ c.rows i ++ d.1 i)
               ∙ sym (at_next key change is _ _ _ _ (before key records old p) (behind key loads old q) (behind key third old r))
               ∙ ap (λ (l : List the_rows.Row). change (rows_in records old ++ rows_in observations old ++ rows_in loads old ++ l)) (sym d.2);
+          others = others_stay Observations mine t;
           sound = t.sound;
         }
 
@@ -178,6 +189,7 @@ module _ (change : List the_rows.Row → List the_rows.Row) (old new : Database)
           told_is = (λ i. a.rows i ++ b.rows i ++ own_rows loads mine t i ++ d.1 i)
               ∙ sym (at_third key change is _ _ _ _ (before key records old p) (before key observations old q) (behind key third old r))
               ∙ ap (λ (l : List the_rows.Row). change (rows_in records old ++ rows_in observations old ++ rows_in loads old ++ l)) (sym d.2);
+          others = others_stay Loads mine t;
           sound = t.sound;
         }
 

@@ -119,7 +119,7 @@ has_third db sound h apart = record {
 
 there : (ours : Ours) (missing : Bool) (db : Database) → (HasForm db.schema ours.form → HasOurs ours db) → IsMissing missing db.schema ours.form → IsThere missing ours db
 there ours true db has h = h
-there ours false db has h = has h
+there ours false db has h = has h.formed
 
 pub are_there : (missing : Missing) (db : Database) → IsDatabase db → AreMissing missing db.schema → AreAllApart db → AreThere missing db
 are_there missing db sound are apart = record {

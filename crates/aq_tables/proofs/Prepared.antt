@@ -1,6 +1,9 @@
 -- What a connection has after `prepare` answered Ok.
-use Rattle.std.proofs.Common.{◌≡◌, ◌≤◌, ◌∙◌, Bool, true, false, Result, Ok, Err, IfOk, IsTrue, MatchBool, OnOk, refl, sym, arith}
+use Rattle.std.proofs.Common.{◌≡◌, ◌≢◌, ◌⊎◌, inl, inr, ◌≤◌, ◌∙◌, Bool, true, false, Result, Ok, Err, IfOk, IsTrue, MatchBool, OnOk, refl, sym, arith}
 use Rattle.std.proofs.lemmas.Bool.{false≢true}
+use Rattle.sqlite.specs.declared.error.Error.{Error}
+use Rattle.sqlite.specs.declared.error.Error.TheVariants.{SqliteFailure}
+use Rattle.sqlite.specs.declared.error.ErrorCode.TheVariants.{NotADatabase, OutOfMemory, TransactionState}
 use Rattle.sqlite.specs.State.{State, HasCleanDisk}
 use Rattle.sqlite_trees.specs.View.{doubt}
 use Rattle.sqlite_trees.proofs.Doubt.{no_doubt}
@@ -24,3 +27,8 @@ pub both_clean : (mid new : State) → (new.is_clean ≡ false → new.is_open �
 both_clean mid new shut less h =
     let late = no_doubt _ (clean_if _ _ shut h) in
     (omega (arith, less, late), late)
+
+-- a refusal that looks at what stands is no want of memory
+pub not_memory : {P Q : Type 0} (e : Error) → ((e ≡ SqliteFailure TransactionState) × P) ⊎ ((e ≡ SqliteFailure NotADatabase) × Q) → e ≢ SqliteFailure OutOfMemory
+not_memory e (inl why) same = let is = why.0 in cc
+not_memory e (inr why) same = let is = why.0 in cc

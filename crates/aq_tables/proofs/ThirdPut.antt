@@ -161,12 +161,15 @@ sixteen_turns old new at tree has rows have sixteen count h =
     subst (λ n. value_rows (params ++ []) 6 n (terms_from 0 n) ≡ sources rows) sixteen (shown_from (params ++ []) 0 rows (λ k. let e : 0 + k ≡ k = omega arith in ap₂ column (append-nil params) e)) in
     turns_by old new at tree has rows have put_sixteen params (terms_from 0 16) count (put_means third_form put_sixteen (terms_from 0 16) 6 is_sixteen old.now.schema at tree has.stands) shown h
 
--- the values come in sixteen pieces, one for each row
+-- the values come in pieces, one for each row
+pub flattened : (values : List (List ValueRef)) (rows : List ObsRow2) → map bound values ≡ map third_values rows → bound (flat_map (λ x. x) values) ≡ flat_map third_values rows
+flattened values rows are = map-flat_map _ (λ x. x) values ∙ sym (flat_map-map (λ x. x) bound values) ∙ ap (flat_map (λ x. x)) are ∙ flat_map-map (λ x. x) third_values rows
+
+-- of sixteen
 pub sixteen_put : (old new : State) (values : List (List ValueRef)) (rows : List ObsRow2) (count : ℕ) → AreNumbered rows → length values ≡ 16 → map bound values ≡ map third_values rows
     → ExecutesInside 0 put_sixteen (bound (flat_map (λ x. x) values)) old new (Ok count) → PutsAll rows old new
 sixteen_put old new values rows count have sixteen are ran =
-    let all : bound (flat_map (λ x. x) values) ≡ flat_map third_values rows =
-    map-flat_map _ (λ x. x) values ∙ sym (flat_map-map (λ x. x) bound values) ∙ ap (flat_map (λ x. x)) are ∙ flat_map-map (λ x. x) third_values rows in
+    let all = flattened values rows are in
     let many : length rows ≡ 16 = sym (length-map rows third_values) ∙ ap length (sym are) ∙ length-map values bound ∙ sixteen in
     let its = subst (λ (params : Row). Executes put_sixteen params old new (Ok count)) all ran.0 in
     record {

@@ -22,7 +22,7 @@ no_truth h = absurd (false≢true h)
 -- whether a name stands for a table, by whether that is missing
 named_if : (missing : Bool) (schema : Schema) (form : Form) → IsMissing missing schema form → is_named schema form ≡ not missing
 named_if true schema form none = ap is_some none
-named_if false schema form has = ap is_some has.stands.has.named
+named_if false schema form has = ap is_some has.formed.stands.has.named
 
 not_not : (b : Bool) → not (not b) ≡ b
 not_not true = refl
@@ -77,9 +77,9 @@ module _ (m : Missing) (schema : Schema) (are : AreMissing m schema) where
 -- where there is no table at all each of ours is missing
 none_at_all : (schema : Schema) (form : Form) (missing : Bool) → has_tables schema ≡ false → IsMissing missing schema form → missing ≡ true
 none_at_all schema form true bare h = refl
-none_at_all schema form false bare h = absurd (go schema.tables bare h.stands.has.stands)
+none_at_all schema form false bare h = absurd (go schema.tables bare h.formed.stands.has.stands)
   where
-    go : (ts : List Table) → (not (length ts == 0) || list_any (λ v. is_some v.foreign) schema.views) ≡ false → slice_get ts h.at ≡ Some (table_of form h.tree) → ⊥
+    go : (ts : List Table) → (not (length ts == 0) || list_any (λ v. is_some v.foreign) schema.views) ≡ false → slice_get ts h.formed.at ≡ Some (table_of form h.formed.tree) → ⊥
     go [] none is = absurd cc
     go (t ∷ ts) none is =
         let test = or_parts (not (length (t ∷ ts) == 0)) (list_any (λ v. is_some v.foreign) schema.views) none in

@@ -1,5 +1,5 @@
 -- What a batch makes of the tables, whatever else the database has.
-use Rattle.std.specs.Prelude.{◌≡◌, ◌≢◌, ◌⊎◌, ℕ, Bool, true, false, List, [], is_some, IsSome, IsTrue}
+use Rattle.std.specs.Prelude.{◌≡◌, ◌≢◌, ◌⊎◌, ℕ, Bool, true, false, List, [], slice_get, Some, is_some, IsSome, IsTrue}
 use Rattle.std.specs.List.{AllByRecursion}
 use Rattle.sqlite.specs.Tree.{Trees}
 use Rattle.sqlite.specs.Effect.{Database, IsDatabase}
@@ -9,10 +9,12 @@ use Rattle.sqlite_schema.specs.Names.{table_named}
 use Rattle.aq_rules.specs.Kept.Rows as the_rows
 use Rattle.aq_rules.specs.Kept.Rows.{OfSecondRow}
 use Rattle.aq_rules.specs.Kept.RowChanges.{RowKey, OfficeRowKey, ObsRowKey, LoadRowKey, SecondRowKey, RowChange, PutRow, row_key, drop_row, with_row_changes}
-use Rattle.aq_tables.specs.Standing.{Ours, HasTable}
+use Rattle.sqlite.specs.Table.{Table}
+use Rattle.aq_tables.specs.Standing.{Ours, HasTable, IsChildless}
+use Rattle.aq_tables.specs.declared.reading.Table.{Table as Which}
 use Rattle.aq_tables.specs.Forms.{observations_form}
-use Rattle.aq_tables.specs.Told.{Puts, Turns, number_of, records, observations, loads, third}
-use Rattle.aq_tables.specs.All.{HasTables, rows_of}
+use Rattle.aq_tables.specs.Told.{Puts, Turns, number_of, ours_of, records, observations, loads, third}
+use Rattle.aq_tables.specs.All.{HasTables, rows_of, tree_named}
 
 -- the table that a change of a key goes to
 abbrev pub table_at : RowKey → Ours
@@ -21,11 +23,20 @@ table_at (ObsRowKey site pollutant poc hour) = observations
 table_at (LoadRowKey number) = loads
 table_at (SecondRowKey site pollutant poc hour) = third
 
--- the tables stand still, and tell other rows; if the database obeyed its schema, it does
+-- a table is none of those that have our names
+abbrev pub IsOther : Schema → Table → Type 0
+IsOther schema t = (which : Which) → tree_named schema (ours_of which).form.name ≢ Some t.tree
+
+-- each other table without foreign keys has the rows that it had
+abbrev pub OthersStay : Schema → Trees → Trees → Type 0
+OthersStay schema before after = (place : ℕ) (t : Table) → slice_get schema.tables place ≡ Some t → IsOther schema t → AllByRecursion (IsChildless t.tree) schema.tables → after t.tree ≡ before t.tree
+
+-- the tables stand still, and tell other rows; others are left alone; if the database obeyed its schema, it does
 pub record Turned (change : List the_rows.Row → List the_rows.Row) (old new : Database) : Type 0 where
   pub schema : new.schema ≡ old.schema
   pub tables : HasTables new
   pub told_is : rows_of new ≡ change (rows_of old)
+  pub others : OthersStay old.schema old.trees new.trees
   pub sound : IsDatabase old → IsDatabase new
 
 -- what a batch makes of a database in which the tables stand
@@ -70,7 +81,7 @@ pub record Changes (first : Bool) (batch : List RowChange) (old new : State) : T
 
 -- what a crash may leave of a batch that is being committed: all of it, and of a connection that was open
 pub record Leaves (batch : List RowChange) (old : State) (trees : Trees) : Type 0 where
-  pub was_open : batch ≢ [] → IsTrue old.is_open
+  pub was_open : IsTrue old.is_open
   pub db : Database
   pub becomes : Becomes batch old.now db
   pub is : trees ≡ db.trees

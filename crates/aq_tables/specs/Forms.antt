@@ -1,5 +1,5 @@
 -- The tables of an office of any version: what the CREATE of each defines, but for its tree.
-use Rattle.std.specs.Prelude.{ℕ, Bool, true, false, if◌then◌else◌, List, [], ◌∷◌, map, Option, Some, None, is_some, codes}
+use Rattle.std.specs.Prelude.{◌≡◌, ℕ, Bool, true, false, if◌then◌else◌, List, [], ◌∷◌, map, Option, Some, None, is_some, codes}
 use Rattle.sqlite.specs.Collation.TheVariants.{Binary}
 use Rattle.sqlite.specs.declared.types.Value.TheVariants.{Null}
 use Rattle.sqlite.specs.Kind.{Kind}
@@ -26,6 +26,21 @@ table_of form tree = record { name = form.name; tree = tree; columns = form.colu
 
 abbrev pub column_of : List ℕ → Kind → Bool → Column
 column_of name kind not_null = record { name = name; kind = kind; is_strict = true; not_null = not_null; default = Null; collation = Binary }
+
+-- the key of a table, its places, and the UNIQUEs are those of a form
+pub record HasKey (table : Table) (form : Form) : Type 0 where
+  pub key : table.key ≡ form.key
+  pub primary : table.primary ≡ form.primary
+  pub uniques : table.uniques ≡ form.uniques
+  pub orders : table.orders ≡ form.orders
+
+-- a table has no CHECK, no foreign key, no default that is computed or reads the time, and no AUTOINCREMENT
+pub record HasNoMore (table : Table) : Type 0 where
+  pub checks : table.checks ≡ []
+  pub references : table.references ≡ []
+  pub computed : table.computed ≡ []
+  pub stamps : table.stamps ≡ record { places = []; terms = []; formats = [] }
+  pub counted : table.is_counted ≡ false
 
 -- a form as the code has it: a key that is not the rowid is a UNIQUE
 abbrev pub column_in : ColumnForm → Column

@@ -11,3 +11,5 @@ pub mod Crash
 pub mod Made
 pub mod Moves
 pub mod Sixteen
+pub mod Why
+pub mod WhyMade

@@ -35,9 +35,18 @@ pub record HasForm (schema : Schema) (form : Form) : Type 0 where
 abbrev pub AreAllApart : Database → Type 0
 AreAllApart db = OfEach (λ table. AreApart (form_of table) db)
 
+-- a table of this form stands, and no other one has its tree
+pub record StandsAlone (schema : Schema) (form : Form) : Type 0 where
+  pub formed : HasForm schema form
+  pub alone : length (filter (λ (t : Table). t.tree == formed.tree) schema.tables) ≡ 1
+
 -- no table has the name, or one of the form stands
 abbrev pub IsMissing : Bool → Schema → Form → Type 0
-IsMissing missing schema form = MatchBool missing (table_named schema form.name ≡ None) (HasForm schema form)
+IsMissing missing schema form = MatchBool missing (table_named schema form.name ≡ None) (StandsAlone schema form)
+
+-- a table has the name, and another form, or a tree that is not its own
+abbrev pub IsMisformed : Schema → Form → Type 0
+IsMisformed schema form = (missing : Bool) → IsMissing missing schema form → ⊥
 
 pub record AreMissing (missing : Missing) (schema : Schema) : Type 0 where
   pub of_records : IsMissing missing.records schema records_form

@@ -1,9 +1,10 @@
 //! All rows of the tables.
-ghost use Rattle.std.specs.Prelude.{◌≡◌, ◌++◌, false, IsTrue, IfOk, OnOk};
+ghost use Rattle.std.specs.Prelude.{◌≡◌, ◌++◌, false, IsTrue, IfOk, IfErr, OnOk};
 ghost use Rattle.sqlite.specs.State.{HasCleanDisk, IsUnchanged, KeepsCommit, Survives};
 ghost use Rattle.sqlite.specs.Held.{state};
 ghost use Rattle.aq_tables.specs.Told.{observations};
 ghost use Rattle.aq_tables.specs.All.{HasTables, MayHave, rows_in, rows_of};
+ghost use Rattle.aq_tables.specs.Why.{IsCaused, OrBegun, RefusesRows};
 
 use crate::batch::first_stands;
 use crate::reading::{Table, read_table};
@@ -20,6 +21,7 @@ fn read_first<S: Alter>(
     ensures rows { HasCleanDisk (state S.Store conn.new) → OnOk result (MayHave observations (state S.Store conn.old).now → found.new.items ≡ found.old.items ++ rows_in observations (state S.Store conn.old).now) }
     ensures same { HasCleanDisk (state S.Store conn.new) → OnOk result (IsTrue (state S.Store conn.old).is_open → IsUnchanged (state S.Store conn.old) (state S.Store conn.new)) }
     ensures kept { HasCleanDisk (state S.Store conn.new) → KeepsCommit (state S.Store conn.old) (state S.Store conn.new) }
+    ensures why { HasCleanDisk (state S.Store conn.new) → IfErr result (IsCaused (RefusesRows (state S.Store conn.old)) (state S.Store conn.old) (state S.Store conn.new)) }
     ensures mode { (state S.Store conn.old).in_transaction ≡ false → (state S.Store conn.new).in_transaction ≡ false }
     ensures crash { Survives (state S.Store conn.old) (state S.Store conn.new) (λ _. ⊥) }
 {
@@ -36,6 +38,7 @@ pub fn read_all<S: Alter>(conn: &mut Connection<S>, alloc: Global) -> Result<Row
     ensures rows { HasCleanDisk (state S.Store conn.new) → IfOk result (λ rows. HasTables (state S.Store conn.old).committed → rows ≡ rows_of (state S.Store conn.old).committed) }
     ensures same { HasCleanDisk (state S.Store conn.new) → OnOk result (IsUnchanged (state S.Store conn.old) (state S.Store conn.new)) }
     ensures kept { HasCleanDisk (state S.Store conn.new) → KeepsCommit (state S.Store conn.old) (state S.Store conn.new) }
+    ensures why { HasCleanDisk (state S.Store conn.new) → IfErr result (IsCaused (OrBegun (state S.Store conn.old) (RefusesRows (state S.Store conn.old))) (state S.Store conn.old) (state S.Store conn.new)) }
     ensures mode { (state S.Store conn.old).in_transaction ≡ false → (state S.Store conn.new).in_transaction ≡ false }
     ensures crash { Survives (state S.Store conn.old) (state S.Store conn.new) (λ _. ⊥) }
 {

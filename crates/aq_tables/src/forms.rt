@@ -1,10 +1,12 @@
 //! Whether a table that stands has the form of one of ours.
-ghost use Rattle.std.specs.Prelude.{◌≡◌, ◌==◌, ◌<◌, ◌^◌, [], ◌∷◌, length, filter, map, false, true, IsTrue, IfOk};
+ghost use Rattle.std.specs.Prelude.{◌≡◌, ◌==◌, ◌<◌, ◌^◌, ◌↔◌, [], ◌∷◌, length, filter, map, false, true, IsTrue, IfOk, IfErr};
+ghost use Rattle.sqlite.specs.declared.error.ErrorCode.TheVariants.{NotADatabase};
+ghost use Rattle.sqlite.specs.declared.error.Error.TheVariants.{SqliteFailure};
 ghost use Rattle.sqlite.specs.declared.types.Value.TheVariants.{Null};
 ghost use Rattle.sqlite.specs.Collation.TheVariants.{Binary};
 ghost use Rattle.sqlite_value.specs.Keys.{plain};
-ghost use Rattle.aq_tables.specs.Forms.{column_in, form_in, table_of};
-ghost use Rattle.aq_tables.specs.Made.{IsMissing};
+ghost use Rattle.aq_tables.specs.Forms.{HasKey, HasNoMore, column_in, form_in, table_of};
+ghost use Rattle.aq_tables.specs.Made.{IsMisformed, IsMissing};
 
 use sqlite::{Error, ErrorCode};
 use sqlite_schema::schema::{Column, Kind, Schema, Stamps, Table};
@@ -32,9 +34,7 @@ pub(crate) struct TableForm<'a> {
 
 /// Whether a column is strict, has no default and is compared by its bytes.
 fn is_plain(column: &Column) -> bool
-    ensures strict { IsTrue result → column.now.is_strict ≡ true }
-    ensures default { IsTrue result → column.now.default ≡ Null }
-    ensures collation { IsTrue result → column.now.collation ≡ Binary }
+    ensures { IsTrue result ↔ ((column.now.is_strict ≡ true) × (column.now.default ≡ Null) × (column.now.collation ≡ Binary)) }
 {
     column.is_strict
         && matches!(column.default, Value::Null)
@@ -42,7 +42,7 @@ fn is_plain(column: &Column) -> bool
 }
 
 fn is_column(column: &Column, form: &ColumnForm<'_>) -> bool
-    ensures { IsTrue result → column.now ≡ column_in form.now }
+    ensures { IsTrue result ↔ (column.now ≡ column_in form.now) }
 {
     column.name.as_slice() == form.name.as_bytes()
         && column.kind == form.kind
@@ -51,7 +51,7 @@ fn is_column(column: &Column, form: &ColumnForm<'_>) -> bool
 }
 
 fn are_columns(columns: &[Column], forms: &[ColumnForm<'_>]) -> bool
-    ensures { IsTrue result → columns.now ≡ map column_in forms.now }
+    ensures { IsTrue result ↔ (columns.now ≡ map column_in forms.now) }
 {
     if columns.len() != forms.len() {
         return false;
@@ -65,30 +65,33 @@ fn are_columns(columns: &[Column], forms: &[ColumnForm<'_>]) -> bool
 }
 
 fn are_same(a: &[usize], b: &[usize]) -> bool
-    ensures { IsTrue result → a.now ≡ b.now }
+    ensures { IsTrue result ↔ (a.now ≡ b.now) }
 {
     a == b
 }
 
 /// Whether these places are the one UNIQUE.
 fn is_sole_unique(table: &Table, places: &[usize]) -> bool
-    ensures uniques { IsTrue result → table.now.uniques ≡ places.now ∷ [] }
-    ensures orders { IsTrue result → table.now.orders ≡ plain ∷ [] }
+    ensures { IsTrue result ↔ (table.now.uniques ≡ places.now ∷ []) }
 {
     let [unique] = table.uniques.as_slice() else {
         return false;
     };
+    are_same(unique.as_slice(), places)
+}
+
+/// Whether one UNIQUE alone has an order, and that is plain.
+fn has_plain_order(table: &Table) -> bool
+    ensures { IsTrue result ↔ (table.now.orders ≡ plain ∷ []) }
+{
     let [order] = table.orders.as_slice() else {
         return false;
     };
-    are_same(unique.as_slice(), places) && order.digits == 0
+    order.digits == 0
 }
 
 fn has_key(table: &Table, form: &TableForm<'_>) -> bool
-    ensures key { IsTrue result → table.now.key ≡ form.now.key }
-    ensures primary { IsTrue result → table.now.primary ≡ form.now.primary.now }
-    ensures uniques { IsTrue result → table.now.uniques ≡ (form_in form.now).uniques }
-    ensures orders { IsTrue result → table.now.orders ≡ (form_in form.now).orders }
+    ensures { IsTrue result ↔ HasKey table.now (form_in form.now) }
 {
     if table.key != form.key || !are_same(table.primary.as_slice(), form.primary) {
         return false;
@@ -96,23 +99,19 @@ fn has_key(table: &Table, form: &TableForm<'_>) -> bool
     if form.key.is_some() {
         table.uniques.is_empty() && table.orders.is_empty()
     } else {
-        is_sole_unique(table, form.primary)
+        is_sole_unique(table, form.primary) && has_plain_order(table)
     }
 }
 
 fn is_untimed(stamps: &Stamps) -> bool
-    ensures { IsTrue result → stamps.now ≡ record { places = []; terms = []; formats = [] } }
+    ensures { IsTrue result ↔ (stamps.now ≡ record { places = []; terms = []; formats = [] }) }
 {
     stamps.places.is_empty() && stamps.terms.roots.is_empty() && stamps.formats.is_empty()
 }
 
 /// Whether a table has no CHECK, no foreign key, no default that is computed and no AUTOINCREMENT.
 fn has_no_more(table: &Table) -> bool
-    ensures checks { IsTrue result → table.now.checks ≡ [] }
-    ensures references { IsTrue result → table.now.references ≡ [] }
-    ensures computed { IsTrue result → table.now.computed ≡ [] }
-    ensures stamps { IsTrue result → table.now.stamps ≡ record { places = []; terms = []; formats = [] } }
-    ensures counted { IsTrue result → table.now.is_counted ≡ false }
+    ensures { IsTrue result ↔ HasNoMore table.now }
 {
     table.checks.roots.is_empty()
         && table.references.is_empty()
@@ -122,7 +121,7 @@ fn has_no_more(table: &Table) -> bool
 }
 
 fn has_form(table: &Table, form: &TableForm<'_>) -> bool
-    ensures { IsTrue result → table.now ≡ table_of (form_in form.now) table.now.tree }
+    ensures { IsTrue result ↔ (table.now ≡ table_of (form_in form.now) table.now.tree) }
 {
     table.name.as_slice() == form.name.as_bytes()
         && are_columns(table.columns.as_slice(), form.columns)
@@ -139,24 +138,32 @@ fn count_of(tables: &[Table], tree: &u32) -> usize
 
 /// Whether one table alone has a tree, which is none that a query makes up.
 fn is_sole(tables: &[Table], tree: &u32) -> bool
-    ensures sole { IsTrue result → length (filter (λ t. t.tree == tree.now) tables.now) ≡ 1 }
-    ensures low { IsTrue result → tree.now < 2 ^ 31 }
+    ensures { IsTrue result ↔ ((length (filter (λ t. t.tree == tree.now) tables.now) ≡ 1) × (tree.now < 2 ^ 31)) }
 {
     count_of(tables, tree) == 1 && *tree < 0x8000_0000
+}
+
+/// Whether a table has a form, and alone has its tree.
+fn is_ours(tables: &[Table], table: &Table, form: &TableForm<'_>) -> bool
+    ensures { IsTrue result ↔ ((table.now ≡ table_of (form_in form.now) table.now.tree) × (length (filter (λ t. t.tree == table.now.tree) tables.now) ≡ 1) × (table.now.tree < 2 ^ 31)) }
+{
+    has_form(table, form) && is_sole(tables, &table.tree)
 }
 
 /// Whether no table has the name of a form. It is refused if one has it that has another form, or whose
 /// tree another table has.
 pub(crate) fn is_missing(schema: &Schema, form: &TableForm<'_>) -> Result<bool, Error>
-    ensures { IfOk result (λ missing. IsMissing missing schema.now (form_in form.now)) }
+    ensures missing { IfOk result (λ missing. IsMissing missing schema.now (form_in form.now)) }
+    ensures refused { IfErr result (λ error. (error ≡ SqliteFailure NotADatabase) × IsMisformed schema.now (form_in form.now)) }
 {
     let Some(at) = schema.table_named(form.name.as_bytes()) else {
         return Ok(true);
     };
-    let Some(table) = schema.tables.as_slice().get(at) else {
+    let tables = schema.tables.as_slice();
+    let Some(table) = tables.get(at) else {
         return Err(Error::SqliteFailure(ErrorCode::NotADatabase));
     };
-    if has_form(table, form) && is_sole(schema.tables.as_slice(), &table.tree) {
+    if is_ours(tables, table, form) {
         Ok(false)
     } else {
         Err(Error::SqliteFailure(ErrorCode::NotADatabase))

@@ -10,8 +10,8 @@
 //! - `commit(conn, batch)`: makes the changes of a batch in one transaction.
 //! - `read_all(conn, alloc)`: all rows, in the order of tables and keys.
 //! - In `specs/`: the tables, the number under which an observation stands (`number_at`), the rows that a
-//!   database tells (`rows_of`), what a batch makes of them (`Becomes`), and the words for what a crash
-//!   leaves (`Survives`, `Leaves`, `IsMade`).
+//!   database tells (`rows_of`), what a batch makes of them (`Becomes`), the words for what a crash
+//!   leaves (`Survives`, `Leaves`, `IsMade`), and those for why a call is refused (`IsCaused`).
 //!
 //! # What it promises
 //!
@@ -21,6 +21,7 @@
 //! - A batch is made in one transaction: after `Ok` the tables are those with the batch and a crash
 //!   leaves nothing else; after an error they are as before while the connection is open, and a crash
 //!   leaves what it could leave before or the tables with the batch (`commit`).
+//! - A batch leaves each other table that has no foreign key with the rows that it had (`OthersStay`).
 //! - An observation whose key has no number is not put: the batch is refused. To drop such a key is
 //!   `Ok` and changes nothing.
 //! - Which keys have a number is a law (`keys_that_have_a_number`). A key is that of its number
@@ -35,6 +36,13 @@
 //! - Other tables stand after `prepare` as before, with their indexes, and so do views (`LeavesOthers`).
 //!   They keep their rows, but for those that a foreign key's action takes out with `observations2`.
 //! - A transaction that is open already is refused by each call, and none is left open.
+//! - Each error of the three calls has its cause (`why`), while the store is clean. Memory was wanting, the
+//!   faults of the store rose, the connection was shut before, or a transaction was open already.
+//! - Else the clause names what was refused. Of a batch it is a change behind those that were made: its key
+//!   has no number, its table is missing, or SQLite refuses its statement (`RefusesCommit`). Of the tables
+//!   it is one whose rows are not read as its own (`RefusesRows`).
+//! - Of a file that is prepared it is what was refused as it was looked at, or as its tables were made
+//!   (`RefusesFile`).
 //!
 //! # An example
 //!

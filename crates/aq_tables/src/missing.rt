@@ -1,8 +1,11 @@
 //! Which of the tables are missing, and whose database that is.
-ghost use Rattle.std.specs.Prelude.{◌≡◌, ◌&&◌, not, true, false, is_some, IsTrue, IfOk, OnOk};
+ghost use Rattle.std.specs.Prelude.{◌≡◌, ◌&&◌, not, true, false, is_some, IsTrue, IfOk, IfErr, OnOk};
 ghost use Rattle.std.specs.List.{list_any};
 ghost use Rattle.aq_tables.specs.Forms.{column_in, column_of, loads_form, observations_form, records_form, second_form, third_form};
-ghost use Rattle.aq_tables.specs.Made.{AreMissing, IsMissing, has_tables, has_view, is_whole};
+ghost use Rattle.sqlite.specs.declared.error.ErrorCode.TheVariants.{NotADatabase};
+ghost use Rattle.sqlite.specs.declared.error.Error.TheVariants.{SqliteFailure};
+ghost use Rattle.aq_tables.specs.declared.missing.Missing.{Missing};
+ghost use Rattle.aq_tables.specs.Made.{AreMissing, IsMisformed, IsMissing, IsOffice, has_tables, has_view, is_whole};
 
 use crate::forms::{ColumnForm, TableForm, is_missing};
 use sqlite::{Error, ErrorCode};
@@ -41,7 +44,8 @@ fn optional(name: &'static str, kind: Kind) -> ColumnForm<'static>
 }
 
 fn are_records_missing(schema: &Schema) -> Result<bool, Error>
-    ensures { IfOk result (λ missing. IsMissing missing schema.now records_form) }
+    ensures missing { IfOk result (λ missing. IsMissing missing schema.now records_form) }
+    ensures refused { IfErr result (λ error. (error ≡ SqliteFailure NotADatabase) × IsMisformed schema.now records_form) }
 {
     let columns = [
         required("kind", Kind::Integer),
@@ -58,7 +62,8 @@ fn are_records_missing(schema: &Schema) -> Result<bool, Error>
 }
 
 fn are_observations_missing(schema: &Schema) -> Result<bool, Error>
-    ensures { IfOk result (λ missing. IsMissing missing schema.now observations_form) }
+    ensures missing { IfOk result (λ missing. IsMissing missing schema.now observations_form) }
+    ensures refused { IfErr result (λ error. (error ≡ SqliteFailure NotADatabase) × IsMisformed schema.now observations_form) }
 {
     let columns = [
         required("site", Kind::Integer),
@@ -79,7 +84,8 @@ fn are_observations_missing(schema: &Schema) -> Result<bool, Error>
 }
 
 fn are_loads_missing(schema: &Schema) -> Result<bool, Error>
-    ensures { IfOk result (λ missing. IsMissing missing schema.now loads_form) }
+    ensures missing { IfOk result (λ missing. IsMissing missing schema.now loads_form) }
+    ensures refused { IfErr result (λ error. (error ≡ SqliteFailure NotADatabase) × IsMisformed schema.now loads_form) }
 {
     let columns = [
         optional("number", Kind::Integer),
@@ -99,7 +105,8 @@ fn are_loads_missing(schema: &Schema) -> Result<bool, Error>
 }
 
 fn are_second_missing(schema: &Schema) -> Result<bool, Error>
-    ensures { IfOk result (λ missing. IsMissing missing schema.now second_form) }
+    ensures missing { IfOk result (λ missing. IsMissing missing schema.now second_form) }
+    ensures refused { IfErr result (λ error. (error ≡ SqliteFailure NotADatabase) × IsMisformed schema.now second_form) }
 {
     let columns = [
         required("site", Kind::Integer),
@@ -121,7 +128,8 @@ fn are_second_missing(schema: &Schema) -> Result<bool, Error>
 }
 
 fn are_third_missing(schema: &Schema) -> Result<bool, Error>
-    ensures { IfOk result (λ missing. IsMissing missing schema.now third_form) }
+    ensures missing { IfOk result (λ missing. IsMissing missing schema.now third_form) }
+    ensures refused { IfErr result (λ error. (error ≡ SqliteFailure NotADatabase) × IsMisformed schema.now third_form) }
 {
     let columns = [
         optional("id", Kind::Integer),
@@ -160,7 +168,8 @@ fn has_view(schema: &Schema) -> bool
 }
 
 fn each_missing(schema: &Schema) -> Result<Missing, Error>
-    ensures { IfOk result (λ missing. AreMissing missing schema.now) }
+    ensures missing { IfOk result (λ missing. AreMissing missing schema.now) }
+    ensures refused { IfErr result (λ error. (error ≡ SqliteFailure NotADatabase) × ((missing : Missing) → AreMissing missing schema.now → ⊥)) }
 {
     Ok(Missing {
         records: are_records_missing(schema)?,
@@ -207,6 +216,7 @@ fn are_whole(missing: &Missing, schema: &Schema) -> bool
 pub(crate) fn missing_of(schema: &Schema) -> Result<Missing, Error>
     ensures missing { IfOk result (λ missing. AreMissing missing schema.now) }
     ensures whole { OnOk result (IsTrue (is_whole schema.now)) }
+    ensures refused { IfErr result (λ error. (error ≡ SqliteFailure NotADatabase) × (IsOffice schema.now → ⊥)) }
 {
     let missing = each_missing(schema)?;
     if are_whole(&missing, schema) {

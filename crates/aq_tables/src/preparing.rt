@@ -1,5 +1,7 @@
 //! The tables, looked at, made in a database of nobody, and moved to the form of today.
-ghost use Rattle.std.specs.Prelude.{◌≡◌, true, false, IsTrue, IfOk, OnErr, OnOk};
+ghost use Rattle.std.specs.Prelude.{◌≡◌, ◌≢◌, ◌⊎◌, [], true, false, IsTrue, IfOk, IfErr, IsErrAnd, OnErr, OnOk};
+ghost use Rattle.sqlite.specs.declared.error.ErrorCode.TheVariants.{NotADatabase, OutOfMemory, TransactionState};
+ghost use Rattle.sqlite.specs.declared.error.Error.TheVariants.{SqliteFailure};
 ghost use Rattle.sqlite.specs.Effect.{Database};
 ghost use Rattle.sqlite.specs.State.{HasCleanDisk, IsLive, KeepsCommit, Survives};
 ghost use Rattle.sqlite.specs.Held.{state};
@@ -8,6 +10,10 @@ ghost use Rattle.aq_tables.specs.Made.{AreAllApart, AreMissing, AreThere, Inside
 ghost use Rattle.aq_tables.specs.Moves.{DropsSecond, MakesFirst};
 ghost use Rattle.aq_tables.specs.Rowids.{AreApart};
 ghost use Rattle.aq_tables.specs.Told.{second};
+ghost use Rattle.aq_tables.specs.declared.reading.Table.TheVariants.{Second};
+ghost use Rattle.aq_tables.specs.Texts.{drop_second_text, read_text, rowids_text};
+ghost use Rattle.aq_tables.specs.Why.{IsCaused, OrBegun, Refuses, RefusesAnswer};
+ghost use Rattle.aq_tables.specs.WhyMade.{RefusesFile, RefusesFirst, RefusesMaking, RefusesOffice, RefusesRowids};
 
 use crate::binding::run;
 use crate::missing::{Missing, missing_of};
@@ -39,6 +45,7 @@ fn make_first<S: Alter>(tx: &mut Transaction<'_, S>, are_missing: bool) -> Resul
     ensures same_reference { tx.new.conn.ghost_name ≡ tx.old.conn.ghost_name }
     ensures done { HasCleanDisk (state S.Store tx.new.conn.now) → IsTrue (state S.Store tx.old.conn.now).in_transaction → OnOk result (MakesFirst are_missing (state S.Store tx.old.conn.now) (state S.Store tx.new.conn.now)) }
     ensures kept { HasCleanDisk (state S.Store tx.new.conn.now) → IsTrue (state S.Store tx.old.conn.now).in_transaction → KeepsCommit (state S.Store tx.old.conn.now) (state S.Store tx.new.conn.now) }
+    ensures why { HasCleanDisk (state S.Store tx.new.conn.now) → IsTrue (state S.Store tx.old.conn.now).in_transaction → IfErr result (IsCaused (λ error. (are_missing ≡ true) × RefusesFirst S.Store tx.old.conn.now error) (state S.Store tx.old.conn.now) (state S.Store tx.new.conn.now)) }
     ensures survives { Survives (state S.Store tx.old.conn.now) (state S.Store tx.new.conn.now) (λ _. ⊥) }
 {
     if !are_missing {
@@ -53,6 +60,7 @@ fn drop_second<S: Alter>(tx: &mut Transaction<'_, S>, is_missing: bool) -> Resul
     ensures same_reference { tx.new.conn.ghost_name ≡ tx.old.conn.ghost_name }
     ensures done { HasCleanDisk (state S.Store tx.new.conn.now) → IsTrue (state S.Store tx.old.conn.now).in_transaction → OnOk result (DropsSecond is_missing (state S.Store tx.old.conn.now) (state S.Store tx.new.conn.now)) }
     ensures kept { HasCleanDisk (state S.Store tx.new.conn.now) → IsTrue (state S.Store tx.old.conn.now).in_transaction → KeepsCommit (state S.Store tx.old.conn.now) (state S.Store tx.new.conn.now) }
+    ensures why { HasCleanDisk (state S.Store tx.new.conn.now) → IsTrue (state S.Store tx.old.conn.now).in_transaction → IfErr result (IsCaused (λ error. (is_missing ≡ false) × Refuses drop_second_text [] (state S.Store tx.old.conn.now) error) (state S.Store tx.old.conn.now) (state S.Store tx.new.conn.now)) }
     ensures survives { Survives (state S.Store tx.old.conn.now) (state S.Store tx.new.conn.now) (λ _. ⊥) }
 {
     if is_missing {
@@ -71,6 +79,7 @@ fn make_third<S: Alter>(
     ensures done { HasCleanDisk (state S.Store tx.new.conn.now) → IsTrue (state S.Store tx.old.conn.now).in_transaction
         → OnOk result (Inside (λ old new. missing.now.third ≡ true → missing.now.loads ≡ missing.now.records → AreThere missing.now old → rows.now ≡ rows_in second old → IsMade old new) (state S.Store tx.old.conn.now) (state S.Store tx.new.conn.now)) }
     ensures kept { HasCleanDisk (state S.Store tx.new.conn.now) → IsTrue (state S.Store tx.old.conn.now).in_transaction → KeepsCommit (state S.Store tx.old.conn.now) (state S.Store tx.new.conn.now) }
+    ensures why { HasCleanDisk (state S.Store tx.new.conn.now) → IsTrue (state S.Store tx.old.conn.now).in_transaction → IfErr result (IsCaused (RefusesMaking S.Store missing.now rows.now tx.old.conn.now) (state S.Store tx.old.conn.now) (state S.Store tx.new.conn.now)) }
     ensures survives { Survives (state S.Store tx.old.conn.now) (state S.Store tx.new.conn.now) (λ _. ⊥) }
 {
     make_first(tx, missing.records)?;
@@ -97,6 +106,8 @@ fn commit_third<S: Alter>(
     ensures settled { HasCleanDisk (state S.Store conn.new) → OnOk result (IsTrue (state S.Store conn.new).is_open → (state S.Store conn.new).now ≡ (state S.Store conn.new).committed) }
     ensures was_open { HasCleanDisk (state S.Store conn.new) → OnOk result (IsTrue (state S.Store conn.new).is_open → IsTrue (state S.Store conn.old).is_open) }
     ensures kept { HasCleanDisk (state S.Store conn.new) → OnErr result (KeepsCommit (state S.Store conn.old) (state S.Store conn.new)) }
+    ensures why { HasCleanDisk (state S.Store conn.new) → IfErr result (IsCaused (λ error. (missing.now.third ≡ true) × RefusesMaking S.Store missing.now rows.now (record conn.old { in_transaction = true }) error) (state S.Store conn.old) (state S.Store conn.new)) }
+    ensures mode { (state S.Store conn.new).in_transaction ≡ false }
     ensures crash { Survives (state S.Store conn.old) (state S.Store conn.new) (λ trees. (db : Database) × IsMade (state S.Store conn.old).now db × (trees ≡ db.trees)) }
 {
     if !missing.third {
@@ -116,6 +127,8 @@ fn see_table<S: Alter>(
     ensures apart { HasCleanDisk (state S.Store conn.new) → OnOk result (IsMissing is_missing (state S.Store conn.old).now.schema (form_of table) → AreApart (form_of table) (state S.Store conn.old).now) }
     ensures same { HasCleanDisk (state S.Store conn.new) → OnOk result ((state S.Store conn.new).now ≡ (state S.Store conn.old).now) }
     ensures kept { HasCleanDisk (state S.Store conn.new) → KeepsCommit (state S.Store conn.old) (state S.Store conn.new) }
+    ensures why { HasCleanDisk (state S.Store conn.new) → IfErr result (IsCaused (λ error. (is_missing ≡ false) × RefusesRowids (rowids_text table) (state S.Store conn.old) error) (state S.Store conn.old) (state S.Store conn.new)) }
+    ensures mode { (state S.Store conn.old).in_transaction ≡ false → (state S.Store conn.new).in_transaction ≡ false }
     ensures crash { Survives (state S.Store conn.old) (state S.Store conn.new) (λ _. ⊥) }
 {
     if is_missing {
@@ -133,6 +146,8 @@ fn see_rows<S: Alter>(conn: &mut Connection<S>, missing: &Missing) -> Result<(),
     ensures apart { HasCleanDisk (state S.Store conn.new) → OnOk result (AreMissing missing.now (state S.Store conn.old).now.schema → AreAllApart (state S.Store conn.old).now) }
     ensures same { HasCleanDisk (state S.Store conn.new) → OnOk result ((state S.Store conn.new).now ≡ (state S.Store conn.old).now) }
     ensures kept { HasCleanDisk (state S.Store conn.new) → KeepsCommit (state S.Store conn.old) (state S.Store conn.new) }
+    ensures why { HasCleanDisk (state S.Store conn.new) → IfErr result (IsCaused (RefusesOffice S.Store missing.now conn.old) (state S.Store conn.old) (state S.Store conn.new)) }
+    ensures mode { (state S.Store conn.old).in_transaction ≡ false → (state S.Store conn.new).in_transaction ≡ false }
     ensures crash { Survives (state S.Store conn.old) (state S.Store conn.new) (λ _. ⊥) }
 {
     see_table(conn, missing.records, Table::Records)?;
@@ -152,6 +167,8 @@ fn rows_before<S: Alter>(
     ensures rows { HasCleanDisk (state S.Store conn.new) → IfOk result (λ rows. IsThere is_missing second (state S.Store conn.old).now → rows.items ≡ rows_in second (state S.Store conn.old).now) }
     ensures same { HasCleanDisk (state S.Store conn.new) → OnOk result ((state S.Store conn.new).now ≡ (state S.Store conn.old).now) }
     ensures kept { HasCleanDisk (state S.Store conn.new) → KeepsCommit (state S.Store conn.old) (state S.Store conn.new) }
+    ensures why { HasCleanDisk (state S.Store conn.new) → IfErr result (IsCaused (λ error. (is_missing ≡ false) × RefusesAnswer Second (read_text Second) (state S.Store conn.old) error) (state S.Store conn.old) (state S.Store conn.new)) }
+    ensures mode { (state S.Store conn.old).in_transaction ≡ false → (state S.Store conn.new).in_transaction ≡ false }
     ensures crash { Survives (state S.Store conn.old) (state S.Store conn.new) (λ _. ⊥) }
 {
     let mut found = Vec::new(alloc);
@@ -170,6 +187,7 @@ fn see_tables<S: Alter>(conn: &Connection<S>) -> Result<Missing, Error>
     ensures missing { IfOk result (λ missing. AreMissing missing conn.now.schema) }
     ensures whole { OnOk result (IsTrue (is_whole conn.now.schema)) }
     ensures live { OnOk result (IsLive (state S.Store conn.now)) }
+    ensures refused { IfErr result (λ error. ((error ≡ SqliteFailure TransactionState) × IsTrue conn.now.in_transaction) ⊎ ((error ≡ SqliteFailure NotADatabase) × (IsOffice conn.now.schema → ⊥))) }
 {
     if !conn.is_autocommit() {
         return Err(Error::SqliteFailure(ErrorCode::TransactionState));
@@ -189,12 +207,14 @@ fn see_tables<S: Alter>(conn: &Connection<S>) -> Result<Missing, Error>
 pub fn prepare<S: Alter>(conn: &mut Connection<S>, alloc: Global) -> Result<(), Error>
     ensures alone { OnOk result (conn.old.in_transaction ≡ false) }
     ensures office { OnOk result (IsOffice conn.old.schema) }
-    ensures other { (IsOffice conn.old.schema → ⊥) → conn.new ≡ conn.old }
+    ensures other { (IsOffice conn.old.schema → ⊥) → (conn.new ≡ conn.old) × IsErrAnd result (λ error. error ≢ SqliteFailure OutOfMemory) }
     ensures was_open { OnOk result (IsTrue (state S.Store conn.new).is_open → IsTrue (state S.Store conn.old).is_open) }
     ensures stand { OnOk result (IsTrue (state S.Store conn.new).is_open → HasTables (state S.Store conn.new).committed) }
     ensures same { OnOk result (IsTrue (state S.Store conn.new).is_open → rows_of (state S.Store conn.new).committed ≡ rows_of (state S.Store conn.old).committed) }
     ensures others { OnOk result (IsTrue (state S.Store conn.new).is_open → LeavesOthers (state S.Store conn.old).committed (state S.Store conn.new).committed) }
     ensures kept { HasCleanDisk (state S.Store conn.new) → OnErr result (KeepsCommit (state S.Store conn.old) (state S.Store conn.new)) }
+    ensures why { HasCleanDisk (state S.Store conn.new) → IfErr result (IsCaused (OrBegun (state S.Store conn.old) (RefusesFile S.Store conn.old)) (state S.Store conn.old) (state S.Store conn.new)) }
+    ensures mode { (state S.Store conn.old).in_transaction ≡ false → (state S.Store conn.new).in_transaction ≡ false }
     ensures crash { Survives (state S.Store conn.old) (state S.Store conn.new) (λ trees. (db : Database) × IsMade (state S.Store conn.old).now db × (trees ≡ db.trees)) }
 {
     let missing = see_tables(conn)?;
@@ -206,6 +226,3 @@ pub fn prepare<S: Alter>(conn: &mut Connection<S>, alloc: Global) -> Result<(), 
     let _ = conn.schema();
     Ok(())
 }
-
-#[cfg(test)]
-mod tests;

@@ -1,5 +1,5 @@
 //! Rows put into `observations3`, sixteen by one INSERT.
-ghost use Rattle.std.specs.Prelude.{◌≡◌, List, length, map, IsTrue, IfOk, IfSome, MatchBool};
+ghost use Rattle.std.specs.Prelude.{◌≡◌, ◌≢◌, IsNone, List, length, map, IsTrue, IfOk, IfErr, IfSome, MatchBool};
 ghost use Rattle.sqlite.specs.State.{HasCleanDisk, KeepsCommit, Survives};
 ghost use Rattle.sqlite.specs.Values.{bound};
 ghost use Rattle.sqlite.specs.Held.{state};
@@ -7,6 +7,7 @@ ghost use Rattle.aq_rules.specs.Kept.Rows.{ObsRow2, OfSecondRow};
 ghost use Rattle.aq_rules.specs.Kept.RowChanges.{PutRow};
 ghost use Rattle.aq_tables.specs.Told.{third_values};
 ghost use Rattle.aq_tables.specs.Sixteen.{AreNumbered, IsStill, PutsAll, puts_of};
+ghost use Rattle.aq_tables.specs.Why.{IsCaused, RefusesPuts, RefusesSixteen, is_clash, unless_clash};
 
 use crate::third::{number_in, row_values};
 use aq_keeper::{ChangeContent, ObsRow2, Row, RowChange, RowContent};
@@ -18,11 +19,14 @@ const PUT_SIXTEEN: &str =
 
 /// The observation that a row is.
 pub(crate) fn observation_in(row: &Row) -> Option<&ObsRow2>
-    ensures { IfSome result (λ it. row.now ≡ OfSecondRow it.now) }
+    ensures some { IfSome result (λ it. row.now ≡ OfSecondRow it.now) }
+    ensures none { IsNone result → (it : ObsRow2) → row.now ≢ OfSecondRow it }
 {
     match &row.content {
         RowContent::Second(row) => Some(row),
-        _ => None,
+        RowContent::Office(_) => None,
+        RowContent::Observation(_) => None,
+        RowContent::Load(_) => None,
     }
 }
 
@@ -89,12 +93,34 @@ fn put_values<S: Alter>(
     ensures done { (rows : List ObsRow2) → map bound values.now ≡ map third_values rows → AreNumbered rows
         → HasCleanDisk (state S.Store tx.new.conn.now) → IsTrue (state S.Store tx.old.conn.now).in_transaction → IfOk result (λ is_put. MatchBool is_put (PutsAll rows (state S.Store tx.old.conn.now) (state S.Store tx.new.conn.now)) (IsStill (state S.Store tx.old.conn.now) (state S.Store tx.new.conn.now))) }
     ensures kept { HasCleanDisk (state S.Store tx.new.conn.now) → IsTrue (state S.Store tx.old.conn.now).in_transaction → KeepsCommit (state S.Store tx.old.conn.now) (state S.Store tx.new.conn.now) }
+    ensures why { (rows : List ObsRow2) → map bound values.now ≡ map third_values rows
+        → HasCleanDisk (state S.Store tx.new.conn.now) → IsTrue (state S.Store tx.old.conn.now).in_transaction → IfErr result (IsCaused (RefusesPuts rows (state S.Store tx.old.conn.now)) (state S.Store tx.old.conn.now) (state S.Store tx.new.conn.now)) }
     ensures survives { Survives (state S.Store tx.old.conn.now) (state S.Store tx.new.conn.now) (λ _. ⊥) }
 {
     match tx.execute(PUT_SIXTEEN, values.as_flattened()) {
         Ok(_) => Ok(true),
-        Err(Error::SqliteFailure(ErrorCode::ConstraintViolation(_))) => Ok(false),
-        Err(error) => Err(error),
+        Err(error) => unless_clash(error),
+    }
+}
+
+/// Whether a statement is against a rule of its table, as where its key stands.
+fn is_clash(error: &Error) -> bool
+    ensures { result ≡ is_clash error.now }
+{
+    match error {
+        Error::SqliteFailure(ErrorCode::ConstraintViolation(_)) => true,
+        _ => false,
+    }
+}
+
+/// What is answered where nothing was put: that it was not, for a clash, and else the error.
+fn unless_clash(error: Error) -> Result<bool, Error>
+    ensures { result ≡ unless_clash error }
+{
+    if is_clash(&error) {
+        Ok(false)
+    } else {
+        Err(error)
     }
 }
 
@@ -109,6 +135,7 @@ pub(crate) fn put_sixteen<S: Alter>(
     ensures done { HasCleanDisk (state S.Store tx.new.conn.now) → IsTrue (state S.Store tx.old.conn.now).in_transaction
         → IfOk result (λ is_put. MatchBool is_put ((rows : List ObsRow2) × (changes.now ≡ puts_of rows) × PutsAll rows (state S.Store tx.old.conn.now) (state S.Store tx.new.conn.now)) (IsStill (state S.Store tx.old.conn.now) (state S.Store tx.new.conn.now))) }
     ensures kept { HasCleanDisk (state S.Store tx.new.conn.now) → IsTrue (state S.Store tx.old.conn.now).in_transaction → KeepsCommit (state S.Store tx.old.conn.now) (state S.Store tx.new.conn.now) }
+    ensures why { HasCleanDisk (state S.Store tx.new.conn.now) → IsTrue (state S.Store tx.old.conn.now).in_transaction → IfErr result (IsCaused (RefusesSixteen changes.now (state S.Store tx.old.conn.now)) (state S.Store tx.old.conn.now) (state S.Store tx.new.conn.now)) }
     ensures survives { Survives (state S.Store tx.old.conn.now) (state S.Store tx.new.conn.now) (λ _. ⊥) }
 {
     let mut values = [[ValueRef::Null; 5]; 16];
@@ -124,6 +151,7 @@ pub(crate) fn put_rows<S: Alter>(tx: &mut Transaction<'_, S>, rows: &[Row]) -> R
     ensures done { HasCleanDisk (state S.Store tx.new.conn.now) → IsTrue (state S.Store tx.old.conn.now).in_transaction
         → IfOk result (λ is_put. MatchBool is_put ((found : List ObsRow2) × (rows.now ≡ map OfSecondRow found) × PutsAll found (state S.Store tx.old.conn.now) (state S.Store tx.new.conn.now)) (IsStill (state S.Store tx.old.conn.now) (state S.Store tx.new.conn.now))) }
     ensures kept { HasCleanDisk (state S.Store tx.new.conn.now) → IsTrue (state S.Store tx.old.conn.now).in_transaction → KeepsCommit (state S.Store tx.old.conn.now) (state S.Store tx.new.conn.now) }
+    ensures why { HasCleanDisk (state S.Store tx.new.conn.now) → IsTrue (state S.Store tx.old.conn.now).in_transaction → IfErr result (IsCaused (λ error. (found : List ObsRow2) × (rows.now ≡ map OfSecondRow found) × AreNumbered found × RefusesPuts found (state S.Store tx.old.conn.now) error) (state S.Store tx.old.conn.now) (state S.Store tx.new.conn.now)) }
     ensures survives { Survives (state S.Store tx.old.conn.now) (state S.Store tx.new.conn.now) (λ _. ⊥) }
 {
     let mut values = [[ValueRef::Null; 5]; 16];

@@ -1,10 +1,12 @@
 -- Records with assumed concurrences, beside observations.
-use Rattle.std.proofs.Common.{◌≡◌, ℕ, Bool, true, false, not, cond, Some, None, List, [], ◌∷◌, refl, ap, sym, ◌∙◌}
+use Rattle.std.proofs.Common.{◌≡◌, ℕ, Bool, true, false, not, cond, Option, Some, None, List, [], ◌∷◌, refl, ap, sym, ◌∙◌}
+use Rattle.std.specs.Prelude.{is_some}
 use Rattle.std.proofs.lemmas.Bool.{and_parts}
 use Rattle.aq_base.specs.Site.{Site}
 use Rattle.aq_base.specs.declared.assumed.Assumed.{Assumed}
 use Rattle.aq_base.specs.declared.observation.ObsKey.{ObsKey}
 use Rattle.aq_base.specs.declared.observation.Observation.{Observation}
+use Rattle.aq_base.specs.declared.office.OfficeKey.TheVariants.{Event as EventKey}
 use Rattle.aq_base.specs.declared.office.OfficeLine.TheVariants.{Change}
 use Rattle.aq_base.specs.declared.office.OfficeRecord.{OfficeRecord}
 use Rattle.aq_base.specs.declared.office.OfficeRecord.TheVariants.{Concurrence}
@@ -15,6 +17,7 @@ use Rattle.aq_rules.specs.Lines.Spellings.{is_event_number}
 use Rattle.aq_rules.specs.Office.Load.{after}
 use Rattle.aq_rules.specs.Office.Office.{Office, event_stands, record_rank, with_row}
 use Rattle.aq_rules.specs.WhatIf.Assumed.{assume, unknown_event, what_if}
+use Rattle.aq_rules.proofs.Assuming.{others-stay}
 use Rattle.aq_registry.specs.Registry.{office_with}
 use Rattle.aq_series.specs.OfficeView.{office_of}
 use Rattle.aq_whatif.specs.Records.{are_event_numbers, records_as_if}
@@ -44,16 +47,42 @@ module _ (standard : Standard) (records : List OfficeRecord) (rows : Rows) (list
       is ∙ ap (λ (l : List Assumed). design_value standard (assume (office_of records rows) l) site year) one
       ∙ ap (λ (o : Office). design_value standard o site year) (sym line)
 
+-- ---- events that stand
+
+-- what stands of the events is the same whatever is assumed of one
+stands-still : (records : List OfficeRecord) (entry : Assumed) (number : ℕ)
+    → event_stands (office_with (with_row record_rank (Concurrence entry.number entry.agreed) records)) number ≡ event_stands (office_with records) number
+stands-still records entry number = ap is_some (others-stay (office_with records) [] entry (EventKey number) refl)
+
+unknown-still : (records : List OfficeRecord) (entry : Assumed) (list : List Assumed)
+    → unknown_event (office_with (with_row record_rank (Concurrence entry.number entry.agreed) records)) list ≡ unknown_event (office_with records) list
+unknown-still records entry [] = refl
+unknown-still records entry (next ∷ list) =
+    let stands = stands-still records entry next.number in
+    let rest = unknown-still records entry list in
+    λ i. cond (not (stands i)) (Some next.number) (rest i)
+
+none-behind : (b : Bool) (number : ℕ) (rest : Option ℕ) → cond (not b) (Some number) rest ≡ None → (b ≡ true) × (rest ≡ None)
+none-behind true number rest none = (refl, none)
+none-behind false number rest none = absurd (cc)
+
+module _ (records : List OfficeRecord) (entry : Assumed) (list : List Assumed) (known : unknown_event (office_with records) (entry ∷ list) ≡ None) where
+  -- the first event of a list that has no unknown one stands
+  pub first-stands : event_stands (office_with records) entry.number ≡ true
+  first-stands = (none-behind (event_stands (office_with records) entry.number) entry.number (unknown_event (office_with records) list) known).0
+
+  -- and once its entry is assumed, those behind it do
+  pub others-known : unknown_event (office_with (with_row record_rank (Concurrence entry.number entry.agreed) records)) list ≡ None
+  others-known =
+      unknown-still records entry list
+      ∙ (none-behind (event_stands (office_with records) entry.number) entry.number (unknown_event (office_with records) list) known).1
+
 -- ---- a list of one entry
 
 module _ (records : List OfficeRecord) (list : List Assumed) (entry : Assumed) (one : list ≡ entry ∷ []) where
   -- its event stands
   pub one-stands : unknown_event (office_with records) list ≡ None → event_stands (office_with records) entry.number ≡ true
-  one-stands none = by (event_stands (office_with records) entry.number) (ap (unknown_event (office_with records)) (sym one) ∙ none)
-    where
-      by : (b : Bool) → cond (not b) (Some entry.number) None ≡ None → b ≡ true
-      by true h = refl
-      by false h = cc
+  one-stands none = first-stands records entry [] (ap (unknown_event (office_with records)) (sym one) ∙ none)
 
   pub one-numbered : are_event_numbers list ≡ true → is_event_number entry.number ≡ true
   one-numbered all = (and_parts (is_event_number entry.number) true (ap are_event_numbers (sym one) ∙ all)).0

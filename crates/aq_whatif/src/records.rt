@@ -1,19 +1,20 @@
 //! Records with assumed concurrences in place of those on record.
-ghost use Rattle.std.specs.Prelude.{◌≡◌, IfOk, IsNone, IsTrue, OnOk};
+ghost use Rattle.std.specs.Prelude.{◌≡◌, None, true, IfOk, IsNone, IsTrue, OnOk};
 ghost use Rattle.aq_base.specs.declared.office.OfficeRecord.TheVariants.{Concurrence};
 ghost use Rattle.aq_registry.specs.Registry.{office_with};
 ghost use Rattle.aq_rules.specs.Lines.Spellings.{is_event_number};
-ghost use Rattle.aq_rules.specs.Office.Office.{record_rank, with_row};
+ghost use Rattle.aq_rules.specs.Office.Office.{event_stands, record_rank, with_row};
 ghost use Rattle.aq_rules.specs.WhatIf.Assumed.{unknown_event};
 ghost use Rattle.aq_whatif.specs.Records.{are_event_numbers, records_as_if};
 
 use aq_base::{Assumed, Memory, OfficeLine, OfficeRecord};
-use aq_registry::Registry;
+use aq_registry::{Registry, RegistryFault};
 
 /// A copy of the records with the concurrence of each entry in place of the one on record; the last entry
 /// of a number counts. The events stand.
 pub(crate) fn records_as_if(registry: &Registry, assumed: &[Assumed]) -> Result<Registry, Memory>
-    requires { IsTrue (are_event_numbers assumed.now) }
+    requires numbers { IsTrue (are_event_numbers assumed.now) }
+    requires known { unknown_event (office_with registry.now) assumed.now ≡ None }
     ensures { IfOk result (λ records. records ≡ records_as_if registry.now assumed.now) }
 {
     let mut records = registry.copy()?;
@@ -36,7 +37,8 @@ pub(crate) fn unknown_event(registry: &Registry, assumed: &[Assumed]) -> Option<
 
 /// Puts the concurrences of a list, one after the other. The events stand.
 fn assume_all(records: &mut Registry, assumed: &[Assumed]) -> Result<(), Memory>
-    requires { IsTrue (are_event_numbers assumed.now) }
+    requires numbers { IsTrue (are_event_numbers assumed.now) }
+    requires known { unknown_event (office_with records.old) assumed.now ≡ None }
     ensures { OnOk result (records.new ≡ records_as_if records.old assumed.now) }
 {
     for entry in assumed {
@@ -45,15 +47,17 @@ fn assume_all(records: &mut Registry, assumed: &[Assumed]) -> Result<(), Memory>
     Ok(())
 }
 
-/// Puts a concurrence in place of the one on record, or adds it. The event stands.
+/// Puts a concurrence in place of the one on record, or adds it. The event stands, so the line of the
+/// concurrence breaks no rule.
 pub(crate) fn assume(records: &mut Registry, entry: Assumed) -> Result<(), Memory>
-    requires { IsTrue (is_event_number entry.number) }
+    requires number { IsTrue (is_event_number entry.number) }
+    requires stands { event_stands (office_with records.old) entry.number ≡ true }
     ensures { OnOk result (records.new ≡ with_row record_rank (Concurrence entry.number entry.agreed) records.old) }
 {
     let Assumed { number, agreed } = entry;
     match records.apply(OfficeLine::Change(OfficeRecord::Concurrence { number, agreed })) {
         Ok(_) => Ok(()),
-        // The line breaks no rule, since the event stands.
-        Err(_) => Err(Memory),
+        Err(RegistryFault::Memory) => Err(Memory),
+        Err(RegistryFault::Broken(_)) => unreachable!(),
     }
 }

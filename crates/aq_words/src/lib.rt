@@ -10,6 +10,7 @@
 //!
 //! - The command that words name is the definition's (`command_of` in `specs/Words.antt`), and its
 //!   numbers are in their ranges (`read_words`).
+//! - An area names at most 32 sites, and a list at most 64 entries (`limits_of_words_are_these_numbers`).
 //!
 //! # An example
 //!
@@ -22,6 +23,8 @@
 //! ```
 #![tactic(auto)]
 
+mod limits;
 mod words;
 
+pub use limits::limits_of_words_are_these_numbers;
 pub use words::{AreaQuestion, Combined, Command, Decisive, WhatIf, read_words};

@@ -69,6 +69,138 @@ fn a_lost_connection_is_passed_over_and_a_fault_of_the_listener_is_not(
     rt: HostRuntime,
 ) -> Result<(), Fail> {
     assert!(rt; accepts_behind(&rt, ErrorKind::ConnectionAborted)?);
+    assert!(rt; accepts_behind(&rt, ErrorKind::ConnectionReset)?);
+    assert!(rt; accepts_behind(&rt, ErrorKind::Interrupted)?);
     assert!(rt; !accepts_behind(&rt, ErrorKind::Uncategorized)?);
     Ok(())
+}
+
+/// A clock that stands at a second that is set.
+#[derive(Drop)]
+struct SetClock {
+    second: Cell<u64>,
+}
+
+impl Clock for SetClock {
+    fn monotonic(&self) -> io::Result<Duration> {
+        Ok(Duration::from_secs(self.second.get()))
+    }
+
+    fn since_1970(&self) -> io::Result<Duration> {
+        Err(io::Error::from(ErrorKind::Unsupported))
+    }
+}
+
+/// A stream that moves one byte at each call, and fails unless it was told since the last one how long to
+/// wait.
+#[derive(Drop)]
+struct Waiting {
+    to_read: Cell<Option<Duration>>,
+    to_write: Cell<Option<Duration>>,
+    /// For how many seconds the last call might wait.
+    waited: u64,
+}
+
+impl OpenStream for Waiting {
+    fn set_read_timeout(&self, wait: Option<Duration>) -> io::Result<()> {
+        self.to_read.set(wait);
+        Ok(())
+    }
+
+    fn set_write_timeout(&self, wait: Option<Duration>) -> io::Result<()> {
+        self.to_write.set(wait);
+        Ok(())
+    }
+}
+
+impl Read for Waiting {
+    fn read(&mut self, buffer: &mut [u8]) -> io::Result<usize> {
+        match self.to_read.take() {
+            Some(wait) => {
+                self.waited = wait.as_secs();
+                Ok(buffer.len().min(1))
+            }
+            None => Err(io::Error::from(ErrorKind::Unsupported)),
+        }
+    }
+}
+
+impl Write for Waiting {
+    fn write(&mut self, piece: &[u8]) -> io::Result<usize> {
+        match self.to_write.take() {
+            Some(wait) => {
+                self.waited = wait.as_secs();
+                Ok(piece.len().min(1))
+            }
+            None => Err(io::Error::from(ErrorKind::Unsupported)),
+        }
+    }
+
+    fn flush(&mut self) -> io::Result<()> {
+        Ok(())
+    }
+}
+
+/// A connection at a clock that is set.
+#[derive(Drop)]
+struct Timed {
+    clock: SetClock,
+    stream: Waiting,
+    deadlines: Deadlines,
+}
+
+impl Timed {
+    fn accepted() -> Timed {
+        Timed {
+            clock: SetClock {
+                second: Cell::new(0),
+            },
+            stream: Waiting {
+                to_read: Cell::new(None),
+                to_write: Cell::new(None),
+                waited: 0,
+            },
+            deadlines: NONE_BEGUN,
+        }
+    }
+
+    /// How many seconds a read at this second may wait, or None if it comes too late.
+    fn read_at(&mut self, second: u64) -> Option<u64> {
+        self.clock.second.set(second);
+        match read_in_time(
+            &self.clock,
+            &mut self.stream,
+            &mut self.deadlines,
+            &mut [0; 2],
+        ) {
+            Ok(_) => Some(self.stream.waited),
+            Err(Failed) => None,
+        }
+    }
+
+    /// The same of a write, which takes one byte of the piece.
+    fn write_at(&mut self, second: u64, piece: &[u8]) -> Option<u64> {
+        self.clock.second.set(second);
+        match write_in_time(&self.clock, &mut self.stream, &mut self.deadlines, piece) {
+            Ok(_) => Some(self.stream.waited),
+            Err(Failed) => None,
+        }
+    }
+}
+
+#[test]
+fn a_call_waits_for_as_long_as_its_request_or_its_reply_has_left(rt: HostRuntime) {
+    let mut timed = Timed::accepted();
+    // It may lie idle for 5 seconds, and its request comes in the 30 behind them.
+    assert_eq!(rt; timed.read_at(0), Some(5));
+    assert_eq!(rt; timed.read_at(20), Some(15));
+    assert_eq!(rt; timed.read_at(34), Some(1));
+    assert_eq!(rt; timed.read_at(35), None);
+    // A reply has 30 seconds from its first byte to its last.
+    assert_eq!(rt; timed.write_at(100, b"{}"), Some(30));
+    assert_eq!(rt; timed.write_at(130, b"{}"), None);
+    assert_eq!(rt; timed.write_at(129, b"}"), Some(1));
+    // Then the next request may begin, and the next reply.
+    assert_eq!(rt; timed.read_at(200), Some(5));
+    assert_eq!(rt; timed.write_at(300, b"{"), Some(30));
 }

@@ -1,4 +1,4 @@
--- What makes a sheet well formed (own). The sheets of every answer are, and so are those of conflicts, errors and summaries.
+-- What makes a sheet well formed (own). The laws of `well_formed` say of which sheets it is proved.
 use Rattle.std.specs.Prelude.{ℕ, ◌^◌, Bool, true, not, ◌&&◌, ◌||◌, ◌==◌, nat_lt, nat_le, IsTrue, List, [], ◌∷◌, ◌++◌, length, map, codes, bytes_eq, Option, ℤ, pos, neg_ℤ, int_le, int_lt}
 use Rattle.std.specs.List.{list_all, list_any}
 use Rattle.std.specs.Option.{option_map_or}

@@ -1,7 +1,7 @@
 //! The days behind a number, worked out on small offices.
 #![tactic(auto)]
 
-ghost use Rattle.std.specs.Prelude.{◌≡◌, ℕ, ◌+◌, ◌*◌, true, false, [], ◌∷◌, ◌++◌, codes, length, map, Some, None, pos};
+ghost use Rattle.std.specs.Prelude.{◌≡◌, ℕ, ◌+◌, ◌-◌, ◌*◌, true, false, [], ◌∷◌, ◌++◌, codes, length, map, Some, None, pos};
 ghost use Rattle.std.specs.List.{range_with_len};
 ghost use Rattle.aq_base.specs.Calendar.{day_number};
 ghost use Rattle.aq_base.specs.Site.{Site};
@@ -9,7 +9,7 @@ ghost use Rattle.aq_base.specs.declared.monitor.Pollutant.TheVariants.{Ozone, Pm
 ghost use Rattle.aq_rules.specs.Office.Office.{Office};
 ghost use Rattle.aq_rules.specs.Listed.Daily.{daily_answer, is_credited, pm10_day, pm10_day_cells, pm10_days_sheet, pm25_day, pm25_days_sheet, stratum_place};
 ghost use Rattle.aq_rules.specs.Listed.Highest.{days_ranked, first_at, highest_answer, highest_of, ranked_day};
-ghost use Rattle.aq_rules.specs.Listed.ListedExamples.{fifty_days, made_up_on};
+ghost use Rattle.aq_rules.specs.Listed.ListedExamples.{every_third_day, fifty_days, made_up_on, new_year_besides};
 ghost use Rattle.aq_rules.specs.Ozone.OzoneExamples.{four_peaks, site, smoky, summer_day};
 ghost use Rattle.aq_rules.specs.Particles.ParticleExamples.{mixed_days, particle_sample, sampled_quarter, with_exceedance};
 ghost use Rattle.aq_rules.specs.Shown.Sheet.{row_text, text_of};
@@ -47,10 +47,12 @@ pub fn days_of_coarse_particles_name_their_stratum()
 {}
 
 /// The maximum of the smoky day is ranked: it comes from 07:00 with eight hours, and with the event concurred
-/// in from 13:00 with six. Of two days with one value the earlier stands first.
+/// in from 13:00 with six. The day before has two averages, at 22:00 and 23:00. It is not valid, and so it is
+/// not ranked. Of two days with one value the earlier stands first.
 pub fn highest_days_have_their_start()
     ensures day { ranked_day (smoky false) site Ozone summer_day ≡ Some (record { day = summer_day; value = pos 75 }) }
     ensures net_day { ranked_day (smoky true) site Ozone summer_day ≡ Some (record { day = summer_day; value = pos 60 }) }
+    ensures day_before { map (λ agreed. ranked_day (smoky agreed) site Ozone (summer_day - 1)) (false ∷ true ∷ []) ≡ None ∷ None ∷ [] }
     ensures whole { text_of (highest_of (smoky false) site Ozone 2024 (record { day = summer_day; value = pos 75 } ∷ []))
         ≡ codes "site 06-037-1103\nparameter 44201\nyear 2024\nranked 1\ndecides 4\nrank day value hour hours\n1 2024-07-01 0.075 07:00 8\n" }
     ensures net { text_of (highest_of (smoky true) site Ozone 2024 (record { day = summer_day; value = pos 60 } ∷ []))
@@ -66,10 +68,13 @@ pub fn highest_days_of_an_ozone_year()
     ensures year { text_of (highest_answer four_peaks site Ozone 2024)
         ≡ codes "site 06-037-1103\nparameter 44201\nyear 2024\nranked 4\ndecides 4\nrank day value hour hours\n"
         ++ codes "1 2024-06-02 0.075 07:00 1\n2 2024-07-01 0.073 07:00 1\n3 2024-12-31 0.072 07:00 1\n4 2024-06-01 0.071 07:00 1\n" }
+    ensures year_before { text_of (highest_answer four_peaks site Ozone 2023)
+        ≡ codes "site 06-037-1103\nparameter 44201\nyear 2023\nranked 0\ndecides 4\nrank day value hour hours\n" }
 {}
 
 /// Fifty counted samples are decided by the first, and 51 by the second. At most ten days are listed, the
-/// earliest of equal ones.
+/// earliest of equal ones. A sample of a day that is not scheduled is ranked, and is not counted: beside fifty
+/// counted ones it leaves the decision with the first, and alone it leaves none.
 pub fn highest_days_of_a_year_of_fine_particles()
     ensures fifty { text_of (highest_answer (fifty_days 0) site Pm25 2024)
         ≡ codes "site 06-037-1103\nparameter 88101\nyear 2024\nranked 50\ndecides 1\nrank day value\n"
@@ -79,6 +84,12 @@ pub fn highest_days_of_a_year_of_fine_particles()
         ≡ codes "site 06-037-1103\nparameter 88101\nyear 2024\nranked 51\ndecides 2\nrank day value\n"
         ++ codes "1 2024-02-19 30.0\n2 2024-02-18 20.0\n3 2024-01-01 10.0\n4 2024-01-02 10.0\n5 2024-01-03 10.0\n"
         ++ codes "6 2024-01-04 10.0\n7 2024-01-05 10.0\n8 2024-01-06 10.0\n9 2024-01-07 10.0\n10 2024-01-08 10.0\n" }
+    ensures one_besides { text_of (highest_answer new_year_besides site Pm25 2024)
+        ≡ codes "site 06-037-1103\nparameter 88101\nyear 2024\nranked 51\ndecides 1\nrank day value\n"
+        ++ codes "1 2024-01-01 30.0\n2 2024-02-20 20.0\n3 2024-01-02 10.0\n4 2024-01-03 10.0\n5 2024-01-04 10.0\n"
+        ++ codes "6 2024-01-05 10.0\n7 2024-01-06 10.0\n8 2024-01-07 10.0\n9 2024-01-08 10.0\n10 2024-01-09 10.0\n" }
+    ensures none_counted { text_of (highest_answer every_third_day site Pm25 2024)
+        ≡ codes "site 06-037-1103\nparameter 88101\nyear 2024\nranked 1\ndecides -\nrank day value\n1 2024-01-02 10.0\n" }
     ensures no_sample { text_of (highest_answer (fifty_days 0) site Pm25 2023)
         ≡ codes "site 06-037-1103\nparameter 88101\nyear 2023\nranked 0\ndecides -\nrank day value\n" }
 {}

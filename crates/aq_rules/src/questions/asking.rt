@@ -1,9 +1,10 @@
 //! The table of questions: what it holds, and that words and paths read it alike.
 #![tactic(auto)]
 
-ghost use Rattle.std.specs.Prelude.{◌≡◌, ◌↔◌, ℕ, IsTrue, true, false, List, [], ◌∷◌, codes, map, Some, None, Ok, Err};
+ghost use Rattle.std.specs.Prelude.{◌≡◌, ◌↔◌, ℕ, IsTrue, true, false, List, [], ◌∷◌, codes, map, replicate, Some, None, Ok, Err};
 ghost use Rattle.aq_base.specs.Site.{Site};
 ghost use Rattle.aq_base.specs.declared.area.Area.TheVariants.{County, Sites as SitesArea};
+ghost use Rattle.aq_base.specs.declared.assumed.Assumed.{Assumed};
 ghost use Rattle.aq_base.specs.declared.monitor.Pollutant.{Pollutant};
 ghost use Rattle.aq_base.specs.declared.monitor.Pollutant.TheVariants.{Ozone, Pm25 as Fine, Pm10 as Coarse};
 ghost use Rattle.aq_base.specs.declared.question.Question.{Question};
@@ -13,9 +14,9 @@ ghost use Rattle.aq_base.specs.declared.question.Topic.TheVariants.{Value, Repor
 ghost use Rattle.aq_base.specs.declared.standard.Standard.{Standard};
 ghost use Rattle.aq_base.specs.declared.standard.Standard.TheVariants.{Annual2012, Ozone2015, Pm10Of1987};
 ghost use Rattle.aq_rules.specs.Ozone.OzoneExamples.{site, summer_day};
-ghost use Rattle.aq_rules.specs.Questions.Asking.{asked_in_path, asked_in_words, is_asked, question_of};
+ghost use Rattle.aq_rules.specs.Questions.Asking.{asked_in_path, asked_in_words, is_asked, named_by, question_of};
 ghost use Rattle.aq_rules.specs.Questions.QuestionExamples.{entries, ozone_word, site_text, usage_line};
-ghost use Rattle.aq_rules.specs.Questions.Table.{ASKED, all_topics, name_of, pattern_of, topic_of};
+ghost use Rattle.aq_rules.specs.Questions.Table.{ASKED, OfArea, OfDay, OfEndYear, OfList, OfNumber, OfPairStandard, OfParameter, OfSite, OfStandard, OfYear, all_topics, name_of, parts_of, pattern_of, topic_of};
 ghost use Rattle.aq_rules.specs.Shown.ShownExamples.{other_site};
 
 /// The table in words: each question as the usage text has it.
@@ -38,6 +39,23 @@ pub fn questions_in_paths()
         ∷ codes "/pm25/{site}/quarters/{year}" ∷ codes "/pm10/{site}/quarters/{year}" ∷ codes "/sites" ∷ codes "/monitors/{site}" ∷ codes "/events/{site}"
         ∷ codes "/flags/{site}/{parameter}/{year}" ∷ codes "/loads" ∷ codes "/daily/{site}/{parameter}/{year}" ∷ codes "/highest/{site}/{parameter}/{year}"
         ∷ codes "/completeness/{site}/{parameter}/{year}" ∷ codes "/reports/{year}" ∷ codes "/records" ∷ codes "/lines/{site}/{parameter}/{year}" ∷ [] }
+{}
+
+/// What each question asks for, in order. Its year ends three years where it has a standard, and where it asks
+/// for the reports of all standards: it is then 1992 to 2059. Any other year is 1990 to 2059, a day is one of
+/// these years, and the number of a load is 1 to 4294967295.
+pub fn questions_ask_for_their_parts()
+    ensures parts { map parts_of all_topics
+        ≡ (OfStandard ∷ OfSite ∷ OfEndYear ∷ []) ∷ (OfStandard ∷ OfEndYear ∷ []) ∷ (OfSite ∷ OfParameter ∷ OfYear ∷ [])
+        ∷ (OfStandard ∷ OfSite ∷ OfEndYear ∷ OfList ∷ []) ∷ (OfStandard ∷ OfSite ∷ OfEndYear ∷ []) ∷ (OfPairStandard ∷ OfSite ∷ OfEndYear ∷ [])
+        ∷ (OfStandard ∷ OfArea ∷ OfEndYear ∷ []) ∷ (OfNumber ∷ []) ∷ (OfSite ∷ OfDay ∷ []) ∷ (OfSite ∷ OfYear ∷ [])
+        ∷ (OfSite ∷ OfYear ∷ []) ∷ (OfSite ∷ OfYear ∷ []) ∷ [] ∷ (OfSite ∷ []) ∷ (OfSite ∷ [])
+        ∷ (OfSite ∷ OfParameter ∷ OfYear ∷ []) ∷ [] ∷ (OfSite ∷ OfParameter ∷ OfYear ∷ []) ∷ (OfSite ∷ OfParameter ∷ OfYear ∷ [])
+        ∷ (OfSite ∷ OfParameter ∷ OfYear ∷ []) ∷ (OfEndYear ∷ []) ∷ [] ∷ (OfSite ∷ OfParameter ∷ OfYear ∷ []) ∷ [] }
+    ensures end_years { map (λ text. named_by OfEndYear text) (codes "1991" ∷ codes "1992" ∷ codes "2059" ∷ codes "2060" ∷ []) ≡ None ∷ Some 1992 ∷ Some 2059 ∷ None ∷ [] }
+    ensures years { map (λ text. named_by OfYear text) (codes "1989" ∷ codes "1990" ∷ codes "2059" ∷ codes "2060" ∷ []) ≡ None ∷ Some 1990 ∷ Some 2059 ∷ None ∷ [] }
+    ensures days { map (λ text. named_by OfDay text) (codes "1989-12-31" ∷ codes "1990-01-01" ∷ codes "2059-12-31" ∷ codes "2060-01-01" ∷ []) ≡ None ∷ Some 0 ∷ Some 25566 ∷ None ∷ [] }
+    ensures numbers { map (λ text. named_by OfNumber text) (codes "0" ∷ codes "1" ∷ codes "4294967295" ∷ codes "4294967296" ∷ []) ≡ None ∷ Some 1 ∷ Some 4294967295 ∷ None ∷ [] }
 {}
 
 /// Each row's words ask its question.
@@ -119,11 +137,18 @@ pub fn questions_asked_are_in_range()
     ensures range { (topic : Topic) (texts : List (List ℕ)) (asked : Question) → question_of topic texts ≡ Some asked → IsTrue (is_asked asked) }
 {}
 
-/// A design value is asked of 1992 to 2059, and all else of 1990 to 2059.
-pub fn questions_have_their_years()
-    ensures value { (standard : Standard) (at : Site) → map (λ year. is_asked (question.Value standard at year)) (1991 ∷ 1992 ∷ 2059 ∷ 2060 ∷ []) ≡ false ∷ true ∷ true ∷ false ∷ [] }
-    ensures reports { map (λ year. is_asked (question.Reports year)) (1991 ∷ 1992 ∷ 2059 ∷ 2060 ∷ []) ≡ false ∷ true ∷ true ∷ false ∷ [] }
-    ensures flags { (at : Site) (pollutant : Pollutant) → map (λ year. is_asked (question.Flags at pollutant year)) (1989 ∷ 1990 ∷ 2059 ∷ 2060 ∷ []) ≡ false ∷ true ∷ true ∷ false ∷ [] }
-    ensures days { (at : Site) → map (λ year. is_asked (question.Days at year)) (1989 ∷ 1990 ∷ 2059 ∷ 2060 ∷ []) ≡ false ∷ true ∷ true ∷ false ∷ [] }
+/// A question with a standard, and that of all reports, is asked of 1992 to 2059, and any other that has a year
+/// of 1990 to 2059. Windows are asked of each day up to 31 December 2059, and a load's number is 1 to
+/// 4294967295. Of PM10 no sites are combined. A county has a state of two digits and a code of three.
+pub fn questions_have_their_ranges()
+    ensures end_years { (standard : Standard) (at : Site) (list : List Assumed)
+        → map (λ year. map is_asked (question.Value standard at year ∷ question.Report standard year ∷ question.WhatIf standard at year list ∷ question.Decisive standard at year ∷ question.Combined Ozone2015 at year ∷ question.Area standard (County 6 37) year ∷ question.Area standard (SitesArea (at ∷ [])) year ∷ question.Reports year ∷ [])) (1991 ∷ 1992 ∷ 2059 ∷ 2060 ∷ [])
+        ≡ replicate 8 false ∷ replicate 8 true ∷ replicate 8 true ∷ replicate 8 false ∷ [] }
+    ensures years { (at : Site) (pollutant : Pollutant)
+        → map (λ year. map is_asked (question.Export at pollutant year ∷ question.Days at year ∷ question.Pm25 at year ∷ question.Pm10 at year ∷ question.Flags at pollutant year ∷ question.Daily at pollutant year ∷ question.Highest at pollutant year ∷ question.Completeness at pollutant year ∷ question.Lines at pollutant year ∷ [])) (1989 ∷ 1990 ∷ 2059 ∷ 2060 ∷ [])
+        ≡ replicate 9 false ∷ replicate 9 true ∷ replicate 9 true ∷ replicate 9 false ∷ [] }
+    ensures windows { (at : Site) → map (λ day. is_asked (question.Windows at day)) (0 ∷ 25566 ∷ 25567 ∷ []) ≡ true ∷ true ∷ false ∷ [] }
+    ensures numbers { map (λ number. is_asked (question.Reply number)) (0 ∷ 1 ∷ 4294967295 ∷ 4294967296 ∷ []) ≡ false ∷ true ∷ true ∷ false ∷ [] }
     ensures pair { (at : Site) → map (λ standard. is_asked (question.Combined standard at 2024)) (Ozone2015 ∷ Annual2012 ∷ Pm10Of1987 ∷ []) ≡ true ∷ true ∷ false ∷ [] }
+    ensures counties { (standard : Standard) → map (λ area. is_asked (question.Area standard area 2024)) (County 99 999 ∷ County 100 999 ∷ County 99 1000 ∷ []) ≡ true ∷ false ∷ false ∷ [] }
 {}

@@ -4,11 +4,22 @@
 ghost use Rattle.std.specs.Prelude.{◌≡◌, ℕ, ◌^◌, ◌<◌, ◌≤◌, List, length, nat_lt, IsTrue, All, Option, Some, ℤ};
 ghost use Rattle.std.specs.List.{list_all};
 ghost use Rattle.aq_base.specs.Site.{Site};
+ghost use Rattle.aq_base.specs.declared.monitor.Pollutant.{Pollutant};
+ghost use Rattle.aq_base.specs.declared.question.Question.TheVariants as question;
 ghost use Rattle.aq_base.specs.declared.reply.LoadReply.{LoadReply};
 ghost use Rattle.aq_base.specs.declared.standard.Standard.{Standard};
 ghost use Rattle.aq_base.specs.declared.standard.Verdict.{Verdict};
 ghost use Rattle.aq_rules.specs.Limits.{LAST_LOAD_NUMBER};
+ghost use Rattle.aq_rules.specs.Listed.Completeness.{completeness_answer};
+ghost use Rattle.aq_rules.specs.Listed.Daily.{daily_answer};
+ghost use Rattle.aq_rules.specs.Listed.Events.{events_answer};
+ghost use Rattle.aq_rules.specs.Listed.Flags.{flags_answer};
+ghost use Rattle.aq_rules.specs.Listed.Highest.{highest_answer};
+ghost use Rattle.aq_rules.specs.Listed.Loads.{loads_answer};
+ghost use Rattle.aq_rules.specs.Listed.Monitors.{monitors_answer};
+ghost use Rattle.aq_rules.specs.Listed.Sites.{sites_answer};
 ghost use Rattle.aq_rules.specs.Office.Office.{IsOffice, Office, StoredLoad, is_reply, load_at};
+ghost use Rattle.aq_rules.specs.Questions.Asking.{is_asked as may_be_asked};
 ghost use Rattle.aq_rules.specs.Shown.Sheet.{Sheet};
 ghost use Rattle.aq_rules.specs.Shown.Sheets.{days_answer, load_sheet, windows_answer};
 ghost use Rattle.aq_rules.specs.Shown.ParticleSheets.{pm10_answer, pm25_answer};
@@ -17,7 +28,8 @@ ghost use Rattle.aq_rules.specs.Shown.Answer.{Ask, Days, OfSheet, Pm10, Pm25, Re
 ghost use Rattle.aq_rules.specs.Shown.AreaSheets.{area_sheet, area_sites_sheet, decisive_sheet};
 ghost use Rattle.aq_rules.specs.Shown.WellFormed.{IsWellFormed, is_whole_if};
 
-/// Each sheet that answers a question about a valid office is well formed.
+/// Of a valid office the sheets of a load, of windows, days and quarters, of a value and of a report are well
+/// formed, each for what may be asked of it.
 pub fn answers_are_well_formed()
     ensures answer { (office : Office) (ask : Ask) (sheet : Sheet)
         → IsOffice office → IsTrue (is_asked ask) → answer office ask ≡ OfSheet sheet → IsWellFormed sheet }
@@ -65,4 +77,20 @@ pub fn sheets_of_areas_are_well_formed()
         → year < 2 ^ 63
         → All (λ (row : Site × Option ℤ × Verdict × Option ℤ). IsTrue (is_whole_if row.1) × IsTrue (is_whole_if row.3)) rows
         → IsWellFormed (area_sites_sheet standard year rows) }
+{}
+
+/// And so are the lists of what stands in a valid office, and of the days behind a number.
+pub fn sheets_of_lists_are_well_formed()
+    ensures sites { (office : Office) → IsOffice office → IsWellFormed (sites_answer office) }
+    ensures monitors { (office : Office) (site : Site) → IsOffice office → IsWellFormed (monitors_answer office site) }
+    ensures events { (office : Office) (site : Site) → IsOffice office → IsWellFormed (events_answer office site) }
+    ensures flags { (office : Office) (site : Site) (pollutant : Pollutant) (year : ℕ)
+        → IsOffice office → IsTrue (may_be_asked (question.Flags site pollutant year)) → IsWellFormed (flags_answer office site pollutant year) }
+    ensures loads { (office : Office) → IsOffice office → IsWellFormed (loads_answer office) }
+    ensures daily { (office : Office) (site : Site) (pollutant : Pollutant) (year : ℕ)
+        → IsOffice office → IsTrue (may_be_asked (question.Daily site pollutant year)) → IsWellFormed (daily_answer office site pollutant year) }
+    ensures highest { (office : Office) (site : Site) (pollutant : Pollutant) (year : ℕ)
+        → IsOffice office → IsTrue (may_be_asked (question.Highest site pollutant year)) → IsWellFormed (highest_answer office site pollutant year) }
+    ensures completeness { (office : Office) (site : Site) (pollutant : Pollutant) (year : ℕ)
+        → IsOffice office → IsTrue (may_be_asked (question.Completeness site pollutant year)) → IsWellFormed (completeness_answer office site pollutant year) }
 {}

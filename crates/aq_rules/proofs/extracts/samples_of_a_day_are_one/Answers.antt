@@ -11,4 +11,4 @@ use Rattle.aq_rules.proofs.extracts.samples_of_a_day_are_one.Goals as goal
 
 pub returns : goal.returns
 unfolding digits change_values changes_answer content_in date_in days_of_months days_of_years delete_in event_code_in event_number_in extract_of interval_in last_digits monitor_in month_of parameter_of put_in qualifiers_in rd_texts site_in start_in time_in value_in xa_key xa_record xb_key xb_record xc_record xe_key xe_record xm_record xo_key xo_record xp_key xp_record xs_key xs_record xu_key xu_record year_in year_of
-returns c = record { noon = refl; twice = refl; hours = refl; dropped = refl }
+returns c = record { noon = refl; twice = refl; hours = refl; hours_again = refl; dropped = refl }

@@ -10,3 +10,9 @@ returns-then-first-clause-done g c site pollutant poc hour are clean begun =
 pub returns-else-first-clause-done : goal.returns-else-first-clause-done
 returns-else-first-clause-done g c site pollutant poc hour are clean begun =
     rw c.if-first.false (dropped_none (ObsRowKey site pollutant poc hour) c.run-else-first.result _ _ refl (c.run-else-first.ensures.done clean begun))
+
+pub returns-then-first-clause-why : goal.returns-then-first-clause-why
+returns-then-first-clause-why g c site pollutant poc hour are clean begun = rw c.if-first.true (rw are at (c.run.ensures.why clean begun))
+
+pub returns-else-first-clause-why : goal.returns-else-first-clause-why
+returns-else-first-clause-why g c site pollutant poc hour are clean begun = rw c.if-first.false (c.run-else-first.ensures.why clean begun)

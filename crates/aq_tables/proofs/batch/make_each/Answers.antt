@@ -4,6 +4,8 @@ use Rattle.sqlite.specs.State.{HasCleanDisk}
 use Rattle.sqlite.specs.Held.{state}
 use Rattle.aq_tables.proofs.Making.{changes_nothing, changes_then}
 use Rattle.aq_tables.proofs.Steps.{survives_here, survives_both, kept_here, kept_both}
+use Rattle.std.proofs.lemmas.Result.{err_from_is_err_and}
+use Rattle.aq_tables.proofs.Refused.{change_refused}
 use Rattle.aq_tables.proofs.batch.make_each.Goals as goal
 
 pub loop-place-init : goal.loop-place-init
@@ -39,3 +41,12 @@ pub returns-clause-done : goal.returns-clause-done
 returns-clause-done g c clean begun =
     let all : take c.loop-place.place c.args.changes.now ≡ c.args.changes.now = grind (arith, common_steps) in
     rw all at (c.loop-place.invariant.2 clean begun).0
+
+pub returns-in_err-make-clause-why : goal.returns-in_err-make-clause-why
+returns-in_err-make-clause-why g c clean begun =
+    let p = err_from_is_err_and c.from_residual.result c.from_residual.ensures.1 in
+    let mid = state g.S.Store c.loop-place.tx.conn.now in
+    let before : HasCleanDisk mid = omega (arith, c.make.ensures.survives.clean) in
+    let done = c.loop-place.invariant.2 before begun in
+    let all : take (c.loop-place.place + 1) c.args.changes.now ≡ take c.loop-place.place c.args.changes.now ++ (c.index-changes-place.result ∷ []) = grind (arith, common_steps) in
+    rw (p.1, p.2) (change_refused g.S.Store c.args.first c.args.changes.now c.loop-place.place c.index-changes-place.result c.args.tx.now.conn.now c.loop-place.tx.conn.now (state g.S.Store c.make.new.tx.conn.now) c.in_err-make.field-0.0 all c.loop-place.invariant.1 before c.make.ensures.survives.counts done.0 (c.in_err-make.ensures.why clean done.0.mode))

@@ -5,6 +5,8 @@ use Rattle.sqlite.specs.Held.{state}
 use Rattle.aq_tables.specs.Sixteen.{MovesAll}
 use Rattle.aq_tables.proofs.RowsMoved.{moves_none, moves_then}
 use Rattle.aq_tables.proofs.Steps.{survives_here, survives_both, kept_here, kept_both}
+use Rattle.std.proofs.lemmas.Result.{err_from_is_err_and}
+use Rattle.aq_tables.proofs.MakingRefused.{moves_within_refused}
 use Rattle.aq_tables.proofs.moving.put_all.Goals as goal
 
 pub loop-some-init : goal.loop-some-init
@@ -45,3 +47,12 @@ returns-clause-done g c clean begun =
     let none = nil_from_length _ c.in-None.ensures.steps.1.0 in
     let all = rw (none, append-nil) at was.5 in
     subst (λ l. MovesAll l (state g.S.Store c.args.tx.now.conn.now) (state g.S.Store c.loop-some.tx.conn.now)) all (was.6 clean begun).0
+
+pub returns-in_err-put_together-clause-why : goal.returns-in_err-put_together-clause-why
+returns-in_err-put_together-clause-why g c clean begun =
+    let p = err_from_is_err_and c.from_residual.result c.from_residual.ensures.1 in
+    let was = c.loop-some.invariant in
+    let mid = state g.S.Store c.loop-some.tx.conn.now in
+    let before : HasCleanDisk mid = omega (arith, c.put_together.ensures.survives.clean) in
+    let done = was.6 before begun in
+    rw (p.1, p.2) (moves_within_refused g.S.Store c.args.rows.now was.4 c.in-Some.some.now _ c.args.tx.now.conn.now c.loop-some.tx.conn.now (state g.S.Store c.put_together.new.tx.conn.now) c.in_err-put_together.field-0.0 (ap (λ l. was.4 ++ l) (sym c.in-Some.ensures.steps.1.0) ∙ was.5) was.3 before c.put_together.ensures.survives.counts done.0 (c.in_err-put_together.ensures.why clean done.0.mode))

@@ -4,6 +4,8 @@ use Rattle.sqlite.specs.State.{HasCleanDisk}
 use Rattle.sqlite.specs.Held.{state}
 use Rattle.aq_tables.proofs.RowsMoved.{moves_none, moves_put, moves_then}
 use Rattle.aq_tables.proofs.Steps.{survives_here, survives_both, kept_here, kept_both}
+use Rattle.std.proofs.lemmas.Result.{err_from_is_err_and}
+use Rattle.aq_tables.proofs.MakingRefused.{one_refused}
 use Rattle.aq_tables.proofs.moving.put_each.Goals as goal
 
 pub loop-place-init : goal.loop-place-init
@@ -39,3 +41,12 @@ pub returns-clause-done : goal.returns-clause-done
 returns-clause-done g c clean begun =
     let all : take c.loop-place.place c.args.rows.now ≡ c.args.rows.now = grind (arith, common_steps) in
     rw all at (c.loop-place.invariant.2 clean begun).0
+
+pub returns-in_err-put_one-clause-why : goal.returns-in_err-put_one-clause-why
+returns-in_err-put_one-clause-why g c clean begun =
+    let p = err_from_is_err_and c.from_residual.result c.from_residual.ensures.1 in
+    let mid = state g.S.Store c.loop-place.tx.conn.now in
+    let before : HasCleanDisk mid = omega (arith, c.put_one.ensures.survives.clean) in
+    let done = c.loop-place.invariant.2 before begun in
+    let all : take (c.loop-place.place + 1) c.args.rows.now ≡ take c.loop-place.place c.args.rows.now ++ (c.index-rows-place.result ∷ []) = grind (arith, common_steps) in
+    rw (p.1, p.2) (one_refused g.S.Store c.args.rows.now c.loop-place.place c.index-rows-place.result c.args.tx.now.conn.now c.loop-place.tx.conn.now (state g.S.Store c.put_one.new.tx.conn.now) c.in_err-put_one.field-0.0 all c.loop-place.invariant.1 before c.put_one.ensures.survives.counts done.0 (c.in_err-put_one.ensures.why clean done.0.mode))

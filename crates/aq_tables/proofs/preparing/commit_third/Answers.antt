@@ -1,4 +1,4 @@
-use Rattle.std.proofs.Common.{◌≡◌, true, false, OnErr, refl, sym, subst, arith, rules}
+use Rattle.std.proofs.Common.{◌≡◌, true, false, OnErr, IfErr, refl, sym, subst, arith, rules}
 use Rattle.sqlite.specs.Effect.{Database}
 use Rattle.sqlite.specs.State.{HasCleanDisk, KeepsCommit}
 use Rattle.sqlite.specs.Held.{state}
@@ -6,6 +6,11 @@ use Rattle.aq_tables.specs.Made.{IsMade}
 use Rattle.aq_tables.proofs.Prepared.{if_ok}
 use Rattle.aq_tables.proofs.Steps.{failed_keeps, survives_whole}
 use Rattle.aq_tables.proofs.Whole.{both_or_none, here_already}
+use Rattle.std.proofs.lemmas.Result.{err_from_is_err_and}
+use Rattle.aq_tables.proofs.MakingRefused.{making_refused}
+use Rattle.aq_tables.proofs.Refused.{ended_answer}
+use Rattle.aq_tables.specs.Why.{IsCaused}
+use Rattle.aq_tables.specs.WhyMade.{RefusesMaking}
 use Rattle.aq_tables.proofs.preparing.commit_third.Goals as goal
 
 -- nothing to do
@@ -63,3 +68,30 @@ returns-clause-kept g c clean =
     let made = rw begun at (c.make_third.ensures.kept before (rw begun)) in
     let inside : KeepsCommit old last = record { was_open = λ h. made.was_open h; committed = λ h. made.committed h } in
     subst (λ h. OnErr c.commit.result (KeepsCommit old (state g.S.Store h))) same (failed_keeps old last (state g.S.Store end) c.commit.result inside (c.commit.ensures.err late))
+
+pub returns-in_err-make_third-clause-why : goal.returns-in_err-make_third-clause-why
+returns-in_err-make_third-clause-why g c clean =
+    let begun = c.transaction-tx.ensures.begun in
+    let old = state g.S.Store c.args.conn.now in
+    let last = state g.S.Store c.make_third.new.tx.conn.now in
+    let end = c.drop-tx.new.self.0 in
+    let same : end ≡ c.conn-1.given.0 = search rules in
+    let late : HasCleanDisk (state g.S.Store end) = search rules in
+    let before : HasCleanDisk last = omega (arith, c.drop-tx.ensures.survives.clean) in
+    let third : c.args.missing.now.third ≡ true = search rules in
+    let p = err_from_is_err_and c.from_residual.result c.from_residual.ensures.1 in
+    subst (λ h. IfErr c.from_residual.result (IsCaused (λ e. (c.args.missing.now.third ≡ true) × RefusesMaking g.S.Store c.args.missing.now c.args.rows.now (record c.args.conn.now { in_transaction = true }) e) old (state g.S.Store h))) same
+    (rw (p.1, p.2) (making_refused g.S.Store c.args.missing.now c.args.rows.now c.args.conn.now last (state g.S.Store end) c.in_err-make_third.field-0.0 third c.drop-tx.ensures.survives.counts (rw begun at (c.in_err-make_third.ensures.why before (rw begun)))))
+
+pub returns-clause-why : goal.returns-clause-why
+returns-clause-why g c clean =
+    let begun = c.transaction-tx.ensures.begun in
+    let old = state g.S.Store c.args.conn.now in
+    let last = state g.S.Store c.make_third.new.tx.conn.now in
+    let end = c.commit.new.self.0 in
+    let same : end ≡ c.conn-2-1.given.0 = search rules in
+    let late : HasCleanDisk (state g.S.Store end) = search rules in
+    let before : HasCleanDisk last = omega (arith, c.commit.ensures.survives.clean) in
+    let made = c.in_ok-make_third.ensures.done before (rw begun) in
+    subst (λ h. IfErr c.commit.result (IsCaused (λ e. (c.args.missing.now.third ≡ true) × RefusesMaking g.S.Store c.args.missing.now c.args.rows.now (record c.args.conn.now { in_transaction = true }) e) old (state g.S.Store h))) same
+    (ended_answer g.S.Store true c.args.conn.now last (state g.S.Store end) (λ e. (c.args.missing.now.third ≡ true) × RefusesMaking g.S.Store c.args.missing.now c.args.rows.now (record c.args.conn.now { in_transaction = true }) e) c.commit.result (rw begun at c.make_third.ensures.survives) before c.commit.ensures.survives.counts made.mode (c.commit.ensures.err late))

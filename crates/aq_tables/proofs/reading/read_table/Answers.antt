@@ -15,3 +15,6 @@ returns-clause-rows g c clean =
     let db = (state g.S.Store c.args.conn.now).now in
     let takes = rw c.query_of.ensures at (c.take_all.ensures.rows clean) in
     tells (ours_of c.args.table) (read_text c.args.table) (shown_by c.args.table) db c.args.found.now.items c.take_all.new.found.items c.take_all.result (row_reads c.args.table db) takes
+
+pub returns-clause-why : goal.returns-clause-why
+returns-clause-why g c clean = rw c.query_of.ensures at (c.take_all.ensures.why clean)

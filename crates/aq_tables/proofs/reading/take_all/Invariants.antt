@@ -1,4 +1,4 @@
-use Rattle.std.proofs.Common.{◌≡◌, false, [], ◌++◌, List, map}
+use Rattle.std.proofs.Common.{◌≡◌, false, [], ◌++◌, List, map, length}
 use Rattle.sqlite.specs.Order.{Row}
 use Rattle.sqlite.specs.State.{HasCleanDisk, IsUnchanged, Survives}
 use Rattle.sqlite.specs.Held.{state}
@@ -12,4 +12,4 @@ invariant-rows g l =
     let now = state g.S.Store l.rows.conn.now in
     (l.rows.conn.ghost_name ≡ l.initial.rows.conn.ghost_name) × Survives old now (λ _. ⊥)
     × (old.in_transaction ≡ false → now.in_transaction ≡ false)
-    × (HasCleanDisk now → (given : List Row) × HasGiven g.S.Store l.fn.text [] l.rows.conn.now given × IsUnchanged old now × (l.found.items ≡ l.fn.found.items ++ map (shown_by l.fn.table) given))
+    × (HasCleanDisk now → (given : List Row) × HasGiven g.S.Store l.fn.text [] l.rows.conn.now given × IsUnchanged old now × (l.found.items ≡ l.fn.found.items ++ map (shown_by l.fn.table) given) × (length given ≡ l._taken))

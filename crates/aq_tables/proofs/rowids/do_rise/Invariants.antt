@@ -1,9 +1,11 @@
-use Rattle.std.proofs.Common.{◌≡◌, [], List, true}
+use Rattle.std.proofs.Common.{◌≡◌, [], List, length, true, false}
 use Rattle.sqlite.specs.Order.{Row}
 use Rattle.sqlite.specs.State.{HasCleanDisk, IsUnchanged, Survives}
 use Rattle.sqlite.specs.Held.{state}
 use Rattle.sqlite.specs.Given.{HasGiven}
 use Rattle.aq_tables.proofs.RowidsApart.{RiseTo}
+use Rattle.aq_tables.specs.WhyMade.{DoesNotRise}
+use Rattle.aq_tables.proofs.RowidsFall.{IsLast}
 use Rattle.aq_tables.proofs.rowids.do_rise.Given as goal
 
 abbrev pub invariant-rows : goal.invariant-rows
@@ -11,4 +13,5 @@ invariant-rows g l =
     let old = state g.S.Store l.fn.conn in
     let now = state g.S.Store l.rows.conn.now in
     (l.rows.conn.ghost_name ≡ l.initial.rows.conn.ghost_name) × Survives old now (λ _. ⊥)
-    × (HasCleanDisk now → (given : List Row) × HasGiven g.S.Store l.fn.text [] l.rows.conn.now given × IsUnchanged old now × (l.rise ≡ true → RiseTo l.last given))
+    × (old.in_transaction ≡ false → now.in_transaction ≡ false)
+    × (HasCleanDisk now → (given : List Row) × HasGiven g.S.Store l.fn.text [] l.rows.conn.now given × IsUnchanged old now × (l.rise ≡ true → RiseTo l.last given) × (length given ≡ l._taken) × IsLast l.last given × (l.rise ≡ false → DoesNotRise l.fn.text old.now))

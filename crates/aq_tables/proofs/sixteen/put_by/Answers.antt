@@ -7,4 +7,4 @@ if_some None f h = h
 if_some (Some x) f h = f x h
 
 pub returns-in-Put : goal.returns-in-Put
-returns-in-Put c = rw (← c.change.view_is, c.in-Put.is) (if_some c.observation_in.result (λ row is. ap PutRow is) c.observation_in.ensures)
+returns-in-Put c = rw (← c.change.view_is, c.in-Put.is) (if_some c.observation_in.result (λ row is. ap PutRow is) c.observation_in.ensures.some)

@@ -21,7 +21,7 @@ loop-place-preserved c =
     let values : take (place + 1) (set c.loop-place.values place c.row_values.result) ≡ take place c.loop-place.values ++ (c.row_values.result ∷ []) = grind (arith, common_steps) in (
       search rules,
       was.1 ++ row ∷ [],
-      rows ∙ ap₂ (λ a b. a ++ b ∷ []) was.2 c.in-Some.ensures ∙ sym (map-append _ was.1 (row ∷ [])),
+      rows ∙ ap₂ (λ a b. a ++ b ∷ []) was.2 c.in-Some.ensures.some ∙ sym (map-append _ was.1 (row ∷ [])),
       ap (map bound) values ∙ map-append bound (take place c.loop-place.values) (c.row_values.result ∷ []) ∙ ap₂ (λ a b. a ++ b ∷ []) was.3 taken ∙ sym (map-append third_values was.1 (row ∷ [])),
       all-append _ was.1 (row ∷ []) was.4 (some, tt),
     )

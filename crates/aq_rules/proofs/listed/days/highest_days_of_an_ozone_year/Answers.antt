@@ -19,4 +19,4 @@ use Rattle.aq_rules.proofs.listed.days.highest_days_of_an_ozone_year.Goals as go
 
 pub returns : goal.returns
 unfolding digits credits day_text days_of days_of_months days_of_quarter days_of_years days_ranked deciding_rank eight_hours eligible_pocs excluded first_at highest_answer highest_ozone_sheet highest_particles_sheet hour_text is_eligible is_scheduled last_digits monitor_day month_of ozone_day pm25_year primary_on quarter_counts quarter_values ranked_days site_day site_hour site_text starts_of text_of window windows year_of
-returns c = record { year = refl }
+returns c = record { year = refl; year_before = refl }

@@ -9,4 +9,4 @@ use Rattle.aq_rules.proofs.listed.lists.events_are_listed.Goals as goal
 
 pub returns : goal.returns
 unfolding digits agreement_of day_text days_of_months days_of_years events_answer events_of events_sheet hour_text last_digits listed_events month_of site_text text_of year_of
-returns c = record { agreed = refl; denied = refl; unsaid = refl; two = refl; elsewhere = refl }
+returns c = record { agreed = refl; denied = refl; unsaid = refl; two = refl; null_code = refl; missed = refl; elsewhere = refl }

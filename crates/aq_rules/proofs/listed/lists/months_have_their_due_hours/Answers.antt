@@ -8,4 +8,4 @@ use Rattle.aq_rules.proofs.listed.lists.months_have_their_due_hours.Goals as goa
 
 pub returns : goal.returns
 unfolding days_of days_of_month days_of_months days_of_years is_scheduled month_counts month_of standing_at year_of
-returns c = record { leap = refl; every_sixth_day = refl; every_third_day = refl; next_month = refl; january = refl; extra = refl; july = refl; ineligible = refl; none = refl; half = refl; below_half = refl }
+returns c = record { leap = refl; every_sixth_day = refl; every_third_day = refl; next_month = refl; january = refl; extra = refl; null_code = refl; other_year = refl; july = refl; ineligible = refl; none = refl; half = refl; below_half = refl }

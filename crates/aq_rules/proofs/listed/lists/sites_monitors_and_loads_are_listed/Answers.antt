@@ -12,4 +12,4 @@ use Rattle.aq_rules.proofs.listed.lists.sites_monitors_and_loads_are_listed.Goal
 
 pub returns : goal.returns
 unfolding digits day_text days_of_months days_of_years last_digits listed_monitors listed_sites loads_answer loads_sheet monitor_count monitors_answer monitors_of monitors_sheet month_of site_text sites_answer sites_sheet standing_at text_of year_of
-returns c = record { sites = refl; no_site = refl; monitors = refl; order = refl; no_load = refl; load = refl }
+returns c = record { sites = refl; no_site = refl; monitors = refl; order = refl; null_code = refl; no_load = refl; load = refl }

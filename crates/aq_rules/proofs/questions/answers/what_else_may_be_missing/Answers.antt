@@ -8,4 +8,4 @@ use Rattle.aq_rules.proofs.questions.answers.what_else_may_be_missing.Goals as g
 
 pub returns : goal.returns
 unfolding answer area_sites sites_with pair_value combined
-returns c = record { event = refl; combination = refl; unregistered = refl; area = refl; load = λ office number none. rw none refl }
+returns c = record { event = refl; combination = refl; unregistered = refl; area = refl; pollutant = refl; load = λ office number none. rw none refl }

@@ -1,4 +1,0 @@
-use Rattle.aq_pm10_cells.proofs.tests.cells_are_filled_from_the_rows.Given as goal
-
-abbrev pub ghosts-counts : goal.ghosts-counts
-ghosts-counts g a = record { name = a.blank.name; parts = a.blank.parts }

@@ -1,0 +1,4 @@
+use Rattle.aq_tests.proofs.pm25_cells.a_day_has_the_value_that_it_was_given.Given as goal
+
+abbrev pub ghosts-changed : goal.ghosts-changed
+ghosts-changed g a = record { name = a.blank.name; parts = a.blank.parts }
