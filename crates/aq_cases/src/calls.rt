@@ -1,8 +1,10 @@
 //! Calls of single functions, that no run shows as directly: `NAME ARGUMENTS => ANSWER`, a line for each.
-//! The names are those of `answers`.
-use crate::answers::answer;
-use crate::trouble::Trouble;
+//! The names are those of `aq_trials::answer`, `command` and `without_memory`.
 use aq_base::Memory;
+use aq_desk::end_without_memory;
+use aq_serve::MemorySink;
+use aq_trials::{Trouble, answer, spelling_of};
+use aq_words::read_words;
 use std::alloc::Global;
 
 /// The first call that answers something else, in words, if there is one.
@@ -22,7 +24,12 @@ fn try_call(alloc: Global, line: &str) -> Result<Option<String>, Memory> {
     let Some((name, arguments)) = call.split_once(' ') else {
         return Ok(Some(format!(in alloc; "`{call}` has no arguments")?));
     };
-    verdict(alloc, call, wanted, answer(alloc, name, arguments))
+    let found = match name {
+        "command" => command(alloc, arguments),
+        "without_memory" => without_memory(alloc),
+        _ => answer(alloc, name, arguments),
+    };
+    verdict(alloc, call, wanted, found)
 }
 
 /// How a call's answer differs from what is wanted, in words, if it does.
@@ -38,4 +45,24 @@ pub(crate) fn verdict(
         Err(Trouble::Memory) => Err(Memory),
         Err(Trouble::Wrong(why)) => Ok(Some(format!(in alloc; "{call}: {why}")?)),
     }
+}
+
+/// The command that words name, or `none`.
+fn command(alloc: Global, arguments: &str) -> Result<String, Trouble> {
+    let mut words = Vec::new(alloc);
+    for word in arguments.split(' ') {
+        words.push(String::from_str(alloc, word)?)?;
+    }
+    match read_words(&words) {
+        Some(command) => Ok(format!(in alloc; "{command:?}")?),
+        None => Ok(String::from_str(alloc, "none")?),
+    }
+}
+
+/// How the program ends if its words had no memory: the status, and what it says.
+fn without_memory(alloc: Global) -> Result<String, Trouble> {
+    let mut errors = MemorySink::new(alloc, 1_000, Vec::new(alloc))?;
+    let status = end_without_memory(&mut errors);
+    let told = spelling_of(alloc, errors.written())?;
+    Ok(format!(in alloc; "{status} {told}")?)
 }

@@ -4,9 +4,10 @@
 //!
 //! # What it has
 //!
-//! - `data/*.txt`: the cases, plain text that a reviewer can read. `format` says how one is written.
+//! - `data/*.txt`: the cases, plain text that a reviewer can read. `format` of `aq_trials` says how one is
+//!   written.
 //! - `data/kept.batches` and `data/others.databases`: batches over databases, and databases that are refused.
-//!   `batches` says how they are written.
+//!   `batches` of `aq_trials` says how they are written.
 //! - `data/index.txt`: the files that are run if the words name none. A file of `data/` that it does not name
 //!   counts as a failure.
 //! - `stdout`: a line for each case; the gate compares it, as two compilers build the program.
@@ -27,32 +28,18 @@
 //! ```
 #![tactic(auto)]
 
-mod answers;
 mod asked;
-mod batches;
-mod blocks;
 mod calls;
-mod case;
-mod compare;
-mod dates;
-mod format;
 mod lent;
-mod rows;
-mod spelling;
 mod taking;
-mod tally;
 mod trial;
-mod trouble;
 
 use aq_base::Memory;
-use batches::{try_batches, try_databases};
-use case::Case;
-use format::read_cases;
+use aq_trials::{Case, Tally, read_cases, try_batches, try_databases};
 use std::alloc::Global;
 use std::io::ErrorKind;
 use std::process::ExitCode;
 use std::{env, fs, io};
-use tally::Tally;
 use trial::try_case;
 
 fn main(rt: HostRuntime) -> io::Result<ExitCode> {

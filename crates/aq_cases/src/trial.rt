@@ -3,18 +3,17 @@ ghost use Rattle.std.specs.Prelude.{◌≡◌, true, map, IfOk};
 ghost use Rattle.aq_rules.specs.Kept.RowChanges.{row_key, keys_rise};
 
 use crate::asked::try_asked;
-use crate::batches::new_keeper;
 use crate::calls::try_calls;
-use crate::case::{Case, Extent, Failing, Given, Place, Run, Subject, Wanted};
-use crate::compare::difference;
 use crate::lent::LentKeeper;
-use crate::rows::{read_rows, rows_text};
 use crate::taking::TakingKeeper;
-use crate::trouble::Trouble;
 use aq_base::Memory;
 use aq_journal::{JournalKeeper, MemoryDisk};
 use aq_keeper::{Keeper, MemoryKeeper, Row, are_in_order};
 use aq_serve::{MemoryDoor, MemorySink, MemorySource};
+use aq_trials::{
+    Case, Extent, Failing, Given, Place, Run, Subject, Trouble, Wanted, difference, new_keeper,
+    read_rows, rows_text,
+};
 use std::alloc::Global;
 
 /// What a run answered and wrote.

@@ -1,17 +1,18 @@
 -- An answer over the office of the tables.
-use Rattle.std.proofs.Common.{◌≡◌, ℕ, Bool, true, false, List, Option, sym, subst, arith}
-use Rattle.std.specs.Prelude.{Result, Ok, Err, IfErr, IfOk, IsErrAnd, IsTrue, if◌then◌else◌}
+use Rattle.std.proofs.Common.{◌≡◌, ℕ, ◌⊎◌, inl, inr, List, Option, sym, ap, subst, ◌∙◌, arith}
+use Rattle.std.specs.Prelude.{Result, Ok, Err, IfErr, IfOk, IsErrAnd}
 use Rattle.aq_base.specs.declared.ask.Ask.{Ask}
 use Rattle.aq_keeper.specs.Told.{told_through}
+use Rattle.aq_office.specs.Answers.{seen}
+use Rattle.aq_office.specs.declared.answers.Answer.{Answer}
+use Rattle.aq_office.specs.declared.answers.Answer.TheVariants.{NoSite, NoLoad}
 use Rattle.aq_rules.specs.Kept.Rows.{Row, rows_of}
 use Rattle.aq_rules.specs.Office.Office.{Office}
-use Rattle.aq_rules.specs.Shown.Answer.{Answer, OfSheet, OfExport, NoSite, NoLoad, Reply, Windows, Days, Pm25, Pm10, Value, Report, Export}
+use Rattle.aq_rules.specs.Shown.Answer.{Reply, Windows, Days, Pm25, Pm10, Value, Report, Export}
 use Rattle.aq_rules.specs.Shown.Answer as questions
-use Rattle.aq_rules.specs.Shown.Sheet.{Sheet}
-use Rattle.aq_words.specs.Words.{is_question}
 use Rattle.aq_desk.proofs.Opening.{over_opened, unopened_gives}
 use Rattle.aq_desk.proofs.Tables.{cut_gives, keeps_opened, printed_gives, stopped_gives}
-use Rattle.aq_desk.specs.Ask.{HasSite, IsUnanswered, ask_outcome}
+use Rattle.aq_desk.specs.Ask.{IsUnanswered, MayLack, ask_outcome}
 use Rattle.aq_desk.specs.Command.{Keeps, Outcome, Printout, leaving, printed, unwritten}
 use Rattle.aq_desk.specs.Office.{HasOpened, IsOpened, IsUnopened}
 use Rattle.aq_serve.specs.Outside.{OfTold}
@@ -21,38 +22,22 @@ use Rattle.aq_desk.specs.declared.stop.Stop.TheVariants as stops
 
 -- ---- questions without an answer
 
--- no question of a site asks for a load
-site-no-load : (there : Bool) (sheet : Answer) → (sheet ≡ NoLoad → ⊥) → (if there then sheet else NoSite) ≡ NoLoad → ⊥
-site-no-load true sheet other is = other is
-site-no-load false sheet other is = absurd (cc)
-
-sheet-is : (sheet : Sheet) → OfSheet sheet ≡ NoLoad → ⊥
-sheet-is sheet is = absurd (cc)
-
-export-is : (text : List ℕ) → OfExport text ≡ NoLoad → ⊥
-export-is text is = absurd (cc)
-
-pub no_load : (office : Office) (ask : Ask) → IsTrue (is_question ask) → questions.answer office ask ≡ NoLoad → ⊥
+-- a report has one, and any other question may lack it
+may-lack : (office : Office) (ask : Ask) → (questions.answer office ask ≡ questions.NoSite) ⊎ (questions.answer office ask ≡ questions.NoLoad) → MayLack ask
 unfolding questions.answer
-no_load office (Reply number) asked is = absurd (cc)
-no_load office (Windows site day) asked is = absurd (cc)
-no_load office (Days site year) asked is = absurd (cc)
-no_load office (Pm25 site year) asked is = absurd (cc)
-no_load office (Pm10 site year) asked is = absurd (cc)
-no_load office (Value standard site year) asked is = site-no-load _ _ (sheet-is _) is
-no_load office (Report standard year) asked is = absurd (cc)
-no_load office (Export site pollutant year) asked is = site-no-load _ _ (export-is _) is
+may-lack office (Reply number) lacks = tt
+may-lack office (Windows site day) lacks = tt
+may-lack office (Days site year) lacks = tt
+may-lack office (Pm25 site year) lacks = tt
+may-lack office (Pm10 site year) lacks = tt
+may-lack office (Value standard site year) lacks = tt
+may-lack office (Report standard year) (inl is) = absurd (cc)
+may-lack office (Report standard year) (inr is) = absurd (cc)
+may-lack office (Export site pollutant year) lacks = tt
 
-pub has_site : (office : Office) (ask : Ask) → IsTrue (is_question ask) → questions.answer office ask ≡ NoSite → HasSite ask
-unfolding questions.answer
-has_site office (Reply number) asked is = absurd (cc)
-has_site office (Windows site day) asked is = absurd (cc)
-has_site office (Days site year) asked is = absurd (cc)
-has_site office (Pm25 site year) asked is = absurd (cc)
-has_site office (Pm10 site year) asked is = absurd (cc)
-has_site office (Value standard site year) asked is = tt
-has_site office (Report standard year) asked is = absurd (cc)
-has_site office (Export site pollutant year) asked is = tt
+pub may_lack : (office : Office) (ask : Ask) (found : Answer) → questions.answer office ask ≡ seen found → (found ≡ NoSite) ⊎ (found ≡ NoLoad) → MayLack ask
+may_lack office ask found is (inl none) = may-lack office ask (inl (is ∙ ap seen none))
+may_lack office ask found is (inr none) = may-lack office ask (inr (is ∙ ap seen none))
 
 -- ---- and over the tables
 
@@ -77,6 +62,7 @@ module _ (rows : List Row) (before after : Option (List Row)) (keeps : (status :
   unanswered-gives printout (stops.NoEvent number) cause = unwritten-gives printout (stops.NoEvent number) cause (λ three. omega (arith, three))
   unanswered-gives printout (stops.NoCombination site) cause = unwritten-gives printout (stops.NoCombination site) cause (λ three. omega (arith, three))
   unanswered-gives printout stops.NoSiteInArea cause = unwritten-gives printout stops.NoSiteInArea cause (λ three. omega (arith, three))
+  unanswered-gives printout (stops.NoLoad number) cause = unwritten-gives printout (stops.NoLoad number) cause (λ three. omega (arith, three))
   unanswered-gives printout stops.InputFailed cause = absurd cause
   unanswered-gives printout stops.OutputFailed cause = absurd cause
   unanswered-gives printout stops.KeeperFailed cause = absurd cause
@@ -112,6 +98,7 @@ unanswered-unprinted printout (stops.NoSite site) cause = (grind arith, (λ five
 unanswered-unprinted printout (stops.NoEvent number) cause = (grind arith, (λ five. omega (arith, five)))
 unanswered-unprinted printout (stops.NoCombination site) cause = (grind arith, (λ five. omega (arith, five)))
 unanswered-unprinted printout stops.NoSiteInArea cause = (grind arith, (λ five. omega (arith, five)))
+unanswered-unprinted printout (stops.NoLoad number) cause = (grind arith, (λ five. omega (arith, five)))
 unanswered-unprinted printout stops.InputFailed cause = absurd cause
 unanswered-unprinted printout stops.OutputFailed cause = absurd cause
 unanswered-unprinted printout stops.KeeperFailed cause = absurd cause

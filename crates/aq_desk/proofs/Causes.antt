@@ -20,7 +20,7 @@ use Rattle.aq_desk.specs.Stop.{EndsAs, IsMeasured, Obeys, Performs, ending_of, s
 use Rattle.aq_words.specs.declared.words.Command.{Command}
 use Rattle.aq_words.specs.declared.words.Command.TheVariants.{Serve}
 use Rattle.aq_desk.specs.declared.stop.Stop.{Stop}
-use Rattle.aq_desk.specs.declared.stop.Stop.TheVariants.{InputFailed, OutputFailed, KeeperFailed, DoorFailed, Damaged, Memory, Conflict, TooManyBytes, TooManyLines, LoadsFull, NoSite, NoEvent, NoCombination, NoSiteInArea}
+use Rattle.aq_desk.specs.declared.stop.Stop.TheVariants.{InputFailed, OutputFailed, KeeperFailed, DoorFailed, Damaged, Memory, Conflict, TooManyBytes, TooManyLines, LoadsFull, NoSite, NoEvent, NoCombination, NoSiteInArea, NoLoad}
 
 whole-0 : IsWhole 0
 whole-0 = grind arith
@@ -49,6 +49,9 @@ whole-14 = grind arith
 whole-15 : IsWhole 15
 whole-15 = grind arith
 
+whole-16 : IsWhole 16
+whole-16 = grind arith
+
 -- the message that was told is that of the status
 message-is : (outcome : Outcome) (answer : Result Unit Stop) → EndsAs outcome answer → (ending_of answer).message ≡ message_for outcome (status_of answer)
 message-is outcome (Ok nothing) ends = ap (λ ending. ending.message) (ends whole-0)
@@ -66,6 +69,7 @@ message-is outcome (Err (NoSite site)) ends = ap (λ ending. ending.message) (en
 message-is outcome (Err (NoEvent number)) ends = ap (λ ending. ending.message) (ends whole-13)
 message-is outcome (Err (NoCombination site)) ends = ap (λ ending. ending.message) (ends whole-14)
 message-is outcome (Err NoSiteInArea) ends = ap (λ ending. ending.message) (ends whole-15)
+message-is outcome (Err (NoLoad number)) ends = ap (λ ending. ending.message) (ends whole-16)
 
 performs_follows : (outcome : Outcome) (answer : Result Unit Stop) (before after : SinkView) (tables_before tables_after : Option (List Row)) → Performs outcome answer before after tables_before tables_after → Follows outcome (status_of answer) before after tables_before tables_after
 performs_follows outcome answer before after tables_before tables_after performs = record {
@@ -248,6 +252,7 @@ status-is (Err (NoSite site)) = (grind arith, (λ two. omega (arith, two)))
 status-is (Err (NoEvent number)) = (grind arith, (λ two. omega (arith, two)))
 status-is (Err (NoCombination site)) = (grind arith, (λ two. omega (arith, two)))
 status-is (Err NoSiteInArea) = (grind arith, (λ two. omega (arith, two)))
+status-is (Err (NoLoad number)) = (grind arith, (λ two. omega (arith, two)))
 
 pub is_status : (answer : Result Unit Stop) → IsStatus (status_of answer)
 is_status answer = let both = status-is answer in both.0

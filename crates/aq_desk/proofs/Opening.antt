@@ -23,7 +23,7 @@ use Rattle.aq_desk.specs.Office.{HasOpened, IsOpened, IsUnopened, OnlyMigrates, 
 use Rattle.aq_serve.specs.Outside.{IsAll, OfTold}
 use Rattle.aq_desk.specs.Stop.{Gives, IsUnprinted, ending_at, status_of, stop_of_book}
 use Rattle.aq_desk.specs.declared.stop.Stop.{Stop}
-use Rattle.aq_desk.specs.declared.stop.Stop.TheVariants.{InputFailed, OutputFailed, KeeperFailed, DoorFailed, Damaged, Memory, Conflict, TooManyBytes, TooManyLines, LoadsFull, NoSite, NoEvent, NoCombination, NoSiteInArea}
+use Rattle.aq_desk.specs.declared.stop.Stop.TheVariants.{InputFailed, OutputFailed, KeeperFailed, DoorFailed, Damaged, Memory, Conflict, TooManyBytes, TooManyLines, LoadsFull, NoSite, NoEvent, NoCombination, NoSiteInArea, NoLoad}
 
 -- ---- rows that are opened
 
@@ -158,6 +158,7 @@ read_unopened before read after m k n (NoSite site) stays steady cause = absurd 
 read_unopened before read after m k n (NoEvent number) stays steady cause = absurd cause
 read_unopened before read after m k n (NoCombination site) stays steady cause = absurd cause
 read_unopened before read after m k n NoSiteInArea stays steady cause = absurd cause
+read_unopened before read after m k n (NoLoad number) stays steady cause = absurd cause
 
 pub stopped_unopened : {A : Type 0} (answer : Result A Stop) (before read after : Option (List Row)) (m k n : ℕ) (stop : Stop) → IsErrAnd answer (λ why. why ≡ stop)
     → Stays before read → k ≡ m → IsUnopened read after k n stop → IfErr answer (IsUnopened before after m n)
@@ -209,6 +210,7 @@ module _ (before read after : KeeperView) (rows : List Row) (told : IfSome read.
   unopened_migrates m n (NoEvent number) cause = absurd cause
   unopened_migrates m n (NoCombination site) cause = absurd cause
   unopened_migrates m n NoSiteInArea cause = absurd cause
+  unopened_migrates m n (NoLoad number) cause = absurd cause
 
 -- migrated rows are an office's, so none is damaged
 pub undamaged_old : (rows standing : List Row) (place : Place) → ((rs : List Row) → (damage rs ≡ None) ↔ IsTrue (are_office_rows rs)) → ((rs : List Row) → IsTrue (are_version_1 rs) → IsTrue (are_office_rows (migrated rs)))
@@ -279,6 +281,7 @@ unopened-gives before after m n (NoSite site) next cause = absurd cause
 unopened-gives before after m n (NoEvent number) next cause = absurd cause
 unopened-gives before after m n (NoCombination site) next cause = absurd cause
 unopened-gives before after m n NoSiteInArea next cause = absurd cause
+unopened-gives before after m n (NoLoad number) next cause = absurd cause
 
 pub unopened_gives : (before after : Option (List Row)) (m n : ℕ) (stop : Stop) (next : Office → Outcome) (answer : Result (List ℕ) Stop) → IsErrAnd answer (λ why. why ≡ stop) → IsUnopened before after m n stop → OfTold (told_through before after) (λ rows. Gives (over_office rows next) answer before after)
 unopened_gives before after m n stop next answer is cause =
@@ -304,6 +307,7 @@ unopened-fault before after m n (NoSite site) cause = absurd cause
 unopened-fault before after m n (NoEvent number) cause = absurd cause
 unopened-fault before after m n (NoCombination site) cause = absurd cause
 unopened-fault before after m n NoSiteInArea cause = absurd cause
+unopened-fault before after m n (NoLoad number) cause = absurd cause
 
 pub fault-unprinted : (m n : ℕ) (stop : Stop) → IsFault m n (ending_at stop).status → IsUnprinted stop
 fault-unprinted m n stop (inl five) = inl five.0

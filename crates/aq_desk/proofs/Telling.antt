@@ -10,7 +10,7 @@ use Rattle.aq_desk.proofs.Outcomes.{bytes_behind, front_behind, front_of_more, j
 use Rattle.aq_desk.specs.Command.{Tells}
 use Rattle.aq_rules.specs.Kept.RowChanges.{table_name}
 use Rattle.aq_rules.specs.Shown.OtherSheets.{digest_text}
-use Rattle.aq_desk.specs.Ending.{conflict, damaged, door_failed, input_failed, keeper_failed, loads_full, no_combination, no_site_in_area, no_command, no_event, no_memory, no_site, output_failed, too_many_bytes, too_many_lines}
+use Rattle.aq_desk.specs.Ending.{conflict, damaged, door_failed, input_failed, keeper_failed, loads_full, no_combination, no_site_in_area, no_command, no_event, no_load, no_memory, no_site, output_failed, too_many_bytes, too_many_lines}
 use Rattle.aq_base.specs.Faults.{HasRisen}
 use Rattle.aq_desk.specs.Stop.{ending_at}
 use Rattle.aq_desk.specs.declared.stop.Stop.{Stop}
@@ -111,6 +111,10 @@ fifteen : decimal 15 ≡ codes "15"
 unfolding digits
 fifteen = refl
 
+sixteen : decimal 16 ≡ codes "16"
+unfolding digits
+sixteen = refl
+
 two : decimal 2 ≡ codes "2"
 unfolding digits
 two = refl
@@ -119,7 +123,7 @@ most_bytes : decimal 8388608 ≡ codes "8388608"
 unfolding digits
 most_bytes = refl
 
-pub no_command_message : codes "airdv: 2 no command\nusage: airdv scan SITE DAY\nusage: airdv load NUMBER\nusage: airdv show STANDARD SITE YEAR\nusage: airdv report STANDARD YEAR\nusage: airdv export SITE PARAMETER YEAR\nusage: airdv whatif STANDARD SITE YEAR LIST\nusage: airdv decisive STANDARD SITE YEAR\nusage: airdv combined STANDARD SITE YEAR\nusage: airdv area STANDARD AREA YEAR\nusage: airdv serve --port P --connections N\nusage: airdv simulate START SITES YEARS\n" ≡ no_command.message
+pub no_command_message : codes "airdv: 2 no command\nusage: airdv scan SITE DAY\nusage: airdv load NUMBER\nusage: airdv show STANDARD SITE YEAR\nusage: airdv report STANDARD YEAR\nusage: airdv export SITE PARAMETER YEAR\nusage: airdv whatif STANDARD SITE YEAR LIST\nusage: airdv decisive STANDARD SITE YEAR\nusage: airdv combined STANDARD SITE YEAR\nusage: airdv area STANDARD AREA YEAR\nusage: airdv reply NUMBER\nusage: airdv windows SITE DAY\nusage: airdv days SITE YEAR\nusage: airdv pm25 SITE YEAR\nusage: airdv pm10 SITE YEAR\nusage: airdv serve --port P --connections N\nusage: airdv simulate START SITES YEARS\n" ≡ no_command.message
 no_command_message = rw two refl
 
 pub input_message : codes "airdv: 3 input failed\n" ≡ input_failed.message
@@ -179,6 +183,9 @@ combination_message site = rw fourteen refl
 
 pub event_message : (number : ℕ) → (codes "airdv: 13 no event " ++ decimal number) ++ codes "\n" ≡ (no_event number).message
 event_message number = rw thirteen refl
+
+pub load_message : (number : ℕ) → (codes "airdv: 16 no load " ++ decimal number) ++ codes "\n" ≡ (no_load number).message
+load_message number = rw sixteen refl
 
 pub first_digit : (n : ℕ) → n < 10 → (48 + n % 10) ∷ [] ≡ decimal n
 first_digit n small = let same : n % 10 ≡ n = omega arith in ap (λ k. (48 + k) ∷ []) same ∙ sym (decimal_digit n small)

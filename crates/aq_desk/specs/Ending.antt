@@ -6,7 +6,7 @@ use Rattle.aq_rules.specs.Kept.RowChanges.{table_name}
 use Rattle.aq_rules.specs.Kept.Rows.{Place}
 use Rattle.aq_rules.specs.Shown.OtherSheets.{digest_text}
 use Rattle.aq_rules.specs.Shown.Sheet.{site_text}
-use Rattle.aq_desk.specs.declared.status.TheConstants.{DONE, NO_COMMAND, INPUT_FAILED, OUTPUT_FAILED, KEEPER_FAILED, DAMAGED, NO_MEMORY, DOOR_FAILED, CONFLICT, TOO_LARGE, LOADS_FULL, NO_SITE, NO_EVENT, NO_COMBINATION, NO_SITE_IN_AREA}
+use Rattle.aq_desk.specs.declared.status.TheConstants.{DONE, NO_COMMAND, INPUT_FAILED, OUTPUT_FAILED, KEEPER_FAILED, DAMAGED, NO_MEMORY, DOOR_FAILED, CONFLICT, TOO_LARGE, LOADS_FULL, NO_SITE, NO_EVENT, NO_COMBINATION, NO_SITE_IN_AREA, NO_LOAD}
 
 pub record Ending : Type 0 where
   pub status : ℕ
@@ -25,7 +25,8 @@ abbrev pub commands : List (List ℕ)
 commands =
     codes "scan SITE DAY" ∷ codes "load NUMBER" ∷ codes "show STANDARD SITE YEAR" ∷ codes "report STANDARD YEAR"
     ∷ codes "export SITE PARAMETER YEAR" ∷ codes "whatif STANDARD SITE YEAR LIST" ∷ codes "decisive STANDARD SITE YEAR"
-    ∷ codes "combined STANDARD SITE YEAR" ∷ codes "area STANDARD AREA YEAR" ∷ codes "serve --port P --connections N" ∷ codes "simulate START SITES YEARS" ∷ []
+    ∷ codes "combined STANDARD SITE YEAR" ∷ codes "area STANDARD AREA YEAR" ∷ codes "reply NUMBER" ∷ codes "windows SITE DAY"
+    ∷ codes "days SITE YEAR" ∷ codes "pm25 SITE YEAR" ∷ codes "pm10 SITE YEAR" ∷ codes "serve --port P --connections N" ∷ codes "simulate START SITES YEARS" ∷ []
 
 -- a line for each command
 abbrev pub usage : List ℕ
@@ -84,3 +85,7 @@ no_combination site = ends NO_COMBINATION (codes "no combination " ++ site_text 
 -- no registered site of the area has a monitor of the standard's pollutant
 abbrev pub no_site_in_area : Ending
 no_site_in_area = ends NO_SITE_IN_AREA (codes "no site in area")
+
+-- with the number of which no load stands
+abbrev pub no_load : ℕ → Ending
+no_load number = ends NO_LOAD (codes "no load " ++ decimal number)

@@ -5,7 +5,7 @@ use Rattle.aq_rules.specs.Kept.Rows.{Row}
 use Rattle.aq_rules.specs.Limits.{MOST_BYTES}
 use Rattle.aq_desk.specs.Body.{is_within}
 use Rattle.aq_desk.specs.Command.{IsWhole, Keeps, Outcome, Printout, ReadsWhole, RisesAt, printout_of}
-use Rattle.aq_desk.specs.Ending.{Ending, done, input_failed, output_failed, keeper_failed, damaged, no_memory, door_failed, conflict, too_many_bytes, too_many_lines, loads_full, no_site, no_event, no_combination, no_site_in_area}
+use Rattle.aq_desk.specs.Ending.{Ending, done, input_failed, output_failed, keeper_failed, damaged, no_memory, door_failed, conflict, too_many_bytes, too_many_lines, loads_full, no_site, no_event, no_combination, no_site_in_area, no_load}
 use Rattle.aq_desk.specs.Writing.{WritesFront}
 use Rattle.aq_serve.specs.Outside.{IsAll, SinkView, SourceView}
 use Rattle.aq_rows.specs.declared.opening.OpenFault.{OpenFault}
@@ -15,8 +15,8 @@ use Rattle.aq_keeper.specs.declared.keeper.KeeperFault.TheVariants as keeper
 use Rattle.aq_desk.specs.declared.body.BodyFault.{BodyFault}
 use Rattle.aq_desk.specs.declared.body.BodyFault.TheVariants as fault
 use Rattle.aq_desk.specs.declared.stop.Stop.{Stop}
-use Rattle.aq_desk.specs.declared.stop.Stop.TheVariants.{InputFailed, OutputFailed, KeeperFailed, DoorFailed, Damaged, Memory, Conflict, TooManyBytes, TooManyLines, LoadsFull, NoSite, NoEvent, NoCombination, NoSiteInArea}
-use Rattle.aq_desk.specs.declared.status.TheConstants.{DONE, INPUT_FAILED, OUTPUT_FAILED, KEEPER_FAILED, DAMAGED, NO_MEMORY, CONFLICT, TOO_LARGE, LOADS_FULL, NO_SITE, NO_EVENT, NO_COMBINATION, NO_SITE_IN_AREA}
+use Rattle.aq_desk.specs.declared.stop.Stop.TheVariants.{InputFailed, OutputFailed, KeeperFailed, DoorFailed, Damaged, Memory, Conflict, TooManyBytes, TooManyLines, LoadsFull, NoSite, NoEvent, NoCombination, NoSiteInArea, NoLoad}
+use Rattle.aq_desk.specs.declared.status.TheConstants.{DONE, INPUT_FAILED, OUTPUT_FAILED, KEEPER_FAILED, DAMAGED, NO_MEMORY, CONFLICT, TOO_LARGE, LOADS_FULL, NO_SITE, NO_EVENT, NO_COMBINATION, NO_SITE_IN_AREA, NO_LOAD}
 
 abbrev pub ending_at : Stop → Ending
 ending_at InputFailed = input_failed
@@ -33,6 +33,7 @@ ending_at (NoSite site) = no_site site
 ending_at (NoEvent number) = no_event number
 ending_at (NoCombination site) = no_combination site
 ending_at NoSiteInArea = no_site_in_area
+ending_at (NoLoad number) = no_load number
 
 -- a command that was done, or stopped
 abbrev pub ending_of : {A : Type 0} → Result A Stop → Ending
@@ -87,11 +88,11 @@ IsTaken status = (status ≡ DONE) ⊎ (status ≡ OUTPUT_FAILED) ⊎ (status �
 abbrev pub IsCutShort : Stop → Type 0
 IsCutShort stop = ((ending_at stop).status ≡ OUTPUT_FAILED) ⊎ ((ending_at stop).status ≡ NO_MEMORY)
 
--- stopped before it printed: the office was not opened, the load not taken, the site is not registered, an event does not stand, no site is joined to the site, or the area has no site
+-- stopped before it printed: the office was not opened, the load not taken, the site is not registered, an event does not stand, no site is joined to the site, the area has no site, or no load has the number
 abbrev pub IsUnprinted : Stop → Type 0
 IsUnprinted stop =
     let status = (ending_at stop).status in
-    (status ≡ KEEPER_FAILED) ⊎ (status ≡ DAMAGED) ⊎ (status ≡ NO_MEMORY) ⊎ (status ≡ CONFLICT) ⊎ (status ≡ LOADS_FULL) ⊎ (status ≡ NO_SITE) ⊎ (status ≡ NO_EVENT) ⊎ (status ≡ NO_COMBINATION) ⊎ (status ≡ NO_SITE_IN_AREA)
+    (status ≡ KEEPER_FAILED) ⊎ (status ≡ DAMAGED) ⊎ (status ≡ NO_MEMORY) ⊎ (status ≡ CONFLICT) ⊎ (status ≡ LOADS_FULL) ⊎ (status ≡ NO_SITE) ⊎ (status ≡ NO_EVENT) ⊎ (status ≡ NO_COMBINATION) ⊎ (status ≡ NO_SITE_IN_AREA) ⊎ (status ≡ NO_LOAD)
 
 -- why it ended so: a count of faults rose
 pub record HasCauses (status : ℕ) (input_before input_after : SourceView) (output_before output_after : SinkView) : Type 0 where

@@ -1,9 +1,9 @@
-//! The commands that ask, and of these `show`, `report` and `export`.
+//! The commands that ask, and of these the book's questions: a load's reply, the sheets of a site, a report,
+//! and an export.
 ghost use Rattle.std.specs.Prelude.{◌≡◌, false, IfErr, IfOk, IsTrue};
 ghost use Rattle.aq_keeper.specs.Told.{told_through};
-ghost use Rattle.aq_desk.specs.Ask.{HasSite, ask_outcome, without_answer};
-ghost use Rattle.aq_desk.specs.Command.{RisesAt, WritesNothing};
-ghost use Rattle.aq_desk.specs.Ending.{no_site};
+ghost use Rattle.aq_desk.specs.Ask.{IsUnanswered, MayLack, ask_outcome, without_answer};
+ghost use Rattle.aq_desk.specs.Command.{RisesAt, WritesNothing, unwritten};
 ghost use Rattle.aq_desk.specs.Office.{OnlyMigrates};
 ghost use Rattle.aq_serve.specs.Outside.{OfTold};
 ghost use Rattle.aq_desk.specs.Stop.{Gives, IsUnprinted, Performs, status_of};
@@ -12,7 +12,7 @@ ghost use Rattle.aq_desk.specs.declared.status.TheConstants.{DOOR_FAILED, INPUT_
 use crate::office::open;
 use crate::stop::Stop;
 use crate::writing::print_text;
-use aq_base::{Ask, Bytes, SiteId};
+use aq_base::{Ask, Bytes};
 use aq_book::Book;
 use aq_keeper::Keeper;
 use aq_office::{Answer, answer_to};
@@ -105,30 +105,31 @@ fn answered<Q: Question, K: Keeper>(
 
 impl Question for Ask {
     ghost use Rattle.aq_desk.specs.Ask.{ask_printout};
-    ghost use Rattle.aq_words.specs.Words.{is_question};
+    ghost use Rattle.aq_rules.specs.Shown.Answer as questions;
 
     ghost printout = { ask_printout };
 
-    ghost is_asked = { is_question };
+    ghost is_asked = { questions.is_asked };
 
     fn text(&self, alloc: Global, book: &Book) -> Result<Bytes, Stop> {
         match answer_to(alloc, book, self)? {
             Answer::Sheet(sheet) => Ok(Bytes::from_vec(text_of(alloc, &sheet)?)),
             Answer::Export(text) => Ok(Bytes::from_vec(text)),
-            Answer::NoSite => Err(Stop::NoSite(site_asked(self))),
-            Answer::NoLoad => unreachable!(),
+            Answer::NoSite | Answer::NoLoad => Err(lacked(self)),
         }
     }
 }
 
-/// The site of which a design value or an export is asked.
-fn site_asked(ask: &Ask) -> SiteId
-    requires { HasSite ask.now }
-    ensures { without_answer ask.now ≡ no_site result }
+/// What a question without an answer lacks: a load with its number, or its site.
+fn lacked(ask: &Ask) -> Stop
+    requires { MayLack ask.now }
+    ensures { IsUnanswered (unwritten (without_answer ask.now)) result }
 {
     match *ask {
-        Ask::Value(_, site, _) => site,
-        Ask::Export(site, _, _) => site,
-        _ => unreachable!(),
+        Ask::Reply(number) => Stop::NoLoad(number),
+        Ask::Windows(site, _) => Stop::NoSite(site),
+        Ask::Days(site, _) | Ask::Pm25(site, _) | Ask::Pm10(site, _) => Stop::NoSite(site),
+        Ask::Value(_, site, _) | Ask::Export(site, _, _) => Stop::NoSite(site),
+        Ask::Report(..) => unreachable!(),
     }
 }

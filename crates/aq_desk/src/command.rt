@@ -36,6 +36,11 @@ usage: airdv whatif STANDARD SITE YEAR LIST\n\
 usage: airdv decisive STANDARD SITE YEAR\n\
 usage: airdv combined STANDARD SITE YEAR\n\
 usage: airdv area STANDARD AREA YEAR\n\
+usage: airdv reply NUMBER\n\
+usage: airdv windows SITE DAY\n\
+usage: airdv days SITE YEAR\n\
+usage: airdv pm25 SITE YEAR\n\
+usage: airdv pm10 SITE YEAR\n\
 usage: airdv serve --port P --connections N\n\
 usage: airdv simulate START SITES YEARS\n";
 

@@ -18,9 +18,9 @@
 //!   says what each connection was answered.
 //! - The causes: 2 comes exactly if the words are no command; 3, 4, 5 and 8 come only if a count of
 //!   faults rose, which else stays, but for the keeper's while `serve` answers 503; with 2, 3, 5, 6, 8,
-//!   9, 10, 11, 13, 14 and 15 nothing is written on the output (`no_command`, `input_failed`, `output_failed`,
-//!   `keeper_failed`, `door_failed`, `only_serve`, `silent`). 10 and the statuses after the input was
-//!   read are tied to its size in the headline (`measured`).
+//!   9, 10, 11, 13, 14, 15 and 16 nothing is written on the output (`no_command`, `input_failed`,
+//!   `output_failed`, `keeper_failed`, `door_failed`, `only_serve`, `silent`). 10 and the statuses after
+//!   the input was read are tied to its size in the headline (`measured`).
 //! - A command that reads its input reads at most one byte more than a body may have, and all of it
 //!   where it read the body to its end (`read`).
 //! - The message on the errors stream is that of the status (`tells`); without memory for the words it

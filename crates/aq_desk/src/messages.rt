@@ -3,7 +3,7 @@ ghost use Rattle.std.specs.Prelude.{◌≡◌, ◌<◌, ◌++◌, codes, decimal
 ghost use Rattle.aq_rules.specs.Kept.RowChanges.{table_name};
 ghost use Rattle.aq_rules.specs.Shown.OtherSheets.{digest_text};
 ghost use Rattle.aq_rules.specs.Shown.Sheet.{site_text};
-ghost use Rattle.aq_desk.specs.Ending.{conflict, damaged, no_combination, no_event, no_site, too_many_lines};
+ghost use Rattle.aq_desk.specs.Ending.{conflict, damaged, no_combination, no_event, no_load, no_site, too_many_lines};
 ghost use Rattle.aq_desk.specs.Writing.{Writes};
 
 use crate::writing::write_all;
@@ -108,6 +108,14 @@ pub(crate) fn write_no_event<E: Sink>(number: u32, errors: &mut E) -> Result<(),
         (E.seen errors.new) result }
 {
     write_counted(b"airdv: 13 no event ", number as u64, b"\n", errors)
+}
+
+/// Writes the number of which no load stands.
+pub(crate) fn write_no_load<E: Sink>(number: u32, errors: &mut E) -> Result<(), Failed>
+    ensures { let ending = no_load number in Writes ending.message (E.seen errors.old)
+        (E.seen errors.new) result }
+{
+    write_counted(b"airdv: 16 no load ", number as u64, b"\n", errors)
 }
 
 /// Writes a number between two texts.

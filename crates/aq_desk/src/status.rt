@@ -1,6 +1,6 @@
 //! The exit statuses of a run (own). Each has its name here once, and all else cites it.
 ghost use Rattle.std.specs.Prelude.{◌≡◌};
-ghost use Rattle.aq_desk.specs.declared.status.TheConstants.{DONE, NO_COMMAND, INPUT_FAILED, OUTPUT_FAILED, KEEPER_FAILED, DAMAGED, NO_MEMORY, DOOR_FAILED, CONFLICT, TOO_LARGE, LOADS_FULL, NO_SITE, NO_EVENT, NO_COMBINATION, NO_SITE_IN_AREA};
+ghost use Rattle.aq_desk.specs.declared.status.TheConstants.{DONE, NO_COMMAND, INPUT_FAILED, OUTPUT_FAILED, KEEPER_FAILED, DAMAGED, NO_MEMORY, DOOR_FAILED, CONFLICT, TOO_LARGE, LOADS_FULL, NO_SITE, NO_EVENT, NO_COMBINATION, NO_SITE_IN_AREA, NO_LOAD};
 
 /// The command was done.
 pub const DONE: u8 = 0;
@@ -47,6 +47,9 @@ pub const NO_COMBINATION: u8 = 14;
 /// No registered site of an area measures the pollutant.
 pub const NO_SITE_IN_AREA: u8 = 15;
 
+/// No load with the number stands.
+pub const NO_LOAD: u8 = 16;
+
 /// The statuses are these numbers, on which scripts of an agency rest.
 pub fn statuses_are_these_numbers()
     ensures done { DONE ≡ 0 }
@@ -64,4 +67,5 @@ pub fn statuses_are_these_numbers()
     ensures no_event { NO_EVENT ≡ 13 }
     ensures no_combination { NO_COMBINATION ≡ 14 }
     ensures no_site_in_area { NO_SITE_IN_AREA ≡ 15 }
+    ensures no_load { NO_LOAD ≡ 16 }
 {}

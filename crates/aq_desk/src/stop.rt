@@ -5,11 +5,12 @@ ghost use Rattle.aq_desk.specs.Writing.{Writes};
 
 use crate::body::BodyFault;
 use crate::messages::{
-    write_conflict, write_damaged, write_lines, write_no_combination, write_no_event, write_no_site,
+    write_conflict, write_damaged, write_lines, write_no_combination, write_no_event,
+    write_no_load, write_no_site,
 };
 use crate::status::{
     CONFLICT, DAMAGED, DOOR_FAILED, INPUT_FAILED, KEEPER_FAILED, LOADS_FULL, NO_COMBINATION,
-    NO_EVENT, NO_MEMORY, NO_SITE, NO_SITE_IN_AREA, OUTPUT_FAILED, TOO_LARGE,
+    NO_EVENT, NO_LOAD, NO_MEMORY, NO_SITE, NO_SITE_IN_AREA, OUTPUT_FAILED, TOO_LARGE,
 };
 use crate::writing::write_all;
 use aq_base::{Failed, SiteId};
@@ -45,6 +46,8 @@ pub enum Stop {
     NoCombination(SiteId),
     /// No registered site of the area measures the pollutant.
     NoSiteInArea,
+    /// With the number of which no load stands.
+    NoLoad(u32),
 }
 
 impl Stop {
@@ -66,6 +69,7 @@ impl Stop {
             Stop::NoEvent(_) => NO_EVENT,
             Stop::NoCombination(_) => NO_COMBINATION,
             Stop::NoSiteInArea => NO_SITE_IN_AREA,
+            Stop::NoLoad(_) => NO_LOAD,
         }
     }
 
@@ -89,6 +93,7 @@ impl Stop {
             Stop::NoEvent(number) => write_no_event(*number, errors),
             Stop::NoCombination(site) => write_no_combination(*site, errors),
             Stop::NoSiteInArea => write_all(errors, b"airdv: 15 no site in area\n"),
+            Stop::NoLoad(number) => write_no_load(*number, errors),
         }
     }
 }

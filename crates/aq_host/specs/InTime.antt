@@ -1,7 +1,8 @@
 -- Until when a request is to have come whole and its reply to have been taken whole, as reads and writes leave it (own). What the clock says is no part of it.
 use Rattle.std.specs.Prelude.{◌≡◌, ℕ, ◌<◌, true, List, length, Option, Some, None, Result, Ok, Err}
 use Rattle.std.specs.Option.{is_some}
-use Rattle.aq_host.specs.declared.tcp_door.Deadlines.{Deadlines}
+use Rattle.aq_host.specs.declared.waits.Deadlines.{Deadlines}
+use Rattle.aq_host.specs.declared.waits.Came.{Came}
 
 -- no request has begun, and no reply
 abbrev pub none_begun : Deadlines
@@ -22,3 +23,15 @@ abbrev pub AfterWrite : {E : Type 0} → Deadlines → Deadlines → List ℕ �
 AfterWrite before after piece (Ok n) =
     (after.request ≡ None) × (n < length piece → IsSet before.reply after.reply) × (n ≡ length piece → after.reply ≡ None)
 AfterWrite before after piece (Err fault) = after ≡ before
+
+-- ---- a read that waits for a time
+
+-- as a read says it: where nothing came in time it is a failure
+abbrev pub came : {E : Type 0} → Result (Option ℕ) E → Result ℕ Unit
+came (Ok (Some n)) = Ok n
+came (Ok None) = Err tt
+came (Err fault) = Err tt
+
+abbrev pub count_that_came : {E : Type 0} → Result Came E → Result ℕ E
+count_that_came (Ok some) = Ok some.count
+count_that_came (Err fault) = Err fault

@@ -7,7 +7,7 @@
 //! - [`Reading`]: a source of any reader; [`Writing`]: a sink of any writer.
 //! - [`TcpDoor`]: a door of TCP connections from this machine alone (127.0.0.1). A connection that lies
 //!   idle for five seconds is ended, and so is one whose request has not come, or whose reply has not
-//!   been taken, within thirty seconds.
+//!   been taken, within thirty seconds. Where another peer waits it gives way sooner.
 //!
 //! # What it promises
 //!
@@ -35,6 +35,7 @@
 
 mod streams;
 mod tcp_door;
+mod waits;
 
 pub use streams::{Reading, Writing};
 pub use tcp_door::TcpDoor;

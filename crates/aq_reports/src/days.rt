@@ -7,7 +7,7 @@ ghost use Rattle.aq_base.specs.declared.day.TheConstants.{FIRST_YEAR, LAST_DAY, 
 ghost use Rattle.aq_rules.specs.Shown.Sheets as sheets;
 
 use crate::cell::SheetCell;
-use crate::list::{add_count, add_head, add_text, list, names};
+use crate::lists::{add_count, add_head, add_text, list, names};
 use crate::sheet::{Cells, Heads, Rows, Sheet};
 use crate::text::site_text;
 use aq_base::{Day, Memory, SiteId};

@@ -3,7 +3,7 @@ ghost use Rattle.std.specs.Prelude.{◌≡◌, [], IfOk, map};
 ghost use Rattle.aq_rules.specs.Shown.AreaSheets as sheets;
 
 use crate::cell::SheetCell;
-use crate::list::{add_count, add_text, list, names};
+use crate::lists::{add_count, add_text, list, names};
 use crate::sheet::{Cells, Heads, Rows, Sheet};
 use crate::text::site_text;
 use crate::value::verdict_name;

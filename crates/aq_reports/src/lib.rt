@@ -4,7 +4,7 @@
 //! # What it has
 //!
 //! - `Sheet`, `Head`, `SheetCell` with the lists `Heads`, `Names`, `Cells`, `Rows`: a sheet and its
-//!   parts.
+//!   parts. `list` and `names` make one of few items, and of the names of columns.
 //! - `load_sheet`, `conflict_sheet`, `error_sheet`, `summary_sheet`: of a reply, a conflict, an error, a
 //!   simulation.
 //! - `windows_sheet`, `days_sheet`: of an ozone day's averages, and of the days of a year.
@@ -38,7 +38,7 @@ mod days;
 mod decisive;
 mod export;
 mod json_text;
-mod list;
+mod lists;
 mod load;
 mod numbered;
 mod quarters;
@@ -57,6 +57,7 @@ pub use days::days_sheet;
 pub use decisive::decisive_sheet;
 pub use export::export_of;
 pub use json_text::json_of;
+pub use lists::{list, names};
 pub use load::load_sheet;
 pub use quarters::{pm10_sheet, pm25_sheet};
 pub use report::report_sheet;

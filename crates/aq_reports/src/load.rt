@@ -6,7 +6,7 @@ ghost use Rattle.aq_rules.specs.Shown.Sheet.SheetCell.{Text};
 ghost use Rattle.aq_rules.specs.Shown.Sheets as sheets;
 
 use crate::cell::SheetCell;
-use crate::list::{list, names};
+use crate::lists::{list, names};
 use crate::sheet::{Cells, Head, Rows, Sheet};
 use aq_base::{ListedLine, LoadReply, Memory, RestRule, Rule};
 use std::alloc::Global;

@@ -4,7 +4,7 @@ ghost use Rattle.aq_rules.specs.Kept.SummaryVerdicts.{kept_counted};
 ghost use Rattle.aq_rules.specs.Shown.ParticleSheets as particle_sheets;
 
 use crate::cell::SheetCell;
-use crate::list::{add_count, add_head, add_text, list, names};
+use crate::lists::{add_count, add_head, add_text, list, names};
 use crate::numbered::{NumberedRow, numbered_rows};
 use crate::sheet::{Cells, Heads, Sheet};
 use crate::text::site_text;

@@ -4,7 +4,7 @@ ghost use Rattle.aq_rules.specs.Shown.OtherSheets as other_sheets;
 ghost use Rattle.aq_reports.specs.Rows.{judged_in};
 
 use crate::cell::SheetCell;
-use crate::list::{add_count, add_text, list, names};
+use crate::lists::{add_count, add_text, list, names};
 use crate::sheet::{Cells, Heads, Rows, Sheet};
 use crate::text::site_text;
 use crate::value::{design_cell, verdict_name};

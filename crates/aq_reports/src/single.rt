@@ -5,7 +5,7 @@ ghost use Rattle.aq_rules.specs.Shown.OtherSheets as other_sheets;
 ghost use Rattle.aq_rules.specs.Shown.Sheet.{head_of};
 ghost use Rattle.aq_rules.specs.Shown.Sheet.SheetCell.{Text};
 
-use crate::list::{add_count, add_text};
+use crate::lists::{add_count, add_text};
 use crate::sheet::{Heads, Names, Rows, Sheet};
 use aq_base::Memory;
 use std::alloc::Global;

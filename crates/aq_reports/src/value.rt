@@ -5,7 +5,7 @@ ghost use Rattle.aq_rules.specs.Shown.OtherSheets as other;
 ghost use Rattle.aq_verdict.specs.Designs.{design_of};
 
 use crate::cell::SheetCell;
-use crate::list::{add_count, add_head, add_text, list, names};
+use crate::lists::{add_count, add_head, add_text, list, names};
 use crate::numbered::{NumberedRow, numbered_rows};
 use crate::sheet::{Cells, Heads, Sheet};
 use crate::text::site_text;

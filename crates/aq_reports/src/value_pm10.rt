@@ -3,7 +3,7 @@ ghost use Rattle.std.specs.Prelude.{◌≡◌, IfOk};
 ghost use Rattle.aq_rules.specs.Shown.ParticleSheets as particle_sheets;
 
 use crate::cell::SheetCell;
-use crate::list::{list, names};
+use crate::lists::{list, names};
 use crate::numbered::{NumberedRow, numbered_rows};
 use crate::sheet::{Cells, Sheet};
 use crate::value::{oldest_year, value_heads};

@@ -7,7 +7,7 @@ ghost use Rattle.aq_rules.specs.Shown.ParticleSheets as particle_sheets;
 ghost use Rattle.aq_rules.specs.Shown.Sheet.{count_cell};
 
 use crate::cell::SheetCell;
-use crate::list::{list, names};
+use crate::lists::{list, names};
 use crate::sheet::{Cells, Rows, Sheet};
 use crate::value::{oldest_year, value_heads};
 use aq_base::{Memory, SiteId, Standard};

@@ -5,7 +5,7 @@ ghost use Rattle.aq_base.specs.Text.{hour_text};
 ghost use Rattle.aq_rules.specs.Shown.Sheets as sheets;
 
 use crate::cell::SheetCell;
-use crate::list::{list, names};
+use crate::lists::{list, names};
 use crate::sheet::{Cells, Head, Rows, Sheet};
 use crate::text::site_text;
 use aq_base::{Day, Memory, SiteId};

@@ -1,21 +1,19 @@
 -- The words of the command line, and the command that they name (own).
-use Rattle.std.specs.Prelude.{ℕ, ◌-◌, ◌==◌, Bool, true, false, ◌&&◌, nat_le, List, [], ◌∷◌, length, take, drop, Option, Some, None, option_map, if◌then◌else◌, codes, bytes_eq}
+use Rattle.std.specs.Prelude.{ℕ, ◌-◌, ◌==◌, Bool, true, ◌&&◌, nat_le, List, [], ◌∷◌, length, take, drop, Option, Some, None, option_map, if◌then◌else◌, codes, bytes_eq}
 use Rattle.std.specs.List.{slice_split}
-use Rattle.aq_base.specs.Calendar.{is_year}
 use Rattle.aq_base.specs.Site.{Site}
 use Rattle.aq_base.specs.Sites.{all_sites_distinct}
 use Rattle.aq_base.specs.declared.area.Area.{Area}
 use Rattle.aq_base.specs.declared.area.Area.TheVariants.{County, Sites}
 use Rattle.aq_base.specs.declared.area.TheConstants.{MOST_AREA_SITES}
-use Rattle.aq_base.specs.declared.ask.Ask.{Ask}
-use Rattle.aq_base.specs.declared.ask.Ask.TheVariants.{Value, Report, Export}
+use Rattle.aq_base.specs.declared.ask.Ask.TheVariants.{Reply, Windows, Days, Pm25, Pm10, Value, Report, Export}
 use Rattle.aq_base.specs.declared.assumed.Assumed.{Assumed}
 use Rattle.aq_base.specs.declared.assumed.TheConstants.{MOST_ASSUMED}
 use Rattle.aq_base.specs.declared.standard.Standard.{Standard}
 use Rattle.aq_base.specs.declared.standard.Standard.TheVariants.{Pm10Of1987}
 use Rattle.aq_rules.specs.Limits.{LAST_EVENT_NUMBER, LAST_LOAD_NUMBER, MOST_GENERATED_SITES, FEWEST_GENERATED_YEARS, MOST_GENERATED_YEARS}
 use Rattle.aq_rules.specs.Lines.Spellings.{◌>>=◌, digits_in, parameter_in, truth_in, year_in}
-use Rattle.aq_rules.specs.Shown.Answer.{is_design_year, is_load_number}
+use Rattle.aq_rules.specs.Shown.Answer.{is_asked, is_design_year, is_load_number}
 use Rattle.aq_rd.specs.Words.{behind_hyphen, site_word, day_word, number_to, standard_word}
 use Rattle.aq_words.specs.declared.words.Command.{Command}
 use Rattle.aq_words.specs.declared.words.Command.TheVariants.{Scan, Load, WhatIf, Decisive, Serve, Simulate}
@@ -76,6 +74,45 @@ export_of (site ∷ parameter ∷ year ∷ []) = do
   of ← year_in year
   Some (command.Ask (Export at pollutant of))
 export_of _ = None
+
+-- `reply NUMBER`, a number as in `load NUMBER`
+unfoldable pub reply_of : List (List ℕ) → Option Command
+reply_of (text ∷ []) = do
+  number ← number_to LAST_LOAD_NUMBER text
+  Some (command.Ask (Reply number))
+reply_of _ = None
+
+-- `windows SITE DAY`
+unfoldable pub windows_of : List (List ℕ) → Option Command
+windows_of (site ∷ day ∷ []) = do
+  at ← site_word site
+  on ← day_word day
+  Some (command.Ask (Windows at on))
+windows_of _ = None
+
+-- `days SITE YEAR`
+unfoldable pub days_of : List (List ℕ) → Option Command
+days_of (site ∷ year ∷ []) = do
+  at ← site_word site
+  of ← year_in year
+  Some (command.Ask (Days at of))
+days_of _ = None
+
+-- `pm25 SITE YEAR`
+unfoldable pub pm25_of : List (List ℕ) → Option Command
+pm25_of (site ∷ year ∷ []) = do
+  at ← site_word site
+  of ← year_in year
+  Some (command.Ask (Pm25 at of))
+pm25_of _ = None
+
+-- `pm10 SITE YEAR`
+unfoldable pub pm10_of : List (List ℕ) → Option Command
+pm10_of (site ∷ year ∷ []) = do
+  at ← site_word site
+  of ← year_in year
+  Some (command.Ask (Pm10 at of))
+pm10_of _ = None
 
 -- ---- `whatif STANDARD SITE YEAR LIST` and `decisive STANDARD SITE YEAR`
 
@@ -266,27 +303,26 @@ command_in name words =
     else (if bytes_eq name (codes "decisive") then decisive_of words
     else (if bytes_eq name (codes "combined") then combined_of words
     else (if bytes_eq name (codes "area") then area_of words
+    else (if bytes_eq name (codes "reply") then reply_of words
+    else (if bytes_eq name (codes "windows") then windows_of words
+    else (if bytes_eq name (codes "days") then days_of words
+    else (if bytes_eq name (codes "pm25") then pm25_of words
+    else (if bytes_eq name (codes "pm10") then pm10_of words
     else (if bytes_eq name (codes "serve") then serve_of words
     else (if bytes_eq name (codes "simulate") then simulate_of words
-    else None))))))))))
+    else None)))))))))))))))
 
 -- the command of the words, which are all required, and none more
 abbrev pub command_of : List (List ℕ) → Option Command
 command_of [] = None
 command_of (name ∷ words) = command_in name words
 
--- ---- what words may ask
-
-abbrev pub is_question : Ask → Bool
-is_question (Value standard site year) = is_design_year year
-is_question (Report standard year) = is_design_year year
-is_question (Export site pollutant year) = is_year year
-is_question _ = false
+-- ---- what words may name
 
 abbrev pub is_command : Command → Bool
 is_command (Scan site day) = true
 is_command (Load number) = is_load_number number
-is_command (command.Ask ask) = is_question ask
+is_command (command.Ask ask) = is_asked ask
 is_command (WhatIf question) = is_design_year question.year
 is_command (Decisive question) = is_design_year question.year
 is_command (command.Combined question) = is_design_year question.year

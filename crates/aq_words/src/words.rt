@@ -3,7 +3,7 @@ ghost use Rattle.std.specs.Prelude.{◌≡◌, ◌≤◌, ◌∷◌, map, string
 ghost use Rattle.std.specs.Option.{option_map};
 ghost use Rattle.aq_rules.specs.Limits.{FEWEST_GENERATED_YEARS, MOST_GENERATED_YEARS};
 ghost use Rattle.aq_rules.specs.Shown.Answer.{is_design_year};
-ghost use Rattle.aq_words.specs.Words.{area_of, area_word, assumed_in, assumed_list, between_commas, combined_of, command_of, county_word, decisive_of, is_command, design_year, load_of, option_of, pair_of, scan_of, serve_of, served_by, show_of, simulate_of, sites_word, start_in, report_of, export_of, if_combined, what_if_of, years_in};
+ghost use Rattle.aq_words.specs.Words.{area_of, area_word, assumed_in, assumed_list, between_commas, combined_of, command_of, county_word, decisive_of, is_command, design_year, load_of, option_of, pair_of, scan_of, serve_of, served_by, show_of, simulate_of, sites_word, start_in, report_of, export_of, if_combined, what_if_of, years_in, reply_of, windows_of, days_of, pm25_of, pm10_of};
 ghost use Rattle.aq_words.specs.Commas.{behind_comma};
 
 use aq_base::{
@@ -24,7 +24,7 @@ pub enum Command {
     Scan { site: SiteId, day: Day },
     /// Takes the input as the load with this number over the office of the tables.
     Load(u32),
-    /// Answers a question about the office of the tables: for a design value, a report or an export.
+    /// Answers a question about the office of the tables, as `aq_base::Ask` has them.
     Ask(Ask),
     /// Answers for the office of the tables as if events were concurred in or not.
     WhatIf(WhatIf),
@@ -142,6 +142,72 @@ fn export(words: &[String]) -> Option<Command>
     let pollutant = parameter_in(parameter.as_bytes())?;
     let year = year_in(year.as_bytes())?;
     Some(Command::Ask(Ask::Export(site, pollutant, year)))
+}
+
+#[tactic(auto, unfolding(crate::specs::Words::reply_of))]
+fn reply(words: &[String]) -> Option<Command>
+    ensures command { result ≡ reply_of (map string_bytes words.now) }
+    ensures range { IfSome result (λ command. IsTrue (is_command command)) }
+{
+    let [number] = words else {
+        return None;
+    };
+    let number = number_to(u64::from(LAST_LOAD_NUMBER), number.as_bytes())?;
+    Some(Command::Ask(Ask::Reply(number as u32)))
+}
+
+#[tactic(auto, unfolding(crate::specs::Words::windows_of))]
+fn windows(words: &[String]) -> Option<Command>
+    ensures command { result ≡ windows_of (map string_bytes words.now) }
+    ensures range { IfSome result (λ command. IsTrue (is_command command)) }
+{
+    let [site, day] = words else {
+        return None;
+    };
+    let site = site_word(site.as_bytes())?;
+    let day = day_word(day.as_bytes())?;
+    // The day keeps its range.
+    let _ = day.number();
+    Some(Command::Ask(Ask::Windows(site, day)))
+}
+
+#[tactic(auto, unfolding(crate::specs::Words::days_of))]
+fn days(words: &[String]) -> Option<Command>
+    ensures command { result ≡ days_of (map string_bytes words.now) }
+    ensures range { IfSome result (λ command. IsTrue (is_command command)) }
+{
+    let [site, year] = words else {
+        return None;
+    };
+    let site = site_word(site.as_bytes())?;
+    let year = year_in(year.as_bytes())?;
+    Some(Command::Ask(Ask::Days(site, year)))
+}
+
+#[tactic(auto, unfolding(crate::specs::Words::pm25_of))]
+fn pm25(words: &[String]) -> Option<Command>
+    ensures command { result ≡ pm25_of (map string_bytes words.now) }
+    ensures range { IfSome result (λ command. IsTrue (is_command command)) }
+{
+    let [site, year] = words else {
+        return None;
+    };
+    let site = site_word(site.as_bytes())?;
+    let year = year_in(year.as_bytes())?;
+    Some(Command::Ask(Ask::Pm25(site, year)))
+}
+
+#[tactic(auto, unfolding(crate::specs::Words::pm10_of))]
+fn pm10(words: &[String]) -> Option<Command>
+    ensures command { result ≡ pm10_of (map string_bytes words.now) }
+    ensures range { IfSome result (λ command. IsTrue (is_command command)) }
+{
+    let [site, year] = words else {
+        return None;
+    };
+    let site = site_word(site.as_bytes())?;
+    let year = year_in(year.as_bytes())?;
+    Some(Command::Ask(Ask::Pm10(site, year)))
 }
 
 #[tactic(auto, unfolding(crate::specs::Words::what_if_of))]
@@ -447,6 +513,11 @@ pub fn read_words(words: &[String]) -> Option<Command>
         "decisive" => decisive_events(words),
         "combined" => combination(words),
         "area" => area(words),
+        "reply" => reply(words),
+        "windows" => windows(words),
+        "days" => days(words),
+        "pm25" => pm25(words),
+        "pm10" => pm10(words),
         "serve" => serve(words),
         "simulate" => simulate(words),
         _ => None,

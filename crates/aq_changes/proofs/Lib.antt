@@ -1,0 +1,4 @@
+pub mod SampleReading
+pub mod Judged
+pub mod ChangeTexts
+pub mod DroppedLemmas

@@ -1,0 +1,26 @@
+-- Lemmas on walks over monitors, months, events and marks.
+pub mod Agreements
+pub mod Begun
+pub mod Carried
+pub mod Counted
+pub mod CountedOnce
+pub mod CountedParts
+pub mod DayLemmas
+pub mod DueHours
+pub mod Durations
+pub mod EventRows
+pub mod FlagRows
+pub mod LinesLeft
+pub mod ListRows
+pub mod ListedSites
+pub mod MonitorCounts
+pub mod MonitorRows
+pub mod MonitorsByPoc
+pub mod MonthCounted
+pub mod MonthDays
+pub mod MonthRows
+pub mod Places
+pub mod RegisteredMonitors
+pub mod SiteWalk
+pub mod StandingLemmas
+pub mod Walks

@@ -1,0 +1,9 @@
+-- What lists are made of: days of a monitor, due samples, months, sorted marks.
+pub mod DueSamples
+pub mod EventSpans
+pub mod EventWords
+pub mod FlagWords
+pub mod Marks
+pub mod MonitorDays
+pub mod MonitorMonths
+pub mod Registrations
