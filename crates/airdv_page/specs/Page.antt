@@ -3,7 +3,7 @@ use Rattle.std.specs.Prelude.{ℕ, Bool, true, false, ◌||◌, if◌then◌else
 use Rattle.std.specs.Io.KnownBytes.{Appends}
 use Rattle.aq_base.specs.declared.standard.Standard.{Standard}
 use Rattle.aq_base.specs.declared.standard.Standard.TheVariants.{Ozone2015}
-use Rattle.aq_rd.specs.Words.{standard_word}
+use Rattle.aq_rules.specs.Questions.Spelling.{standard_word}
 use Rattle.airdv_page.specs.declared.kind.Picture.{Picture}
 use Rattle.airdv_page.specs.declared.kind.Picture.TheVariants.{Counts, Bars, Squares, Lines, Nothing}
 use Rattle.airdv_page.specs.Reading.{Line, SheetText, lines_of, sheets_of}

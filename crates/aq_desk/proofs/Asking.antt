@@ -1,43 +1,48 @@
--- An answer over the office of the tables.
-use Rattle.std.proofs.Common.{◌≡◌, ℕ, ◌⊎◌, inl, inr, List, Option, sym, ap, subst, ◌∙◌, arith}
-use Rattle.std.specs.Prelude.{Result, Ok, Err, IfErr, IfOk, IsErrAnd}
-use Rattle.aq_base.specs.declared.ask.Ask.{Ask}
+-- An answer that is printed, and one over the office of the tables.
+use Rattle.std.proofs.Common.{◌≡◌, ℕ, ◌⊎◌, inl, inr, Bool, true, false, refl, List, Option, sym, ap, subst, ◌∙◌, arith}
+use Rattle.std.specs.Prelude.{Result, Ok, Err, IfErr, IfOk, IsErrAnd, if◌then◌else◌}
+use Rattle.aq_base.specs.Site.{Site}
+use Rattle.aq_base.specs.declared.question.Question.{Question}
+use Rattle.aq_base.specs.declared.question.Question.TheVariants.{Windows}
 use Rattle.aq_keeper.specs.Told.{told_through}
-use Rattle.aq_office.specs.Answers.{seen}
-use Rattle.aq_office.specs.declared.answers.Answer.{Answer}
-use Rattle.aq_office.specs.declared.answers.Answer.TheVariants.{NoSite, NoLoad}
+use Rattle.aq_office.specs.Answers.{lack_of, seen}
+use Rattle.aq_office.specs.declared.answers.Answer as answers
+use Rattle.aq_office.specs.declared.answers.Lack.{Lack}
+use Rattle.aq_office.specs.declared.answers.Lack.TheVariants as lack
 use Rattle.aq_rules.specs.Kept.Rows.{Row, rows_of}
 use Rattle.aq_rules.specs.Office.Office.{Office}
-use Rattle.aq_rules.specs.Shown.Answer.{Reply, Windows, Days, Pm25, Pm10, Value, Report, Export}
-use Rattle.aq_rules.specs.Shown.Answer as questions
+use Rattle.aq_rules.specs.Questions.Answer.{Lacks, NoSite, answer, is_registered, of_sheet}
+use Rattle.aq_rules.specs.Shown.Sheets.{windows_answer}
 use Rattle.aq_desk.proofs.Opening.{over_opened, unopened_gives}
+use Rattle.aq_desk.proofs.Outcomes.{without_memory, writes_nothing}
 use Rattle.aq_desk.proofs.Tables.{cut_gives, keeps_opened, printed_gives, stopped_gives}
-use Rattle.aq_desk.specs.Ask.{IsUnanswered, MayLack, ask_outcome}
-use Rattle.aq_desk.specs.Command.{Keeps, Outcome, Printout, leaving, printed, unwritten}
+use Rattle.aq_desk.proofs.Unread.{stopped_by}
+use Rattle.aq_desk.specs.Ask.{IsUnanswered, answered, ask_outcome, ask_printout, lacking}
+use Rattle.aq_desk.specs.Command.{Keeps, Outcome, Printout, leaving, printed}
 use Rattle.aq_desk.specs.Office.{HasOpened, IsOpened, IsUnopened}
-use Rattle.aq_serve.specs.Outside.{OfTold}
-use Rattle.aq_desk.specs.Stop.{Gives, IsUnprinted, ending_at, status_of}
+use Rattle.aq_serve.specs.Outside.{OfTold, SinkView}
+use Rattle.aq_desk.specs.Stop.{Gives, IsTaken, IsUnprinted, Obeys, ending_at, status_of}
 use Rattle.aq_desk.specs.declared.stop.Stop.{Stop}
 use Rattle.aq_desk.specs.declared.stop.Stop.TheVariants as stops
 
--- ---- questions without an answer
+-- ---- why there is none
 
--- a report has one, and any other question may lack it
-may-lack : (office : Office) (ask : Ask) → (questions.answer office ask ≡ questions.NoSite) ⊎ (questions.answer office ask ≡ questions.NoLoad) → MayLack ask
-unfolding questions.answer
-may-lack office (Reply number) lacks = tt
-may-lack office (Windows site day) lacks = tt
-may-lack office (Days site year) lacks = tt
-may-lack office (Pm25 site year) lacks = tt
-may-lack office (Pm10 site year) lacks = tt
-may-lack office (Value standard site year) lacks = tt
-may-lack office (Report standard year) (inl is) = absurd (cc)
-may-lack office (Report standard year) (inr is) = absurd (cc)
-may-lack office (Export site pollutant year) lacks = tt
+-- the statuses of what is missing
+abbrev IsLacking : ℕ → Type 0
+IsLacking status = (status ≡ 12) ⊎ (status ≡ 13) ⊎ (status ≡ 14) ⊎ (status ≡ 15) ⊎ (status ≡ 16)
 
-pub may_lack : (office : Office) (ask : Ask) (found : Answer) → questions.answer office ask ≡ seen found → (found ≡ NoSite) ⊎ (found ≡ NoLoad) → MayLack ask
-may_lack office ask found is (inl none) = may-lack office ask (inl (is ∙ ap seen none))
-may_lack office ask found is (inr none) = may-lack office ask (inr (is ∙ ap seen none))
+lacks-status : (what : Lack) → IsLacking (lacking (lack_of what)).status
+lacks-status (lack.NoSite site) = inl refl
+lacks-status (lack.NoEvent number) = inr (inl refl)
+lacks-status (lack.NoCombination site) = inr (inr (inl refl))
+lacks-status lack.NoSiteInArea = inr (inr (inr (inl refl)))
+lacks-status (lack.NoLoad number) = inr (inr (inr (inr refl)))
+
+-- ---- an answer that was found
+
+pub printout_is : (question : Question) (office : Office) (found kind : answers.Answer) → answer office question ≡ seen found → found ≡ kind → ask_printout question office ≡ answered (seen kind)
+unfolding ask_printout
+printout_is question office found kind is same = ap answered (is ∙ ap seen same)
 
 -- ---- and over the tables
 
@@ -51,27 +56,12 @@ module _ (printout : Office → Printout) (answer : Result (List ℕ) Stop) (bef
   unopened_ask m n stop is cause = unopened_gives before after m n stop (λ office. leaving (rows_of office) (printout office)) answer is cause
 
 module _ (rows : List Row) (before after : Option (List Row)) (keeps : (status : ℕ) → (status ≡ 3 → ⊥) → Keeps rows status before after) where
-  unwritten-gives : (printout : Printout) (stop : Stop) → printout ≡ unwritten (ending_at stop) → ((ending_at stop).status ≡ 3 → ⊥) → Gives (leaving rows printout) (Err stop) before after
-  unwritten-gives printout stop is three =
-      let P = λ (p : Printout). Gives (leaving rows p) (Err stop) before after in
-      subst P (sym is) (stopped_gives rows before after stop (keeps (ending_at stop).status three))
-
   unanswered-gives : (printout : Printout) (stop : Stop) → IsUnanswered printout stop → Gives (leaving rows printout) (Err stop) before after
   unanswered-gives printout stops.Memory cause = cut_gives (leaving rows printout) stops.Memory before after (λ kept. omega (arith, kept)) (keeps 7 (λ three. omega (arith, three)))
-  unanswered-gives printout (stops.NoSite site) cause = unwritten-gives printout (stops.NoSite site) cause (λ three. omega (arith, three))
-  unanswered-gives printout (stops.NoEvent number) cause = unwritten-gives printout (stops.NoEvent number) cause (λ three. omega (arith, three))
-  unanswered-gives printout (stops.NoCombination site) cause = unwritten-gives printout (stops.NoCombination site) cause (λ three. omega (arith, three))
-  unanswered-gives printout stops.NoSiteInArea cause = unwritten-gives printout stops.NoSiteInArea cause (λ three. omega (arith, three))
-  unanswered-gives printout (stops.NoLoad number) cause = unwritten-gives printout (stops.NoLoad number) cause (λ three. omega (arith, three))
-  unanswered-gives printout stops.InputFailed cause = absurd cause
-  unanswered-gives printout stops.OutputFailed cause = absurd cause
-  unanswered-gives printout stops.KeeperFailed cause = absurd cause
-  unanswered-gives printout stops.DoorFailed cause = absurd cause
-  unanswered-gives printout (stops.Damaged place) cause = absurd cause
-  unanswered-gives printout (stops.Conflict number kept sent) cause = absurd cause
-  unanswered-gives printout stops.TooManyBytes cause = absurd cause
-  unanswered-gives printout (stops.TooManyLines lines) cause = absurd cause
-  unanswered-gives printout stops.LoadsFull cause = absurd cause
+  unanswered-gives printout (stops.Lacks what) cause =
+      let P = λ (p : Printout). Gives (leaving rows p) (Err (stops.Lacks what)) before after in
+      subst P (sym cause) (stopped_gives rows before after (stops.Lacks what) (keeps (ending_at (stops.Lacks what)).status (λ three. omega (arith, three, lacks-status what))))
+  unanswered-gives printout _ cause = absurd cause
 
   answered-gives : (printout : Printout) (answer : Result (List ℕ) Stop) → IfOk answer (λ text. printout ≡ printed text) → IfErr answer (IsUnanswered printout) → Gives (leaving rows printout) answer before after
   answered-gives printout (Ok text) is refused =
@@ -94,20 +84,8 @@ module _ (printout : Office → Printout) (office : Office) (answer : Result (Li
 
 unanswered-unprinted : (printout : Printout) (stop : Stop) → IsUnanswered printout stop → IsUnprinted stop × ((ending_at stop).status ≡ 5 → ⊥)
 unanswered-unprinted printout stops.Memory cause = (grind arith, (λ five. omega (arith, five)))
-unanswered-unprinted printout (stops.NoSite site) cause = (grind arith, (λ five. omega (arith, five)))
-unanswered-unprinted printout (stops.NoEvent number) cause = (grind arith, (λ five. omega (arith, five)))
-unanswered-unprinted printout (stops.NoCombination site) cause = (grind arith, (λ five. omega (arith, five)))
-unanswered-unprinted printout stops.NoSiteInArea cause = (grind arith, (λ five. omega (arith, five)))
-unanswered-unprinted printout (stops.NoLoad number) cause = (grind arith, (λ five. omega (arith, five)))
-unanswered-unprinted printout stops.InputFailed cause = absurd cause
-unanswered-unprinted printout stops.OutputFailed cause = absurd cause
-unanswered-unprinted printout stops.KeeperFailed cause = absurd cause
-unanswered-unprinted printout stops.DoorFailed cause = absurd cause
-unanswered-unprinted printout (stops.Damaged place) cause = absurd cause
-unanswered-unprinted printout (stops.Conflict number kept sent) cause = absurd cause
-unanswered-unprinted printout stops.TooManyBytes cause = absurd cause
-unanswered-unprinted printout (stops.TooManyLines lines) cause = absurd cause
-unanswered-unprinted printout stops.LoadsFull cause = absurd cause
+unanswered-unprinted printout (stops.Lacks what) cause = let is = lacks-status what in (grind arith, (λ five. omega (arith, five, is)))
+unanswered-unprinted printout _ cause = absurd cause
 
 pub answered_unprinted : (printout : Printout) (answer : Result (List ℕ) Stop) → IfErr answer (IsUnanswered printout) → IfErr answer IsUnprinted
 answered_unprinted printout (Ok text) refused = tt
@@ -116,3 +94,45 @@ answered_unprinted printout (Err stop) refused = let both = unanswered-unprinted
 pub answered_status : (printout : Printout) (answer : Result (List ℕ) Stop) → IfErr answer (IsUnanswered printout) → status_of answer ≡ 5 → ⊥
 answered_status printout (Ok text) refused = λ five. omega (arith, five)
 answered_status printout (Err stop) refused = let both = unanswered-unprinted printout stop refused in both.1
+
+-- ---- and of the windows of a site, without the tables
+
+-- nothing is printed
+unanswered-obeys : (printout : Printout) (stop : Stop) (output : SinkView) → IsUnanswered printout stop → Obeys printout (Err stop) output output
+unanswered-obeys printout stops.Memory output cause = without_memory printout stops.Memory output refl
+unanswered-obeys printout (stops.Lacks what) output cause =
+    let P = λ (p : Printout). Obeys p (Err (stops.Lacks what)) output output in
+    subst P (sym cause) (writes_nothing (ending_at (stops.Lacks what)) (Err (stops.Lacks what)) output refl (λ four. omega (arith, four, lacks-status what)))
+unanswered-obeys printout _ output cause = absurd cause
+
+pub unanswered_obeys : (printout : Printout) (stop : Stop) (answer : Result Unit Stop) (output : SinkView) → IsErrAnd answer (λ why. why ≡ stop) → IsUnanswered printout stop → Obeys printout answer output output
+unanswered_obeys printout stop answer output is cause =
+    let P = λ (r : Result Unit Stop). Obeys printout r output output in
+    subst P (sym (stopped_by answer stop is)) (unanswered-obeys printout stop output cause)
+
+-- the site is registered, or that is what is missing
+windows-status : (office : Office) (site : Site) (day : ℕ) → ((ask_printout (Windows site day) office).ending.status ≡ 0) ⊎ ((ask_printout (Windows site day) office).ending.status ≡ 12)
+unfolding ask_printout answer
+windows-status office site day = by (is_registered office site)
+  where
+    by : (there : Bool) → let found = answered (if there then of_sheet (windows_answer office site day) else Lacks (NoSite site)) in (found.ending.status ≡ 0) ⊎ (found.ending.status ≡ 12)
+    by true = inl refl
+    by false = inr refl
+
+unanswered-windows : (printout : Printout) (stop : Stop) → IsUnanswered printout stop → (printout.ending.status ≡ 0) ⊎ (printout.ending.status ≡ 12) → IsTaken (ending_at stop).status
+unanswered-windows printout stops.Memory cause one = grind arith
+unanswered-windows printout (stops.Lacks what) cause one =
+    let is : printout.ending.status ≡ (ending_at (stops.Lacks what)).status = ap (λ (p : Printout). p.ending.status) cause in
+    let far = lacks-status what in
+    grind arith
+unanswered-windows printout _ cause one = absurd cause
+
+pub windows_taken : (office : Office) (site : Site) (day : ℕ) (stop : Stop) (answer : Result Unit Stop) → IsErrAnd answer (λ why. why ≡ stop) → IsUnanswered (ask_printout (Windows site day) office) stop → IsTaken (status_of answer)
+windows_taken office site day stop answer is cause =
+    let P = λ (r : Result Unit Stop). IsTaken (status_of r) in
+    subst P (sym (stopped_by answer stop is)) (unanswered-windows (ask_printout (Windows site day) office) stop cause (windows-status office site day))
+
+pub answered_obeys : (printout : Printout) (text shown : List ℕ) (answer : Result Unit Stop) (before after : SinkView) → printout ≡ printed text → shown ≡ text → Obeys (printed shown) answer before after → Obeys printout answer before after
+answered_obeys printout text shown answer before after is same obeys =
+    let P = λ (p : Printout). Obeys p answer before after in
+    subst P (ap printed same ∙ sym is) obeys

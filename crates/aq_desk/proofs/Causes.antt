@@ -13,14 +13,15 @@ use Rattle.aq_desk.specs.Command.{Follows, IsStatus, IsWhole, Outcome, Printout,
 use Rattle.aq_desk.specs.Ending.{no_command}
 use Rattle.aq_serve.specs.Door.{DoorView}
 use Rattle.aq_serve.specs.Outside.{IsAll, OfTold, SinkView, SourceView}
-use Rattle.aq_desk.specs.Run.{Acts, IsRun, KeeperRises, Runs, Surroundings, around_in, hosting_for, hosting_in, outcome_of, reads_input}
+use Rattle.aq_desk.specs.Run.{Acts, IsRun, KeeperRises, Runs, Surroundings, around_in, hosting_in, outcome_of, reads_input}
 use Rattle.aq_desk.specs.Serve.{Around, HasServed, Hosting, serve_outcome}
 use Rattle.aq_desk.specs.Simulate.{simulate_outcome}
 use Rattle.aq_desk.specs.Stop.{EndsAs, IsMeasured, Obeys, Performs, ending_of, status_of}
+use Rattle.aq_office.specs.declared.answers.Lack.TheVariants.{NoSite, NoEvent, NoCombination, NoSiteInArea, NoLoad}
 use Rattle.aq_words.specs.declared.words.Command.{Command}
 use Rattle.aq_words.specs.declared.words.Command.TheVariants.{Serve}
 use Rattle.aq_desk.specs.declared.stop.Stop.{Stop}
-use Rattle.aq_desk.specs.declared.stop.Stop.TheVariants.{InputFailed, OutputFailed, KeeperFailed, DoorFailed, Damaged, Memory, Conflict, TooManyBytes, TooManyLines, LoadsFull, NoSite, NoEvent, NoCombination, NoSiteInArea, NoLoad}
+use Rattle.aq_desk.specs.declared.stop.Stop.TheVariants.{InputFailed, OutputFailed, KeeperFailed, DoorFailed, Damaged, Memory, Conflict, TooManyBytes, TooManyLines, LoadsFull, Lacks}
 
 whole-0 : IsWhole 0
 whole-0 = grind arith
@@ -65,11 +66,11 @@ message-is outcome (Err (Conflict number kept sent)) ends = ap (λ ending. endin
 message-is outcome (Err TooManyBytes) ends = ap (λ ending. ending.message) (ends whole-10)
 message-is outcome (Err (TooManyLines lines)) ends = ap (λ ending. ending.message) (ends whole-10)
 message-is outcome (Err LoadsFull) ends = ap (λ ending. ending.message) (ends whole-11)
-message-is outcome (Err (NoSite site)) ends = ap (λ ending. ending.message) (ends whole-12)
-message-is outcome (Err (NoEvent number)) ends = ap (λ ending. ending.message) (ends whole-13)
-message-is outcome (Err (NoCombination site)) ends = ap (λ ending. ending.message) (ends whole-14)
-message-is outcome (Err NoSiteInArea) ends = ap (λ ending. ending.message) (ends whole-15)
-message-is outcome (Err (NoLoad number)) ends = ap (λ ending. ending.message) (ends whole-16)
+message-is outcome (Err (Lacks (NoSite site))) ends = ap (λ ending. ending.message) (ends whole-12)
+message-is outcome (Err (Lacks (NoEvent number))) ends = ap (λ ending. ending.message) (ends whole-13)
+message-is outcome (Err (Lacks (NoCombination site))) ends = ap (λ ending. ending.message) (ends whole-14)
+message-is outcome (Err (Lacks NoSiteInArea)) ends = ap (λ ending. ending.message) (ends whole-15)
+message-is outcome (Err (Lacks (NoLoad number))) ends = ap (λ ending. ending.message) (ends whole-16)
 
 performs_follows : (outcome : Outcome) (answer : Result Unit Stop) (before after : SinkView) (tables_before tables_after : Option (List Row)) → Performs outcome answer before after tables_before tables_after → Follows outcome (status_of answer) before after tables_before tables_after
 performs_follows outcome answer before after tables_before tables_after performs = record {
@@ -238,21 +239,9 @@ module _ (door : DoorView) (keeper : KeeperView) (input : SourceView) (output er
 -- none is that of words that are no command
 status-is : (answer : Result Unit Stop) → IsStatus (status_of answer) × (status_of answer ≡ 2 → ⊥)
 status-is (Ok nothing) = (grind arith, (λ two. omega (arith, two)))
-status-is (Err InputFailed) = (grind arith, (λ two. omega (arith, two)))
-status-is (Err OutputFailed) = (grind arith, (λ two. omega (arith, two)))
-status-is (Err KeeperFailed) = (grind arith, (λ two. omega (arith, two)))
-status-is (Err DoorFailed) = (grind arith, (λ two. omega (arith, two)))
-status-is (Err (Damaged place)) = (grind arith, (λ two. omega (arith, two)))
-status-is (Err Memory) = (grind arith, (λ two. omega (arith, two)))
-status-is (Err (Conflict number kept sent)) = (grind arith, (λ two. omega (arith, two)))
-status-is (Err TooManyBytes) = (grind arith, (λ two. omega (arith, two)))
-status-is (Err (TooManyLines lines)) = (grind arith, (λ two. omega (arith, two)))
-status-is (Err LoadsFull) = (grind arith, (λ two. omega (arith, two)))
-status-is (Err (NoSite site)) = (grind arith, (λ two. omega (arith, two)))
-status-is (Err (NoEvent number)) = (grind arith, (λ two. omega (arith, two)))
-status-is (Err (NoCombination site)) = (grind arith, (λ two. omega (arith, two)))
-status-is (Err NoSiteInArea) = (grind arith, (λ two. omega (arith, two)))
-status-is (Err (NoLoad number)) = (grind arith, (λ two. omega (arith, two)))
+status-is (Err (Lacks (NoSite site))) = (grind arith, (λ two. omega (arith, two)))
+status-is (Err (Lacks _)) = (grind arith, (λ two. omega (arith, two)))
+status-is (Err _) = (grind arith, (λ two. omega (arith, two)))
 
 pub is_status : (answer : Result Unit Stop) → IsStatus (status_of answer)
 is_status answer = let both = status-is answer in both.0

@@ -4,9 +4,9 @@ use Rattle.std.specs.Prelude.{IfSome, IsNone}
 use Rattle.aq_words.specs.declared.words.Command.{Command}
 use Rattle.aq_rules.specs.Kept.Rows.{Row}
 use Rattle.aq_desk.proofs.Serving.{serve_status}
-use Rattle.aq_desk.specs.Command.{Follows, IsStatus}
+use Rattle.aq_desk.specs.Command.{IsStatus}
 use Rattle.aq_desk.specs.Run.{AreFaultless, HasReasons, IsComplete, Runs, Surroundings, around_in, hosting_for, outcome_for}
-use Rattle.aq_desk.specs.Serve.{HasServed, Hosting, IsServed, IsUnserved}
+use Rattle.aq_desk.specs.Serve.{HasServed, Hosting, IsServed}
 
 module _ (command : Option Command) (status : ℕ) (before after : Surroundings) (reasons : HasReasons command status before after) (faultless : AreFaultless before after) where
   not-five : status ≡ 5 → ⊥

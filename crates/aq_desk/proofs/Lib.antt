@@ -6,9 +6,6 @@ pub mod Printing
 pub mod Opening
 pub mod Posting
 pub mod Asking
-pub mod Assuming
-pub mod Joining
-pub mod Areas
 pub mod Serving
 pub mod TableNames
 pub mod Telling

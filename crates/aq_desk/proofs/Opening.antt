@@ -23,7 +23,7 @@ use Rattle.aq_desk.specs.Office.{HasOpened, IsOpened, IsUnopened, OnlyMigrates, 
 use Rattle.aq_serve.specs.Outside.{IsAll, OfTold}
 use Rattle.aq_desk.specs.Stop.{Gives, IsUnprinted, ending_at, status_of, stop_of_book}
 use Rattle.aq_desk.specs.declared.stop.Stop.{Stop}
-use Rattle.aq_desk.specs.declared.stop.Stop.TheVariants.{InputFailed, OutputFailed, KeeperFailed, DoorFailed, Damaged, Memory, Conflict, TooManyBytes, TooManyLines, LoadsFull, NoSite, NoEvent, NoCombination, NoSiteInArea, NoLoad}
+use Rattle.aq_desk.specs.declared.stop.Stop.TheVariants.{KeeperFailed, Damaged, Memory}
 
 -- ---- rows that are opened
 
@@ -147,18 +147,7 @@ read_unopened before read after m k n (Damaged place) stays steady cause = (
   cause.1 ∙ steady,
   over-since before read after (λ rows. opening_damage rows ≡ Some (record { table = place.table; index = place.index })) (tells_still read after cause.0) stays cause.2,
 )
-read_unopened before read after m k n InputFailed stays steady cause = absurd cause
-read_unopened before read after m k n OutputFailed stays steady cause = absurd cause
-read_unopened before read after m k n DoorFailed stays steady cause = absurd cause
-read_unopened before read after m k n (Conflict number kept sent) stays steady cause = absurd cause
-read_unopened before read after m k n TooManyBytes stays steady cause = absurd cause
-read_unopened before read after m k n (TooManyLines lines) stays steady cause = absurd cause
-read_unopened before read after m k n LoadsFull stays steady cause = absurd cause
-read_unopened before read after m k n (NoSite site) stays steady cause = absurd cause
-read_unopened before read after m k n (NoEvent number) stays steady cause = absurd cause
-read_unopened before read after m k n (NoCombination site) stays steady cause = absurd cause
-read_unopened before read after m k n NoSiteInArea stays steady cause = absurd cause
-read_unopened before read after m k n (NoLoad number) stays steady cause = absurd cause
+read_unopened before read after m k n _ stays steady cause = absurd cause
 
 pub stopped_unopened : {A : Type 0} (answer : Result A Stop) (before read after : Option (List Row)) (m k n : ℕ) (stop : Stop) → IsErrAnd answer (λ why. why ≡ stop)
     → Stays before read → k ≡ m → IsUnopened read after k n stop → IfErr answer (IsUnopened before after m n)
@@ -199,40 +188,32 @@ module _ (before read after : KeeperView) (rows : List Row) (told : IfSome read.
       at-most (inl stays) = tells_still read.tables after.tables stays
       at-most (inr opened) = tells_before opened_rows read.tables after.tables opened
   unopened_migrates m n (Damaged place) cause = then-migrates (tells_still read.tables after.tables cause.0)
-  unopened_migrates m n InputFailed cause = absurd cause
-  unopened_migrates m n OutputFailed cause = absurd cause
-  unopened_migrates m n DoorFailed cause = absurd cause
-  unopened_migrates m n (Conflict number kept sent) cause = absurd cause
-  unopened_migrates m n TooManyBytes cause = absurd cause
-  unopened_migrates m n (TooManyLines lines) cause = absurd cause
-  unopened_migrates m n LoadsFull cause = absurd cause
-  unopened_migrates m n (NoSite site) cause = absurd cause
-  unopened_migrates m n (NoEvent number) cause = absurd cause
-  unopened_migrates m n (NoCombination site) cause = absurd cause
-  unopened_migrates m n NoSiteInArea cause = absurd cause
-  unopened_migrates m n (NoLoad number) cause = absurd cause
+  unopened_migrates m n _ cause = absurd cause
 
--- migrated rows are an office's, so none is damaged
+-- none of an office's rows is damaged
+pub undamaged : (rows : List Row) (place : Place) → ((rs : List Row) → (damage rs ≡ None) ↔ IsTrue (are_office_rows rs)) → are_office_rows rows ≡ true → damage rows ≡ Some place → ⊥
+undamaged rows place named is at =
+    let found : are_office_rows rows ≡ false = no_office rows place named at in
+    absurd (cc)
+
+-- nor of migrated ones
 pub undamaged_old : (rows standing : List Row) (place : Place) → ((rs : List Row) → (damage rs ≡ None) ↔ IsTrue (are_office_rows rs)) → ((rs : List Row) → IsTrue (are_version_1 rs) → IsTrue (are_office_rows (migrated rs)))
     → are_version_1 rows ≡ true → standing ≡ migrated rows → damage standing ≡ Some place → ⊥
-undamaged_old rows standing place undamaged office old is at =
-    let found : are_office_rows standing ≡ false = no_office standing place undamaged at in
-    let good : are_office_rows standing ≡ true = ap are_office_rows is ∙ office rows old in
-    absurd (cc)
+undamaged_old rows standing place named office old is at = undamaged standing place named (ap are_office_rows is ∙ office rows old) at
 
 -- only what is of version 1 is changed
 pub only_old : {X : Type 0} (rows : List Row) → are_version_1 rows ≡ true → are_version_1 rows ≡ false → X
 only_old rows old new = absurd (cc)
 
 -- so nothing but memory stops them from being opened
-pub old_stops : {A : Type 0} (answer : Result A Stop) (before after : Option (List Row)) (m n : ℕ) (standing : List Row) (why : OpenFault) → IsErrAnd answer (λ stop. stop ≡ stop_of_book why) → IsOpenFault standing why
-    → ((place : Place) → damage standing ≡ Some place → ⊥) → Stays (option_map opened_rows before) after → n ≡ m → IfErr answer (IsUnopened before after m n)
-old_stops answer before after m n standing why is fault undamaged now steady =
+pub undamaged_stops : {A : Type 0} (answer : Result A Stop) (before after : Option (List Row)) (m n : ℕ) (standing : List Row) (why : OpenFault) → IsErrAnd answer (λ stop. stop ≡ stop_of_book why) → IsOpenFault standing why
+    → ((place : Place) → damage standing ≡ Some place → ⊥) → IsUnopened before after m n Memory → IfErr answer (IsUnopened before after m n)
+undamaged_stops answer before after m n standing why is fault undamaged lost =
     subst (λ r. IfErr r (IsUnopened before after m n)) (sym (stopped_by answer (stop_of_book why) is)) (by why fault)
   where
     by : (w : OpenFault) → IsOpenFault standing w → IsUnopened before after m n (stop_of_book w)
     by (opening.Damaged place) at = absurd (undamaged place at)
-    by opening.Memory at = (inr now, steady)
+    by opening.Memory at = lost
 
 -- what holds of an answer, for any that it may be
 pub if_ok : {A E : Type 0} {P Q : A → Type 0} (r : Result A E) → ((a : A) → P a → Q a) → IfOk r P → IfOk r Q
@@ -270,18 +251,7 @@ unopened-gives before after m n (Damaged place) next cause =
       is_all = cause.2.is_all;
       says = subst P (sym (over_damaged rows (record { table = place.table; index = place.index }) next cause.2.says)) (stopped_gives rows before after (Damaged place) (keeps_still rows 6 before after (λ three. omega (arith, three)) cause.2.is_all cause.0));
     }
-unopened-gives before after m n InputFailed next cause = absurd cause
-unopened-gives before after m n OutputFailed next cause = absurd cause
-unopened-gives before after m n DoorFailed next cause = absurd cause
-unopened-gives before after m n (Conflict number kept sent) next cause = absurd cause
-unopened-gives before after m n TooManyBytes next cause = absurd cause
-unopened-gives before after m n (TooManyLines lines) next cause = absurd cause
-unopened-gives before after m n LoadsFull next cause = absurd cause
-unopened-gives before after m n (NoSite site) next cause = absurd cause
-unopened-gives before after m n (NoEvent number) next cause = absurd cause
-unopened-gives before after m n (NoCombination site) next cause = absurd cause
-unopened-gives before after m n NoSiteInArea next cause = absurd cause
-unopened-gives before after m n (NoLoad number) next cause = absurd cause
+unopened-gives before after m n _ next cause = absurd cause
 
 pub unopened_gives : (before after : Option (List Row)) (m n : ℕ) (stop : Stop) (next : Office → Outcome) (answer : Result (List ℕ) Stop) → IsErrAnd answer (λ why. why ≡ stop) → IsUnopened before after m n stop → OfTold (told_through before after) (λ rows. Gives (over_office rows next) answer before after)
 unopened_gives before after m n stop next answer is cause =
@@ -296,18 +266,7 @@ unopened-fault : (before after : Option (List Row)) (m n : ℕ) (stop : Stop) �
 unopened-fault before after m n KeeperFailed cause = inl (refl, cause.1)
 unopened-fault before after m n Memory cause = inr (inr refl, cause.1)
 unopened-fault before after m n (Damaged place) cause = inr (inl refl, cause.1)
-unopened-fault before after m n InputFailed cause = absurd cause
-unopened-fault before after m n OutputFailed cause = absurd cause
-unopened-fault before after m n DoorFailed cause = absurd cause
-unopened-fault before after m n (Conflict number kept sent) cause = absurd cause
-unopened-fault before after m n TooManyBytes cause = absurd cause
-unopened-fault before after m n (TooManyLines lines) cause = absurd cause
-unopened-fault before after m n LoadsFull cause = absurd cause
-unopened-fault before after m n (NoSite site) cause = absurd cause
-unopened-fault before after m n (NoEvent number) cause = absurd cause
-unopened-fault before after m n (NoCombination site) cause = absurd cause
-unopened-fault before after m n NoSiteInArea cause = absurd cause
-unopened-fault before after m n (NoLoad number) cause = absurd cause
+unopened-fault before after m n _ cause = absurd cause
 
 pub fault-unprinted : (m n : ℕ) (stop : Stop) → IsFault m n (ending_at stop).status → IsUnprinted stop
 fault-unprinted m n stop (inl five) = inl five.0

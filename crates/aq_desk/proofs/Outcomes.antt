@@ -5,21 +5,21 @@ use Rattle.std.specs.Option.{option_map}
 use Rattle.std.proofs.lemmas.Bool.Decides.{nat_tests}
 use Rattle.std.proofs.lemmas.List.{length-append, take-append-le}
 use Rattle.std.proofs.Math.Seq.{take-append-add}
+use Rattle.aq_base.specs.declared.question.Question.TheVariants.{Windows}
 use Rattle.aq_base.specs.declared.reply.LoadReply.{LoadReply}
 use Rattle.aq_base.specs.Site.{Site}
 use Rattle.aq_rules.specs.Limits.{MOST_BYTES, MOST_LINES}
 use Rattle.aq_rules.specs.Lines.Lines.{line_count}
 use Rattle.aq_rules.specs.Office.Load.{load, reply}
 use Rattle.aq_rules.specs.Office.Office.{Office, nothing}
-use Rattle.aq_rules.specs.Shown.Answer.{OfSheet, NoSite, Windows, is_registered}
-use Rattle.aq_rules.specs.Shown.Answer as questions
 use Rattle.aq_rules.specs.Shown.Sheet.{text_of}
-use Rattle.aq_rules.specs.Shown.Sheets.{load_sheet, windows_answer}
+use Rattle.aq_rules.specs.Shown.Sheets.{load_sheet}
 use Rattle.aq_desk.proofs.Fronts.{behind_nothing}
+use Rattle.aq_desk.specs.Ask.{ask_printout}
 use Rattle.aq_desk.specs.Body.{excess, is_within}
 use Rattle.aq_desk.specs.Command.{IsWhole, Printout, after_text, printed, unwritten}
 use Rattle.aq_desk.specs.Ending.{Ending, too_many_bytes, too_many_lines}
-use Rattle.aq_desk.specs.Scan.{scan_answer, scan_outcome, sheet_or_no_site}
+use Rattle.aq_desk.specs.Scan.{scan_answer, scan_outcome}
 use Rattle.aq_desk.specs.Stop.{IsCutShort, Obeys, ending_at, ending_of, status_of}
 use Rattle.aq_desk.specs.Writing.{WritesFront}
 use Rattle.aq_serve.specs.Outside.{SinkView}
@@ -113,23 +113,6 @@ scan_beyond site day body is = ap (λ (few : Bool). if few then scan_answer site
 
 -- ---- the answer to a body
 
--- windows are of a site, and of no load
-pub has_windows : (office : Office) (site : Site) (day : ℕ) → questions.answer office (Windows site day) ≡ questions.NoLoad → ⊥
-unfolding questions.answer
-has_windows office site day h = by_site (is_registered office site) h
-  where
-    by_site : (there : Bool) → (if there then OfSheet (windows_answer office site day) else NoSite) ≡ questions.NoLoad → ⊥
-    by_site true h = cc
-    by_site false h = cc
-
-pub no_export : (office : Office) (site : Site) (day : ℕ) (text : List ℕ) → questions.answer office (Windows site day) ≡ questions.OfExport text → ⊥
-unfolding questions.answer
-no_export office site day text h = by_site (is_registered office site) h
-  where
-    by_site : (there : Bool) → (if there then OfSheet (windows_answer office site day) else NoSite) ≡ questions.OfExport text → ⊥
-    by_site true h = cc
-    by_site false h = cc
-
 pub more_bytes : (first second : List ℕ) → 0 < length first → 0 < length (first ++ second)
 more_bytes first second some = omega (arith, some, length-append first second)
 
@@ -156,15 +139,15 @@ cut_behind text outcome stop answer before after is cut told =
     subst P (sym is) (cut_short (after_text text outcome) stop before after (λ whole. omega (arith, cut, whole)) (front_of_more before.written after.written text outcome.output told.front) (λ four. more_bytes text outcome.output (told.written four)))
 
 -- the reply and the office are those of the body
-scanned : (site : Site) (day : ℕ) (body : List ℕ) → after_text (text_of (load_sheet (reply nothing 0 body))) (sheet_or_no_site site (questions.answer (load nothing 0 [] body) (Windows site day))) ≡ scan_answer site day body
+scanned : (site : Site) (day : ℕ) (body : List ℕ) → after_text (text_of (load_sheet (reply nothing 0 body))) (ask_printout (Windows site day) (load nothing 0 [] body)) ≡ scan_answer site day body
 unfolding scan_answer
 scanned site day body = refl
 
 pub answers : (site : Site) (day : ℕ) (body : List ℕ) (start : Office) (told : LoadReply) (office : Office) (answer : Result Unit Stop) (before after : SinkView) → start ≡ nothing → told ≡ reply start 0 body → office ≡ load start 0 [] body
-    → Obeys (after_text (text_of (load_sheet told)) (sheet_or_no_site site (questions.answer office (Windows site day)))) answer before after → Obeys (scan_answer site day body) answer before after
+    → Obeys (after_text (text_of (load_sheet told)) (ask_printout (Windows site day) office)) answer before after → Obeys (scan_answer site day body) answer before after
 answers site day body start told office answer before after empty same_reply same_office obeys =
-    let P = λ (r : LoadReply). Obeys (after_text (text_of (load_sheet r)) (sheet_or_no_site site (questions.answer office (Windows site day)))) answer before after in
-    let Q = λ (o : Office). Obeys (after_text (text_of (load_sheet (reply nothing 0 body))) (sheet_or_no_site site (questions.answer o (Windows site day)))) answer before after in
+    let P = λ (r : LoadReply). Obeys (after_text (text_of (load_sheet r)) (ask_printout (Windows site day) office)) answer before after in
+    let Q = λ (o : Office). Obeys (after_text (text_of (load_sheet (reply nothing 0 body))) (ask_printout (Windows site day) o)) answer before after in
     let R = λ (outcome : Printout). Obeys outcome answer before after in
     subst R (scanned site day body)
     (subst Q (same_office ∙ ap (λ (o : Office). load o 0 [] body) empty)

@@ -24,7 +24,7 @@ use Rattle.aq_desk.specs.Run.{KeeperRises}
 use Rattle.aq_desk.specs.Serve.{Around, CannotListen, HasAttended, HasListened, HasServed, IsServed, IsUnserved, Hosting, holding, serve_outcome, serving, status_served, stop_served}
 use Rattle.aq_desk.specs.Stop.{EndsAs, ending_of, status_of}
 use Rattle.aq_desk.specs.declared.stop.Stop.{Stop}
-use Rattle.aq_desk.specs.declared.stop.Stop.TheVariants.{InputFailed, OutputFailed, KeeperFailed, DoorFailed, Damaged, Memory, Conflict, TooManyBytes, TooManyLines, LoadsFull, NoSite, NoEvent, NoCombination, NoSiteInArea, NoLoad}
+use Rattle.aq_desk.specs.declared.stop.Stop.TheVariants.{KeeperFailed, Damaged, Memory}
 
 -- ---- no connection was accepted
 
@@ -79,18 +79,7 @@ module _ (before after : Around) (door : after.door ≡ before.door) where
     where
       some-none : {A : Type 0} (a : A) → Some a ≡ None → ⊥
       some-none a is = absurd (cc)
-  unopened-served n InputFailed cause = absurd cause
-  unopened-served n OutputFailed cause = absurd cause
-  unopened-served n DoorFailed cause = absurd cause
-  unopened-served n (Conflict number kept sent) cause = absurd cause
-  unopened-served n TooManyBytes cause = absurd cause
-  unopened-served n (TooManyLines lines) cause = absurd cause
-  unopened-served n LoadsFull cause = absurd cause
-  unopened-served n (NoSite site) cause = absurd cause
-  unopened-served n (NoEvent number) cause = absurd cause
-  unopened-served n (NoCombination site) cause = absurd cause
-  unopened-served n NoSiteInArea cause = absurd cause
-  unopened-served n (NoLoad number) cause = absurd cause
+  unopened-served n _ cause = absurd cause
 
   pub unopened_served : (n : Hosting) (stop : Stop) (answer : Result Unit Stop) → IsErrAnd answer (λ why. why ≡ stop) → IsUnopened before.tables after.tables before.faults after.faults stop → OfTold (told_through before.tables after.tables) (Ends n answer)
   unopened_served n stop answer is cause =

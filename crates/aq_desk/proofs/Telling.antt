@@ -9,6 +9,7 @@ use Rattle.aq_rules.specs.Shown.Sheet.{site_text}
 use Rattle.aq_desk.proofs.Outcomes.{bytes_behind, front_behind, front_of_more, join, more_bytes}
 use Rattle.aq_desk.specs.Command.{Tells}
 use Rattle.aq_rules.specs.Kept.RowChanges.{table_name}
+use Rattle.aq_rules.specs.Questions.Table.{usage_of}
 use Rattle.aq_rules.specs.Shown.OtherSheets.{digest_text}
 use Rattle.aq_desk.specs.Ending.{conflict, damaged, door_failed, input_failed, keeper_failed, loads_full, no_combination, no_site_in_area, no_command, no_event, no_load, no_memory, no_site, output_failed, too_many_bytes, too_many_lines}
 use Rattle.aq_base.specs.Faults.{HasRisen}
@@ -124,6 +125,7 @@ unfolding digits
 most_bytes = refl
 
 pub no_command_message : codes "airdv: 2 no command\nusage: airdv scan SITE DAY\nusage: airdv load NUMBER\nusage: airdv show STANDARD SITE YEAR\nusage: airdv report STANDARD YEAR\nusage: airdv export SITE PARAMETER YEAR\nusage: airdv whatif STANDARD SITE YEAR LIST\nusage: airdv decisive STANDARD SITE YEAR\nusage: airdv combined STANDARD SITE YEAR\nusage: airdv area STANDARD AREA YEAR\nusage: airdv reply NUMBER\nusage: airdv windows SITE DAY\nusage: airdv days SITE YEAR\nusage: airdv pm25 SITE YEAR\nusage: airdv pm10 SITE YEAR\nusage: airdv serve --port P --connections N\nusage: airdv simulate START SITES YEARS\n" ≡ no_command.message
+unfolding usage_of
 no_command_message = rw two refl
 
 pub input_message : codes "airdv: 3 input failed\n" ≡ input_failed.message

@@ -1,9 +1,11 @@
 -- How a run ends: its exit status, and its message on the errors stream (own).
-use Rattle.std.specs.Prelude.{ℕ, List, [], ◌∷◌, ◌++◌, flat_map, codes, decimal}
+use Rattle.std.specs.Prelude.{ℕ, List, [], ◌∷◌, ◌++◌, flat_map, map, codes, decimal}
+use Rattle.std.specs.List.{join_with_byte}
 use Rattle.aq_base.specs.Site.{Site}
 use Rattle.aq_rules.specs.Limits.{MOST_BYTES}
 use Rattle.aq_rules.specs.Kept.RowChanges.{table_name}
 use Rattle.aq_rules.specs.Kept.Rows.{Place}
+use Rattle.aq_rules.specs.Questions.Table.{ASKED, usage_of}
 use Rattle.aq_rules.specs.Shown.OtherSheets.{digest_text}
 use Rattle.aq_rules.specs.Shown.Sheet.{site_text}
 use Rattle.aq_desk.specs.declared.status.TheConstants.{DONE, NO_COMMAND, INPUT_FAILED, OUTPUT_FAILED, KEEPER_FAILED, DAMAGED, NO_MEMORY, DOOR_FAILED, CONFLICT, TOO_LARGE, LOADS_FULL, NO_SITE, NO_EVENT, NO_COMBINATION, NO_SITE_IN_AREA, NO_LOAD}
@@ -23,10 +25,8 @@ ends status cause = record { status = status; message = codes "airdv: " ++ decim
 -- the commands, as the usage text names them
 abbrev pub commands : List (List ℕ)
 commands =
-    codes "scan SITE DAY" ∷ codes "load NUMBER" ∷ codes "show STANDARD SITE YEAR" ∷ codes "report STANDARD YEAR"
-    ∷ codes "export SITE PARAMETER YEAR" ∷ codes "whatif STANDARD SITE YEAR LIST" ∷ codes "decisive STANDARD SITE YEAR"
-    ∷ codes "combined STANDARD SITE YEAR" ∷ codes "area STANDARD AREA YEAR" ∷ codes "reply NUMBER" ∷ codes "windows SITE DAY"
-    ∷ codes "days SITE YEAR" ∷ codes "pm25 SITE YEAR" ∷ codes "pm10 SITE YEAR" ∷ codes "serve --port P --connections N" ∷ codes "simulate START SITES YEARS" ∷ []
+    codes "scan SITE DAY" ∷ codes "load NUMBER" ∷ map (λ topic. join_with_byte 32 (usage_of topic)) ASKED
+    ++ codes "serve --port P --connections N" ∷ codes "simulate START SITES YEARS" ∷ []
 
 -- a line for each command
 abbrev pub usage : List ℕ

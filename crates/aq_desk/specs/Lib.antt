@@ -7,9 +7,6 @@ pub mod Office
 pub mod Scan
 pub mod Load
 pub mod Ask
-pub mod WhatIf
-pub mod Combined
-pub mod Area
 pub mod Serve
 pub mod Simulate
 pub mod Run

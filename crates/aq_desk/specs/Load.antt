@@ -1,12 +1,11 @@
 -- The command `load NUMBER`: the input is taken as the load with this number over the office of the tables; its sheet is printed, and the tables are those with the load (own).
-use Rattle.std.specs.Prelude.{◌≡◌, ⊤, ℕ, if◌then◌else◌, List, Option, Some, Result, Ok, Err, IfSome, IsSome}
-use Rattle.std.specs.Option.{option_map}
+use Rattle.std.specs.Prelude.{◌≡◌, ℕ, if◌then◌else◌, List, Result, Ok, Err}
 use Rattle.sha2.specs.Sha256.{sha256}
 use Rattle.aq_rules.specs.Kept.Rows.{Row, rows_of}
 use Rattle.aq_rules.specs.Lines.Lines.{line_count}
 use Rattle.aq_rules.specs.Office.Load.{Posted, TooManyLines, Repeated, Differing, NoRoom, Taken, posted}
-use Rattle.aq_rules.specs.Office.Office.{Office, StoredLoad}
-use Rattle.aq_rules.specs.Shown.Sheet.{text_of}
+use Rattle.aq_rules.specs.Office.Office.{Office}
+use Rattle.aq_rules.specs.Shown.Sheet.{Sheet, text_of}
 use Rattle.aq_rules.specs.Shown.Sheets.{load_sheet}
 use Rattle.aq_desk.specs.Body.{excess, is_within}
 use Rattle.aq_desk.specs.Command.{Outcome, leaving, printed, unwritten}
@@ -39,23 +38,15 @@ load_outcome number rows body =
 
 -- ---- a load that was posted
 
--- its number is kept, if the answer speaks of what is kept; a body within the limits has no more lines than may be
-abbrev pub IsAnswered : answers.Posted → Option StoredLoad → Type 0
-IsAnswered Done kept = IsSome kept
-IsAnswered (Conflict sent) kept = IsSome kept
-IsAnswered (Lines lines) kept = ⊥
-IsAnswered Full kept = ⊤
-IsAnswered Failed kept = ⊤
-
--- the text of the sheet that is kept; memory may run out
-abbrev pub IsKeptText : Option StoredLoad → Result (List ℕ) Stop → Type 0
-IsKeptText kept (Ok text) = Some text ≡ option_map (λ (load : StoredLoad). text_of (load_sheet load.reply)) kept
-IsKeptText kept (Err stop) = stop ≡ stops.Memory
+-- the text of a sheet, unless memory ran out
+abbrev pub IsTextOfSheet : Sheet → Result (List ℕ) Stop → Type 0
+IsTextOfSheet sheet (Ok text) = text ≡ text_of sheet
+IsTextOfSheet sheet (Err stop) = stop ≡ stops.Memory
 
 -- what is printed of it, or what stops the command
-abbrev pub IsTextOf : answers.Posted → ℕ → Option StoredLoad → Result (List ℕ) Stop → Type 0
-IsTextOf Done number kept answer = IsKeptText kept answer
-IsTextOf (Conflict sent) number kept answer = IfSome kept (λ load. answer ≡ Err (stops.Conflict number load.digest sent))
-IsTextOf (Lines lines) number kept answer = ⊥
-IsTextOf Full number kept answer = answer ≡ Err stops.LoadsFull
-IsTextOf Failed number kept answer = answer ≡ Err stops.KeeperFailed
+abbrev pub IsTextOf : answers.Posted → ℕ → Result (List ℕ) Stop → Type 0
+IsTextOf (Done sheet) number answer = IsTextOfSheet sheet answer
+IsTextOf (Lines lines) number answer = answer ≡ Err (stops.TooManyLines lines)
+IsTextOf (Conflict kept sent) number answer = answer ≡ Err (stops.Conflict number kept sent)
+IsTextOf Full number answer = answer ≡ Err stops.LoadsFull
+IsTextOf Failed number answer = answer ≡ Err stops.KeeperFailed

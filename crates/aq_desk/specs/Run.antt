@@ -5,11 +5,9 @@ use Rattle.aq_base.specs.Faults.{HasRisen}
 use Rattle.aq_keeper.specs.Told.{KeeperView, told_through}
 use Rattle.aq_rules.specs.Kept.Rows.{Row}
 use Rattle.aq_words.specs.declared.words.Command.{Command}
-use Rattle.aq_words.specs.declared.words.Command.TheVariants.{Scan, Load, WhatIf, Decisive, Serve, Simulate}
+use Rattle.aq_words.specs.declared.words.Command.TheVariants.{Scan, Load, Serve, Simulate}
 use Rattle.aq_words.specs.declared.words.Command.TheVariants as command
-use Rattle.aq_desk.specs.Area.{area_printout}
 use Rattle.aq_desk.specs.Ask.{ask_outcome, ask_printout}
-use Rattle.aq_desk.specs.Combined.{combined_printout}
 use Rattle.aq_desk.specs.Command.{BecomeRows, Follows, IsStatus, Outcome, RisesAt, Tells, WritesNothing, leaving, message_for, unwritten}
 use Rattle.aq_desk.specs.Ending.{no_command}
 use Rattle.aq_desk.specs.Load.{load_outcome}
@@ -20,7 +18,6 @@ use Rattle.aq_desk.specs.Scan.{scan_outcome}
 use Rattle.aq_desk.specs.Serve.{Around, HasServed, Hosting, around_of, serve_outcome}
 use Rattle.aq_desk.specs.Simulate.{simulate_outcome}
 use Rattle.aq_desk.specs.Stop.{EndsAs, HasRead, IsMeasured, Performs, status_of}
-use Rattle.aq_desk.specs.WhatIf.{decisive_printout, what_if_printout}
 use Rattle.aq_desk.specs.declared.stop.Stop.{Stop}
 use Rattle.aq_desk.specs.declared.status.TheConstants.{DOOR_FAILED, INPUT_FAILED, KEEPER_FAILED, NO_COMMAND, OUTPUT_FAILED}
 
@@ -28,11 +25,7 @@ use Rattle.aq_desk.specs.declared.status.TheConstants.{DOOR_FAILED, INPUT_FAILED
 abbrev pub outcome_of : Command → List Row → List ℕ → Outcome
 outcome_of (Scan site day) rows body = leaving rows (scan_outcome site day body)
 outcome_of (Load number) rows body = load_outcome number rows body
-outcome_of (command.Ask ask) rows body = ask_outcome (ask_printout ask) rows
-outcome_of (WhatIf question) rows body = ask_outcome (what_if_printout question) rows
-outcome_of (Decisive question) rows body = ask_outcome (decisive_printout question) rows
-outcome_of (command.Combined question) rows body = ask_outcome (combined_printout question) rows
-outcome_of (command.Area question) rows body = ask_outcome (area_printout question) rows
+outcome_of (command.Ask question) rows body = ask_outcome (ask_printout question) rows
 outcome_of (Serve port connections) rows body = serve_outcome rows
 outcome_of (Simulate start sites years) rows body = leaving rows (simulate_outcome start sites years)
 
@@ -46,33 +39,21 @@ outcome_for (Some command) rows body = outcome_of command rows body
 abbrev pub reads_input : Command → Bool
 reads_input (Scan site day) = true
 reads_input (Load number) = true
-reads_input (command.Ask ask) = false
-reads_input (WhatIf question) = false
-reads_input (Decisive question) = false
-reads_input (command.Combined question) = false
-reads_input (command.Area question) = false
+reads_input (command.Ask question) = false
 reads_input (Serve port connections) = false
 reads_input (Simulate start sites years) = false
 
 abbrev pub uses_keeper : Command → Bool
 uses_keeper (Scan site day) = false
 uses_keeper (Load number) = true
-uses_keeper (command.Ask ask) = true
-uses_keeper (WhatIf question) = true
-uses_keeper (Decisive question) = true
-uses_keeper (command.Combined question) = true
-uses_keeper (command.Area question) = true
+uses_keeper (command.Ask question) = true
 uses_keeper (Serve port connections) = true
 uses_keeper (Simulate start sites years) = false
 
 abbrev pub writes_output : Command → Bool
 writes_output (Scan site day) = true
 writes_output (Load number) = true
-writes_output (command.Ask ask) = true
-writes_output (WhatIf question) = true
-writes_output (Decisive question) = true
-writes_output (command.Combined question) = true
-writes_output (command.Area question) = true
+writes_output (command.Ask question) = true
 writes_output (Serve port connections) = false
 writes_output (Simulate start sites years) = true
 
@@ -80,11 +61,7 @@ writes_output (Simulate start sites years) = true
 abbrev pub asks : Command → Bool
 asks (Scan site day) = false
 asks (Load number) = false
-asks (command.Ask ask) = true
-asks (WhatIf question) = true
-asks (Decisive question) = true
-asks (command.Combined question) = true
-asks (command.Area question) = true
+asks (command.Ask question) = true
 asks (Serve port connections) = false
 asks (Simulate start sites years) = false
 
@@ -97,11 +74,7 @@ uses test (Some command) = test command
 abbrev pub hosting_in : Command → Option Hosting
 hosting_in (Scan site day) = None
 hosting_in (Load number) = None
-hosting_in (command.Ask ask) = None
-hosting_in (WhatIf question) = None
-hosting_in (Decisive question) = None
-hosting_in (command.Combined question) = None
-hosting_in (command.Area question) = None
+hosting_in (command.Ask question) = None
 hosting_in (Serve port connections) = Some (record { port = port; connections = connections })
 hosting_in (Simulate start sites years) = None
 

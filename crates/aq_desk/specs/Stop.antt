@@ -3,9 +3,11 @@ use Rattle.std.specs.Prelude.{◌≡◌, ◌⊎◌, ℕ, ◌+◌, ◌<◌, ◌�
 use Rattle.std.specs.Option.{option_map}
 use Rattle.aq_rules.specs.Kept.Rows.{Row}
 use Rattle.aq_rules.specs.Limits.{MOST_BYTES}
+use Rattle.aq_office.specs.Answers.{lack_of}
+use Rattle.aq_desk.specs.Ask.{lacking}
 use Rattle.aq_desk.specs.Body.{is_within}
 use Rattle.aq_desk.specs.Command.{IsWhole, Keeps, Outcome, Printout, ReadsWhole, RisesAt, printout_of}
-use Rattle.aq_desk.specs.Ending.{Ending, done, input_failed, output_failed, keeper_failed, damaged, no_memory, door_failed, conflict, too_many_bytes, too_many_lines, loads_full, no_site, no_event, no_combination, no_site_in_area, no_load}
+use Rattle.aq_desk.specs.Ending.{Ending, done, input_failed, output_failed, keeper_failed, damaged, no_memory, door_failed, conflict, too_many_bytes, too_many_lines, loads_full}
 use Rattle.aq_desk.specs.Writing.{WritesFront}
 use Rattle.aq_serve.specs.Outside.{IsAll, SinkView, SourceView}
 use Rattle.aq_rows.specs.declared.opening.OpenFault.{OpenFault}
@@ -15,7 +17,7 @@ use Rattle.aq_keeper.specs.declared.keeper.KeeperFault.TheVariants as keeper
 use Rattle.aq_desk.specs.declared.body.BodyFault.{BodyFault}
 use Rattle.aq_desk.specs.declared.body.BodyFault.TheVariants as fault
 use Rattle.aq_desk.specs.declared.stop.Stop.{Stop}
-use Rattle.aq_desk.specs.declared.stop.Stop.TheVariants.{InputFailed, OutputFailed, KeeperFailed, DoorFailed, Damaged, Memory, Conflict, TooManyBytes, TooManyLines, LoadsFull, NoSite, NoEvent, NoCombination, NoSiteInArea, NoLoad}
+use Rattle.aq_desk.specs.declared.stop.Stop.TheVariants.{InputFailed, OutputFailed, KeeperFailed, DoorFailed, Damaged, Memory, Conflict, TooManyBytes, TooManyLines, LoadsFull, Lacks}
 use Rattle.aq_desk.specs.declared.status.TheConstants.{DONE, INPUT_FAILED, OUTPUT_FAILED, KEEPER_FAILED, DAMAGED, NO_MEMORY, CONFLICT, TOO_LARGE, LOADS_FULL, NO_SITE, NO_EVENT, NO_COMBINATION, NO_SITE_IN_AREA, NO_LOAD}
 
 abbrev pub ending_at : Stop → Ending
@@ -29,11 +31,7 @@ ending_at (Conflict number kept sent) = conflict number kept sent
 ending_at TooManyBytes = too_many_bytes
 ending_at (TooManyLines lines) = too_many_lines lines
 ending_at LoadsFull = loads_full
-ending_at (NoSite site) = no_site site
-ending_at (NoEvent number) = no_event number
-ending_at (NoCombination site) = no_combination site
-ending_at NoSiteInArea = no_site_in_area
-ending_at (NoLoad number) = no_load number
+ending_at (Lacks what) = lacking (lack_of what)
 
 -- a command that was done, or stopped
 abbrev pub ending_of : {A : Type 0} → Result A Stop → Ending
@@ -88,7 +86,7 @@ IsTaken status = (status ≡ DONE) ⊎ (status ≡ OUTPUT_FAILED) ⊎ (status �
 abbrev pub IsCutShort : Stop → Type 0
 IsCutShort stop = ((ending_at stop).status ≡ OUTPUT_FAILED) ⊎ ((ending_at stop).status ≡ NO_MEMORY)
 
--- stopped before it printed: the office was not opened, the load not taken, the site is not registered, an event does not stand, no site is joined to the site, the area has no site, or no load has the number
+-- stopped before it printed: the office was not opened, the load not taken, or something is missing that a question asks for
 abbrev pub IsUnprinted : Stop → Type 0
 IsUnprinted stop =
     let status = (ending_at stop).status in

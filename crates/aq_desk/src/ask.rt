@@ -1,9 +1,11 @@
-//! The commands that ask, and of these the book's questions: a load's reply, the sheets of a site, a report,
-//! and an export.
+//! The commands that ask.
 ghost use Rattle.std.specs.Prelude.{◌≡◌, false, IfErr, IfOk, IsTrue};
+ghost use Rattle.aq_base.specs.Questions.{topic_of};
 ghost use Rattle.aq_keeper.specs.Told.{told_through};
-ghost use Rattle.aq_desk.specs.Ask.{IsUnanswered, MayLack, ask_outcome, without_answer};
-ghost use Rattle.aq_desk.specs.Command.{RisesAt, WritesNothing, unwritten};
+ghost use Rattle.aq_rules.specs.Questions.Asking.{is_asked, is_of};
+ghost use Rattle.aq_rules.specs.Questions.Table.{ASKED};
+ghost use Rattle.aq_desk.specs.Ask.{IsUnanswered, ask_outcome, ask_printout};
+ghost use Rattle.aq_desk.specs.Command.{RisesAt, WritesNothing, printed};
 ghost use Rattle.aq_desk.specs.Office.{OnlyMigrates};
 ghost use Rattle.aq_serve.specs.Outside.{OfTold};
 ghost use Rattle.aq_desk.specs.Stop.{Gives, IsUnprinted, Performs, status_of};
@@ -12,44 +14,25 @@ ghost use Rattle.aq_desk.specs.declared.status.TheConstants.{DOOR_FAILED, INPUT_
 use crate::office::open;
 use crate::stop::Stop;
 use crate::writing::print_text;
-use aq_base::{Ask, Bytes};
+use aq_base::{Bytes, Question};
 use aq_book::Book;
 use aq_keeper::Keeper;
 use aq_office::{Answer, answer_to};
-use aq_reports::text_of;
+use aq_reports::texts_of;
 use aq_serve::Sink;
 use std::alloc::Global;
 
-/// A question about an office, whose answer is a text.
-pub(crate) trait Question {
-    ghost use Rattle.std.specs.Prelude.{◌≡◌, Bool, IfErr, IfOk, IsTrue};
-    ghost use Rattle.aq_rules.specs.Office.Office.{Office};
-    ghost use Rattle.aq_desk.specs.Ask.{IsUnanswered};
-    ghost use Rattle.aq_desk.specs.Command.{Printout, printed};
-
-    /// What is printed of it, over an office.
-    ghost printout: { Self → Office → Printout };
-
-    /// Whether words may ask it.
-    ghost is_asked: { Self → Bool };
-
-    /// The text of its answer over an office.
-    fn text(&self, alloc: Global, book: &Book) -> Result<Bytes, Stop>
-        requires { IsTrue (is_asked self.now) }
-        ensures text { IfOk result (λ text. printout self.now book.now ≡ printed text) }
-        ensures refused { IfErr result (IsUnanswered (printout self.now book.now)) };
-}
-
 /// Prints the answer to a question over the office of the tables, which are let go before.
-pub(crate) fn ask<Q: Question, K: Keeper, O: Sink>(
+pub(crate) fn ask<K: Keeper, O: Sink>(
     alloc: Global,
-    question: &Q,
+    question: &Question,
     keeper: &mut K,
     output: &mut O,
 ) -> Result<(), Stop>
-    requires { IsTrue (Q.is_asked question.now) }
+    requires range { IsTrue (is_asked question.now) }
+    requires today { IsTrue (is_of ASKED (topic_of question.now)) }
     ensures told { OfTold (told_through (K.seen keeper.old).tables (K.seen keeper.new).tables)
-        (λ rows. Performs (ask_outcome (Q.printout question.now) rows) result
+        (λ rows. Performs (ask_outcome (ask_printout question.now) rows) result
         (O.seen output.old) (O.seen output.new) (K.seen keeper.old).tables
         (K.seen keeper.new).tables) }
     ensures no_input { (status_of result ≡ INPUT_FAILED → ⊥)
@@ -68,10 +51,11 @@ pub(crate) fn ask<Q: Question, K: Keeper, O: Sink>(
 }
 
 /// The text of the answer over the office of the tables, which are let go.
-fn asked<Q: Question, K: Keeper>(alloc: Global, question: &Q, keeper: &mut K) -> Result<Bytes, Stop>
-    requires { IsTrue (Q.is_asked question.now) }
+fn asked<K: Keeper>(alloc: Global, question: &Question, keeper: &mut K) -> Result<Bytes, Stop>
+    requires range { IsTrue (is_asked question.now) }
+    requires today { IsTrue (is_of ASKED (topic_of question.now)) }
     ensures told { OfTold (told_through (K.seen keeper.old).tables (K.seen keeper.new).tables)
-        (λ rows. Gives (ask_outcome (Q.printout question.now) rows) result
+        (λ rows. Gives (ask_outcome (ask_printout question.now) rows) result
         (K.seen keeper.old).tables (K.seen keeper.new).tables) }
     ensures unprinted { IfErr result IsUnprinted }
     ensures keeper_failed { RisesAt KEEPER_FAILED (status_of result) (K.seen keeper.old).faults
@@ -85,14 +69,11 @@ fn asked<Q: Question, K: Keeper>(alloc: Global, question: &Q, keeper: &mut K) ->
 }
 
 /// The text of the answer over the office of the tables.
-fn answered<Q: Question, K: Keeper>(
-    alloc: Global,
-    question: &Q,
-    keeper: &mut K,
-) -> Result<Bytes, Stop>
-    requires { IsTrue (Q.is_asked question.now) }
+fn answered<K: Keeper>(alloc: Global, question: &Question, keeper: &mut K) -> Result<Bytes, Stop>
+    requires range { IsTrue (is_asked question.now) }
+    requires today { IsTrue (is_of ASKED (topic_of question.now)) }
     ensures told { OfTold (told_through (K.seen keeper.old).tables (K.seen keeper.new).tables)
-        (λ rows. Gives (ask_outcome (Q.printout question.now) rows) result
+        (λ rows. Gives (ask_outcome (ask_printout question.now) rows) result
         (K.seen keeper.old).tables (K.seen keeper.new).tables) }
     ensures unprinted { IfErr result IsUnprinted }
     ensures keeper_failed { RisesAt KEEPER_FAILED (status_of result) (K.seen keeper.old).faults
@@ -100,36 +81,19 @@ fn answered<Q: Question, K: Keeper>(
     ensures only_migrates { OnlyMigrates (K.seen keeper.old) (K.seen keeper.new) }
 {
     let book = open(alloc, keeper)?;
-    question.text(alloc, &book)
+    text_of_answer(alloc, &book, question)
 }
 
-impl Question for Ask {
-    ghost use Rattle.aq_desk.specs.Ask.{ask_printout};
-    ghost use Rattle.aq_rules.specs.Shown.Answer as questions;
-
-    ghost printout = { ask_printout };
-
-    ghost is_asked = { questions.is_asked };
-
-    fn text(&self, alloc: Global, book: &Book) -> Result<Bytes, Stop> {
-        match answer_to(alloc, book, self)? {
-            Answer::Sheet(sheet) => Ok(Bytes::from_vec(text_of(alloc, &sheet)?)),
-            Answer::Export(text) => Ok(Bytes::from_vec(text)),
-            Answer::NoSite | Answer::NoLoad => Err(lacked(self)),
-        }
-    }
-}
-
-/// What a question without an answer lacks: a load with its number, or its site.
-fn lacked(ask: &Ask) -> Stop
-    requires { MayLack ask.now }
-    ensures { IsUnanswered (unwritten (without_answer ask.now)) result }
+/// The text of the answer over an office.
+pub(crate) fn text_of_answer(alloc: Global, book: &Book, question: &Question) -> Result<Bytes, Stop>
+    requires range { IsTrue (is_asked question.now) }
+    requires today { IsTrue (is_of ASKED (topic_of question.now)) }
+    ensures text { IfOk result (λ text. ask_printout question.now book.now ≡ printed text) }
+    ensures refused { IfErr result (IsUnanswered (ask_printout question.now book.now)) }
 {
-    match *ask {
-        Ask::Reply(number) => Stop::NoLoad(number),
-        Ask::Windows(site, _) => Stop::NoSite(site),
-        Ask::Days(site, _) | Ask::Pm25(site, _) | Ask::Pm10(site, _) => Stop::NoSite(site),
-        Ask::Value(_, site, _) | Ask::Export(site, _, _) => Stop::NoSite(site),
-        Ask::Report(..) => unreachable!(),
+    match answer_to(alloc, book, question)? {
+        Answer::Sheets(sheets) => Ok(Bytes::from_vec(texts_of(alloc, sheets.as_slice())?)),
+        Answer::Text(text) => Ok(Bytes::from_vec(text)),
+        Answer::Lacks(what) => Err(Stop::Lacks(what)),
     }
 }

@@ -162,10 +162,6 @@ pub fn perform<K: Keeper, D: Door, S: Source, O: Sink>(
         Command::Scan { site, day } => scan(alloc, *site, *day, input, output),
         Command::Load(number) => load(alloc, *number, keeper, input, output),
         Command::Ask(question) => ask(alloc, question, keeper, output),
-        Command::WhatIf(question) => ask(alloc, question, keeper, output),
-        Command::Decisive(question) => ask(alloc, question, keeper, output),
-        Command::Combined(question) => ask(alloc, question, keeper, output),
-        Command::Area(question) => ask(alloc, question, keeper, output),
         Command::Serve { port, connections } => serve(alloc, *port, *connections, keeper, door),
         Command::Simulate {
             start,

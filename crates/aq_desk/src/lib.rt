@@ -45,11 +45,10 @@
 //! ```
 #![tactic(auto)]
 
-mod area;
 mod ask;
 mod body;
-mod combined;
 mod command;
+mod lack;
 mod load;
 mod messages;
 mod office;
@@ -58,11 +57,10 @@ mod serve;
 mod simulate;
 mod status;
 mod stop;
-mod what_if;
 mod writing;
 
 pub use aq_office::{Posted, post};
-pub use aq_words::{AreaQuestion, Combined, Command, Decisive, WhatIf, read_words};
+pub use aq_words::{Command, read_words};
 pub use command::{
     end_without_memory, perform, run, runs_without_faults_are_complete, told_runs_are_exact,
 };

@@ -1,25 +1,22 @@
 //! The command `load`.
-ghost use Rattle.std.specs.Prelude.{◌≡◌, ◌≤◌, ◌⊎◌, length, true, false, IfErr, IfSome, IsSome, IsTrue};
+ghost use Rattle.std.specs.Prelude.{◌≡◌, ◌≤◌, ◌⊎◌, length, true, false, IfErr};
 ghost use Rattle.aq_keeper.specs.Told.{told_through};
 ghost use Rattle.aq_rules.specs.Limits.{MOST_BYTES, MOST_LINES};
 ghost use Rattle.aq_rules.specs.Lines.Lines.{line_count};
-ghost use Rattle.aq_rules.specs.Office.Office.{load_at};
-ghost use Rattle.aq_rules.specs.Shown.Answer.{is_load_number};
 ghost use Rattle.aq_desk.specs.Command.{RisesAt, WritesNothing};
-ghost use Rattle.aq_desk.specs.Load.{IsAnswered, IsKeptText, IsTextOf, load_answer, load_outcome};
+ghost use Rattle.aq_desk.specs.Load.{IsTextOf, load_answer, load_outcome};
 ghost use Rattle.aq_serve.specs.Outside.{OfTold};
 ghost use Rattle.aq_desk.specs.Stop.{Gives, HasCauses, HasRead, IsMeasured, IsUnprinted, Performs, status_of};
-ghost use Rattle.aq_desk.specs.declared.stop.Stop.TheVariants.{Conflict};
 ghost use Rattle.aq_desk.specs.declared.status.TheConstants.{DOOR_FAILED, INPUT_FAILED, KEEPER_FAILED, OUTPUT_FAILED, TOO_LARGE};
 
 use crate::body::read_body;
 use crate::office::open;
 use crate::stop::Stop;
-use crate::writing::{print_text, text_of_load};
+use crate::writing::print_text;
 use aq_base::Bytes;
-use aq_book::Book;
 use aq_keeper::Keeper;
 use aq_office::{Posted, post_uncounted};
+use aq_reports::text_of;
 use aq_serve::{Sink, Source};
 use std::alloc::Global;
 
@@ -32,7 +29,6 @@ pub(crate) fn load<K: Keeper, S: Source, O: Sink>(
     input: &mut S,
     output: &mut O,
 ) -> Result<(), Stop>
-    requires number { IsTrue (is_load_number number) }
     ensures told { OfTold (told_through (K.seen keeper.old).tables (K.seen keeper.new).tables)
         (λ rows. OfTold (S.seen input.old).left (λ body. Performs
         (load_outcome number rows body) result (O.seen output.old) (O.seen output.new)
@@ -59,7 +55,6 @@ fn answer<K: Keeper, O: Sink>(
     keeper: &mut K,
     output: &mut O,
 ) -> Result<(), Stop>
-    requires number { IsTrue (is_load_number number) }
     requires bytes { length body.now ≤ MOST_BYTES }
     requires lines { line_count body.now ≤ MOST_LINES }
     ensures told { OfTold (told_through (K.seen keeper.old).tables (K.seen keeper.new).tables)
@@ -86,7 +81,6 @@ fn take_and_let_go<K: Keeper>(
     body: &[u8],
     keeper: &mut K,
 ) -> Result<Bytes, Stop>
-    requires number { IsTrue (is_load_number number) }
     requires bytes { length body.now ≤ MOST_BYTES }
     requires lines { line_count body.now ≤ MOST_LINES }
     ensures told { OfTold (told_through (K.seen keeper.old).tables (K.seen keeper.new).tables)
@@ -104,7 +98,6 @@ fn take_and_let_go<K: Keeper>(
 
 /// Takes a body within the limits, and answers the text of the load's sheet: the load stands then.
 fn take<K: Keeper>(alloc: Global, number: u32, body: &[u8], keeper: &mut K) -> Result<Bytes, Stop>
-    requires number { IsTrue (is_load_number number) }
     requires bytes { length body.now ≤ MOST_BYTES }
     requires lines { line_count body.now ≤ MOST_LINES }
     ensures told { OfTold (told_through (K.seen keeper.old).tables (K.seen keeper.new).tables)
@@ -115,42 +108,19 @@ fn take<K: Keeper>(alloc: Global, number: u32, body: &[u8], keeper: &mut K) -> R
         (K.seen keeper.new).faults }
 {
     let book = open(alloc, keeper)?;
-    let (book, posted) = post_uncounted(alloc, book, keeper, number, body)?;
-    text_of_posted(alloc, &book, number, posted)
+    let (_book, posted) = post_uncounted(alloc, book, keeper, number, body)?;
+    text_of_posted(alloc, number, posted)
 }
 
 /// The text of the sheet of a load that was posted, or what stops the command.
-fn text_of_posted(alloc: Global, book: &Book, number: u32, posted: Posted) -> Result<Bytes, Stop>
-    requires { IsAnswered posted (load_at book.now number) }
-    ensures { IsTextOf posted number (load_at book.now number) result }
+fn text_of_posted(alloc: Global, number: u32, posted: Posted) -> Result<Bytes, Stop>
+    ensures { IsTextOf posted number result }
 {
     match posted {
-        Posted::Done => kept_text(alloc, book, number),
-        Posted::Conflict(sent) => Err(conflict(book, number, sent)),
+        Posted::Done(sheet) => Ok(Bytes::from_vec(text_of(alloc, &sheet)?)),
+        Posted::Lines(lines) => Err(Stop::TooManyLines(lines)),
+        Posted::Conflict { kept, sent } => Err(Stop::Conflict { number, kept, sent }),
         Posted::Full => Err(Stop::LoadsFull),
         Posted::Failed => Err(Stop::KeeperFailed),
-        Posted::Lines(_) => unreachable!(),
-    }
-}
-
-/// The text of the sheet that is kept of a load.
-fn kept_text(alloc: Global, book: &Book, number: u32) -> Result<Bytes, Stop>
-    requires { IsSome (load_at book.now number) }
-    ensures { IsKeptText (load_at book.now number) result }
-{
-    match book.reply_of(number) {
-        Some(reply) => Ok(text_of_load(alloc, reply)?),
-        None => unreachable!(),
-    }
-}
-
-/// What stops a load whose number is kept with another digest.
-fn conflict(book: &Book, number: u32, sent: [u8; 32]) -> Stop
-    requires { IsSome (load_at book.now number) }
-    ensures { IfSome (load_at book.now number) (λ kept. result ≡ Conflict number kept.digest sent) }
-{
-    match book.digest_of(number) {
-        Some(kept) => Stop::Conflict { number, kept, sent },
-        None => unreachable!(),
     }
 }

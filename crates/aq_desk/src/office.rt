@@ -1,7 +1,6 @@
 //! The office that a command opens.
 ghost use Rattle.std.specs.Prelude.{◌≡◌, false, IfErr, IfOk, IfSome, OnOk};
 ghost use Rattle.aq_rules.specs.Kept.Migration.{are_version_1};
-ghost use Rattle.aq_rules.specs.Kept.Rows.{are_office_rows};
 ghost use Rattle.aq_desk.specs.Office.{HasOpened, IsUnopened, OnlyMigrates};
 
 use crate::stop::Stop;
@@ -51,10 +50,9 @@ fn open_rows<K: Keeper>(alloc: Global, rows: &[Row], keeper: &mut K) -> Result<O
     }
 }
 
-/// The office of rows that are no office's: those of version 1 are migrated by one commit.
+/// The office of rows, of which those of version 1 are migrated by one commit.
 fn migrate_rows<K: Keeper>(alloc: Global, rows: &[Row], keeper: &mut K) -> Result<Opened, Stop>
-    requires told { IfSome (K.seen keeper.old).tables (λ told. rows.now ≡ told) }
-    requires no_office { are_office_rows rows.now ≡ false }
+    requires { IfSome (K.seen keeper.old).tables (λ told. rows.now ≡ told) }
     ensures opened { IfOk result (λ opened. HasOpened opened (K.seen keeper.old).tables
         (K.seen keeper.new).tables) }
     ensures stopped { IfErr result (IsUnopened (K.seen keeper.old).tables
@@ -67,7 +65,7 @@ fn migrate_rows<K: Keeper>(alloc: Global, rows: &[Row], keeper: &mut K) -> Resul
     rows_are_those_of_their_office();
     the_batch_of_a_migration_gives_the_migrated_rows();
     let Some(migration) = migrate(alloc, rows)? else {
-        unreachable!();
+        return Ok(aq_rows::open(alloc, rows)?);
     };
     keeper.commit(alloc, migration.batch())?;
     Ok(aq_rows::open(alloc, migration.rows())?)

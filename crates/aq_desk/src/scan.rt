@@ -1,24 +1,24 @@
 //! The command `scan`.
 ghost use Rattle.std.specs.Prelude.{◌≡◌, ◌<◌, ◌≤◌, length, true, IfErr, IfOk};
+ghost use Rattle.aq_base.specs.declared.question.Question.TheVariants.{Windows};
 ghost use Rattle.aq_book.specs.Staged.{office_with, Fits};
 ghost use Rattle.aq_rules.specs.Limits.{MOST_BYTES, MOST_LINES};
 ghost use Rattle.aq_rules.specs.Lines.Lines.{line_count};
-ghost use Rattle.aq_rules.specs.Shown.Answer as questions;
-ghost use Rattle.aq_rules.specs.Shown.Answer.{Windows};
 ghost use Rattle.aq_rules.specs.Shown.Sheet.{text_of};
 ghost use Rattle.aq_rules.specs.Shown.Sheets.{load_sheet};
+ghost use Rattle.aq_desk.specs.Ask.{ask_printout};
 ghost use Rattle.aq_desk.specs.Command.{after_text, printed, RisesAt, WritesNothing};
 ghost use Rattle.aq_serve.specs.Outside.{OfTold};
-ghost use Rattle.aq_desk.specs.Scan.{scan_answer, scan_outcome, sheet_or_no_site};
+ghost use Rattle.aq_desk.specs.Scan.{scan_answer, scan_outcome};
 ghost use Rattle.aq_desk.specs.Stop.{HasCauses, HasRead, IsCutShort, IsMeasured, IsTaken, Obeys, status_of};
 ghost use Rattle.aq_desk.specs.declared.status.TheConstants.{DOOR_FAILED, KEEPER_FAILED, OUTPUT_FAILED};
 
+use crate::ask::text_of_answer;
 use crate::body::read_body;
 use crate::stop::Stop;
-use crate::writing::print_sheet;
-use aq_base::{Ask, Day, Memory, SiteId, Steps};
+use crate::writing::{print_sheet, print_text};
+use aq_base::{Day, Memory, Question, SiteId, Steps};
 use aq_book::{Book, Staged};
-use aq_office::{Answer, answer_to};
 use aq_reports::load_sheet;
 use aq_serve::{Sink, Source};
 use std::alloc::Global;
@@ -81,8 +81,8 @@ fn print_staged<O: Sink>(
 ) -> Result<(), Stop>
     requires { Fits staged book }
     ensures told { Obeys (after_text (text_of (load_sheet staged.reply))
-        (sheet_or_no_site site (questions.answer (office_with staged book)
-        (Windows site day)))) result (O.seen output.old) (O.seen output.new) }
+        (ask_printout (Windows site day) (office_with staged book))) result
+        (O.seen output.old) (O.seen output.new) }
     ensures taken { IsTaken (status_of result) }
     ensures output_failed { RisesAt OUTPUT_FAILED (status_of result) (O.seen output.old).faults
         (O.seen output.new).faults }
@@ -113,8 +113,7 @@ fn print_taken<O: Sink>(
     output: &mut O,
 ) -> Result<(), Stop>
     requires { Fits staged book }
-    ensures told { Obeys (sheet_or_no_site site
-        (questions.answer (office_with staged book) (Windows site day))) result
+    ensures told { Obeys (ask_printout (Windows site day) (office_with staged book)) result
         (O.seen output.old) (O.seen output.new) }
     ensures taken { IsTaken (status_of result) }
     ensures output_failed { RisesAt OUTPUT_FAILED (status_of result) (O.seen output.old).faults
@@ -144,17 +143,12 @@ fn print_windows<O: Sink>(
     day: Day,
     output: &mut O,
 ) -> Result<(), Stop>
-    ensures told { Obeys (sheet_or_no_site site
-        (questions.answer book.now (Windows site day))) result (O.seen output.old)
+    ensures told { Obeys (ask_printout (Windows site day) book.now) result (O.seen output.old)
         (O.seen output.new) }
     ensures taken { IsTaken (status_of result) }
     ensures output_failed { RisesAt OUTPUT_FAILED (status_of result) (O.seen output.old).faults
         (O.seen output.new).faults }
 {
-    match answer_to(alloc, book, &Ask::Windows(site, day))? {
-        Answer::Sheet(sheet) => print_sheet(alloc, &sheet, output),
-        Answer::NoSite => Err(Stop::NoSite(site)),
-        Answer::Export(_) => unreachable!(),
-        Answer::NoLoad => unreachable!(),
-    }
+    let text = text_of_answer(alloc, book, &Question::Windows(site, day))?;
+    print_text(text.as_slice(), output)
 }

@@ -4,18 +4,17 @@ ghost use Rattle.aq_desk.specs.Stop.{ending_at};
 ghost use Rattle.aq_desk.specs.Writing.{Writes};
 
 use crate::body::BodyFault;
-use crate::messages::{
-    write_conflict, write_damaged, write_lines, write_no_combination, write_no_event,
-    write_no_load, write_no_site,
-};
+use crate::lack::{status_of_lack, write_lack};
+use crate::messages::{write_conflict, write_damaged, write_lines};
 use crate::status::{
-    CONFLICT, DAMAGED, DOOR_FAILED, INPUT_FAILED, KEEPER_FAILED, LOADS_FULL, NO_COMBINATION,
-    NO_EVENT, NO_LOAD, NO_MEMORY, NO_SITE, NO_SITE_IN_AREA, OUTPUT_FAILED, TOO_LARGE,
+    CONFLICT, DAMAGED, DOOR_FAILED, INPUT_FAILED, KEEPER_FAILED, LOADS_FULL, NO_MEMORY,
+    OUTPUT_FAILED, TOO_LARGE,
 };
 use crate::writing::write_all;
-use aq_base::{Failed, SiteId};
+use aq_base::Failed;
 use aq_book::{OpenFault, Place};
 use aq_keeper::KeeperFault;
+use aq_office::Lack;
 use aq_serve::Sink;
 
 /// What stops a command before it has done all.
@@ -39,15 +38,8 @@ pub enum Stop {
     /// With the number of lines.
     TooManyLines(u32),
     LoadsFull,
-    NoSite(SiteId),
-    /// With the first number of a list that no event has.
-    NoEvent(u32),
-    /// With the site, which is registered, and to which none is joined.
-    NoCombination(SiteId),
-    /// No registered site of the area measures the pollutant.
-    NoSiteInArea,
-    /// With the number of which no load stands.
-    NoLoad(u32),
+    /// What a question asks for is not there.
+    Lacks(Lack),
 }
 
 impl Stop {
@@ -65,11 +57,7 @@ impl Stop {
             Stop::Conflict { .. } => CONFLICT,
             Stop::TooManyBytes | Stop::TooManyLines(_) => TOO_LARGE,
             Stop::LoadsFull => LOADS_FULL,
-            Stop::NoSite(_) => NO_SITE,
-            Stop::NoEvent(_) => NO_EVENT,
-            Stop::NoCombination(_) => NO_COMBINATION,
-            Stop::NoSiteInArea => NO_SITE_IN_AREA,
-            Stop::NoLoad(_) => NO_LOAD,
+            Stop::Lacks(what) => status_of_lack(what),
         }
     }
 
@@ -89,11 +77,7 @@ impl Stop {
             Stop::TooManyBytes => write_all(errors, b"airdv: 10 more than 8388608 bytes\n"),
             Stop::TooManyLines(lines) => write_lines(*lines, errors),
             Stop::LoadsFull => write_all(errors, b"airdv: 11 loads full\n"),
-            Stop::NoSite(site) => write_no_site(*site, errors),
-            Stop::NoEvent(number) => write_no_event(*number, errors),
-            Stop::NoCombination(site) => write_no_combination(*site, errors),
-            Stop::NoSiteInArea => write_all(errors, b"airdv: 15 no site in area\n"),
-            Stop::NoLoad(number) => write_no_load(*number, errors),
+            Stop::Lacks(what) => write_lack(what, errors),
         }
     }
 }

@@ -1,7 +1,6 @@
 //! Texts and sheets, written until a sink has all of them.
-ghost use Rattle.std.specs.Prelude.{◌≡◌, IfErr, IfOk};
+ghost use Rattle.std.specs.Prelude.{◌≡◌, IfErr};
 ghost use Rattle.aq_rules.specs.Shown.Sheet.{text_of};
-ghost use Rattle.aq_rules.specs.Shown.Sheets.{load_sheet};
 ghost use Rattle.aq_desk.specs.Command.{RisesAt, printed};
 ghost use Rattle.aq_desk.specs.Stop.{IsCutShort, Obeys, status_of};
 ghost use Rattle.aq_desk.specs.Writing.{Writes};
@@ -9,8 +8,8 @@ ghost use Rattle.aq_desk.specs.declared.stop.Stop.TheVariants.{OutputFailed};
 ghost use Rattle.aq_desk.specs.declared.status.TheConstants.{OUTPUT_FAILED};
 
 use crate::stop::Stop;
-use aq_base::{Bytes, Failed, LoadReply, Memory};
-use aq_reports::{Sheet, load_sheet, text_of};
+use aq_base::Failed;
+use aq_reports::{Sheet, text_of};
 use aq_serve::Sink;
 use std::alloc::Global;
 
@@ -48,12 +47,4 @@ pub(crate) fn print_sheet<O: Sink>(alloc: Global, sheet: &Sheet, output: &mut O)
 {
     let text = text_of(alloc, sheet)?;
     print_text(&text, output)
-}
-
-/// The text of the sheet of a reply.
-pub(crate) fn text_of_load(alloc: Global, reply: &LoadReply) -> Result<Bytes, Memory>
-    ensures { IfOk result (λ text. text ≡ text_of (load_sheet reply.now)) }
-{
-    let sheet = load_sheet(alloc, reply)?;
-    Ok(Bytes::from_vec(text_of(alloc, &sheet)?))
 }

@@ -115,7 +115,7 @@ impl<N: Net + Clock + Drop> Door for TcpDoor<N> {
     {
         let accepted = match &self.listener {
             Some((_, listener)) => accept_next(listener, &mut self.next),
-            None => unreachable!(),
+            None => Err(Failed),
         };
         match accepted {
             Ok(stream) => {
@@ -160,7 +160,7 @@ impl<N: Net + Clock + Drop> Door for TcpDoor<N> {
                     buffer,
                 )
             }
-            None => unreachable!(),
+            None => Err(Failed),
         };
         if got.is_err() {
             self.is_cut = true;
@@ -189,7 +189,7 @@ impl<N: Net + Clock + Drop> Door for TcpDoor<N> {
     {
         let taken = match &mut self.stream {
             Some(stream) => write_in_time(&self.net, stream, &mut self.deadlines, piece),
-            None => unreachable!(),
+            None => Err(Failed),
         };
         if taken.is_err() {
             self.is_cut = true;

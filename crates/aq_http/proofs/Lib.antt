@@ -5,5 +5,6 @@ pub mod Numbers
 pub mod Reading
 pub mod Replies
 pub mod Routed
+pub mod Seeking
 pub mod Steps
 pub mod Walking

@@ -1,35 +1,22 @@
 -- Routes that a router takes, and what it finds.
-use Rattle.std.proofs.Common.{◌≡◌, ◌≢◌, ℕ, zero, suc, ◌<◌, get_or, ◌⊎◌, inl, inr, Bool, true, false, cond, List, [], ◌∷◌, length, refl, sym, ap, ◌∙◌, arith, Option, None, Result, Ok, Err}
+use Rattle.std.proofs.Common.{◌≡◌, ◌≢◌, ℕ, zero, suc, ◌<◌, get_or, Bool, true, false, cond, List, [], ◌∷◌, length, refl, sym, ap, ◌∙◌, subst, arith, Option, None, Some}
 use Rattle.std.specs.Str.{IsAscii, IsUtf8, is_utf8}
 use Rattle.std.proofs.lemmas.Str.{IsUtf8-from_ascii, IsUtf8-from_is_utf8, is_utf8-from_IsUtf8}
-use Rattle.matchit.specs.declared.error.InsertError.{InsertError}
-use Rattle.matchit.specs.declared.error.InsertError.TheVariants.{OutOfMemory}
-use Rattle.matchit.specs.Route.{Scan}
-use Rattle.matchit.specs.Router.{RouteOf, InsertsRead}
-use Rattle.matchit.specs.Rows.{RowsOf}
-use Rattle.aq_http.specs.declared.route.Route.{Route}
-use Rattle.std.specs.Prelude.{◌==◌, nat_lt, option_map}
+use Rattle.matchit.proofs.OnLiterals.{matchit_on_literals}
+use Rattle.matchit.specs.Router.{RouteOf}
+use Rattle.aq_base.specs.declared.question.Topic.{Topic}
+use Rattle.aq_rules.specs.Questions.Asking.{is_of}
+use Rattle.aq_rules.specs.Questions.Table.{ASKED, pattern_of}
+use Rattle.std.specs.Prelude.{◌==◌, nat_lt, option_map, IfSome, IsTrue}
 use Rattle.std.specs.List.{list_all, position_or_len}
 use Rattle.std.proofs.lemmas.Bool.{and_parts, eq-eqb, ne_eqb}
 use Rattle.std.proofs.lemmas.Bool.Decides.{nat_tests}
 use Rattle.std.proofs.lemmas.List.Sums.{position_or_len_is}
 use Rattle.matchit.specs.Seek.{first}
 use Rattle.aq_http.specs.declared.verb.Verb.{Verb}
-use Rattle.aq_http.specs.Routes.{all_routes, found, found_on, path_of, route_of, with_read}
+use Rattle.aq_http.specs.Routes.{all_routes, found, found_on, path_of, route_of, with_routes}
+use Rattle.aq_http.proofs.Seeking.{AllRows, seek_keeps}
 use Rattle.aq_http.proofs.Walking.{walk, walks}
-
-no_success : (e : InsertError) → ◌≡◌ {A = Result (Unit {0}) InsertError} (Ok tt) (Err e) → ⊥
-no_success e q = cc
-
--- a route that was taken stands in its place
-pub taken : (read : Result Scan InsertError) (route : Route) (old new : RowsOf (RouteOf Route))
-    → InsertsRead read route old new (Ok tt) → new ≡ with_read read route old
-taken (Ok scan) route old new is = is.1
-taken (Err e) route old new is = absurd (by_error is.1)
-  where
-    by_error : (◌≡◌ {A = Result (Unit {0}) InsertError} (Ok tt) (Err e)) ⊎ (◌≡◌ {A = Result (Unit {0}) InsertError} (Ok tt) (Err OutOfMemory)) → ⊥
-    by_error (inl q) = no_success e q
-    by_error (inr q) = no_success _ q
 
 -- a text that is no UTF-8
 pub no_text : (path : List ℕ) → ¬ (IsUtf8 path) → is_utf8 path ≡ false
@@ -39,27 +26,15 @@ no_text path none = by_test (is_utf8 path) refl
     by_test true is = absurd (none (IsUtf8-from_is_utf8 path is))
     by_test false is = is
 
-abbrev routed : Bool → Option (RouteOf Route) → Option Route
+abbrev routed : Bool → Option (RouteOf Topic) → Option Topic
 routed t row = cond t (option_map (λ r. r.value) row) None
 
 pub no_text_no_route : (path : List ℕ) → ¬ (IsUtf8 path) → None ≡ route_of path
 no_text_no_route path none = sym (ap (λ t. routed t (first all_routes path)) (no_text path none))
 
-pub text_routed : (path : List ℕ) (row : Option (RouteOf Route)) → IsUtf8 path → first all_routes path ≡ row → option_map (λ r. r.value) row ≡ route_of path
+pub text_routed : (path : List ℕ) (row : Option (RouteOf Topic)) → IsUtf8 path → first all_routes path ≡ row → option_map (λ r. r.value) row ≡ route_of path
 text_routed path row text is =
     sym (ap (λ t. routed t (first all_routes path)) (is_utf8-from_IsUtf8 path text) ∙ ap (routed true) is)
-
--- ---- the first byte of its kind
-
-pub first_at : (text : List ℕ) (byte place : ℕ) → place < length text → get_or text place 0 ≡ byte
-    → ((k : ℕ) → k < place → get_or text k 0 ≢ byte) → position_or_len (λ b. b == byte) text ≡ place
-first_at text byte place within here before =
-    position_or_len_is (λ b. b == byte) text place 0 (omega arith) (λ k below. ne_eqb _ _ (before k below)) (λ _. eq-eqb _ _ here)
-
-pub first_nowhere : (text : List ℕ) (byte : ℕ) → ((k : ℕ) → k < length text → get_or text k 0 ≢ byte)
-    → position_or_len (λ b. b == byte) text ≡ length text
-first_nowhere text byte none =
-    position_or_len_is (λ b. b == byte) text (length text) 0 (omega arith) (λ k below. ne_eqb _ _ (none k below)) (λ h. absurd (omega arith))
 
 -- ---- targets of ASCII
 
@@ -69,16 +44,35 @@ ascii (b ∷ bytes) h zero = let small = (and_parts (nat_lt b 128) (list_all (λ
 ascii (b ∷ bytes) h (suc i) = ascii bytes (and_parts (nat_lt b 128) (list_all (λ c. nat_lt c 128) bytes) h).1 i
 
 -- what is found by the route that the rows give
-pub found-by : (verb : Verb) (target : List ℕ) (route : Option Route) → list_all (λ b. nat_lt b 128) (path_of target) ≡ true
+found_by : (verb : Verb) (target : List ℕ) (route : Option Topic) → list_all (λ b. nat_lt b 128) (path_of target) ≡ true
     → option_map (λ r. r.value) (first all_routes (path_of target)) ≡ route → found verb target ≡ found_on verb route (path_of target)
 unfolding found
-found-by verb target route plain is =
+found_by verb target route plain is =
     let path = path_of target in
     let text : is_utf8 path ≡ true = is_utf8-from_IsUtf8 path (IsUtf8-from_ascii path (ascii path plain)) in
     ap (λ t. found_on verb (routed t (first all_routes path)) path) text ∙ ap (λ r. found_on verb r path) is
 
 -- the same by the walk, for a path whose rows run out long before its end
-pub found-walked : (verb : Verb) (target : List ℕ) (route : Option Route) → list_all (λ b. nat_lt b 128) (path_of target) ≡ true
+pub found_walked : (verb : Verb) (target : List ℕ) (route : Option Topic) → list_all (λ b. nat_lt b 128) (path_of target) ≡ true
     → option_map (λ r. r.value) (walk 0 all_routes (path_of target)) ≡ route → found verb target ≡ found_on verb route (path_of target)
-found-walked verb target route plain is =
-    found-by verb target route plain (ap (λ row. option_map (λ r. r.value) row) (walks 0 all_routes (path_of target)) ∙ is)
+found_walked verb target route plain is =
+    found_by verb target route plain (ap (λ row. option_map (λ r. r.value) row) (walks 0 all_routes (path_of target)) ∙ is)
+
+-- ---- what is asked today
+
+abbrev IsToday : RouteOf Topic → Type 0
+IsToday row = IsTrue (is_of ASKED row.value)
+
+all_today : AllRows IsToday all_routes
+unfolding matchit_on_literals with_routes pattern_of
+all_today = (refl, (refl, (refl, (refl, (refl, (refl, (refl, (refl, (refl, (refl, (refl, (refl, tt))))))))))))
+
+-- the topic of a path is asked today
+pub asked_today : (path : List ℕ) (topic : Topic) → route_of path ≡ Some topic → IsTrue (is_of ASKED topic)
+asked_today path topic is =
+    subst (λ found. IfSome found (λ t. IsTrue (is_of ASKED t))) is (by_test (is_utf8 path) (first all_routes path) (seek_keeps IsToday 0 all_routes path all_today))
+  where
+    by_test : (test : Bool) (row : Option (RouteOf Topic)) → IfSome row IsToday → IfSome (routed test row) (λ t. IsTrue (is_of ASKED t))
+    by_test true (Some row) today = today
+    by_test true None today = tt
+    by_test false row today = tt

@@ -160,26 +160,17 @@ head_in_more a b places ordered within =
       close = places.close;
     }
 
--- a kept head gives the step of all bytes
-pub kept_head_gives_step : (a b : List ℕ) (places : HeadPlaces) (s : Step) → IsHeadPlaces places
-    → IsHeadStep a (head.Whole (head_in a places)) → with_body (a ++ b) (head_in (a ++ b) places) ≡ s → IsStep (a ++ b) s
-kept_head_gives_step a b places s good stands e =
+-- a kept head gives the request of all bytes
+pub kept_head_gives_request : (input a b : List ℕ) (places : HeadPlaces) (r : Request) → input ≡ a ++ b → IsHeadPlaces places
+    → IsHeadStep a (head.Whole (head_in a places)) → places.head_bytes + places.body_bytes ≤ length input
+    → r ≡ request_in input (head_in input places) → IsStep input (Whole r)
+kept_head_gives_request input a b places r e good stands fits is =
     let bounds = head_is_within a (head_in a places) stands in
     let same = head_in_more a b places good.ordered (omega (arith, good.within, bounds.within)) in
     record {
-      head_step = head.Whole (head_in (a ++ b) places);
-      stands = subst (λ h. IsHeadStep (a ++ b) (head.Whole h)) (sym same)
-          (head_step_stays a b (head.Whole (head_in a places)) (λ q. subst NotMore q tt) stands);
-      is = e;
+      head_step = head.Whole (head_in input places);
+      stands = subst (λ t. IsHeadStep t (head.Whole (head_in t places))) (sym e)
+          (subst (λ h. IsHeadStep (a ++ b) (head.Whole h)) (sym same)
+          (head_step_stays a b (head.Whole (head_in a places)) (λ q. subst NotMore q tt) stands));
+      is = ap (λ t. cond t (Whole (request_in input (head_in input places))) More) (le-leb _ _ fits) ∙ ap Whole (sym is);
     }
-
--- ---- a step from the head's step
-
-pub more_from_head : (input : List ℕ) → IsHeadStep input head.More → IsStep input More
-more_from_head input is = record { head_step = head.More; stands = is; is = refl }
-
-pub refusal_from_head : (input : List ℕ) (status : ℕ) → IsHeadStep input (head.Refuse status) → IsStep input (Refuse status)
-refusal_from_head input status is = record { head_step = head.Refuse status; stands = is; is = refl }
-
-pub whole_from_head : (input : List ℕ) (h : Head) (s : Step) → IsHeadStep input (head.Whole h) → s ≡ with_body input h → IsStep input s
-whole_from_head input h s is e = record { head_step = head.Whole h; stands = is; is = sym e }

@@ -2,15 +2,24 @@
 use Rattle.std.specs.Prelude.{ℕ, Bool, ◌==◌, if◌then◌else◌, List, [], ◌∷◌, ◌++◌, length, codes, decimal}
 use Rattle.std.specs.List.{list_any}
 use Rattle.http.specs.StatusCode.{status_text}
+use Rattle.aq_http.specs.declared.media.MediaType.{MediaType}
+use Rattle.aq_http.specs.declared.media.MediaType.TheVariants.{Json, Csv, Plain}
 
 -- the statuses of replies
 abbrev pub is_reply_status : ℕ → Bool
 is_reply_status status =
     list_any (λ s. s == status) (200 ∷ 400 ∷ 403 ∷ 404 ∷ 405 ∷ 409 ∷ 411 ∷ 413 ∷ 431 ∷ 501 ∷ 503 ∷ 507 ∷ [])
 
--- a reply: the methods that a 405 allows, whether the connection ends after it, and its body, in JSON
+-- what the body of a reply is written in (RFC 9110, section 8.3)
+abbrev pub media_name : MediaType → List ℕ
+media_name Json = codes "application/json"
+media_name Csv = codes "text/csv"
+media_name Plain = codes "text/plain"
+
+-- a reply: what its body is written in, the methods that a 405 allows, whether the connection ends after it, and its body
 pub record Reply : Type 0 where
   pub status : ℕ
+  pub media : MediaType
   pub allow : List ℕ
   pub close : Bool
   pub body : List ℕ
@@ -25,7 +34,8 @@ close_line close = if close then codes "Connection: close\r\n" else []
 unfoldable pub reply_text : Reply → List ℕ
 reply_text reply =
     codes "HTTP/1.1 " ++ status_text reply.status
-    ++ codes "\r\nContent-Type: application/json\r\nContent-Length: " ++ decimal (length reply.body) ++ codes "\r\n"
+    ++ codes "\r\nContent-Type: " ++ media_name reply.media
+    ++ codes "\r\nContent-Length: " ++ decimal (length reply.body) ++ codes "\r\n"
     ++ allow_line reply.status reply.allow
     ++ close_line reply.close
     ++ codes "\r\n" ++ reply.body

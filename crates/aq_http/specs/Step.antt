@@ -3,6 +3,7 @@ use Rattle.std.specs.Prelude.{◌≡◌, ℕ, ◌+◌, Bool, nat_le, if◌then�
 use Rattle.aq_http.specs.Head.{Head, HeadStep, IsHeadStep}
 use Rattle.aq_http.specs.Head as head
 use Rattle.aq_http.specs.declared.verb.Verb.{Verb}
+use Rattle.aq_http.specs.declared.step.Request.{Request as ReadRequest}
 use Rattle.aq_http.specs.declared.step.Step.{Step as Read}
 use Rattle.aq_http.specs.declared.step.Step.TheVariants as read
 
@@ -46,8 +47,16 @@ pub record IsStep (input : List ℕ) (step : Step) : Type 0 where
   pub is : step_behind input head_step ≡ step
 
 -- as the program has it
+abbrev pub request_of : ReadRequest → Request
+request_of request = record {
+  used = request.used;
+  verb = request.verb;
+  target = request.target.now;
+  body = request.body.now;
+  close = request.close;
+}
+
 abbrev pub step_of : Read → Step
 step_of read.More = More
 step_of (read.Refuse status) = Refuse status
-step_of (read.Whole used verb target body close) =
-    Whole (record { used = used; verb = verb; target = target.now; body = body.now; close = close })
+step_of (read.Whole request) = Whole (request_of request)

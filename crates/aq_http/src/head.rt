@@ -3,11 +3,11 @@ ghost use Rattle.std.specs.Prelude.{◌≡◌, ◌≤◌, ◌+◌, ◌||◌, ◌
 ghost use Rattle.httparse.specs.Spans.{IsRequestWithin};
 ghost use Rattle.aq_http.specs.Head.{head_in, head_step_in, is_encoded, step_at, window, IfWhole, IsHeadStep, Whole};
 ghost use Rattle.aq_http.specs.Places.{IsHeadPlaces};
-ghost use Rattle.aq_http.specs.Step.{IsStep, step_of, with_body};
+ghost use Rattle.aq_http.specs.Step.{IsStep, Whole as WholeStep, request_in, request_of};
 
 use crate::length::body_or_refusal;
 use crate::limits::{MOST_HEAD, MOST_HEADERS};
-use crate::step::Step;
+use crate::step::Request;
 use crate::verb::Verb;
 use http1::fields::{KnownFields, TransferEncoding};
 use httparse::Status;
@@ -126,29 +126,21 @@ impl Head {
         self.len + self.body
     }
 
-    /// The request of this head in the bytes that it was read from, with what has come after them since.
-    /// The head is not read again. It takes no memory.
-    pub fn request<'a>(&self, input: &'a [u8]) -> Step<'a>
-        ensures value { step_of result ≡ with_body input.now (head_in input.now self.now) }
+    /// The request of this head in the bytes that it was read from, with what has come after them since,
+    /// once all of it is there. The head is not read again. It takes no memory.
+    pub fn request<'a>(&self, input: &'a [u8]) -> Request<'a>
+        requires { self.now.head_bytes + self.now.body_bytes ≤ length input.now }
+        ensures value { request_of result ≡ request_in input.now (head_in input.now self.now) }
         // it is what `next_request` gives of all these bytes
         ensures step { (front more : List ℕ) → input.now ≡ front ++ more
-            → IsHeadStep front (Whole (head_in front self.now)) → IsStep input.now (step_of result) }
+            → IsHeadStep front (Whole (head_in front self.now)) → IsStep input.now (WholeStep (request_of result)) }
     {
-        self.step_in(input)
-    }
-
-    fn step_in<'a>(&self, input: &'a [u8]) -> Step<'a>
-        ensures value { step_of result ≡ with_body input.now (head_in input.now self.now) }
-        ensures places { IsHeadPlaces self.now }
-    {
-        if input.len() < self.whole() {
-            return Step::More;
-        }
-        Step::Whole {
-            used: self.whole(),
+        let used = self.whole();
+        Request {
+            used,
             verb: self.verb,
             target: self.target.of(input),
-            body: &input[self.len..self.whole()],
+            body: &input[self.len..used],
             close: self.close,
         }
     }

@@ -1,9 +1,13 @@
 //! What holds of all steps, for whoever reads a connection piece by piece, and what targets ask.
-ghost use Rattle.std.specs.Prelude.{◌≡◌, ◌≢◌, ℕ, true, ◌∷◌, [], map, replicate, codes, ◌+◌, ◌<◌, ◌≤◌, List, ◌++◌, length, IsTrue};
+ghost use Rattle.std.specs.Prelude.{◌≡◌, ◌≢◌, ℕ, true, false, ◌∷◌, [], map, replicate, codes, ◌+◌, ◌<◌, ◌≤◌, List, ◌++◌, length, IsTrue};
 ghost use Rattle.aq_rules.specs.Limits.{MOST_BYTES};
-ghost use Rattle.aq_http.specs.declared.limits.TheConstants.{MOST_HEAD};
-ghost use Rattle.aq_base.specs.declared.ask.Ask.TheVariants.{Days, Pm10, Pm25, Reply, Report, Value, Windows};
+ghost use Rattle.aq_rules.specs.Ozone.OzoneExamples.{site};
+ghost use Rattle.aq_rules.specs.Questions.QuestionExamples.{entries};
+ghost use Rattle.aq_base.specs.declared.area.Area.TheVariants.{County};
+ghost use Rattle.aq_base.specs.declared.monitor.Pollutant.TheVariants.{Ozone};
+ghost use Rattle.aq_base.specs.declared.question.Question.TheVariants.{Area, Combined, Days, Decisive, Export, Pm10, Pm25, Reply, Report, Value, WhatIf, Windows};
 ghost use Rattle.aq_base.specs.declared.standard.Standard.TheVariants.{Ozone2015, Pm10Of1987};
+ghost use Rattle.aq_http.specs.declared.limits.TheConstants.{MOST_HEAD};
 ghost use Rattle.aq_http.specs.declared.routes.Found.TheVariants.{Ask as Asks, Load, NotAllowed, Status};
 ghost use Rattle.aq_http.specs.declared.verb.Verb.TheVariants.{Get, Other, Post};
 ghost use Rattle.aq_http.specs.Head.{HeadStep, IsHeadStep, More as MoreOfHead, verb_of};
@@ -35,8 +39,11 @@ pub fn steps_are_bounded()
 /// On `/loads/5` GET asks for the reply to load 5, POST brings the load in, and another verb, as HEAD, is
 /// not allowed (405). A number has no leading zero and is not percent-decoded (400 for GET and POST). A
 /// slash at the end, an empty part, and a target that does not begin with a slash take no route,
-/// whatever the verb (404). Each further route asks its question of the site 06-037-1103: 2 January 1990 is
-/// day 1 of the profile.
+/// whatever the verb (404).
+/// Each further route asks its question of the site 06-037-1103, or of its county: 2 January 1990 is day 1
+/// of the profile. A standard or a parameter that there is not is not found (404), and of PM10 no sites are
+/// combined. A part that is misspelled, a list of 65 entries and an area with one site twice are bad
+/// requests (400).
 pub fn worked_targets()
     ensures head { verb_of (codes "HEAD") ≡ Other }
     ensures get { found Get (codes "/loads/5") ≡ Asks (Reply 5) }
@@ -47,10 +54,25 @@ pub fn worked_targets()
     ensures no_slash { map (λ verb. found verb (codes "loads/5")) (Get ∷ Post ∷ Other ∷ []) ≡ replicate 3 (Status 404) }
     ensures leading_zero { map (λ verb. found verb (codes "/loads/05")) (Get ∷ Post ∷ Other ∷ []) ≡ Status 400 ∷ Status 400 ∷ NotAllowed true ∷ [] }
     ensures not_decoded { found Get (codes "/loads/%35") ≡ Status 400 }
-    ensures windows { found Get (codes "/ozone/06-037-1103/windows/1990-01-02") ≡ Asks (Windows (record { state = 6; county = 37; number = 1103 }) 1) }
-    ensures days { found Get (codes "/ozone/06-037-1103/days/2024") ≡ Asks (Days (record { state = 6; county = 37; number = 1103 }) 2024) }
-    ensures pm25 { found Get (codes "/pm25/06-037-1103/quarters/2024") ≡ Asks (Pm25 (record { state = 6; county = 37; number = 1103 }) 2024) }
-    ensures pm10 { found Get (codes "/pm10/06-037-1103/quarters/2024") ≡ Asks (Pm10 (record { state = 6; county = 37; number = 1103 }) 2024) }
-    ensures value { found Get (codes "/dv/O3-2015/06-037-1103/2024") ≡ Asks (Value Ozone2015 (record { state = 6; county = 37; number = 1103 }) 2024) }
+    ensures windows { found Get (codes "/ozone/06-037-1103/windows/1990-01-02") ≡ Asks (Windows site 1) }
+    ensures days { found Get (codes "/ozone/06-037-1103/days/2024") ≡ Asks (Days site 2024) }
+    ensures pm25 { found Get (codes "/pm25/06-037-1103/quarters/2024") ≡ Asks (Pm25 site 2024) }
+    ensures pm10 { found Get (codes "/pm10/06-037-1103/quarters/2024") ≡ Asks (Pm10 site 2024) }
+    ensures value { found Get (codes "/dv/O3-2015/06-037-1103/2024") ≡ Asks (Value Ozone2015 site 2024) }
     ensures report { found Get (codes "/report/PM10-24H-1987/2024") ≡ Asks (Report Pm10Of1987 2024) }
+    ensures export { found Get (codes "/export/06-037-1103/44201/2024") ≡ Asks (Export site Ozone 2024) }
+    ensures whatif { found Get (codes "/whatif/O3-2015/06-037-1103/2024/7Y,12N")
+        ≡ Asks (WhatIf Ozone2015 site 2024 (record { number = 7; agreed = true } ∷ record { number = 12; agreed = false } ∷ [])) }
+    ensures decisive { found Get (codes "/decisive/O3-2015/06-037-1103/2024") ≡ Asks (Decisive Ozone2015 site 2024) }
+    ensures combined { found Get (codes "/combined/O3-2015/06-037-1103/2024") ≡ Asks (Combined Ozone2015 site 2024) }
+    ensures area { found Get (codes "/area/O3-2015/06-037/2024") ≡ Asks (Area Ozone2015 (County 6 37) 2024) }
+    ensures no_standard { found Get (codes "/dv/O3-2016/06-037-1103/2024") ≡ Status 404 }
+    ensures no_parameter { found Get (codes "/export/06-037-1103/42602/2024") ≡ Status 404 }
+    ensures misspelled_beside { found Get (codes "/dv/O3-2016/06-37-1103/2024") ≡ Status 400 }
+    ensures too_many_entries { found Get (codes "/whatif/O3-2015/06-037-1103/2024/" ++ entries 65) ≡ Status 400 }
+    ensures twice { found Get (codes "/area/O3-2015/06-037-1103,06-037-1103/2024") ≡ Status 400 }
+    ensures pm10_pair { found Get (codes "/combined/PM10-24H-1987/06-037-1103/2024") ≡ Status 404 }
+    ensures no_post { found Post (codes "/export/06-037-1103/44201/2024") ≡ NotAllowed false }
+    ensures further_slash { found Get (codes "/export/06-037-1103/44201/2024/") ≡ Status 404 }
+    ensures later { found Get (codes "/sites") ≡ Status 404 }
 {}

@@ -5,13 +5,13 @@
 //! # What it has
 //!
 //! - `next_request(input)`: the [`Step`] that is due from all bytes that stand unanswered: more are
-//!   wanted, they are refused with a status, or a whole request stands.
+//!   wanted, they are refused with a status, or a whole [`Request`] stands.
 //! - `read_head(input)`, `Head`: the same in pieces. A caller asks `read_head` until the head is whole,
 //!   then waits for `Head::whole` bytes, and takes the request by `Head::request`: so the head is not
 //!   read again for each piece of the body.
 //! - `Verb`: GET, POST, or another.
 //! - `Routes::find(verb, target)`: what is asked, as a `Found`.
-//! - `reply_bytes`: the bytes of a reply.
+//! - `reply_bytes`: the bytes of a reply; `MediaType`: what its body is written in.
 //! - `MOST_HEAD`, `MOST_HEADERS`: how much a head may have (`limits_of_a_head_are_these_numbers`).
 //!
 //! # What it promises
@@ -23,7 +23,7 @@
 //! - A refusal and a whole request stay, whatever bytes come after (`steps_stay`); more are wanted only
 //!   of fewer than a head and a body may have together (`steps_are_bounded`).
 //! - What a target asks is the definition's (`Routes::find`), with worked targets of each route
-//!   (`worked_targets`).
+//!   (`worked_targets`). It is a question that is asked today, in its range.
 //! - The bytes of a reply are the definition's (`reply_bytes`).
 //!
 //! # An example
@@ -31,7 +31,10 @@
 //! ```rust
 //! let routes = Routes::new(alloc)?;
 //! match next_request(b"GET /loads/5 HTTP/1.1\r\nHost: localhost\r\n\r\n") {
-//!     Step::Whole { verb, target, .. } => assert!(rt; routes.find(verb, target) == Found::Ask(Ask::Reply(5))),
+//!     Step::Whole(request) => {
+//!         let found = routes.find(request.verb, request.target);
+//!         assert!(rt; found == Found::Ask(Question::Reply(5)))
+//!     }
 //!     Step::More | Step::Refuse(_) => {}
 //! }
 //! ```
@@ -41,8 +44,8 @@ mod head;
 mod laws;
 mod length;
 mod limits;
+mod media;
 mod reply;
-mod route;
 mod routes;
 mod step;
 mod verb;
@@ -50,7 +53,8 @@ mod verb;
 pub use head::{Head, HeadStep, read_head};
 pub use laws::{steps_are_bounded, steps_stay, worked_targets};
 pub use limits::{MOST_HEAD, MOST_HEADERS, limits_of_a_head_are_these_numbers};
+pub use media::MediaType;
 pub use reply::reply_bytes;
 pub use routes::{Found, Routes};
-pub use step::{Step, next_request};
+pub use step::{Request, Step, next_request};
 pub use verb::Verb;

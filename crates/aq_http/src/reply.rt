@@ -2,6 +2,7 @@
 ghost use Rattle.std.specs.Prelude.{◌≡◌, IfOk, IsTrue, OnOk, ◌++◌};
 ghost use Rattle.aq_http.specs.Reply.{allow_line, close_line, is_reply_status, reply_text};
 
+use crate::media::MediaType;
 use aq_base::Memory;
 use http::StatusCode;
 use std::alloc::Global;
@@ -9,12 +10,13 @@ use std::alloc::Global;
 /// What stands in front of a body has room in so many bytes.
 const HEAD_ROOM: usize = 160;
 
-/// The bytes of a reply: its status line, the headers and the JSON body (RFC 9112, sections 4 to 6).
+/// The bytes of a reply: its status line, the headers and the body (RFC 9112, sections 4 to 6).
 /// `allow` is written for 405 alone, and `close` says that the connection ends after the reply.
 #[tactic(auto, unfolding(crate::specs::Reply::reply_text))]
 pub fn reply_bytes(
     alloc: Global,
     status: u16,
+    media: MediaType,
     allow: &[u8],
     close: bool,
     body: &[u8],
@@ -22,19 +24,19 @@ pub fn reply_bytes(
     requires { IsTrue (is_reply_status status) }
     ensures { IfOk result (λ bytes. bytes.items ≡ reply_text (record {
       status = status;
+      media = media;
       allow = allow.now;
       close = close;
       body = body.now;
     })) }
 {
-    let Ok(code) = StatusCode::from_u16(status) else {
-        unreachable!();
-    };
+    let code = StatusCode::from_u16(status).unwrap();
+    let media = media.name();
     let length = body.len();
     let mut start = String::with_capacity(alloc, length.saturating_add(HEAD_ROOM))?;
     write!(
         start,
-        "HTTP/1.1 {code}\r\nContent-Type: application/json\r\nContent-Length: {length}\r\n"
+        "HTTP/1.1 {code}\r\nContent-Type: {media}\r\nContent-Length: {length}\r\n"
     )?;
     let mut out = start.into_bytes();
     write_allow(&mut out, status, allow)?;

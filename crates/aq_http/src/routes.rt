@@ -2,41 +2,40 @@
 ghost use Rattle.std.specs.Prelude.{◌≡◌, ◌==◌, map, option_map, IfOk, IfErr, IsTrue, OnOk};
 ghost use Rattle.std.specs.List.{before_first, after_first};
 ghost use Rattle.matchit.specs.Seek.{first};
-ghost use Rattle.aq_base.specs.Calendar.{is_year};
-ghost use Rattle.aq_rules.specs.Shown.Answer.{is_asked, is_design_year, is_load_number};
-ghost use Rattle.aq_http.specs.Routes.{AreApart, IsFound, IsFoundStatus, all_routes, asked, design_year, found, found_at, load_number, part, report_asked, route_of, site_and_year, site_asked, value_asked, windows_asked, with_routes, year_asked};
+ghost use Rattle.aq_rules.specs.Questions.Asking.{asked_in_path, is_asked, is_load_number, is_of};
+ghost use Rattle.aq_rules.specs.Questions.Table.{ASKED, topic_of};
+ghost use Rattle.aq_http.specs.Routes.{AreApart, IsFound, IsFoundStatus, all_routes, found, found_at, load_number, part, route_of, takes_post, texts_in, with_routes};
 
-use crate::route::Route;
 use crate::verb::Verb;
-use aq_base::{Ask, FIRST_YEAR, LAST_LOAD_NUMBER, Memory, SiteId};
-use aq_rd::{day_word, number_to, site_word, standard_word, year_in};
-use matchit::{InsertError, Router};
+use aq_base::{LAST_LOAD_NUMBER, Memory, Question, Topic};
+use aq_rd::number_to;
+use aq_words::{BAD_REQUEST, NOT_FOUND, asked_in_path};
+use matchit::Router;
 use std::alloc::Global;
 use std::marker::Model;
 use std::str::from_utf8;
 
-/// Each route, with what it leads to.
-const ROUTES: [(&str, Route); 7] = [
-    ("/loads/{n}", Route::Loads),
-    ("/ozone/{site}/windows/{day}", Route::Windows),
-    ("/ozone/{site}/days/{year}", Route::Days),
-    ("/pm25/{site}/quarters/{year}", Route::Pm25),
-    ("/pm10/{site}/quarters/{year}", Route::Pm10),
-    ("/dv/{standard}/{site}/{year}", Route::Value),
-    ("/report/{standard}/{year}", Route::Report),
+/// The path of each question that is asked today.
+const ROUTES: [(&str, Topic); 12] = [
+    ("/dv/{standard}/{site}/{year}", Topic::Value),
+    ("/report/{standard}/{year}", Topic::Report),
+    ("/export/{site}/{parameter}/{year}", Topic::Export),
+    ("/whatif/{standard}/{site}/{year}/{list}", Topic::WhatIf),
+    ("/decisive/{standard}/{site}/{year}", Topic::Decisive),
+    ("/combined/{standard}/{site}/{year}", Topic::Combined),
+    ("/area/{standard}/{area}/{year}", Topic::Area),
+    ("/loads/{n}", Topic::Reply),
+    ("/ozone/{site}/windows/{day}", Topic::Windows),
+    ("/ozone/{site}/days/{year}", Topic::Days),
+    ("/pm25/{site}/quarters/{year}", Topic::Pm25),
+    ("/pm10/{site}/quarters/{year}", Topic::Pm10),
 ];
-
-/// A part of the path is not spelled as it should be, or out of its range.
-const BAD_REQUEST: u16 = 400;
-
-/// No route matches, or there is no such standard.
-const NOT_FOUND: u16 = 404;
 
 /// What a request asks, as far as its verb and target say.
 #[derive(Clone, Copy, Debug, PartialEq, Eq)]
 pub enum Found {
     /// A question about the office.
-    Ask(Ask),
+    Ask(Question),
     /// The body is the load of this number.
     Load(u32),
     /// The reply has this status, 400 or 404.
@@ -48,7 +47,7 @@ pub enum Found {
 /// The routes of the server.
 #[derive(Drop)]
 pub struct Routes {
-    router: Router<Route>,
+    router: Router<Topic>,
 }
 
 impl Model for Routes {
@@ -78,12 +77,12 @@ impl Routes {
     {
         let path = before(b'?', target);
         match self.route(path) {
-            Some(route) => found_at(verb, route, path),
+            Some(topic) => found_at(verb, topic, path),
             None => Found::Status(NOT_FOUND),
         }
     }
 
-    fn route(&self, path: &[u8]) -> Option<Route>
+    fn route(&self, path: &[u8]) -> Option<Topic>
         ensures { result ≡ route_of path.now }
     {
         match from_utf8(path) {
@@ -92,7 +91,7 @@ impl Routes {
         }
     }
 
-    fn route_of_text(&self, path: &str) -> Option<Route>
+    fn route_of_text(&self, path: &str) -> Option<Topic>
         ensures { result ≡ option_map (λ row. row.value) (first all_routes path.now) }
     {
         match self.router.at(path) {
@@ -103,113 +102,79 @@ impl Routes {
 }
 
 /// Adds routes of which none conflicts with another: memory alone may be wanting.
-#[tactic(auto, unfolding(crate::specs::Routes::with_routes, crate::specs::Routes::AreApart))]
-fn add_all(router: &mut Router<Route>, routes: &[(&str, Route)]) -> Result<(), Memory>
+#[tactic(auto, unfolding(crate::specs::Routes::with_routes))]
+fn add_all(router: &mut Router<Topic>, routes: &[(&str, Topic)]) -> Result<(), Memory>
     requires { AreApart router.old (map (λ entry. (entry.0.now, entry.1)) routes.now) }
     ensures { OnOk result (router.new ≡ with_routes router.old (map (λ entry. (entry.0.now, entry.1)) routes.now)) }
 {
     for entry in routes {
-        let (text, route) = *entry;
-        match router.insert(text, route) {
-            Ok(()) => {}
-            Err(InsertError::OutOfMemory) => return Err(Memory),
-            Err(_) => unreachable!(),
+        let (text, topic) = *entry;
+        if router.insert(text, topic).is_err() {
+            return Err(Memory);
         }
     }
     Ok(())
 }
 
-fn found_at(verb: Verb, route: Route, path: &[u8]) -> Found
-    ensures value { result ≡ found_at verb route path.now }
+fn found_at(verb: Verb, topic: Topic, path: &[u8]) -> Found
+    requires { IsTrue (is_of ASKED topic) }
+    ensures value { result ≡ found_at verb topic path.now }
     ensures asked { IsFound result }
 {
     match verb {
-        Verb::Get => match asked(route, path) {
-            Ok(ask) => Found::Ask(ask),
+        Verb::Get => match asked(topic, path) {
+            Ok(question) => Found::Ask(question),
             Err(status) => Found::Status(status),
         },
-        Verb::Post if route.takes_post() => match load_number(part(2, path)) {
+        Verb::Post if takes_post(topic) => match load_number(part(2, path)) {
             Ok(number) => Found::Load(number),
             Err(status) => Found::Status(status),
         },
         Verb::Post | Verb::Other => Found::NotAllowed {
-            post: route.takes_post(),
+            post: takes_post(topic),
         },
     }
 }
 
-fn asked(route: Route, path: &[u8]) -> Result<Ask, u16>
-    ensures value { result ≡ asked route path.now }
-    ensures range { IfOk result (λ ask. IsTrue (is_asked ask)) }
+/// Whether the route of a topic takes POST, as that of a load does. Each takes GET.
+fn takes_post(topic: Topic) -> bool
+    ensures { result ≡ takes_post topic }
+{
+    topic == Topic::Reply
+}
+
+/// The question of a topic that the parts of a path ask.
+#[tactic(auto, unfolding(crate::specs::Routes::texts_in))]
+fn asked(topic: Topic, path: &[u8]) -> Result<Question, u16>
+    ensures value { result ≡ asked_in_path topic (texts_in topic path.now) }
+    ensures range { IfOk result (λ question. IsTrue (is_asked question)) }
+    ensures topic { IfOk result (λ question. topic_of question ≡ topic) }
     ensures status { IfErr result IsFoundStatus }
 {
-    match route {
-        Route::Loads => {
-            let number = load_number(part(2, path))?;
-            Ok(Ask::Reply(number))
+    match topic {
+        Topic::Sites | Topic::Loads | Topic::Records => asked_in_path(topic, &[]),
+        Topic::Reply | Topic::Monitors | Topic::Events | Topic::Reports => {
+            asked_in_path(topic, &[part(2, path)])
         }
-        Route::Windows => windows_asked(path),
-        Route::Days => {
-            let (site, year) = site_and_year(path)?;
-            Ok(Ask::Days(site, year))
+        Topic::Report => asked_in_path(topic, &[part(2, path), part(3, path)]),
+        Topic::Windows | Topic::Days | Topic::Pm25 | Topic::Pm10 => {
+            asked_in_path(topic, &[part(2, path), part(4, path)])
         }
-        Route::Pm25 => {
-            let (site, year) = site_and_year(path)?;
-            Ok(Ask::Pm25(site, year))
-        }
-        Route::Pm10 => {
-            let (site, year) = site_and_year(path)?;
-            Ok(Ask::Pm10(site, year))
-        }
-        Route::Value => value_asked(path),
-        Route::Report => report_asked(path),
+        Topic::WhatIf => asked_in_path(
+            topic,
+            &[part(2, path), part(3, path), part(4, path), part(5, path)],
+        ),
+        Topic::Value
+        | Topic::Export
+        | Topic::Decisive
+        | Topic::Combined
+        | Topic::Area
+        | Topic::Flags
+        | Topic::Daily
+        | Topic::Highest
+        | Topic::Completeness
+        | Topic::Lines => asked_in_path(topic, &[part(2, path), part(3, path), part(4, path)]),
     }
-}
-
-#[tactic(auto, unfolding(crate::specs::Routes::windows_asked))]
-fn windows_asked(path: &[u8]) -> Result<Ask, u16>
-    ensures value { result ≡ windows_asked path.now }
-    ensures range { IfOk result (λ ask. IsTrue (is_asked ask)) }
-    ensures status { IfErr result IsFoundStatus }
-{
-    let site = site_asked(part(2, path))?;
-    let day = day_word(part(4, path)).ok_or(BAD_REQUEST)?;
-    let _ = day.number();
-    Ok(Ask::Windows(site, day))
-}
-
-#[tactic(auto, unfolding(crate::specs::Routes::site_and_year))]
-fn site_and_year(path: &[u8]) -> Result<(SiteId, u16), u16>
-    ensures value { result ≡ site_and_year path.now }
-    ensures range { IfOk result (λ parts. IsTrue (is_year parts.1)) }
-    ensures status { IfErr result IsFoundStatus }
-{
-    let site = site_asked(part(2, path))?;
-    let year = year_asked(part(4, path))?;
-    Ok((site, year))
-}
-
-#[tactic(auto, unfolding(crate::specs::Routes::value_asked))]
-fn value_asked(path: &[u8]) -> Result<Ask, u16>
-    ensures value { result ≡ value_asked path.now }
-    ensures range { IfOk result (λ ask. IsTrue (is_asked ask)) }
-    ensures status { IfErr result IsFoundStatus }
-{
-    let site = site_asked(part(3, path))?;
-    let year = design_year(part(4, path))?;
-    let standard = standard_word(part(2, path)).ok_or(NOT_FOUND)?;
-    Ok(Ask::Value(standard, site, year))
-}
-
-#[tactic(auto, unfolding(crate::specs::Routes::report_asked))]
-fn report_asked(path: &[u8]) -> Result<Ask, u16>
-    ensures value { result ≡ report_asked path.now }
-    ensures range { IfOk result (λ ask. IsTrue (is_asked ask)) }
-    ensures status { IfErr result IsFoundStatus }
-{
-    let year = design_year(part(3, path))?;
-    let standard = standard_word(part(2, path)).ok_or(NOT_FOUND)?;
-    Ok(Ask::Report(standard, year))
 }
 
 #[tactic(auto, unfolding(crate::specs::Routes::load_number))]
@@ -220,38 +185,6 @@ fn load_number(text: &[u8]) -> Result<u32, u16>
 {
     let number = number_to(u64::from(LAST_LOAD_NUMBER), text).ok_or(BAD_REQUEST)?;
     Ok(number as u32)
-}
-
-#[tactic(auto, unfolding(crate::specs::Routes::site_asked))]
-fn site_asked(text: &[u8]) -> Result<SiteId, u16>
-    ensures value { result ≡ site_asked text.now }
-    ensures status { IfErr result IsFoundStatus }
-{
-    site_word(text).ok_or(BAD_REQUEST)
-}
-
-#[tactic(auto, unfolding(crate::specs::Routes::year_asked))]
-fn year_asked(text: &[u8]) -> Result<u16, u16>
-    ensures value { result ≡ year_asked text.now }
-    ensures range { IfOk result (λ year. IsTrue (is_year year)) }
-    ensures status { IfErr result IsFoundStatus }
-{
-    year_in(text).ok_or(BAD_REQUEST)
-}
-
-/// A year for whose design value the profile has the two years before, too.
-#[tactic(auto, unfolding(crate::specs::Routes::design_year))]
-fn design_year(text: &[u8]) -> Result<u16, u16>
-    ensures value { result ≡ design_year text.now }
-    ensures range { IfOk result (λ year. IsTrue (is_design_year year)) }
-    ensures status { IfErr result IsFoundStatus }
-{
-    let year = year_asked(text)?;
-    if year >= FIRST_YEAR + 2 {
-        Ok(year)
-    } else {
-        Err(BAD_REQUEST)
-    }
 }
 
 /// The part of a path after so many slashes, up to the next.

@@ -5,6 +5,19 @@ ghost use Rattle.aq_http.specs.Step.{IsStep, step_of};
 use crate::head::{HeadStep, read_head};
 use crate::verb::Verb;
 
+/// A whole request. The body has at most `MOST_BYTES`, and the target is as it came, with what stands
+/// after a `?`.
+#[derive(Clone, Copy, Debug)]
+pub struct Request<'a> {
+    /// How many bytes it has.
+    pub used: usize,
+    pub verb: Verb,
+    pub target: &'a [u8],
+    pub body: &'a [u8],
+    /// The connection ends after the reply.
+    pub close: bool,
+}
+
 /// What is due on a connection, from all of its bytes that stand unanswered.
 #[derive(Clone, Copy, Debug)]
 pub enum Step<'a> {
@@ -12,16 +25,8 @@ pub enum Step<'a> {
     More,
     /// The reply has this status, and the connection ends after it.
     Refuse(u16),
-    /// A whole request, of so many bytes. The body has at most `MOST_BYTES`, and the target is as it
-    /// came, with what stands after a `?`.
-    Whole {
-        used: usize,
-        verb: Verb,
-        target: &'a [u8],
-        body: &'a [u8],
-        /// The connection ends after the reply.
-        close: bool,
-    },
+    /// The request is whole.
+    Whole(Request<'a>),
 }
 
 /// The step to which a connection's bytes so far come (RFC 9112, sections 2 to 6 and 9). It takes no
@@ -32,6 +37,12 @@ pub fn next_request(input: &[u8]) -> Step<'_>
     match read_head(input) {
         HeadStep::More => Step::More,
         HeadStep::Refuse(status) => Step::Refuse(status),
-        HeadStep::Whole(head) => head.request(input),
+        HeadStep::Whole(head) => {
+            if input.len() < head.whole() {
+                Step::More
+            } else {
+                Step::Whole(head.request(input))
+            }
+        }
     }
 }

@@ -1,12 +1,14 @@
 -- What answers a question about an office.
 use Rattle.std.proofs.Common.{◌≡◌, ℕ, ◌+◌, Bool, true, false, List, [], ◌∷◌, ◌++◌, length, map, Option, Some, None, refl, sym, ap, subst, ◌∙◌}
-use Rattle.std.specs.Prelude.{if◌then◌else◌}
+use Rattle.std.specs.Prelude.{IfOk, Result}
 use Rattle.std.specs.List.{range_with_len}
 use Rattle.std.specs.Option.{option_map}
 use Rattle.std.proofs.lemmas.List.{length-map}
 use Rattle.std.proofs.lemmas.List.FromFn.{length-range_with_len, map-range_with_len_more}
 use Rattle.aq_base.specs.Calendar.{days_in_year, year_first}
 use Rattle.aq_base.specs.Site.{Site}
+use Rattle.aq_base.specs.declared.question.Question.TheVariants.{Report}
+use Rattle.aq_base.specs.declared.refusal.Memory.{Memory}
 use Rattle.aq_base.specs.declared.reply.LoadReply.{LoadReply}
 use Rattle.aq_base.specs.declared.standard.Standard.{Standard}
 use Rattle.aq_rows.specs.KeptLoads.{reply_in}
@@ -19,11 +21,13 @@ use Rattle.aq_rules.specs.Office.Season.{season_of}
 use Rattle.aq_rules.specs.Ozone.OzoneDay.{OzoneDay}
 use Rattle.aq_rules.specs.Ozone.OzoneYear.{OzoneYear, days_of, ozone_days, ozone_year}
 use Rattle.aq_rules.specs.Standards.{pollutant_of}
-use Rattle.aq_rules.specs.Shown.Answer.{Answer, OfSheet, NoSite, Days, Report, answer, is_registered, of_site}
+use Rattle.aq_rules.specs.Questions.Answer.{answer, of_sheet}
 use Rattle.aq_rules.specs.Shown.OtherSheets.{Judged, judged, judged_by, report_answer, report_sheet, sites_with}
 use Rattle.aq_rules.specs.Shown.Sheet.{Sheet}
 use Rattle.aq_rules.specs.Shown.Sheets.{days_answer, days_sheet, load_sheet}
 use Rattle.aq_verdict.specs.declared.design_value.DesignValue.{DesignValue}
+use Rattle.aq_office.specs.Answers.{seen}
+use Rattle.aq_office.specs.declared.answers.Answer.{Answer}
 
 -- ---- a load
 
@@ -36,7 +40,7 @@ kept_sheet P (Some load) reply sheet law e is = let same : reply ≡ load.reply 
 -- ---- a report
 
 -- the rows of a report are judged by the office's design values
-pub judged_values : (office : Office) (standard : Standard) (year : ℕ) (values : List (Site × DesignValue)) (sites : List Site)
+judged_values : (office : Office) (standard : Standard) (year : ℕ) (values : List (Site × DesignValue)) (sites : List Site)
     → map valued_in values ≡ map (valued standard office year) sites → map judged_in values ≡ map (judged standard office year) sites
 unfolding judged
 judged_values office standard year values sites is = of_values values ∙ ap (map judge) is ∙ of_sites sites
@@ -52,38 +56,24 @@ judged_values office standard year values sites is = of_values values ∙ ap (ma
     of_sites [] = refl
     of_sites (s ∷ ss) = ap (λ l. judged standard office year s ∷ l) (of_sites ss)
 
-pub report_told : (office : Office) (standard : Standard) (year : ℕ) (rows : List Judged) (sheet : Sheet) → rows ≡ map (judged standard office year) (sites_with office (pollutant_of standard)) → sheet ≡ report_sheet standard year rows → answer office (Report standard year) ≡ OfSheet sheet
+pub report_told : (office : Office) (standard : Standard) (year : ℕ) (values : List (Site × DesignValue)) (sheet : Sheet) (result : Result Answer Memory)
+    → map valued_in values ≡ map (valued standard office year) (sites_with office (pollutant_of standard)) → sheet ≡ report_sheet standard year (map judged_in values)
+    → IfOk result (λ found. of_sheet sheet ≡ seen found) → IfOk result (λ found. answer office (Report standard year) ≡ seen found)
 unfolding answer report_answer
-report_told office standard year rows sheet same is = ap OfSheet (sym (is ∙ ap (report_sheet standard year) same))
+report_told office standard year values sheet result are is =
+    subst (λ (s : Sheet). IfOk result (λ found. of_sheet s ≡ seen found)) (is ∙ ap (report_sheet standard year) (judged_values office standard year values _ are))
 
--- ---- a site
+-- ---- the days of a year
 
 module _ (office : Office) (site : Site) where
-  of-registered : (a : Answer) → true ≡ is_registered office site → of_site office site a ≡ a
-  of-registered a there = sym (ap (λ (b : Bool). if b then a else NoSite) there)
-
-  of-unregistered : (a : Answer) → false ≡ is_registered office site → of_site office site a ≡ NoSite
-  of-unregistered a there = sym (ap (λ (b : Bool). if b then a else NoSite) there)
-
-  told : (a b : Sheet) → true ≡ is_registered office site → a ≡ b → of_site office site (OfSheet b) ≡ OfSheet a
-  told a b there is = of-registered (OfSheet b) there ∙ ap OfSheet (sym is)
-
-  pub days_told : (year : ℕ) (season : ℕ × ℕ) (days : List OzoneDay) (approved : List Bool) (totals : OzoneYear) (sheet : Sheet) → true ≡ is_registered office site
+  pub days_told : (year : ℕ) (season : ℕ × ℕ) (days : List OzoneDay) (approved : List Bool) (totals : OzoneYear) (sheet : Sheet)
       → ◌≡◌ {A = ℕ × ℕ} season ((season_of office.records site year).first, (season_of office.records site year).last)
       → days ≡ ozone_days office site year → approved ≡ map (is_approved office.records site) (days_of year) → totals ≡ ozone_year office site year
-      → sheet ≡ days_sheet site year (record { first = season.0; last = season.1 }) days approved totals → answer office (Days site year) ≡ OfSheet sheet
-  unfolding answer days_answer
-  days_told year season days approved totals sheet there same_season same_days same_approved same_totals is =
-      told _ _ there
-      (is
-      ∙ ap (λ (p : ℕ × ℕ). days_sheet site year (record { first = p.0; last = p.1 }) days approved totals) same_season
-      ∙ ap (λ (l : List OzoneDay). days_sheet site year (season_of office.records site year) l approved totals) same_days
-      ∙ ap (λ (l : List Bool). days_sheet site year (season_of office.records site year) (ozone_days office site year) l totals) same_approved
-      ∙ ap (days_sheet site year (season_of office.records site year) (ozone_days office site year) (map (is_approved office.records site) (days_of year))) same_totals)
-
-  pub no_days : (year : ℕ) → false ≡ is_registered office site → answer office (Days site year) ≡ NoSite
-  unfolding answer
-  no_days year there = of-unregistered _ there
+      → sheet ≡ days_sheet site year (record { first = season.0; last = season.1 }) days approved totals → sheet ≡ days_answer office site year
+  unfolding days_answer
+  days_told year season days approved totals sheet same_season same_days same_approved same_totals is =
+      is
+      ∙ (λ i. days_sheet site year (record { first = (same_season i).0; last = (same_season i).1 }) (same_days i) (same_approved i) (same_totals i))
 
   pub each_day : (year : ℕ) (days : List OzoneDay) → days ≡ ozone_days office site year → length days ≡ days_in_year year
   unfolding ozone_days days_of

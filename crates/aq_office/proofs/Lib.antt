@@ -1,4 +1,8 @@
 -- Lemmas on the answers to questions and on loads that are posted.
+pub mod Areas
 pub mod Asked
+pub mod Assuming
+pub mod Joining
 pub mod PostedLoads
+pub mod Showing
 pub mod Taking

@@ -1,5 +1,5 @@
 -- What a posted load comes to.
-use Rattle.std.proofs.Common.{◌≡◌, ℕ, ◌≤◌, Bool, true, false, cond, List, [], ◌∷◌, length, Option, Some, None, refl, sym, ap, ◌∙◌, subst, arith}
+use Rattle.std.proofs.Common.{◌≡◌, ℕ, ◌≤◌, ◌⊎◌, inl, inr, Bool, true, false, cond, List, [], ◌∷◌, length, Option, Some, None, refl, sym, ap, ◌∙◌, subst, arith}
 use Rattle.std.specs.Prelude.{nat_le, nat_lt, ◌==◌, bytes_eq, IsTrue}
 use Rattle.std.proofs.lemmas.Bool.Decides.{nat_tests}
 use Rattle.std.proofs.lemmas.Bool.{and_parts}
@@ -11,10 +11,15 @@ use Rattle.aq_rules.specs.Lines.Lines.{line_count, body_lines}
 use Rattle.aq_rules.specs.Office.Load.{Repeat, Conflict, Full, New, TooManyLines, Repeated, Differing, NoRoom, Taken, after_all, decide, decide_known, load, office_after, post, posted, posted_anew, posted_beside, reply, stored}
 use Rattle.aq_rules.specs.Office.Load as loads
 use Rattle.aq_rules.specs.Office.Office.{Office, StoredLoad, load_at, load_rank, row_at, with_row}
-use Rattle.aq_rules.specs.Shown.Answer.{is_load_number}
+use Rattle.aq_rules.specs.Questions.Asking.{is_load_number}
+use Rattle.aq_rules.specs.Shown.Sheets.{load_sheet}
+use Rattle.aq_book.specs.Checks.{decision_of}
+use Rattle.aq_book.specs.declared.check.LoadCheck.{LoadCheck}
+use Rattle.aq_book.specs.declared.check.LoadCheck.TheVariants as checks
 use Rattle.aq_keeper.specs.Standing.{Standing}
-use Rattle.aq_office.specs.Posting.{IsPosted, TakenBy}
+use Rattle.aq_office.specs.Posting.{IsPosted, TakenBy, standing_answer}
 use Rattle.aq_office.specs.declared.posting.Posted.{Posted}
+use Rattle.aq_office.specs.declared.posting.Posted.TheVariants as answers
 
 -- ---- a load that is taken
 
@@ -38,13 +43,38 @@ module _ (office : Office) (number : ℕ) (digest body : List ℕ) where
   pub post_new : line_count body ≤ MOST_LINES → decide office number digest ≡ New → post office number digest body ≡ load office number digest body
   post_new few is = ap (λ p. office_after p office) (posted-new few is)
 
+-- the decision on a load that is not new
+pub not_new : (check : LoadCheck) (decision : loads.Decision) → (check ≡ checks.Repeat) ⊎ (check ≡ checks.Conflict) ⊎ (check ≡ checks.Full) → decision_of check ≡ decision → decision ≡ New → ⊥
+not_new check decision (inl is) told new = let e : decision_of checks.Repeat ≡ New = ap decision_of (sym is) ∙ told ∙ new in absurd (cc)
+not_new check decision (inr (inl is)) told new = let e : decision_of checks.Conflict ≡ New = ap decision_of (sym is) ∙ told ∙ new in absurd (cc)
+not_new check decision (inr (inr is)) told new = let e : decision_of checks.Full ≡ New = ap decision_of (sym is) ∙ told ∙ new in absurd (cc)
+
 -- of a body whose digest this is
 module _ (office : Office) (number : ℕ) (digest sent body : List ℕ) (same : digest ≡ sent) (lines : ℕ) (before after : Standing) (answer : Posted) where
   abbrev Is : List ℕ → Type 0
   Is d = IsPosted (posted office number d body) lines before after answer
 
-  pub is_taken : line_count body ≤ MOST_LINES → New ≡ decide office number digest → TakenBy answer (load office number digest body) before after → Is sent
+  pub is_taken : line_count body ≤ MOST_LINES → New ≡ decide office number digest → TakenBy answer (reply office number body) (load office number digest body) before after → Is sent
   is_taken h new is = subst Is same (subst (λ p. IsPosted p lines before after answer) (sym (posted-new office number digest body h (sym new))) is)
+
+  -- of a load that is not new
+  by_found : (found : Option StoredLoad) → (decide_known found digest (nat_le MOST_LOADS (length office.loads)) ≡ New → ⊥) → answer ≡ standing_answer found digest → after ≡ before
+      → IsPosted (posted_beside found office number digest body) lines before after answer
+  by_found (Some kept) old is still = by_digest (bytes_eq kept.digest digest) is
+    where
+      by_digest : (b : Bool) → answer ≡ cond b (answers.Done (load_sheet kept.reply)) (answers.Conflict kept.digest digest)
+          → IsPosted (cond b (Repeated kept.reply) (Differing kept.digest digest)) lines before after answer
+      by_digest true is = (is, still)
+      by_digest false is = (is, still)
+  by_found None old is still = by_room (nat_le MOST_LOADS (length office.loads)) old
+    where
+      by_room : (b : Bool) → (cond b Full New ≡ New → ⊥) → IsPosted (cond b NoRoom (Taken (reply office number body) (load office number digest body))) lines before after answer
+      by_room true old = (is, still)
+      by_room false old = absurd (old refl)
+
+  pub is_standing : line_count body ≤ MOST_LINES → (decide office number digest ≡ New → ⊥) → answer ≡ standing_answer (load_at office number) digest → after ≡ before → Is sent
+  is_standing few old is still =
+      subst Is same (subst (λ p. IsPosted p lines before after answer) (sym (posted-few office number digest body few)) (by_found (load_at office number) old is still))
 
 -- the office before a post, by another name
 pub posted_over : (o p : Office) → o ≡ p → (number : ℕ) (digest body : List ℕ) (lines : ℕ) (tables : Option (List Row)) (faults : ℕ) (after : Standing) (answer : Posted)

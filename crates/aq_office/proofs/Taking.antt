@@ -8,8 +8,10 @@ use Rattle.aq_rules.specs.Kept.RowChanges.{GivesRowsAfter, RowChange, batch_rise
 use Rattle.aq_rules.specs.Kept.Rows.{Row, rows_of}
 use Rattle.aq_rules.specs.Limits.{MOST_LINES}
 use Rattle.aq_rules.specs.Lines.Lines.{line_count}
-use Rattle.aq_rules.specs.Office.Load.{New, decide, load, post}
+use Rattle.aq_rules.specs.Office.Load.{New, decide, load, post, reply}
 use Rattle.aq_rules.specs.Office.Office.{Office}
+use Rattle.aq_rules.specs.Shown.Sheet.{Sheet}
+use Rattle.aq_rules.specs.Shown.Sheets.{load_sheet}
 use Rattle.aq_keeper.proofs.TablesOfOffice.{become_still}
 use Rattle.aq_office.proofs.PostedLoads.{post_new}
 use Rattle.aq_office.specs.Posting.{LosesLoad, TakenBy}
@@ -36,9 +38,9 @@ module _ (office : Office) (number : ℕ) (digest body : List ℕ) (batch : List
   committed now t u is told named = stays_as _ _ u (sym (rows-become t told ∙ ap (λ (o : Office). option_map (λ _. rows_of o) t) named)) is
 
   module _ (t u : Option (List Row)) (m n : ℕ) (is : Stays (option_map (λ told. with_row_changes told batch) t) u) (steady : n ≡ m) where
-    pub taken : (now : Office) → now ≡ load office number digest body
-        → TakenBy Done (load office number digest body) (record { office = office; tables = t; faults = m }) (record { office = now; tables = u; faults = n })
-    taken now same_office = (same_office, steady, λ told. committed now t u is told (sym same_office))
+    pub taken : (now : Office) (sheet : Sheet) → now ≡ load office number digest body → sheet ≡ load_sheet (reply office number body)
+        → TakenBy (Done sheet) (reply office number body) (load office number digest body) (record { office = office; tables = t; faults = m }) (record { office = now; tables = u; faults = n })
+    taken now sheet same_office is_sheet = (is_sheet, same_office, steady, λ told. committed now t u is told (sym same_office))
 
     pub lost_behind : line_count body ≤ MOST_LINES → decide office number digest ≡ New
         → LosesLoad number digest body (record { office = office; tables = t; faults = m }) (record { office = office; tables = u; faults = n })

@@ -1,14 +1,22 @@
 //! The answers to questions about an office.
 ghost use Rattle.std.specs.Prelude.{◌≡◌, ◌<◌, IfOk, IsTrue};
-ghost use Rattle.aq_rules.specs.Shown.Answer.{answer, is_asked};
-ghost use Rattle.aq_office.specs.Answers.{seen};
+ghost use Rattle.aq_rules.specs.Office.Office.{IsOffice};
+ghost use Rattle.aq_rules.specs.Questions.Answer as questions;
+ghost use Rattle.aq_rules.specs.Questions.Asking.{is_asked, is_of};
+ghost use Rattle.aq_rules.specs.Questions.Table.{ASKED, topic_of};
+ghost use Rattle.aq_rules.specs.Shown.Sheet as shown;
+ghost use Rattle.aq_rules.specs.Shown.WellFormed.{IsWellFormed};
+ghost use Rattle.aq_office.specs.Answers.{IsShown, seen};
 
+use crate::area::area_of;
+use crate::combined::combined_of;
 use crate::days::days_of;
-use aq_base::{Ask, Memory, Steps};
-use aq_book::{AskFault, Book, UnknownSite};
-use aq_reports::{
-    Sheet, export_of, load_sheet, pm10_sheet, pm25_sheet, report_sheet, value_sheet, windows_sheet,
-};
+use crate::sheets::{export_of, pm10_of, pm25_of, reply_of, report_of, value_of, windows_of};
+use crate::what_if::{decisive_of, what_if_of};
+use aq_base::{Items, Memory, Question, SiteId, Steps};
+use aq_book::Book;
+use aq_reports::{Sheet, list};
+use aq_rules::shown::well_formed::answers_are_well_formed;
 use std::alloc::Global;
 use std::marker::Brand;
 use std::sync::ledger::{Blank, Ledger};
@@ -16,68 +24,103 @@ use std::sync::ledger::{Blank, Ledger};
 /// The answer to a question about an office.
 #[derive(Debug, Drop)]
 pub enum Answer {
-    /// The sheet that answers any question but one for observations.
-    Sheet(Sheet),
-    /// Observations, as the text of a CSV file.
-    Export(Vec<u8>),
+    /// One sheet or more.
+    Sheets(Items<Sheet>),
+    /// A text, as that of a CSV file.
+    Text(Vec<u8>),
+    /// There is none, for want of this.
+    Lacks(Lack),
+}
+
+/// What is not there.
+#[derive(Clone, Copy, Debug, PartialEq, Eq)]
+pub enum Lack {
     /// No monitor of the site is registered.
-    NoSite,
-    /// No load with the number stands.
-    NoLoad,
+    NoSite(SiteId),
+    /// No event has the number.
+    NoEvent(u32),
+    /// No site is joined to the site for the standard's pollutant.
+    NoCombination(SiteId),
+    /// No registered site of the area has a monitor of the standard's pollutant.
+    NoSiteInArea,
+    /// No load has the number.
+    NoLoad(u32),
+}
+
+impl Answer {
+    /// The answer of one sheet.
+    pub(crate) fn of_sheet(alloc: Global, sheet: Sheet) -> Result<Answer, Memory>
+        ensures answer { IfOk result (λ found. questions.of_sheet sheet ≡ seen found) }
+        ensures shown { IsWellFormed sheet → IfOk result (λ found. IsShown found) }
+    {
+        Ok(Answer::Sheets(list(alloc, [sheet])?))
+    }
+
+    /// That no monitor of a site is registered.
+    pub(crate) fn no_site(site: SiteId) -> Answer
+        ensures answer { seen result ≡ questions.Lacks (questions.NoSite site) }
+        ensures shown { IsShown result }
+    {
+        Answer::Lacks(Lack::NoSite(site))
+    }
 }
 
 /// The answer to a question. Nobody counts the steps.
-pub fn answer_to(alloc: Global, book: &Book, ask: &Ask) -> Result<Answer, Memory>
-    requires { IsTrue (is_asked ask.now) }
-    ensures { IfOk result (λ found. answer book.now ask.now ≡ seen found) }
+pub fn answer_to(alloc: Global, book: &Book, question: &Question) -> Result<Answer, Memory>
+    requires range { IsTrue (is_asked question.now) }
+    requires today { IsTrue (is_of ASKED (topic_of question.now)) }
+    ensures answer { IfOk result (λ found. questions.answer book.now question.now ≡ seen found) }
+    ensures shown { IsOffice book.now → IfOk result (λ found. IsShown found) }
 {
-    counted::<Brand>(alloc, book, ask, Blank::new(1))
+    counted::<Brand>(alloc, book, question, Blank::new(1))
 }
 
 /// The same on a counter of its own, which nobody reads.
-#[tactic(auto, unfolding(aq_rules::specs::Shown::Answer::answer, aq_rules::specs::Shown::Sheets::windows_answer, aq_rules::specs::Shown::ParticleSheets::pm25_answer, aq_rules::specs::Shown::ParticleSheets::pm10_answer, aq_rules::specs::Shown::OtherSheets::value_answer, aq_rules::specs::Shown::Export::export_answer))]
-fn counted<L: Ledger>(alloc: Global, book: &Book, ask: &Ask, blank: Blank) -> Result<Answer, Memory>
+fn counted<L: Ledger>(
+    alloc: Global,
+    book: &Book,
+    question: &Question,
+    blank: Blank,
+) -> Result<Answer, Memory>
     requires name { blank.name ≡ L.name }
     requires parts { blank.parts ≡ L.parts }
     requires some { 0 < L.parts }
-    requires asked { IsTrue (is_asked ask.now) }
-    ensures { IfOk result (λ found. answer book.now ask.now ≡ seen found) }
+    requires range { IsTrue (is_asked question.now) }
+    requires today { IsTrue (is_of ASKED (topic_of question.now)) }
+    ensures answer { IfOk result (λ found. questions.answer book.now question.now ≡ seen found) }
+    ensures shown { IsOffice book.now → IfOk result (λ found. IsShown found) }
 {
+    answers_are_well_formed();
     let mut steps = Steps::<L>::new(blank);
-    match *ask {
-        Ask::Reply(number) => match book.reply_of(number) {
-            Some(reply) => Ok(Answer::Sheet(load_sheet(alloc, reply)?)),
-            None => Ok(Answer::NoLoad),
-        },
-        Ask::Windows(site, day) => match book.windows(site, day, &mut steps) {
-            Ok(windows) => Ok(Answer::Sheet(windows_sheet(alloc, site, day, &windows)?)),
-            Err(UnknownSite) => Ok(Answer::NoSite),
-        },
-        Ask::Days(site, year) => days_of(alloc, book, site, year, &mut steps),
-        Ask::Pm25(site, year) => match book.pm25_year(site, year, &mut steps) {
-            Ok(parts) => Ok(Answer::Sheet(pm25_sheet(alloc, site, year, &parts)?)),
-            Err(UnknownSite) => Ok(Answer::NoSite),
-        },
-        Ask::Pm10(site, year) => match book.pm10_year(site, year, &mut steps) {
-            Ok(parts) => Ok(Answer::Sheet(pm10_sheet(alloc, site, year, &parts)?)),
-            Err(UnknownSite) => Ok(Answer::NoSite),
-        },
-        Ask::Value(standard, site, year) => {
-            match book.design_value(standard, site, year, &mut steps) {
-                Ok(value) => Ok(Answer::Sheet(value_sheet(alloc, standard, site, year, &value)?)),
-                Err(UnknownSite) => Ok(Answer::NoSite),
-            }
+    match *question {
+        Question::Value(standard, site, year) => {
+            value_of(alloc, book, standard, site, year, &mut steps)
         }
-        Ask::Report(standard, year) => {
-            let values = book.report(alloc, standard, year, &mut steps)?;
-            Ok(Answer::Sheet(report_sheet(alloc, standard, year, values.as_slice())?))
+        Question::Report(standard, year) => report_of(alloc, book, standard, year, &mut steps),
+        Question::Export(site, pollutant, year) => export_of(alloc, book, site, pollutant, year),
+        Question::WhatIf(standard, site, year, assumed) => what_if_of(
+            alloc,
+            book,
+            standard,
+            site,
+            year,
+            assumed.as_slice(),
+            &mut steps,
+        ),
+        Question::Decisive(standard, site, year) => {
+            decisive_of(alloc, book, standard, site, year, &mut steps)
         }
-        Ask::Export(site, pollutant, year) => {
-            match book.observations(alloc, site, pollutant, year) {
-                Ok(rows) => Ok(Answer::Export(export_of(alloc, rows.as_slice())?)),
-                Err(AskFault::UnknownSite) => Ok(Answer::NoSite),
-                Err(AskFault::Memory) => Err(Memory),
-            }
+        Question::Combined(standard, site, year) => {
+            combined_of(alloc, book, standard, site, year, &mut steps)
         }
+        Question::Area(standard, area, year) => {
+            area_of(alloc, book, standard, &area, year, &mut steps)
+        }
+        Question::Reply(number) => reply_of(alloc, book, number),
+        Question::Windows(site, day) => windows_of(alloc, book, site, day, &mut steps),
+        Question::Days(site, year) => days_of(alloc, book, site, year, &mut steps),
+        Question::Pm25(site, year) => pm25_of(alloc, book, site, year, &mut steps),
+        Question::Pm10(site, year) => pm10_of(alloc, book, site, year, &mut steps),
+        _ => unreachable!(),
     }
 }

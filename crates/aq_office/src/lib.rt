@@ -3,35 +3,41 @@
 //!
 //! # What it has
 //!
-//! - `answer_to(alloc, book, ask)`: the `Answer` to a question: a sheet, an export, or that no such site
-//!   or load is there.
+//! - `answer_to(alloc, book, question)`: the `Answer` to a question: sheets, a text, or what is missing
+//!   (`Lack`): a site, an event, a combination, a site of the area, or a load.
 //! - `post(alloc, book, keeper, number, body, steps)`: a load, posted under a number; it answers the book
 //!   that then stands, and what became of the load, as a `Posted`. `post_uncounted` is the same on a counter
 //!   of its own.
 //!
 //! # What it promises
 //!
-//! - A question about an office is answered as the book of rules has it (`answer_to`).
+//! - A question about an office is answered as the book of rules has it (`answer_to`, clause `answer`), and
+//!   each sheet of an answer is well formed in a valid office (clause `shown`).
 //! - A load that is posted is what the book's `posted` says of it: it is committed before it is taken,
-//!   and after a failed commit the office and the tables are as before (`post`). It makes at most the steps
-//!   that the change costs, whatever else stands (`post`, clause `steps`).
+//!   and after a failed commit the office and the tables are as before (`post`). The answer has the sheet of
+//!   the load's reply, or the two digests that differ. It makes at most the steps that the change costs,
+//!   whatever else stands (`post`, clause `steps`).
 //!
 //! # An example
 //!
 //! ```rust
 //! let (book, posted) = post(alloc, Book::new(alloc), &mut keeper, 1, body, &mut steps)?;
-//! assert!(rt; matches!(posted, Posted::Done));
-//! match answer_to(alloc, &book, &Ask::Value(Standard::Ozone2015, site, 2024))? {
-//!     Answer::Sheet(sheet) => print(text_of(alloc, &sheet)?),
-//!     Answer::Export(text) => print(text),
-//!     Answer::NoSite | Answer::NoLoad => {}
+//! assert!(rt; matches!(posted, Posted::Done(_)));
+//! match answer_to(alloc, &book, &Question::Value(Standard::Ozone2015, site, 2024))? {
+//!     Answer::Sheets(sheets) => print(texts_of(alloc, sheets.as_slice())?),
+//!     Answer::Text(text) => print(text),
+//!     Answer::Lacks(_) => {}
 //! }
 //! ```
 #![tactic(auto)]
 
 mod answers;
+mod area;
+mod combined;
 mod days;
 mod posting;
+mod sheets;
+mod what_if;
 
-pub use answers::{Answer, answer_to};
+pub use answers::{Answer, Lack, answer_to};
 pub use posting::{Posted, post, post_uncounted};

@@ -5,29 +5,31 @@ ghost use Rattle.aq_rules.specs.Kept.Reach.{cost};
 ghost use Rattle.aq_rules.specs.Limits.{MOST_BYTES, MOST_LINES};
 ghost use Rattle.aq_rules.specs.Lines.Lines.{line_count};
 ghost use Rattle.aq_rules.specs.Office.Load.{New, decide, load, posted, reply};
-ghost use Rattle.aq_rules.specs.Office.Office.{IsOffice};
+ghost use Rattle.aq_rules.specs.Office.Office.{IsOffice, load_at};
 ghost use Rattle.aq_keeper.specs.Standing.{standing_of};
-ghost use Rattle.aq_office.specs.Posting.{IsPosted, LosesLoad, TakenBy};
+ghost use Rattle.aq_office.specs.Posting.{IsPosted, IsPostedShown, LosesLoad, TakenBy, standing_answer};
 
 use aq_base::{MOST_LINES, Memory, Steps};
 use aq_book::{Book, LoadCheck};
 use aq_forms::count_lines;
 use aq_keeper::{Keeper, KeeperFault};
+use aq_reports::{Sheet, load_sheet};
 use aq_rules::kept::row_changes::{batch_gives_the_rows_after, batch_is_in_order};
+use aq_rules::shown::well_formed::{answers_are_well_formed, other_sheets_are_well_formed};
 use sha2::{Digest, Sha256};
 use std::alloc::Global;
 use std::marker::Brand;
 use std::sync::ledger::{Blank, Ledger};
 
 /// What became of a load that was posted.
-#[derive(Clone, Copy, Debug, PartialEq, Eq)]
+#[derive(Debug, Drop)]
 pub enum Posted {
-    /// It stands: it was taken, or it had been before.
-    Done,
+    /// It stands: it was taken, or it had been before. This is the sheet of its reply.
+    Done(Sheet),
     /// Its body has this many lines, more than may be.
     Lines(u32),
-    /// Its number is kept with another digest than this one, which was sent.
-    Conflict([u8; 32]),
+    /// Its number is kept with another digest than the one that was sent.
+    Conflict { kept: [u8; 32], sent: [u8; 32] },
     /// As many loads stand as may.
     Full,
     /// The keeper failed, and nothing was taken.
@@ -52,6 +54,7 @@ pub fn post<K: Keeper, L: Ledger>(
         (line_count body.now)
         (standing_of book (K.seen keeper.old))
         (standing_of ends.0 (K.seen keeper.new)) ends.1) }
+    ensures shown { IfOk result (λ ends. IsPostedShown ends.1) }
     ensures valid { IfOk result (λ ends. IsOffice ends.0) }
     ensures held { (K.seen keeper.new).is_held ≡ (K.seen keeper.old).is_held }
     ensures lost { OnErr result (LosesLoad number (sha256 body.now) body.now
@@ -66,10 +69,33 @@ pub fn post<K: Keeper, L: Ledger>(
     }
     let digest = Sha256::digest(body);
     match book.check(number, &digest) {
-        LoadCheck::Repeat => Ok((book, Posted::Done)),
-        LoadCheck::Conflict => Ok((book, Posted::Conflict(digest))),
-        LoadCheck::Full => Ok((book, Posted::Full)),
         LoadCheck::New => take(alloc, book, keeper, number, digest, body, steps),
+        LoadCheck::Repeat | LoadCheck::Conflict | LoadCheck::Full => {
+            let posted = standing_answer(alloc, &book, number, digest)?;
+            Ok((book, posted))
+        }
+    }
+}
+
+/// The answer to a load that is not new, by what stands under its number.
+fn standing_answer(
+    alloc: Global,
+    book: &Book,
+    number: u32,
+    sent: [u8; 32],
+) -> Result<Posted, Memory>
+    requires valid { IsOffice book.now }
+    ensures answer { IfOk result
+        (λ answer. answer ≡ standing_answer (load_at book.now number) sent) }
+    ensures shown { IfOk result (λ answer. IsPostedShown answer) }
+{
+    answers_are_well_formed();
+    let Some(kept) = book.digest_of(number) else {
+        return Ok(Posted::Full);
+    };
+    match book.reply_of(number) {
+        Some(reply) if kept == sent => Ok(Posted::Done(load_sheet(alloc, reply)?)),
+        _ => Ok(Posted::Conflict { kept, sent }),
     }
 }
 
@@ -87,6 +113,7 @@ pub fn post_uncounted<K: Keeper>(
         (line_count body.now)
         (standing_of book (K.seen keeper.old))
         (standing_of ends.0 (K.seen keeper.new)) ends.1) }
+    ensures shown { IfOk result (λ ends. IsPostedShown ends.1) }
     ensures valid { IfOk result (λ ends. IsOffice ends.0) }
     ensures held { (K.seen keeper.new).is_held ≡ (K.seen keeper.old).is_held }
     ensures lost { OnErr result (LosesLoad number (sha256 body.now) body.now
@@ -113,6 +140,7 @@ fn counted<K: Keeper, L: Ledger>(
         (line_count body.now)
         (standing_of book (K.seen keeper.old))
         (standing_of ends.0 (K.seen keeper.new)) ends.1) }
+    ensures shown { IfOk result (λ ends. IsPostedShown ends.1) }
     ensures valid { IfOk result (λ ends. IsOffice ends.0) }
     ensures held { (K.seen keeper.new).is_held ≡ (K.seen keeper.old).is_held }
     ensures lost { OnErr result (LosesLoad number (sha256 body.now) body.now
@@ -123,7 +151,8 @@ fn counted<K: Keeper, L: Ledger>(
     post(alloc, book, keeper, number, body, &mut steps)
 }
 
-/// Stages a new load, commits its batch, and takes it.
+/// Stages a new load, commits its batch, and takes it. The sheet of its reply is made before, so that the
+/// tables are as they were if memory for it is not to be had.
 fn take<K: Keeper, L: Ledger>(
     alloc: Global,
     book: Book,
@@ -137,9 +166,11 @@ fn take<K: Keeper, L: Ledger>(
     requires bytes { length body.now ≤ MOST_BYTES }
     requires lines { line_count body.now ≤ MOST_LINES }
     requires valid { IsOffice book }
-    ensures taken { IfOk result (λ ends. TakenBy ends.1 (load book number digest body.now)
+    ensures taken { IfOk result (λ ends. TakenBy ends.1 (reply book number body.now)
+        (load book number digest body.now)
         (standing_of book (K.seen keeper.old))
         (standing_of ends.0 (K.seen keeper.new))) }
+    ensures shown { IfOk result (λ ends. IsPostedShown ends.1) }
     ensures valid { IfOk result (λ ends. IsOffice ends.0) }
     ensures held { (K.seen keeper.new).is_held ≡ (K.seen keeper.old).is_held }
     ensures lost { OnErr result (LosesLoad number digest body.now
@@ -149,12 +180,14 @@ fn take<K: Keeper, L: Ledger>(
 {
     batch_is_in_order();
     batch_gives_the_rows_after();
+    other_sheets_are_well_formed();
     let staged = book.stage(alloc, number, digest, body)?;
     let batch = book.batch(alloc, &staged)?;
+    let sheet = load_sheet(alloc, staged.reply())?;
     match keeper.commit(alloc, batch.as_slice()) {
         Ok(()) => {
             let book = book.take(staged, steps)?;
-            Ok((book, Posted::Done))
+            Ok((book, Posted::Done(sheet)))
         }
         Err(KeeperFault::Failed) => Ok((book, Posted::Failed)),
         Err(KeeperFault::Memory) => Err(Memory),

@@ -1,4 +1,3 @@
-pub mod Words
 pub mod Ranges
 pub mod Tags
 pub mod FieldPlaces

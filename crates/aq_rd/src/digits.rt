@@ -3,7 +3,7 @@ ghost use Rattle.std.specs.Prelude.{◌≡◌, ◌≤◌, ◌<◌, ◌^◌, ◌&
 ghost use Rattle.std.specs.Str.Parse.{digits_value};
 ghost use Rattle.aq_base.specs.Decimal.{are_digits};
 ghost use Rattle.aq_rules.specs.Lines.Spellings.{digits_in};
-ghost use Rattle.aq_rd.specs.Words.{number_to};
+ghost use Rattle.aq_rules.specs.Questions.Spelling.{number_to};
 
 /// A number of exactly so many digits, at most eight.
 pub fn digits_in(width: usize, text: &[u8]) -> Option<u32>

@@ -13,7 +13,7 @@
 //! - `digits_in`, `number_to`, `any_number`: numbers of a width, up to a last one, and of any length.
 //! - `write_field`, `write_code`, `write_date`, `write_start`, `parameter_name`, `duration_name`: the
 //!   writers.
-//! - `site_word`, `day_word`, `standard_word`: the words of a command.
+//! - `site_word`, `day_word`, `standard_word`: words of a command.
 //!
 //! # What it promises
 //!
@@ -22,7 +22,7 @@
 //! - The printed line is the canonical one, and if a line can spell the value, it is read back as that
 //!   value (`print_rd`).
 //! - Fields are read as the book's `Lines/Spellings` define and written as its `Lines/Canonical` does;
-//!   words of a command are read as `specs/Words.antt` defines.
+//!   words of a command are read as its `Questions/Spelling` defines.
 //!
 //! # An example
 //!

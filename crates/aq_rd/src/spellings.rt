@@ -5,7 +5,7 @@ ghost use Rattle.aq_base.specs.Values.{least_value, greatest_value};
 ghost use Rattle.aq_rules.specs.Lines.Spellings.{site_in, parameter_in, poc_in, duration_in, unit_in, method_in, date_in, year_in, time_in, truth_in, null_in, qualifier_in, qualifiers_in, is_code_byte};
 ghost use Rattle.aq_rules.specs.Lines.RdForm.{qualifier_fields};
 ghost use Rattle.aq_rd.specs.RdReading.{value_reading};
-ghost use Rattle.aq_rd.specs.Words.{date_of};
+ghost use Rattle.aq_rules.specs.Questions.Spelling.{date_of};
 
 use crate::digits::{digits_in, number};
 use crate::fields::Fields;
@@ -100,7 +100,7 @@ pub fn date_in(text: &[u8]) -> Option<Day>
 }
 
 /// A date of the profile by its year, month and day, of four, two and two digits.
-#[tactic(auto, unfolding(crate::specs::Words::date_of))]
+#[tactic(auto, unfolding(aq_rules::specs::Questions::Spelling::date_of))]
 pub(crate) fn date_of(year: &[u8], month: &[u8], day: &[u8]) -> Option<Day>
     ensures { result ≡ date_of year.now month.now day.now }
 {

@@ -2,13 +2,13 @@
 ghost use Rattle.std.specs.Prelude.{◌≡◌, bytes_eq, find};
 ghost use Rattle.std.specs.Option.{option_map};
 ghost use Rattle.aq_base.specs.Standard.{standard_name};
-ghost use Rattle.aq_rd.specs.Words.{site_word, day_word, standard_word, behind_hyphen};
+ghost use Rattle.aq_rules.specs.Questions.Spelling.{behind_hyphen, day_word, site_word, standard_word};
 
 use crate::spellings::{date_of, front, site_in};
 use aq_base::{Day, SiteId, Standard};
 
 /// A site as `SS-CCC-NNNN`, in digits.
-#[tactic(auto, unfolding(crate::specs::Words::site_word))]
+#[tactic(auto, unfolding(aq_rules::specs::Questions::Spelling::site_word))]
 pub fn site_word(word: &[u8]) -> Option<SiteId>
     ensures { result ≡ site_word word.now }
 {
@@ -19,7 +19,7 @@ pub fn site_word(word: &[u8]) -> Option<SiteId>
 }
 
 /// A date of the profile as `YYYY-MM-DD`.
-#[tactic(auto, unfolding(crate::specs::Words::day_word))]
+#[tactic(auto, unfolding(aq_rules::specs::Questions::Spelling::day_word))]
 pub fn day_word(word: &[u8]) -> Option<Day>
     ensures { result ≡ day_word word.now }
 {

@@ -1,5 +1,6 @@
 pub mod Csv
 pub mod Digits
+pub mod Formed
 pub mod Lines
 pub mod Parts
 pub mod Sending

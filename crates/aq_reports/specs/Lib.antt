@@ -1,4 +1,5 @@
 pub mod CellView
+pub mod Formed
 pub mod JsonView
 pub mod PartView
 pub mod Rows

@@ -1,6 +1,8 @@
 //! The sheets of an area: its years, and its sites with their critical values.
-ghost use Rattle.std.specs.Prelude.{◌≡◌, [], IfOk, map};
+ghost use Rattle.std.specs.Prelude.{◌≡◌, [], IfOk, IsTrue, map};
 ghost use Rattle.aq_rules.specs.Shown.AreaSheets as sheets;
+ghost use Rattle.aq_rules.specs.Shown.WellFormed.{IsWellFormed, is_cell};
+ghost use Rattle.aq_reports.specs.Formed.{are_heads, are_rows, is_row_of};
 
 use crate::cell::SheetCell;
 use crate::lists::{add_count, add_head, add_text, list, names};
@@ -24,7 +26,8 @@ pub fn area_sheet(
     met: u16,
     rows: &[(u16, Verdict, Option<i32>)],
 ) -> Result<Sheet, Memory>
-    ensures { IfOk result (λ sheet. sheet ≡ sheets.area_sheet standard year verdict governing value met rows.now) }
+    ensures value { IfOk result (λ sheet. sheet ≡ sheets.area_sheet standard year verdict governing value met rows.now) }
+    ensures well_formed { IfOk result (λ sheet. IsWellFormed sheet) }
 {
     let heads = area_heads(alloc, standard, year, verdict, governing, value, met)?;
     let columns = names(alloc, &[b"year", b"verdict", b"value"])?;
@@ -32,7 +35,7 @@ pub fn area_sheet(
     Ok(Sheet::new(heads, columns, rows))
 }
 
-#[tactic(auto, unfolding(aq_rules::specs::Shown::AreaSheets::area_sheet, aq_rules::specs::Shown::OtherSheets::report_sheet))]
+#[tactic(auto, using(crate::proofs::Formed::words), unfolding(aq_rules::specs::Shown::AreaSheets::area_sheet, aq_rules::specs::Shown::OtherSheets::report_sheet))]
 fn area_heads(
     alloc: Global,
     standard: Standard,
@@ -42,7 +45,8 @@ fn area_heads(
     value: Option<i32>,
     met: u16,
 ) -> Result<Heads, Memory>
-    ensures { IfOk result (λ heads. heads ≡ (sheets.area_sheet standard year verdict governing value met []).heads) }
+    ensures value { IfOk result (λ heads. heads ≡ (sheets.area_sheet standard year verdict governing value met []).heads) }
+    ensures heads { IfOk result (λ heads. IsTrue (are_heads heads)) }
 {
     let mut heads = report_heads(alloc, standard, year)?;
     let verdict = verdict_name(verdict);
@@ -69,7 +73,8 @@ fn area_rows(
     standard: Standard,
     years: &[(u16, Verdict, Option<i32>)],
 ) -> Result<Rows, Memory>
-    ensures { IfOk result (λ rows. rows ≡ map (sheets.area_cells standard) years.now) }
+    ensures value { IfOk result (λ rows. rows ≡ map (sheets.area_cells standard) years.now) }
+    ensures rows { IfOk result (λ rows. IsTrue (are_rows 3 rows)) }
 {
     let mut rows = Rows::new(alloc);
     for year in years {
@@ -83,7 +88,8 @@ fn area_cells(
     standard: Standard,
     row: &(u16, Verdict, Option<i32>),
 ) -> Result<Cells, Memory>
-    ensures { IfOk result (λ cells. cells ≡ sheets.area_cells standard row.now) }
+    ensures value { IfOk result (λ cells. cells ≡ sheets.area_cells standard row.now) }
+    ensures row { IfOk result (λ cells. IsTrue (is_row_of 3 cells)) }
 {
     let (year, verdict, value) = row;
     let year = SheetCell::count(u32::from(*year));
@@ -98,7 +104,8 @@ pub fn area_sites_sheet(
     year: u16,
     rows: &[(SiteId, Option<i32>, Verdict, Option<i32>)],
 ) -> Result<Sheet, Memory>
-    ensures { IfOk result (λ sheet. sheet ≡ sheets.area_sites_sheet standard year rows.now) }
+    ensures value { IfOk result (λ sheet. sheet ≡ sheets.area_sites_sheet standard year rows.now) }
+    ensures well_formed { IfOk result (λ sheet. IsWellFormed sheet) }
 {
     let heads = report_heads(alloc, standard, year)?;
     let columns = names(alloc, &[b"site", b"value", b"verdict", b"critical"])?;
@@ -112,7 +119,8 @@ fn area_site_rows(
     standard: Standard,
     sites: &[(SiteId, Option<i32>, Verdict, Option<i32>)],
 ) -> Result<Rows, Memory>
-    ensures { IfOk result (λ rows. rows ≡ map (sheets.area_site_cells standard) sites.now) }
+    ensures value { IfOk result (λ rows. rows ≡ map (sheets.area_site_cells standard) sites.now) }
+    ensures rows { IfOk result (λ rows. IsTrue (are_rows 4 rows)) }
 {
     let mut rows = Rows::new(alloc);
     for site in sites {
@@ -121,12 +129,14 @@ fn area_site_rows(
     Ok(rows)
 }
 
+#[tactic(auto, using(crate::proofs::Formed::words))]
 fn area_site_cells(
     alloc: Global,
     standard: Standard,
     row: &(SiteId, Option<i32>, Verdict, Option<i32>),
 ) -> Result<Cells, Memory>
-    ensures { IfOk result (λ cells. cells ≡ sheets.area_site_cells standard row.now) }
+    ensures value { IfOk result (λ cells. cells ≡ sheets.area_site_cells standard row.now) }
+    ensures row { IfOk result (λ cells. IsTrue (is_row_of 4 cells)) }
 {
     let (site, value, verdict, critical) = row;
     let site = SheetCell::text(alloc, &site_text(*site))?;
@@ -140,7 +150,8 @@ fn area_site_cells(
 
 /// A critical value as a year's part has it: in ppm, or with tenths.
 fn critical_cell(standard: Standard, value: Option<i32>) -> SheetCell
-    ensures { result ≡ sheets.critical_cell standard value }
+    ensures value { result ≡ sheets.critical_cell standard value }
+    ensures cell { IsTrue (is_cell result) }
 {
     match standard {
         Standard::Ozone2015 => SheetCell::ppm(value),

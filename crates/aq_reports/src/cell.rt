@@ -31,8 +31,9 @@ impl Model for SheetCell {
 }
 
 impl SheetCell {
-    ghost use Rattle.std.specs.Prelude.{◌≡◌, ◌≤◌, IfOk};
+    ghost use Rattle.std.specs.Prelude.{◌≡◌, ◌≤◌, IfOk, IsTrue};
     ghost use Rattle.aq_rules.specs.Shown.Sheet as sheets;
+    ghost use Rattle.aq_rules.specs.Shown.WellFormed.{is_cell};
 
     /// A whole number.
     pub fn int(value: i64) -> SheetCell
@@ -63,7 +64,8 @@ impl SheetCell {
     /// A value in units of `10^-places`, if there is one.
     fn optional(value: Option<i32>, places: u8) -> SheetCell
         requires { places ≤ 6 }
-        ensures { result ≡ sheets.fixed_cell places value }
+        ensures value { result ≡ sheets.fixed_cell places value }
+        ensures cell { IsTrue (is_cell result) }
     {
         match value {
             Some(value) => SheetCell::fixed(i64::from(value), places),
@@ -73,28 +75,32 @@ impl SheetCell {
 
     /// Thousandths of a ppm as ppm, if there are any.
     pub fn ppm(value: Option<i32>) -> SheetCell
-        ensures { result ≡ sheets.ppm_cell value }
+        ensures value { result ≡ sheets.ppm_cell value }
+        ensures cell { IsTrue (is_cell result) }
     {
         SheetCell::optional(value, 3)
     }
 
     /// Tenths as whole ones, if there are any.
     pub fn tenths(value: Option<i32>) -> SheetCell
-        ensures { result ≡ sheets.tenths_cell value }
+        ensures value { result ≡ sheets.tenths_cell value }
+        ensures cell { IsTrue (is_cell result) }
     {
         SheetCell::optional(value, 1)
     }
 
     /// Hundredths as whole ones, if there are any.
     pub fn hundredths(value: Option<i32>) -> SheetCell
-        ensures { result ≡ sheets.fixed_cell 2 value }
+        ensures value { result ≡ sheets.fixed_cell 2 value }
+        ensures cell { IsTrue (is_cell result) }
     {
         SheetCell::optional(value, 2)
     }
 
     /// A whole number, if there is one.
     pub fn whole(value: Option<i32>) -> SheetCell
-        ensures { result ≡ sheets.whole_cell value }
+        ensures value { result ≡ sheets.whole_cell value }
+        ensures cell { IsTrue (is_cell result) }
     {
         match value {
             Some(value) => SheetCell::int(i64::from(value)),

@@ -1,6 +1,8 @@
 //! The sheet of the events that decide a verdict.
-ghost use Rattle.std.specs.Prelude.{◌≡◌, [], IfOk, map};
+ghost use Rattle.std.specs.Prelude.{◌≡◌, [], IfOk, IsTrue, map};
 ghost use Rattle.aq_rules.specs.Shown.AreaSheets as sheets;
+ghost use Rattle.aq_rules.specs.Shown.WellFormed.{IsWellFormed};
+ghost use Rattle.aq_reports.specs.Formed.{are_heads, are_rows, is_row_of};
 
 use crate::cell::SheetCell;
 use crate::lists::{add_count, add_text, list, names};
@@ -20,7 +22,8 @@ pub fn decisive_sheet(
     verdict: Verdict,
     rows: &[(u32, Verdict)],
 ) -> Result<Sheet, Memory>
-    ensures { IfOk result (λ sheet. sheet ≡ sheets.decisive_sheet standard site year verdict rows.now) }
+    ensures value { IfOk result (λ sheet. sheet ≡ sheets.decisive_sheet standard site year verdict rows.now) }
+    ensures well_formed { IfOk result (λ sheet. IsWellFormed sheet) }
 {
     let heads = decisive_heads(alloc, standard, site, year, verdict)?;
     let columns = names(alloc, &[b"event", b"verdict"])?;
@@ -28,7 +31,7 @@ pub fn decisive_sheet(
     Ok(Sheet::new(heads, columns, rows))
 }
 
-#[tactic(auto, unfolding(aq_rules::specs::Shown::AreaSheets::decisive_sheet))]
+#[tactic(auto, using(crate::proofs::Formed::words), unfolding(aq_rules::specs::Shown::AreaSheets::decisive_sheet))]
 fn decisive_heads(
     alloc: Global,
     standard: Standard,
@@ -36,7 +39,8 @@ fn decisive_heads(
     year: u16,
     verdict: Verdict,
 ) -> Result<Heads, Memory>
-    ensures { IfOk result (λ heads. heads ≡ (sheets.decisive_sheet standard site year verdict []).heads) }
+    ensures value { IfOk result (λ heads. heads ≡ (sheets.decisive_sheet standard site year verdict []).heads) }
+    ensures heads { IfOk result (λ heads. IsTrue (are_heads heads)) }
 {
     let mut heads = Heads::new(alloc);
     add_text(alloc, &mut heads, b"standard", standard.name().as_bytes())?;
@@ -49,7 +53,8 @@ fn decisive_heads(
 
 /// A row for each event.
 fn decisive_rows(alloc: Global, events: &[(u32, Verdict)]) -> Result<Rows, Memory>
-    ensures { IfOk result (λ rows. rows ≡ map sheets.decisive_cells events.now) }
+    ensures value { IfOk result (λ rows. rows ≡ map sheets.decisive_cells events.now) }
+    ensures rows { IfOk result (λ rows. IsTrue (are_rows 2 rows)) }
 {
     let mut rows = Rows::new(alloc);
     for event in events {
@@ -59,7 +64,8 @@ fn decisive_rows(alloc: Global, events: &[(u32, Verdict)]) -> Result<Rows, Memor
 }
 
 fn decisive_cells(alloc: Global, event: &(u32, Verdict)) -> Result<Cells, Memory>
-    ensures { IfOk result (λ cells. cells ≡ sheets.decisive_cells event.now) }
+    ensures value { IfOk result (λ cells. cells ≡ sheets.decisive_cells event.now) }
+    ensures row { IfOk result (λ cells. IsTrue (is_row_of 2 cells)) }
 {
     let (number, verdict) = event;
     let verdict = SheetCell::text(alloc, verdict_name(*verdict).as_bytes())?;

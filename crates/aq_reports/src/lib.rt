@@ -12,6 +12,7 @@
 //! - `value_sheet`, `report_sheet`: of a design value, and of the design values of sites.
 //! - `area_sheet`, `area_sites_sheet`: of an area's years, and of its sites with their critical values.
 //! - `text_of`, `json_of`: a sheet as text, and a well-formed one as JSON.
+//! - `texts_of`, `json_of_sheets`: several sheets as text, and well-formed ones as JSON.
 //! - `export_of`: observations as CSV, each with whether it is excluded.
 //! - `site_text`, `hex_digits`: a site as `SS-CCC-NNNN`, and a byte as two digits.
 //!
@@ -19,7 +20,9 @@
 //!
 //! - Sheets are values, seen as the book's, and each of the twelve is the book's sheet of what it is made
 //!   of.
-//! - The text of a sheet, a well-formed sheet as JSON, and observations as CSV are the book's texts.
+//! - The text of sheets, well-formed sheets as JSON, and observations as CSV are the book's texts.
+//! - The sheets of a design value, of decisive events and of an area are well formed, whatever numbers
+//!   they show.
 //! - The only refusal is want of memory.
 //!
 //! # An example
@@ -44,6 +47,7 @@ mod numbered;
 mod quarters;
 mod report;
 mod sheet;
+mod sheets;
 mod single;
 mod text;
 mod value;
@@ -62,6 +66,7 @@ pub use load::load_sheet;
 pub use quarters::{pm10_sheet, pm25_sheet};
 pub use report::report_sheet;
 pub use sheet::{Cells, Head, Heads, Names, Rows, Sheet};
+pub use sheets::{json_of_sheets, texts_of};
 pub use single::{conflict_sheet, error_sheet, hex_digits, summary_sheet};
 pub use text::{site_text, text_of};
 pub use value::value_sheet;

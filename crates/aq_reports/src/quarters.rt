@@ -72,6 +72,8 @@ impl NumberedRow for PmQuarter {
 
     ghost shown = { particle_sheets.pm25_cells };
 
+    ghost width = { 9 };
+
     fn cells(&self, alloc: Global, number: u32) -> Result<Cells, Memory> {
         list(
             alloc,
@@ -129,6 +131,8 @@ impl NumberedRow for Pm10Quarter {
     ghost use Rattle.aq_rules.specs.Shown.ParticleSheets as particle_sheets;
 
     ghost shown = { particle_sheets.pm10_cells };
+
+    ghost width = { 9 };
 
     fn cells(&self, alloc: Global, number: u32) -> Result<Cells, Memory> {
         list(

@@ -1,6 +1,7 @@
 //! The sheet of a standard's report: the design value and verdict of each site.
-ghost use Rattle.std.specs.Prelude.{◌≡◌, [], IfOk, map};
+ghost use Rattle.std.specs.Prelude.{◌≡◌, [], IfOk, IsTrue, map};
 ghost use Rattle.aq_rules.specs.Shown.OtherSheets as other_sheets;
+ghost use Rattle.aq_reports.specs.Formed.{are_heads};
 ghost use Rattle.aq_reports.specs.Rows.{judged_in};
 
 use crate::cell::SheetCell;
@@ -28,9 +29,10 @@ pub fn report_sheet(
     Ok(Sheet::new(heads, columns, rows))
 }
 
-#[tactic(auto, unfolding(aq_rules::specs::Shown::OtherSheets::report_sheet))]
+#[tactic(auto, using(crate::proofs::Formed::words), unfolding(aq_rules::specs::Shown::OtherSheets::report_sheet))]
 pub(crate) fn report_heads(alloc: Global, standard: Standard, year: u16) -> Result<Heads, Memory>
-    ensures { IfOk result (λ heads. heads ≡ (other_sheets.report_sheet standard year []).heads) }
+    ensures value { IfOk result (λ heads. heads ≡ (other_sheets.report_sheet standard year []).heads) }
+    ensures heads { IfOk result (λ heads. IsTrue (are_heads heads)) }
 {
     let mut heads = Heads::new(alloc);
     add_text(alloc, &mut heads, b"standard", standard.name().as_bytes())?;

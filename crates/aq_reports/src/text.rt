@@ -12,14 +12,21 @@ use aq_num::write_fixed;
 use std::alloc::Global;
 
 /// The text of a sheet.
-#[tactic(auto, unfolding(aq_rules::specs::Shown::Sheet::text_of))]
 pub fn text_of(alloc: Global, sheet: &Sheet) -> Result<Vec<u8>, Memory>
     ensures { IfOk result (λ text. text.items ≡ sheets.text_of sheet.now) }
 {
     let mut out = Vec::new(alloc);
-    write_heads(&mut out, sheet.heads.as_slice())?;
-    write_table(&mut out, sheet.columns.as_slice(), sheet.rows.as_slice())?;
+    write_sheet(&mut out, sheet)?;
     Ok(out)
+}
+
+/// The text of a sheet, behind what is there.
+#[tactic(auto, unfolding(aq_rules::specs::Shown::Sheet::text_of))]
+pub(crate) fn write_sheet(out: &mut Vec<u8>, sheet: &Sheet) -> Result<(), Memory>
+    ensures { OnOk result (out.new.items ≡ out.old.items ++ sheets.text_of sheet.now) }
+{
+    write_heads(out, sheet.heads.as_slice())?;
+    write_table(out, sheet.columns.as_slice(), sheet.rows.as_slice())
 }
 
 /// A line for each head.

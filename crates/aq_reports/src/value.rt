@@ -1,8 +1,10 @@
 //! The sheet of a design value of any standard: three years, the oldest first.
-ghost use Rattle.std.specs.Prelude.{◌≡◌, ◌-◌, ◌≤◌, IfOk};
+ghost use Rattle.std.specs.Prelude.{◌≡◌, ◌-◌, ◌≤◌, IfOk, IsTrue};
 ghost use Rattle.aq_rules.specs.Shown.Sheets as sheets;
 ghost use Rattle.aq_rules.specs.Shown.OtherSheets as other;
+ghost use Rattle.aq_rules.specs.Shown.WellFormed.{IsWellFormed, is_cell};
 ghost use Rattle.aq_verdict.specs.Designs.{design_of};
+ghost use Rattle.aq_reports.specs.Formed.{are_heads};
 
 use crate::cell::SheetCell;
 use crate::lists::{add_count, add_head, add_text, list, names};
@@ -25,7 +27,8 @@ pub fn value_sheet(
     year: u16,
     value: &DesignValue,
 ) -> Result<Sheet, Memory>
-    ensures { IfOk result (λ sheet. sheet ≡ other.value_sheet standard site year (design_of value.now)) }
+    ensures value { IfOk result (λ sheet. sheet ≡ other.value_sheet standard site year (design_of value.now)) }
+    ensures well_formed { IfOk result (λ sheet. IsWellFormed sheet) }
 {
     match value {
         DesignValue::Ozone(years, design) => ozone_value_sheet(alloc, site, year, years, design),
@@ -45,7 +48,8 @@ fn ozone_value_sheet(
     years: &[OzoneYear; 3],
     design: &OzoneDv,
 ) -> Result<Sheet, Memory>
-    ensures { IfOk result (λ sheet. sheet ≡ sheets.ozone_value_sheet site year years.now design.now) }
+    ensures value { IfOk result (λ sheet. sheet ≡ sheets.ozone_value_sheet site year years.now design.now) }
+    ensures well_formed { IfOk result (λ sheet. IsWellFormed sheet) }
 {
     let heads = value_heads(
         alloc,
@@ -75,6 +79,8 @@ impl NumberedRow for OzoneYear {
 
     ghost shown = { sheets.year_cells };
 
+    ghost width = { 5 };
+
     fn cells(&self, alloc: Global, number: u32) -> Result<Cells, Memory> {
         list(
             alloc,
@@ -90,6 +96,7 @@ impl NumberedRow for OzoneYear {
 }
 
 /// The heads of a design value of any standard.
+#[tactic(auto, using(crate::proofs::Formed::words))]
 pub(crate) fn value_heads(
     alloc: Global,
     standard: Standard,
@@ -99,7 +106,8 @@ pub(crate) fn value_heads(
     test: Option<i32>,
     verdict: Verdict,
 ) -> Result<Heads, Memory>
-    ensures { IfOk result (λ heads. heads ≡ sheets.value_heads standard site year value test verdict) }
+    ensures value { IfOk result (λ heads. heads ≡ sheets.value_heads standard site year value test verdict) }
+    ensures heads { IfOk result (λ heads. IsTrue (are_heads heads)) }
 {
     let mut heads = Heads::new(alloc);
     add_text(alloc, &mut heads, b"standard", standard.name().as_bytes())?;
@@ -126,7 +134,8 @@ pub(crate) fn oldest_year(year: u16) -> u32
 
 /// A design value or a test's value in its standard's unit.
 pub(crate) fn design_cell(standard: Standard, value: Option<i32>) -> SheetCell
-    ensures { result ≡ sheets.design_cell standard value }
+    ensures value { result ≡ sheets.design_cell standard value }
+    ensures cell { IsTrue (is_cell result) }
 {
     match standard {
         Standard::Ozone2015 => SheetCell::ppm(value),

@@ -1,6 +1,7 @@
 //! The sheet of a PM10 design value: three years, the oldest first.
 ghost use Rattle.std.specs.Prelude.{◌≡◌, IfOk};
 ghost use Rattle.aq_rules.specs.Shown.ParticleSheets as particle_sheets;
+ghost use Rattle.aq_rules.specs.Shown.WellFormed.{IsWellFormed};
 
 use crate::cell::SheetCell;
 use crate::lists::{list, names};
@@ -19,7 +20,8 @@ pub(crate) fn pm10_value_sheet(
     years: &[Pm10Year; 3],
     design: &Pm10Dv,
 ) -> Result<Sheet, Memory>
-    ensures { IfOk result (λ sheet. sheet ≡ particle_sheets.pm10_value_sheet site year years.now design.now) }
+    ensures value { IfOk result (λ sheet. sheet ≡ particle_sheets.pm10_value_sheet site year years.now design.now) }
+    ensures well_formed { IfOk result (λ sheet. IsWellFormed sheet) }
 {
     let heads = value_heads(
         alloc,
@@ -42,6 +44,8 @@ impl NumberedRow for Pm10Year {
     ghost use Rattle.aq_rules.specs.Shown.ParticleSheets as particle_sheets;
 
     ghost shown = { particle_sheets.pm10_year_cells };
+
+    ghost width = { 5 };
 
     fn cells(&self, alloc: Global, number: u32) -> Result<Cells, Memory> {
         let complete = SheetCell::truth(alloc, is_complete_year(self))?;

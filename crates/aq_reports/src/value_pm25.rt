@@ -1,10 +1,12 @@
 //! The sheets of PM2.5 design values: three years, the oldest first.
-ghost use Rattle.std.specs.Prelude.{◌≡◌, ◌≤◌, IfOk, map, zip};
+ghost use Rattle.std.specs.Prelude.{◌≡◌, ◌≤◌, IfOk, IsTrue, map, zip};
 ghost use Rattle.std.specs.List.{enumerate_from};
 ghost use Rattle.aq_rules.specs.Particles.QuarterCounts.{capture};
 ghost use Rattle.aq_rules.specs.Kept.Summaries.{counts_of};
 ghost use Rattle.aq_rules.specs.Shown.ParticleSheets as particle_sheets;
 ghost use Rattle.aq_rules.specs.Shown.Sheet.{count_cell};
+ghost use Rattle.aq_rules.specs.Shown.WellFormed.{IsWellFormed, is_cell};
+ghost use Rattle.aq_reports.specs.Formed.{are_rows, is_row_of};
 
 use crate::cell::SheetCell;
 use crate::lists::{list, names};
@@ -25,7 +27,8 @@ pub(crate) fn annual_value_sheet(
     years: &[PmYear; 3],
     design: &AnnualDv,
 ) -> Result<Sheet, Memory>
-    ensures { IfOk result (λ sheet. sheet ≡ particle_sheets.annual_value_sheet standard site year years.now design.now) }
+    ensures value { IfOk result (λ sheet. sheet ≡ particle_sheets.annual_value_sheet standard site year years.now design.now) }
+    ensures well_formed { IfOk result (λ sheet. IsWellFormed sheet) }
 {
     let heads = value_heads(
         alloc,
@@ -59,7 +62,8 @@ fn annual_rows(
     valid: &[bool; 3],
 ) -> Result<Rows, Memory>
     requires { oldest ≤ 65535 }
-    ensures { IfOk result (λ rows. rows ≡ map particle_sheets.annual_cells (enumerate_from oldest (zip years.now valid.now))) }
+    ensures value { IfOk result (λ rows. rows ≡ map particle_sheets.annual_cells (enumerate_from oldest (zip years.now valid.now))) }
+    ensures rows { IfOk result (λ rows. IsTrue (are_rows 7 rows)) }
 {
     let mut rows = Rows::new(alloc);
     for (place, kept) in years.iter().enumerate() {
@@ -70,7 +74,8 @@ fn annual_rows(
 }
 
 fn annual_cells(alloc: Global, number: u32, kept: &PmYear, valid: bool) -> Result<Cells, Memory>
-    ensures { IfOk result (λ cells. cells ≡ particle_sheets.annual_cells (number, (kept.now, valid))) }
+    ensures value { IfOk result (λ cells. cells ≡ particle_sheets.annual_cells (number, (kept.now, valid))) }
+    ensures row { IfOk result (λ cells. IsTrue (is_row_of 7 cells)) }
 {
     let [first, second, third, fourth] = kept.quarters();
     let valid = SheetCell::truth(alloc, valid)?;
@@ -96,7 +101,8 @@ pub(crate) fn daily_value_sheet(
     years: &[PmYear; 3],
     design: &DailyDv,
 ) -> Result<Sheet, Memory>
-    ensures { IfOk result (λ sheet. sheet ≡ particle_sheets.daily_value_sheet site year years.now design.now) }
+    ensures value { IfOk result (λ sheet. sheet ≡ particle_sheets.daily_value_sheet site year years.now design.now) }
+    ensures well_formed { IfOk result (λ sheet. IsWellFormed sheet) }
 {
     let heads = value_heads(
         alloc,
@@ -131,7 +137,8 @@ fn daily_rows(
     valid: &[bool; 3],
 ) -> Result<Rows, Memory>
     requires { oldest ≤ 65535 }
-    ensures { IfOk result (λ rows. rows ≡ map particle_sheets.daily_cells (enumerate_from oldest (zip years.now valid.now))) }
+    ensures value { IfOk result (λ rows. rows ≡ map particle_sheets.daily_cells (enumerate_from oldest (zip years.now valid.now))) }
+    ensures rows { IfOk result (λ rows. IsTrue (are_rows 8 rows)) }
 {
     let mut rows = Rows::new(alloc);
     for (place, kept) in years.iter().enumerate() {
@@ -141,8 +148,10 @@ fn daily_rows(
     Ok(rows)
 }
 
+#[tactic(auto, using(crate::proofs::Formed::words))]
 fn daily_cells(alloc: Global, number: u32, kept: &PmYear, valid: bool) -> Result<Cells, Memory>
-    ensures { IfOk result (λ cells. cells ≡ particle_sheets.daily_cells (number, (kept.now, valid))) }
+    ensures value { IfOk result (λ cells. cells ≡ particle_sheets.daily_cells (number, (kept.now, valid))) }
+    ensures row { IfOk result (λ cells. IsTrue (is_row_of 8 cells)) }
 {
     let [first, second, third, fourth] = kept.quarters();
     let valid = SheetCell::truth(alloc, valid)?;
@@ -162,7 +171,8 @@ fn daily_cells(alloc: Global, number: u32, kept: &PmYear, valid: bool) -> Result
 }
 
 fn capture_cell(quarter: &PmQuarter) -> SheetCell
-    ensures { result ≡ count_cell (capture (counts_of quarter.now)) }
+    ensures value { result ≡ count_cell (capture (counts_of quarter.now)) }
+    ensures cell { IsTrue (is_cell result) }
 {
     SheetCell::count(capture(quarter))
 }

@@ -1,13 +1,12 @@
 -- One request, read, answered and sent.
 use Rattle.std.proofs.Common.{◌≡◌, ℕ, ◌+◌, ◌<◌, ◌≤◌, ◌⊎◌, inl, inr, Bool, true, false, cond, List, [], ◌∷◌, ◌++◌, length, take, drop, refl, sym, ap, ◌∙◌, subst, arith, append_assoc, Result, Ok, Err, Option, Some, None}
 use Rattle.std.specs.Prelude.{⊤, ◌==◌}
-use Rattle.std.proofs.lemmas.Bool.{le-leb}
 use Rattle.std.proofs.lemmas.List.{append-nil}
 use Rattle.aq_base.specs.Faults.{HasRisen}
 use Rattle.aq_base.specs.declared.refusal.Memory.{Memory}
-use Rattle.aq_http.specs.Head.{Head}
 use Rattle.aq_http.specs.Reply.{reply_text}
-use Rattle.aq_http.specs.Step.{IsStep, Request, Step, More, Refuse, Whole as WholeStep, with_body, request_in}
+use Rattle.aq_http.specs.declared.media.MediaType.TheVariants.{Json}
+use Rattle.aq_http.specs.Step.{IsStep, Request, Step, More, Refuse, Whole as WholeStep}
 use Rattle.aq_serve.specs.Answered.{answered, error_body, refused}
 use Rattle.aq_serve.specs.Door.{DoorView, Exchange, IsDry, IsSameDoor}
 use Rattle.aq_keeper.specs.Standing.{Become, Standing}
@@ -29,9 +28,6 @@ abbrev pub IsWholeStep : Step → Type 0
 IsWholeStep More = ⊥
 IsWholeStep (Refuse status) = ⊥
 IsWholeStep (WholeStep request) = ⊤
-
-pub whole_is_due : (now : List ℕ) (h : Head) → h.head_bytes + h.body_bytes ≤ length now → IsWholeStep (with_body now h)
-whole_is_due now h within = subst (λ t. IsWholeStep (cond t (WholeStep (request_in now h)) More)) (sym (le-leb _ _ within)) tt
 
 pub answer_replies : (served : ℕ) (input bytes : List ℕ) (request : Request) (closes : Bool) (before after : Standing)
     → ((more : List ℕ) → IsStep (input ++ more) (WholeStep request)) → closes ≡ ends_behind served request
@@ -150,7 +146,7 @@ sent_turn served input bytes used closes d e s t (Some CutByWrite) r sent = reco
 -- a refused head is answered over any office
 pub refusal_replies : (served : ℕ) (input bytes : List ℕ) (status : ℕ) (s : Standing)
     → ((more : List ℕ) → IsStep (input ++ more) (Refuse status))
-    → bytes ≡ reply_text (record { status = status; allow = []; close = true; body = error_body status })
+    → bytes ≡ reply_text (record { status = status; media = Json; allow = []; close = true; body = error_body status })
     → Replies served input bytes 0 true s s
 refusal_replies served input bytes status s stays are = record {
   turn = turn_of 0 true (refused status s.office);

@@ -3,22 +3,28 @@ use Rattle.std.specs.Prelude.{ℕ, ◌==◌, Bool, true, false, if◌then◌else
 use Rattle.sha2.specs.Sha256.{sha256}
 use Rattle.aq_rules.specs.Office.Office.{Office}
 use Rattle.aq_rules.specs.Office.Load.{Posted, TooManyLines, Repeated, Differing, NoRoom, Taken, posted}
-use Rattle.aq_rules.specs.Shown.Answer.{Answer, OfSheet, OfExport, NoSite, NoLoad, answer}
+use Rattle.aq_base.specs.declared.question.Topic.{Topic}
+use Rattle.aq_base.specs.declared.question.Topic.TheVariants.{Export}
+use Rattle.aq_rules.specs.Questions.Answer.{Answer, OfSheets, OfText, Lacks, answer, json_of_sheets}
+use Rattle.aq_rules.specs.Questions.Table.{topic_of}
 use Rattle.aq_rules.specs.Shown.Json.{json_of}
 use Rattle.aq_rules.specs.Shown.OtherSheets.{conflict_sheet, error_sheet}
 use Rattle.aq_rules.specs.Shown.Sheet.{Sheet}
 use Rattle.aq_rules.specs.Shown.Sheets.{load_sheet}
 use Rattle.aq_http.specs.Reply.{reply_text}
 use Rattle.aq_http.specs.Routes.{found}
+use Rattle.aq_http.specs.declared.media.MediaType.{MediaType}
+use Rattle.aq_http.specs.declared.media.MediaType.TheVariants.{Json, Csv, Plain}
 use Rattle.aq_http.specs.declared.routes.Found.{Found}
 use Rattle.aq_http.specs.declared.routes.Found.TheVariants as asks
 use Rattle.aq_http.specs.declared.verb.Verb.{Verb}
 
 pub record Answered : Type 0 where
   pub status : ℕ
+  -- what the body is written in
+  pub media : MediaType
   -- the methods that a 405 allows
   pub allow : List ℕ
-  -- in JSON
   pub body : List ℕ
   pub office : Office
 
@@ -41,21 +47,25 @@ error_body status = json_of (error_sheet (error_name status))
 
 -- an error, which changes nothing
 abbrev pub refused : ℕ → Office → Answered
-refused status office = record { status = status; allow = []; body = error_body status; office = office }
+refused status office = record { status = status; media = Json; allow = []; body = error_body status; office = office }
 
 abbrev pub not_allowed : List ℕ → Office → Answered
-not_allowed allow office = record { status = 405; allow = allow; body = error_body 405; office = office }
+not_allowed allow office = record { status = 405; media = Json; allow = allow; body = error_body 405; office = office }
 
 -- a sheet, with a status and the office after it
 abbrev pub shown : ℕ → Sheet → Office → Answered
-shown status sheet office = record { status = status; allow = []; body = json_of sheet; office = office }
+shown status sheet office = record { status = status; media = Json; allow = []; body = json_of sheet; office = office }
 
--- a question; no route asks for an export
-abbrev pub to_question : Office → Answer → Answered
-to_question office (OfSheet sheet) = shown 200 sheet office
-to_question office (OfExport text) = refused 404 office
-to_question office NoSite = refused 404 office
-to_question office NoLoad = refused 404 office
+-- what the text of an answer is written in
+abbrev pub text_media : Topic → MediaType
+text_media Export = Csv
+text_media _ = Plain
+
+-- a question: its sheets as JSON, or its text; what is missing is not found
+abbrev pub to_question : Office → Topic → Answer → Answered
+to_question office topic (OfSheets sheets) = record { status = 200; media = Json; allow = []; body = json_of_sheets sheets; office = office }
+to_question office topic (OfText text) = record { status = 200; media = text_media topic; allow = []; body = text; office = office }
+to_question office topic (Lacks what) = refused 404 office
 
 -- a load with this number. If it would be taken and the keeper fails, nothing changes.
 abbrev pub to_load : ℕ → Office → Bool → Posted → Answered
@@ -68,7 +78,7 @@ to_load number office false (Taken reply now) = shown 200 (load_sheet reply) now
 
 -- the digest of a load is the SHA-256 of its body as it was sent (FIPS 180-4)
 abbrev pub to_found : Office → Found → List ℕ → Bool → Answered
-to_found office (asks.Ask question) body fails = to_question office (answer office question)
+to_found office (asks.Ask question) body fails = to_question office (topic_of question) (answer office question)
 to_found office (asks.Load number) body fails = to_load number office fails (posted office number (sha256 body) body)
 to_found office (asks.Status status) body fails = refused status office
 to_found office (asks.NotAllowed true) body fails = not_allowed (codes "GET, POST") office
@@ -81,4 +91,4 @@ answered office verb target body fails = to_found office (found verb target) bod
 -- the bytes of the reply
 abbrev pub reply_of : Answered → Bool → List ℕ
 reply_of answer close =
-    reply_text (record { status = answer.status; allow = answer.allow; close = close; body = answer.body })
+    reply_text (record { status = answer.status; media = answer.media; allow = answer.allow; close = close; body = answer.body })

@@ -1,12 +1,13 @@
 //! Replies, written until a connection has all of them.
 ghost use Rattle.std.specs.Prelude.{◌≡◌, true, IfOk, IsTrue};
 ghost use Rattle.aq_http.specs.Reply.{is_reply_status, reply_text};
+ghost use Rattle.aq_http.specs.declared.media.MediaType.TheVariants.{Json};
 ghost use Rattle.aq_serve.specs.Answered.{error_body, error_name};
 ghost use Rattle.aq_serve.specs.Talking.{Sends};
 
 use crate::door::Door;
 use aq_base::{Failed, Memory};
-use aq_http::reply_bytes;
+use aq_http::{MediaType, reply_bytes};
 use std::alloc::Global;
 
 /// Writes all bytes of a reply on the accepted connection. After `Failed` a part of them was written.
@@ -54,8 +55,8 @@ pub fn error_reply(alloc: Global, status: u16, allow: &[u8], close: bool) -> Res
     requires { IsTrue (is_reply_status status) }
     ensures { IfOk result (λ bytes. bytes.items
         ≡ reply_text
-        (record { status = status; allow = allow.now; close = close; body = error_body status })) }
+        (record { status = status; media = Json; allow = allow.now; close = close; body = error_body status })) }
 {
     let body = error_body(alloc, status)?;
-    reply_bytes(alloc, status, allow, close, &body)
+    reply_bytes(alloc, status, MediaType::Json, allow, close, &body)
 }

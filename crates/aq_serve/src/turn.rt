@@ -14,7 +14,7 @@ use crate::sending::{error_reply, write_all};
 use crate::service::Service;
 use crate::unanswered::Unanswered;
 use aq_base::{Failed, Memory};
-use aq_http::{Head, HeadStep, Step, steps_are_bounded, steps_stay};
+use aq_http::{Head, HeadStep, steps_are_bounded, steps_stay};
 use std::alloc::Global;
 
 /// A reply, how many bytes the request has, and whether the connection ends after it.
@@ -54,26 +54,22 @@ fn answer<K, V: Service<K>>(
 {
     steps_stay();
     steps_are_bounded();
-    match head.request(input) {
-        Step::Whole {
-            used,
-            verb,
-            target,
-            body,
-            close,
-        } => {
-            let closes = ends_behind(close, served);
-            match service.answer(alloc, keeper, verb, target, body, closes) {
-                Ok(bytes) => Ok(Reply {
-                    bytes,
-                    used,
-                    closes,
-                }),
-                Err(Memory) => Err(Memory),
-            }
-        }
-        Step::More => unreachable!(),
-        Step::Refuse(_) => unreachable!(),
+    let request = head.request(input);
+    let closes = ends_behind(request.close, served);
+    match service.answer(
+        alloc,
+        keeper,
+        request.verb,
+        request.target,
+        request.body,
+        closes,
+    ) {
+        Ok(bytes) => Ok(Reply {
+            bytes,
+            used: request.used,
+            closes,
+        }),
+        Err(Memory) => Err(Memory),
     }
 }
 

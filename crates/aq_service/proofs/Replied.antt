@@ -1,14 +1,13 @@
 -- Replies as answers to requests.
-use Rattle.std.proofs.Common.{◌≡◌, ℕ, ◌⊎◌, inl, inr, Bool, true, false, List, Option, Some, None, refl, sym, ap, ◌∙◌, subst}
-use Rattle.std.specs.Prelude.{◌==◌, IfSome, IsSome}
+use Rattle.std.proofs.Common.{◌≡◌, ℕ, ◌⊎◌, inl, inr, Bool, true, false, List, Option, refl, sym, ap, ◌∙◌, subst}
+use Rattle.std.specs.Prelude.{◌==◌}
 use Rattle.std.specs.Option.{option_map}
 use Rattle.aq_base.specs.declared.reply.LoadReply.{LoadReply}
 use Rattle.aq_rules.specs.Kept.Rows.{Row, rows_of}
-use Rattle.aq_rules.specs.Office.Load.{TooManyLines, Repeated, Differing, NoRoom, Taken, load, office_after, post, posted, reply, stored}
+use Rattle.aq_rules.specs.Office.Load.{TooManyLines, Repeated, Differing, NoRoom, Taken, office_after, post, posted}
 use Rattle.aq_rules.specs.Office.Load as loads
-use Rattle.aq_rules.specs.Office.Office.{Office, StoredLoad, load_at}
-use Rattle.aq_rules.specs.Shown.Answer.{answer}
-use Rattle.aq_rules.specs.Shown.OtherSheets.{conflict_sheet}
+use Rattle.aq_rules.specs.Office.Office.{Office}
+use Rattle.aq_rules.specs.Shown.Sheet.{Sheet}
 use Rattle.aq_rules.specs.Shown.Sheets.{load_sheet}
 use Rattle.aq_http.specs.declared.verb.Verb.{Verb}
 use Rattle.aq_http.specs.Routes.{found}
@@ -18,15 +17,14 @@ use Rattle.aq_keeper.proofs.TablesOfOffice.{become_same, become_still}
 use Rattle.aq_serve.specs.Answered.{Answered, answered, reply_of, shown, to_found, to_load}
 use Rattle.aq_keeper.specs.Standing.{Become, Standing}
 use Rattle.aq_serve.specs.Service.{Answers, Counts, Loses}
-use Rattle.aq_office.proofs.PostedLoads.{IsKept, Tells, load_stands, tells}
 use Rattle.aq_office.specs.Posting.{IsPosted, LosesLoad, TakenBy}
-use Rattle.aq_service.specs.Replies.{AnswersBy, IsLoadReply, LosesBy, Stands}
+use Rattle.aq_service.specs.Replies.{AnswersBy, LosesBy, to_posted}
 use Rattle.aq_office.specs.declared.posting.Posted.{Posted}
 use Rattle.aq_office.specs.declared.posting.Posted.TheVariants as answers
 
 -- ---- nothing changes
 
-pub unchanged : (by : Bool → Answered) (close : Bool) (bytes : List ℕ) (view : Standing) → bytes ≡ reply_of (by false) close → view.office ≡ (by false).office → ((by false).status == 503) ≡ false → AnswersBy by close bytes view view
+unchanged : (by : Bool → Answered) (close : Bool) (bytes : List ℕ) (view : Standing) → bytes ≡ reply_of (by false) close → view.office ≡ (by false).office → ((by false).status == 503) ≡ false → AnswersBy by close bytes view view
 unchanged by close bytes view is office status = record {
   fails = false;
   reply = is;
@@ -35,20 +33,12 @@ unchanged by close bytes view is office status = record {
   tables = λ told. become_same view told;
 }
 
-pub nothing_lost : (by : Bool → Answered) (view : Standing) → LosesBy by view view
+nothing_lost : (by : Bool → Answered) (view : Standing) → LosesBy by view view
 nothing_lost by view = record { cause = inl refl; tables = λ told. inl (become_same view told) }
 
 -- ---- loads
 
--- what the reply to a load is, whatever is kept beside it
-kept-reply : (P : StoredLoad → Type 0) (found : Option StoredLoad) (kept : StoredLoad) → found ≡ Some kept → IfSome found P → P kept
-kept-reply P found kept is holds = subst (λ f. IfSome f P) is holds
-
-is-kept : (P : StoredLoad → Type 0) (found : Option StoredLoad) → IsKept P found → IsSome found
-is-kept P None kept = absurd kept
-is-kept P (Some load) kept = refl
-
-module _ (number : ℕ) (digest body : List ℕ) (some : (number == 0) ≡ false) (lines : ℕ) (close : Bool) (before : Standing) where
+module _ (number lines : ℕ) (before : Standing) where
   abbrev By : loads.Posted → Bool → Answered
   By p fails = to_load number before.office fails p
 
@@ -56,113 +46,61 @@ module _ (number : ℕ) (digest body : List ℕ) (some : (number == 0) ≡ false
   becomes : (a b : Office) (after : Standing) → a ≡ b → Become before a after → Become before b after
   becomes a b after same is = stays_as _ _ after.tables (sym (ap (λ (o : Office). option_map (λ _. rows_of o) before.tables) same)) is
 
-  -- a known load
-  repeated : (r : LoadReply) (bytes : List ℕ) (found : Option StoredLoad) → IsKept (λ kept. kept.reply ≡ r) found → IfSome found (λ kept. bytes ≡ reply_of (shown 200 (load_sheet kept.reply) before.office) close)
-      → bytes ≡ reply_of (shown 200 (load_sheet r) before.office) close
-  repeated r bytes None kept is = absurd kept
-  repeated r bytes (Some load) kept is = is ∙ ap (λ x. reply_of (shown 200 (load_sheet x) before.office) close) kept
-
-  differing : (d sent : List ℕ) (bytes : List ℕ) (found : Option StoredLoad) → IsKept (λ kept. (kept.digest ≡ d) × (sent ≡ digest)) found
-      → IfSome found (λ kept. bytes ≡ reply_of (shown 409 (conflict_sheet number kept.digest sent) before.office) close)
-      → bytes ≡ reply_of (shown 409 (conflict_sheet number d sent) before.office) close
-  differing d sent bytes None kept is = absurd kept
-  differing d sent bytes (Some load) kept is = is ∙ ap (λ x. reply_of (shown 409 (conflict_sheet number x sent) before.office) close) kept.0
-
   -- where the answer is this one, and nothing changed
-  moved : (p : loads.Posted) (bytes : List ℕ) (after : Standing) (answer x : Posted) → answer ≡ x → after ≡ before
-      → (IsLoadReply x number before.office close bytes → AnswersBy (By p) close bytes before before)
-      → IsLoadReply answer number after.office close bytes → AnswersBy (By p) close bytes before after
-  moved p bytes after answer x e same make reply =
-      subst (λ (a : Standing). AnswersBy (By p) close bytes before a) (sym same)
-      (make (subst (λ (a : Standing). IsLoadReply x number a.office close bytes) same (subst (λ (y : Posted). IsLoadReply y number after.office close bytes) e reply)))
+  as_before : (p : loads.Posted) (x : Posted) (close : Bool) (bytes : List ℕ) (after : Standing) (answer : Posted) → (answer ≡ x) × (after ≡ before)
+      → bytes ≡ reply_of (to_posted answer number after.office) close
+      → reply_of (to_posted x number after.office) close ≡ reply_of (By p false) close → before.office ≡ (By p false).office → ((By p false).status == 503) ≡ false
+      → AnswersBy (By p) close bytes before after
+  as_before p x close bytes after answer is reply same office status =
+      subst (λ (a : Standing). AnswersBy (By p) close bytes before a) (sym is.1)
+      (unchanged (By p) close bytes before (reply ∙ ap (λ (y : Posted). reply_of (to_posted y number after.office) close) is.0 ∙ same) office status)
 
-  taken-by : (r : LoadReply) (now : Office) (bytes : List ℕ) (after : Standing) (answer : Posted) → Tells before.office number digest body (Taken r now) → TakenBy answer now before after
-      → IsLoadReply answer number after.office close bytes → AnswersBy (By (Taken r now)) close bytes before after
-  taken-by r now bytes after answers.Done t is reply =
-      let stands = ap (λ (o : Office). load_at o number) (is.0 ∙ t.1) ∙ load_stands before.office number digest body some in
-      record {
-        fails = false;
-        reply =
-            kept-reply (λ kept. bytes ≡ reply_of (shown 200 (load_sheet kept.reply) after.office) close) (load_at after.office number) (stored before.office number digest body) stands reply
-            ∙ ap (λ (x : LoadReply). reply_of (shown 200 (load_sheet x) now) close) (sym t.0);
-        office = is.0;
-        cause = is.1;
-        tables = is.2;
-      }
-  taken-by r now bytes after answers.Failed t is reply = record {
+  taken-by : (r : LoadReply) (now : Office) (close : Bool) (bytes : List ℕ) (after : Standing) (answer : Posted) → TakenBy answer r now before after
+      → bytes ≡ reply_of (to_posted answer number after.office) close → AnswersBy (By (Taken r now)) close bytes before after
+  taken-by r now close bytes after (answers.Done sheet) is reply = record {
+    fails = false;
+    reply = reply ∙ ap (λ (s : Sheet). reply_of (shown 200 s now) close) is.0;
+    office = is.1;
+    cause = is.2;
+    tables = is.3;
+  }
+  taken-by r now close bytes after answers.Failed is reply = record {
     fails = true;
     reply = reply;
     office = is.0;
     cause = is.2;
     tables = λ told. becomes before.office after.office after (sym is.0) (become_still before after told is.1);
   }
-  taken-by r now bytes after (answers.Lines count) t is reply = absurd is
-  taken-by r now bytes after (answers.Conflict sent) t is reply = absurd is
-  taken-by r now bytes after answers.Full t is reply = absurd is
+  taken-by r now close bytes after (answers.Lines count) is reply = absurd is
+  taken-by r now close bytes after (answers.Conflict kept sent) is reply = absurd is
+  taken-by r now close bytes after answers.Full is reply = absurd is
 
-  answered-by : (p : loads.Posted) (bytes : List ℕ) (after : Standing) (answer : Posted) → Tells before.office number digest body p → IsPosted p lines before after answer
-      → IsLoadReply answer number after.office close bytes → AnswersBy (By p) close bytes before after
-  answered-by TooManyLines bytes after answer t is reply =
-      moved TooManyLines bytes after answer (answers.Lines lines) is.0 is.1 (λ r. unchanged (By TooManyLines) close bytes before r refl refl) reply
-  answered-by (Repeated k) bytes after answer t is reply =
-      moved (Repeated k) bytes after answer answers.Done is.0 is.1 (λ r. unchanged (By (Repeated k)) close bytes before (repeated k bytes (load_at before.office number) t r) refl refl) reply
-  answered-by (Differing d sent) bytes after answer t is reply =
-      moved (Differing d sent) bytes after answer (answers.Conflict sent) is.0 is.1 (λ r. unchanged (By (Differing d sent)) close bytes before (differing d sent bytes (load_at before.office number) t r) refl refl) reply
-  answered-by NoRoom bytes after answer t is reply =
-      moved NoRoom bytes after answer answers.Full is.0 is.1 (λ r. unchanged (By NoRoom) close bytes before r refl refl) reply
-  answered-by (Taken r now) bytes after answer t is reply = taken-by r now bytes after answer t is reply
-
-  pub load_answered : (bytes : List ℕ) (after : Standing) (answer : Posted) → IsPosted (posted before.office number digest body) lines before after answer
-      → IsLoadReply answer number after.office close bytes → AnswersBy (By (posted before.office number digest body)) close bytes before after
-  load_answered bytes after answer is reply = answered-by (posted before.office number digest body) bytes after answer (tells before.office number digest body) is reply
-
-  -- the load that the reply speaks of stands
-  stands-same : (P : StoredLoad → Type 0) (after : Standing) (answer x : Posted) → answer ≡ x → after ≡ before → IsKept P (load_at before.office number)
-      → (IsSome (load_at before.office number) → Stands x (load_at before.office number)) → Stands answer (load_at after.office number)
-  stands-same P after answer x e same kept make =
-      subst (λ (a : Standing). Stands answer (load_at a.office number)) (sym same)
-      (subst (λ (y : Posted). Stands y (load_at before.office number)) (sym e) (make (is-kept P (load_at before.office number) kept)))
-
-  stands-taken : (now : Office) (after : Standing) (answer : Posted) → now ≡ load before.office number digest body → TakenBy answer now before after → Stands answer (load_at after.office number)
-  stands-taken now after answers.Done t is =
-      let stands = ap (λ (o : Office). load_at o number) (is.0 ∙ t) ∙ load_stands before.office number digest body some in
-      subst (λ (o : Option StoredLoad). IsSome o) (sym stands) refl
-  stands-taken now after answers.Failed t is = tt
-  stands-taken now after (answers.Lines count) t is = absurd is
-  stands-taken now after (answers.Conflict sent) t is = absurd is
-  stands-taken now after answers.Full t is = absurd is
-
-  stands-by : (p : loads.Posted) (after : Standing) (answer : Posted) → Tells before.office number digest body p → IsPosted p lines before after answer → Stands answer (load_at after.office number)
-  stands-by TooManyLines after answer t is = subst (λ (y : Posted). Stands y (load_at after.office number)) (sym is.0) tt
-  stands-by (Repeated k) after answer t is = stands-same (λ kept. kept.reply ≡ k) after answer answers.Done is.0 is.1 t (λ s. s)
-  stands-by (Differing d sent) after answer t is = stands-same (λ kept. (kept.digest ≡ d) × (sent ≡ digest)) after answer (answers.Conflict sent) is.0 is.1 t (λ s. s)
-  stands-by NoRoom after answer t is = subst (λ (y : Posted). Stands y (load_at after.office number)) (sym is.0) tt
-  stands-by (Taken r now) after answer t is = stands-taken now after answer t.1 is
-
-  pub stands : (after : Standing) (answer : Posted) → IsPosted (posted before.office number digest body) lines before after answer → Stands answer (load_at after.office number)
-  stands after answer is = stands-by (posted before.office number digest body) after answer (tells before.office number digest body) is
+  pub load_answered : (p : loads.Posted) (close : Bool) (bytes : List ℕ) (after : Standing) (answer : Posted) → IsPosted p lines before after answer
+      → bytes ≡ reply_of (to_posted answer number after.office) close → AnswersBy (By p) close bytes before after
+  load_answered TooManyLines close bytes after answer is reply = as_before TooManyLines (answers.Lines lines) close bytes after answer is reply refl refl refl
+  load_answered (Repeated kept) close bytes after answer is reply = as_before (Repeated kept) (answers.Done (load_sheet kept)) close bytes after answer is reply refl refl refl
+  load_answered (Differing kept sent) close bytes after answer is reply = as_before (Differing kept sent) (answers.Conflict kept sent) close bytes after answer is reply refl refl refl
+  load_answered NoRoom close bytes after answer is reply = as_before NoRoom answers.Full close bytes after answer is reply refl refl refl
+  load_answered (Taken r now) close bytes after answer is reply = taken-by r now close bytes after answer is reply
 
   -- ---- want of memory
 
-  lost-taken : (r : LoadReply) (now : Office) (after : Standing) (answer : Posted) → TakenBy answer now before after → LosesBy (By (Taken r now)) before after
-  lost-taken r now after answers.Done is = record { cause = inl is.1; tables = λ told. inr (becomes after.office now after is.0 (is.2 told)) }
+  lost-taken : (r : LoadReply) (now : Office) (after : Standing) (answer : Posted) → TakenBy answer r now before after → LosesBy (By (Taken r now)) before after
+  lost-taken r now after (answers.Done sheet) is = record { cause = inl is.2; tables = λ told. inr (becomes after.office now after is.1 (is.3 told)) }
   lost-taken r now after answers.Failed is = record { cause = inr is.2; tables = λ told. inl (become_still before after told is.1) }
   lost-taken r now after (answers.Lines count) is = absurd is
-  lost-taken r now after (answers.Conflict sent) is = absurd is
+  lost-taken r now after (answers.Conflict kept sent) is = absurd is
   lost-taken r now after answers.Full is = absurd is
 
   lost-same : (p : loads.Posted) (after : Standing) → after ≡ before → LosesBy (By p) before after
   lost-same p after same = subst (λ (a : Standing). LosesBy (By p) before a) (sym same) (nothing_lost (By p) before)
 
-  lost-by : (p : loads.Posted) (after : Standing) (answer : Posted) → IsPosted p lines before after answer → LosesBy (By p) before after
-  lost-by TooManyLines after answer is = lost-same TooManyLines after is.1
-  lost-by (Repeated k) after answer is = lost-same (Repeated k) after is.1
-  lost-by (Differing d sent) after answer is = lost-same (Differing d sent) after is.1
-  lost-by NoRoom after answer is = lost-same NoRoom after is.1
-  lost-by (Taken r now) after answer is = lost-taken r now after answer is
-
-  pub reply_lost : (after : Standing) (answer : Posted) → IsPosted (posted before.office number digest body) lines before after answer → LosesBy (By (posted before.office number digest body)) before after
-  reply_lost after answer is = lost-by (posted before.office number digest body) after answer is
+  pub reply_lost : (p : loads.Posted) (after : Standing) (answer : Posted) → IsPosted p lines before after answer → LosesBy (By p) before after
+  reply_lost TooManyLines after answer is = lost-same TooManyLines after is.1
+  reply_lost (Repeated kept) after answer is = lost-same (Repeated kept) after is.1
+  reply_lost (Differing kept sent) after answer is = lost-same (Differing kept sent) after is.1
+  reply_lost NoRoom after answer is = lost-same NoRoom after is.1
+  reply_lost (Taken r now) after answer is = lost-taken r now after answer is
 
 -- memory ran out as the load was posted, so that no office is left
 posted-office : (number : ℕ) (office : Office) (p : loads.Posted) → office_after p office ≡ (to_load number office false p).office

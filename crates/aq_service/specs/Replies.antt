@@ -1,9 +1,8 @@
 -- Replies over an office, as parts of what a whole request is answered with.
-use Rattle.std.specs.Prelude.{◌≡◌, ℕ, ◌==◌, ◌⊎◌, ⊤, Bool, true, false, List, codes, Option, IfSome, IsSome}
+use Rattle.std.specs.Prelude.{◌≡◌, ℕ, ◌==◌, ◌⊎◌, Bool, true, false, List, codes}
 use Rattle.aq_base.specs.Faults.{HasRisen}
-use Rattle.aq_rules.specs.Office.Office.{Office, StoredLoad, load_at}
+use Rattle.aq_rules.specs.Office.Office.{Office}
 use Rattle.aq_rules.specs.Shown.OtherSheets.{conflict_sheet}
-use Rattle.aq_rules.specs.Shown.Sheets.{load_sheet}
 use Rattle.aq_serve.specs.Answered.{Answered, refused, reply_of, shown}
 use Rattle.aq_keeper.specs.Standing.{AreOfOffice, Become, Keeps, Standing}
 use Rattle.aq_serve.specs.Service.{Counts}
@@ -23,23 +22,13 @@ pub record LosesBy (answered : Bool → Answered) (before after : Standing) : Ty
   pub cause : (after.faults ≡ before.faults) ⊎ HasRisen before.faults after.faults
   pub tables : AreOfOffice before → Become before before.office after ⊎ Become before (answered false).office after
 
--- a load that was posted stands, if its reply speaks of it
-abbrev pub Stands : Posted → Option StoredLoad → Type 0
-Stands Done kept = IsSome kept
-Stands (Conflict sent) kept = IsSome kept
-Stands (Lines count) kept = ⊤
-Stands Full kept = ⊤
-Stands Failed kept = ⊤
-
--- the bytes of the reply to a load, over the office that stands after it
-abbrev pub IsLoadReply : Posted → ℕ → Office → Bool → List ℕ → Type 0
-IsLoadReply Done number office close bytes =
-    IfSome (load_at office number) (λ kept. bytes ≡ reply_of (shown 200 (load_sheet kept.reply) office) close)
-IsLoadReply (Conflict sent) number office close bytes =
-    IfSome (load_at office number) (λ kept. bytes ≡ reply_of (shown 409 (conflict_sheet number kept.digest sent) office) close)
-IsLoadReply (Lines count) number office close bytes = bytes ≡ reply_of (refused 413 office) close
-IsLoadReply Full number office close bytes = bytes ≡ reply_of (refused 507 office) close
-IsLoadReply Failed number office close bytes = bytes ≡ reply_of (refused 503 office) close
+-- what a posted load is answered with, over the office that then stands
+abbrev pub to_posted : Posted → ℕ → Office → Answered
+to_posted (Done sheet) number office = shown 200 sheet office
+to_posted (Lines count) number office = refused 413 office
+to_posted (Conflict kept sent) number office = shown 409 (conflict_sheet number kept sent) office
+to_posted Full number office = refused 507 office
+to_posted Failed number office = refused 503 office
 
 -- the methods that a 405 allows
 abbrev pub methods : Bool → List ℕ

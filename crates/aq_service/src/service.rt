@@ -1,11 +1,10 @@
 //! The service of an office: what it answers a whole request with, over a keeper that is lent for it.
-ghost use Rattle.std.specs.Prelude.{◌≡◌, ◌≤◌, length, IfOk, IsTrue, OnErr};
+ghost use Rattle.std.specs.Prelude.{◌≡◌, ◌≤◌, length, IfOk, OnErr};
 ghost use Rattle.sha2.specs.Sha256.{sha256};
 ghost use Rattle.aq_http.specs.Routes.{IsFound};
 ghost use Rattle.aq_rules.specs.Limits.{MOST_BYTES};
 ghost use Rattle.aq_rules.specs.Office.Load.{posted};
 ghost use Rattle.aq_rules.specs.Office.Office.{IsOffice};
-ghost use Rattle.aq_rules.specs.Shown.Answer.{is_load_number};
 ghost use Rattle.aq_keeper.specs.Standing.{standing_of};
 ghost use Rattle.aq_serve.specs.Answered.{to_found, to_load};
 ghost use Rattle.aq_service.specs.Replies.{AnswersBy, LosesBy};
@@ -69,7 +68,7 @@ impl OfficeService {
             (standing_of self.new (K.seen keeper.new))) }
     {
         match found {
-            Found::Ask(ask) => question_reply(alloc, &self.book, &ask, close),
+            Found::Ask(question) => question_reply(alloc, &self.book, &question, close),
             Found::Load(number) => self.answer_load(alloc, keeper, number, body, close),
             Found::Status(status) => error_reply(alloc, status, b"", close),
             Found::NotAllowed { post } => error_reply(alloc, 405, methods(post), close),
@@ -85,8 +84,7 @@ impl OfficeService {
         body: &[u8],
         close: bool,
     ) -> Result<Vec<u8>, Memory>
-        requires bytes { length body.now ≤ MOST_BYTES }
-        requires number { IsTrue (is_load_number number) }
+        requires { length body.now ≤ MOST_BYTES }
         ensures answered { IfOk result (λ reply. AnswersBy
             (λ fails. to_load number self.old fails
             (posted self.old number (sha256 body.now) body.now)) close reply.items
@@ -101,7 +99,7 @@ impl OfficeService {
         let book = mem::replace(&mut self.book, Book::new(alloc));
         let (book, posted) = post_uncounted(alloc, book, keeper, number, body)?;
         self.book = book;
-        load_reply(alloc, &self.book, number, posted, close)
+        load_reply(alloc, number, posted, close)
     }
 }
 

@@ -1,27 +1,27 @@
 -- Loads that are taken one after the other.
-use Rattle.std.proofs.Common.{◌≡◌, ℕ, suc, ◌+◌, ◌-◌, ◌*◌, ◌≤◌, ◌<◌, inl, inr, Bool, true, false, List, ◌++◌, length, flat_map, Vec, Global, Option, Some, None, refl, sym, ap, subst, ◌∙◌, arith}
+use Rattle.std.proofs.Common.{◌≡◌, ℕ, suc, ◌+◌, ◌-◌, ◌*◌, ◌≤◌, ◌<◌, inl, inr, Bool, true, false, List, [], ◌∷◌, ◌++◌, length, flat_map, Vec, Global, Option, Some, None, refl, sym, ap, subst, ◌∙◌, arith}
 use Rattle.std.specs.Prelude.{◌||◌, ◌==◌, nat_lt, if◌then◌else◌, fold, Result, IfOk}
 use Rattle.std.specs.List.{range_with_len}
 use Rattle.std.proofs.lemmas.Bool.Decides.{nat_tests}
+use Rattle.std.proofs.lemmas.List.{append-nil}
 use Rattle.std.proofs.lemmas.Nat.{mul-le}
 use Rattle.sha2.specs.Sha256.{sha256}
 use Rattle.aq_base.specs.Faults.{HasRisen}
 use Rattle.aq_base.specs.Standard.{standards}
+use Rattle.aq_base.specs.declared.question.Question.TheVariants.{Report}
 use Rattle.aq_base.specs.declared.standard.Standard.{Standard}
 use Rattle.aq_rules.specs.Limits.{MOST_LINES, MOST_GENERATED_SITES, MOST_GENERATED_YEARS}
 use Rattle.aq_rules.specs.Lines.Lines.{line_count}
 use Rattle.aq_rules.specs.Office.Office.{IsOffice, Office, nothing}
 use Rattle.aq_rules.specs.Office.Load.{TooManyLines, Repeated, Differing, NoRoom, Taken, office_after, post}
 use Rattle.aq_rules.specs.Office.Load as loads
-use Rattle.aq_rules.specs.Shown.Answer.{OfSheet, OfExport, NoSite, NoLoad, Report, answer}
+use Rattle.aq_rules.specs.Questions.Answer.{OfSheets, OfText, answer, texts_of}
+use Rattle.aq_rules.specs.Questions.Answer as questions
 use Rattle.aq_rules.specs.Shown.Generator.{generate, generated_lines, generated_load, generated_office, load_count, loads_to_take, simulation, FIRST_GENERATED_YEAR}
 use Rattle.aq_rules.specs.Shown.OtherSheets.{report_answer, summary_sheet}
 use Rattle.aq_rules.specs.Shown.Sheet.{Sheet, text_of}
 use Rattle.aq_keeper.specs.Standing.{Standing}
-use Rattle.aq_office.specs.Answers.{seen}
 use Rattle.aq_office.specs.Posting.{IsPosted}
-use Rattle.aq_office.specs.declared.answers.Answer as service
-use Rattle.aq_office.specs.declared.answers.Answer.TheVariants as kinds
 use Rattle.aq_office.specs.declared.posting.Posted.{Posted}
 use Rattle.aq_office.specs.declared.posting.Posted.TheVariants.{Done, Lines, Conflict, Full, Failed}
 
@@ -65,39 +65,34 @@ posted_office TooManyLines told lines before after none still is = ap (λ (s : S
 posted_office (Repeated kept) told lines before after none still is = ap (λ (s : Standing). s.office) is.1
 posted_office (Differing kept sent) told lines before after none still is = ap (λ (s : Standing). s.office) is.1
 posted_office NoRoom told lines before after none still is = ap (λ (s : Standing). s.office) is.1
-posted_office (Taken reply now) Done lines before after none still is = is.0
+posted_office (Taken reply now) (Done sheet) lines before after none still is = is.1
 posted_office (Taken reply now) Failed lines before after none still is = absurd (not_risen before.faults after.faults none still is.2)
 posted_office (Taken reply now) (Lines count) lines before after none still is = absurd is
-posted_office (Taken reply now) (Conflict sent) lines before after none still is = absurd is
+posted_office (Taken reply now) (Conflict kept sent) lines before after none still is = absurd is
 posted_office (Taken reply now) Full lines before after none still is = absurd is
 
 -- ---- the report of a standard
 
-pub report_is : (office : Office) (standard : Standard) (year : ℕ) → answer office (Report standard year) ≡ OfSheet (report_answer standard office year)
+report_is : (office : Office) (standard : Standard) (year : ℕ) → answer office (Report standard year) ≡ OfSheets (report_answer standard office year ∷ [])
 unfolding answer
 report_is office standard year = refl
 
-same-sheet : (a b : Sheet) → OfSheet a ≡ OfSheet b → a ≡ b
-same-sheet a b is = cc
+same-sheets : (a b : List Sheet) → OfSheets a ≡ OfSheets b → a ≡ b
+same-sheets a b is = cc
 
-pub report_sheet_is : (office : Office) (standard : Standard) (year : ℕ) (sheet : Sheet) → answer office (Report standard year) ≡ OfSheet sheet → sheet ≡ report_answer standard office year
-report_sheet_is office standard year sheet is = same-sheet sheet (report_answer standard office year) (sym is ∙ report_is office standard year)
+module _ (office : Office) (standard : Standard) (year : ℕ) where
+  -- its text
+  pub report_texts : (sheets : List Sheet) → answer office (Report standard year) ≡ OfSheets sheets → texts_of sheets ≡ text_of (report_answer standard office year)
+  report_texts sheets is =
+      ap texts_of (same-sheets sheets (report_answer standard office year ∷ []) (sym is ∙ report_is office standard year))
+      ∙ append-nil (text_of (report_answer standard office year))
 
-sheet-export : (sheet : Sheet) (text : List ℕ) → OfSheet sheet ≡ OfExport text → ⊥
-sheet-export sheet text is = absurd (cc)
+  -- and no other answer
+  pub no_text : (text : List ℕ) → answer office (Report standard year) ≡ OfText text → ⊥
+  no_text text is = let none : OfSheets (report_answer standard office year ∷ []) ≡ OfText text = sym (report_is office standard year) ∙ is in absurd (cc)
 
-sheet-site : (sheet : Sheet) → OfSheet sheet ≡ NoSite → ⊥
-sheet-site sheet is = absurd (cc)
-
-sheet-load : (sheet : Sheet) → OfSheet sheet ≡ NoLoad → ⊥
-sheet-load sheet is = absurd (cc)
-
--- and no other answer
-pub no_other : (office : Office) (standard : Standard) (year : ℕ) (found : service.Answer) → answer office (Report standard year) ≡ seen found → ((sheet : Sheet) → found ≡ kinds.Sheet sheet → ⊥) → ⊥
-no_other office standard year (kinds.Sheet sheet) is none = none sheet refl
-no_other office standard year (kinds.Export text) is none = sheet-export _ _ (sym (report_is office standard year) ∙ is)
-no_other office standard year kinds.NoSite is none = sheet-site _ (sym (report_is office standard year) ∙ is)
-no_other office standard year kinds.NoLoad is none = sheet-load _ (sym (report_is office standard year) ∙ is)
+  pub no_lack : (what : questions.Lack) → answer office (Report standard year) ≡ questions.Lacks what → ⊥
+  no_lack what is = let none : OfSheets (report_answer standard office year ∷ []) ≡ questions.Lacks what = sym (report_is office standard year) ∙ is in absurd (cc)
 
 -- ---- all of them
 
@@ -168,8 +163,8 @@ module _ (start sites years : ℕ) where
 
 -- ---- the text
 
-pub text_is : {E : Type 0} (answer : Result (Vec ℕ Global) E) (made sheet : Sheet) → made ≡ sheet → IfOk answer (λ text. text.items ≡ text_of made) → IfOk answer (λ text. text.items ≡ text_of sheet)
-text_is answer made sheet same is = subst (λ (s : Sheet). IfOk answer (λ text. text.items ≡ text_of s)) same is
+pub text_is : {E : Type 0} (answer : Result (Vec ℕ Global) E) (made whole : List ℕ) → made ≡ whole → IfOk answer (λ text. text.items ≡ made) → IfOk answer (λ text. text.items ≡ whole)
+text_is answer made whole same is = subst (λ (t : List ℕ). IfOk answer (λ text. text.items ≡ t)) same is
 
 pub simulation_is : (start sites years year loads lines : ℕ) (office : Office) (summary text : List ℕ)
     → loads ≡ load_count sites years → office ≡ generated_office sha256 start sites years → lines ≡ generated_lines start sites years → year ≡ FIRST_GENERATED_YEAR + years - 1

@@ -6,10 +6,10 @@ ghost use Rattle.aq_rules.specs.Shown.OtherSheets.{report_answer, summary_sheet}
 ghost use Rattle.aq_rules.specs.Shown.Sheet.{text_of};
 
 use crate::taken::Taken;
-use aq_base::{Ask, Memory, Standard};
+use aq_base::{Memory, Question, Standard};
 use aq_book::Book;
 use aq_office::{Answer, answer_to};
-use aq_reports::{summary_sheet, text_of};
+use aq_reports::{summary_sheet, text_of, texts_of};
 use std::alloc::Global;
 
 /// The text of the summary.
@@ -59,8 +59,9 @@ fn report_text(alloc: Global, book: &Book, standard: Standard, year: u16) -> Res
     requires last { year ≤ LAST_YEAR }
     ensures { IfOk result (λ text. text.items ≡ text_of (report_answer standard book.now year)) }
 {
-    let Answer::Sheet(sheet) = answer_to(alloc, book, &Ask::Report(standard, year))? else {
-        unreachable!();
-    };
-    text_of(alloc, &sheet)
+    match answer_to(alloc, book, &Question::Report(standard, year))? {
+        Answer::Sheets(sheets) => texts_of(alloc, sheets.as_slice()),
+        Answer::Text(text) => Ok(text),
+        Answer::Lacks(_) => Ok(Vec::new(alloc)),
+    }
 }

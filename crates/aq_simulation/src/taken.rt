@@ -73,10 +73,10 @@ fn take_load(
     ensures lines { OnOk result (taken.new.lines ≡ taken.old.lines + line_count (generated_load start sites years load)) }
     ensures few_lines { OnOk result (taken.new.lines ≤ taken.old.lines + MOST_LINES) }
 {
-    match generate(alloc, start, sites, years, load)? {
-        Some(body) => take(alloc, load, &body, keeper, taken),
-        None => unreachable!(),
-    }
+    let Some(body) = generate(alloc, start, sites, years, load)? else {
+        return Ok(());
+    };
+    take(alloc, load, &body, keeper, taken)
 }
 
 /// Takes a body as the load with a number. A number that was taken before changes nothing.

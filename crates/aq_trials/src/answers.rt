@@ -13,7 +13,7 @@ use aq_base::{
 use aq_cal::{quarter_of, quarter_span, write_day, year_span};
 use aq_forms::{count_lines, lines_of, print_key, print_office, read_office};
 use aq_generator::generate;
-use aq_http::{Routes, Step, Verb, next_request};
+use aq_http::{Request, Routes, Step, Verb, next_request};
 use aq_keeper::{RowChange, RowKey, do_keys_rise};
 use aq_num::{read_decimal, round_half_up, trunc_div, write_fixed};
 use aq_pm25::rank_of;
@@ -101,13 +101,14 @@ fn request(alloc: Global, arguments: &str) -> Result<String, Trouble> {
     match next_request(&bytes) {
         Step::More => text(alloc, "more"),
         Step::Refuse(status) => Ok(format!(in alloc; "refuse {status}")?),
-        Step::Whole {
-            used,
-            verb,
-            target,
-            body,
-            close,
-        } => {
+        Step::Whole(request) => {
+            let Request {
+                used,
+                verb,
+                target,
+                body,
+                close,
+            } = request;
             let (target, body) = (target.len(), body.len());
             let end = if close { " close" } else { "" };
             Ok(format!(in alloc; "whole {used} {verb:?} {target} {body}{end}")?)

@@ -1,6 +1,6 @@
 -- Years and verdicts that stand whatever is assumed of an event.
-use Rattle.std.proofs.Common.{◌≡◌, ℕ, zero, suc, ◌+◌, ◌-◌, ◌≤◌, ◌==◌, Bool, true, Option, Some, None, List, [], ◌∷◌, map, ap, sym, subst, ◌∙◌, arith}
-use Rattle.std.specs.Prelude.{IfSome, nat_le, slice_get}
+use Rattle.std.proofs.Common.{◌≡◌, ℕ, zero, suc, ◌+◌, ◌-◌, ◌≤◌, ◌==◌, true, Option, Some, None, List, [], ◌∷◌, map, ap, refl, sym, subst, ◌∙◌, arith}
+use Rattle.std.specs.Prelude.{IfSome, is_some, slice_get}
 use Rattle.std.proofs.lemmas.Bool.{false≢true, and_parts, eqb-true}
 use Rattle.std.proofs.lemmas.Bool.Decides.{nat_tests}
 use Rattle.std.proofs.lemmas.Option.{none-some}
@@ -14,9 +14,10 @@ use Rattle.aq_base.specs.declared.office.OfficeRecord.{OfficeRecord}
 use Rattle.aq_base.specs.declared.office.OfficeRecord.TheVariants.{Event}
 use Rattle.aq_base.specs.declared.standard.Standard.{Standard}
 use Rattle.aq_base.specs.declared.standard.Standard.TheVariants.{Ozone2015, Annual2012, AnnualSecondary, Annual2024, Daily2006, Pm10Of1987}
+use Rattle.aq_registry.specs.Registry.{office_with}
 use Rattle.aq_rules.specs.DesignValues.{OfAnnual, OfDaily, OfOzone, OfPm10, design_value, pm10_years, pm25_years}
 use Rattle.aq_rules.specs.Kept.Summaries.{PmYear, pm25_summary, summary_of_year}
-use Rattle.aq_rules.specs.Office.Office.{Office, is_same, record_rank}
+use Rattle.aq_rules.specs.Office.Office.{Office, event_stands, is_same, record_rank}
 use Rattle.aq_rules.specs.Office.Questions.{record_of}
 use Rattle.aq_rules.specs.Ozone.OzoneVerdict.{ozone_dv, three_years}
 use Rattle.aq_rules.specs.Ozone.OzoneYear.{OzoneYear, ozone_year}
@@ -24,7 +25,7 @@ use Rattle.aq_rules.specs.Particles.AnnualVerdict.{annual_design, annual_dv}
 use Rattle.aq_rules.specs.Particles.DailyVerdict.{daily_design, daily_dv}
 use Rattle.aq_rules.specs.Particles.Pm10Estimate.{Pm10Quarter, pm10_year}
 use Rattle.aq_rules.specs.Particles.Pm10Verdict.{pm10_design, pm10_dv}
-use Rattle.aq_rules.specs.Particles.QuarterCounts.{QuarterDays, pm25_year}
+use Rattle.aq_rules.specs.Particles.QuarterCounts.{pm25_year}
 use Rattle.aq_rules.specs.Standards.{level_of, years_to}
 use Rattle.aq_rules.proofs.Found.{find-passes, some_is}
 use Rattle.aq_reach.specs.Outside.{AreAsBefore, IsOutside}
@@ -35,30 +36,21 @@ use Rattle.aq_whatif.specs.declared.standing.Standing.{Standing}
 
 -- ---- the record of an event
 
-module _ (rows : List OfficeRecord) (number : ℕ) (r : OfficeRecord) (at : record_of rows (EventKey number) ≡ Some r) where
-  of-rank : is_same (record_rank r) (6 ∷ number ∷ []) ≡ true
-  of-rank = find-passes (λ row. is_same (record_rank row) (6 ∷ number ∷ [])) rows r at
+-- what stands under an event's number is the event of that number
+pub event-there : (rows : List OfficeRecord) (number : ℕ) (hours : Hours) → event_stands (office_with rows) number ≡ true → hours ≡ hours_in (record_of rows (EventKey number))
+    → (s : Site) × (p : Pollutant) × (code : Code) × (record_of rows (EventKey number) ≡ Some (Event number s p hours.first hours.last code))
+event-there rows number hours = by (record_of rows (EventKey number)) refl
+  where
+    same : (row : OfficeRecord) → record_of rows (EventKey number) ≡ Some row → is_same (record_rank row) (6 ∷ number ∷ []) ≡ true
+    same = find-passes (λ row. is_same (record_rank row) (6 ∷ number ∷ [])) rows
 
-  -- what is found under an event's number is an event
-  pub has-hours : hours_in r ≡ None → ⊥
-  has-hours none = by r of-rank none
-    where
-      by : (row : OfficeRecord) → is_same (record_rank row) (6 ∷ number ∷ []) ≡ true → hours_in row ≡ None → ⊥
-      by (Event n s p f l code) same none = none-some (record { first = f; last = l }) (sym none)
-      by row same none = false≢true same
-
-  -- and it is the one of that number
-  pub event-there : (hours : Hours) → hours_in r ≡ Some hours
-      → (s : Site) × (p : Pollutant) × (code : Code) × (record_of rows (EventKey number) ≡ Some (Event number s p hours.first hours.last code))
-  event-there hours is = by r at of-rank is
-    where
-      by : (row : OfficeRecord) → record_of rows (EventKey number) ≡ Some row → is_same (record_rank row) (6 ∷ number ∷ []) ≡ true → hours_in row ≡ Some hours
-          → (s : Site) × (p : Pollutant) × (code : Code) × (record_of rows (EventKey number) ≡ Some (Event number s p hours.first hours.last code))
-      by (Event n s p f l code) there same is =
-          let equal : n ≡ number = eqb-true n number (and_parts (n == number) true same).0 in
-          let both : record { first = f; last = l } ≡ hours = some_is (record { first = f; last = l }) hours is in
-          (s, p, code, there ∙ (λ i. Some (Event (equal i) s p (both i).first (both i).last code)))
-      by row there same is = absurd (none-some hours is)
+    by : (found : Option OfficeRecord) → record_of rows (EventKey number) ≡ found → is_some found ≡ true → hours ≡ hours_in found
+        → (s : Site) × (p : Pollutant) × (code : Code) × (found ≡ Some (Event number s p hours.first hours.last code))
+    by (Some (Event n s p f l code)) at stands are =
+        let equal : n ≡ number = eqb-true n number (and_parts (n == number) true (same (Event n s p f l code) at)).0 in
+        (s, p, code, λ i. Some (Event (equal i) s p (sym are i).first (sym are i).last code))
+    by (Some row) at stands are = absurd (false≢true (same row at))
+    by None at stands are = absurd (false≢true stands)
 
 -- ---- the years in a design value
 

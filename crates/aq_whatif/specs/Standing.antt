@@ -1,6 +1,7 @@
 -- What stands of a question, and what an event turned round leaves of it.
-use Rattle.std.specs.Prelude.{◌≡◌, ◌+◌, ◌-◌, ℕ, Option, Some, None, List, []}
+use Rattle.std.specs.Prelude.{◌≡◌, ◌+◌, ◌-◌, ℕ, Option, Some, List, []}
 use Rattle.aq_base.specs.Site.{Site}
+use Rattle.aq_base.specs.declared.day.TheConstants.{LAST_HOUR}
 use Rattle.aq_base.specs.declared.office.OfficeRecord.{OfficeRecord}
 use Rattle.aq_base.specs.declared.office.OfficeRecord.TheVariants.{Event}
 use Rattle.aq_rules.specs.DesignValues.{DesignValue, OfAnnual, OfDaily, OfOzone, OfPm10, design_value}
@@ -49,6 +50,7 @@ pm10_years_in _ = []
 
 -- ---- the hours of an event
 
-abbrev pub hours_in : OfficeRecord → Option Hours
-hours_in (Event number site pollutant first last code) = Some (record { first = first; last = last })
-hours_in r = None
+-- where there is none, all hours
+abbrev pub hours_in : Option OfficeRecord → Hours
+hours_in (Some (Event number site pollutant first last code)) = record { first = first; last = last }
+hours_in found = record { first = 0; last = LAST_HOUR }

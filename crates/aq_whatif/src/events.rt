@@ -20,8 +20,8 @@ use crate::fault::WhatIfFault;
 use crate::records::assume;
 use crate::standing::{Hours, Standing, Turned};
 use aq_base::{
-    Assumed, DecisiveEvent, Items, Memory, OfficeKey, OfficeRecord, SiteId, Standard, Steps,
-    Verdict,
+    Assumed, DecisiveEvent, Hour, Items, LAST_HOUR, Memory, OfficeKey, OfficeRecord, SiteId,
+    Standard, Steps, Verdict,
 };
 use aq_design::{FromShelf, design_value};
 use aq_reach::concurrences::years_outside_an_event_are_as_before;
@@ -138,25 +138,22 @@ fn hours_of(registry: &Registry, number: u32) -> Hours
         → AreAsBefore (office_of registry.now rows) (assume_one (office_of registry.now rows) (record { number = number; agreed = agreed })) result.first result.last }
 {
     years_outside_an_event_are_as_before();
-    let Some(record) = registry.get(OfficeKey::Event { number }) else {
-        unreachable!();
-    };
-    let Some(hours) = hours_in(&record) else {
-        unreachable!();
-    };
-    hours
+    hours_in(&registry.get(OfficeKey::Event { number }))
 }
 
-/// The hours of a record that is an event.
-fn hours_in(row: &OfficeRecord) -> Option<Hours>
-    ensures { result ≡ hours_in row.now }
+/// The hours of an event; where there is none, all hours.
+fn hours_in(found: &Option<OfficeRecord>) -> Hours
+    ensures { result ≡ hours_in found.now }
 {
-    match row {
-        OfficeRecord::Event { first, last, .. } => Some(Hours {
+    match found {
+        Some(OfficeRecord::Event { first, last, .. }) => Hours {
             first: *first,
             last: *last,
-        }),
-        _ => None,
+        },
+        _ => Hours {
+            first: Hour::new(0),
+            last: Hour::new(LAST_HOUR),
+        },
     }
 }
 

@@ -56,8 +56,7 @@ pub(crate) fn assume(records: &mut Registry, entry: Assumed) -> Result<(), Memor
 {
     let Assumed { number, agreed } = entry;
     match records.apply(OfficeLine::Change(OfficeRecord::Concurrence { number, agreed })) {
-        Ok(_) => Ok(()),
         Err(RegistryFault::Memory) => Err(Memory),
-        Err(RegistryFault::Broken(_)) => unreachable!(),
+        _ => Ok(()),
     }
 }

@@ -12,9 +12,9 @@ use Rattle.aq_base.specs.declared.area.TheConstants.{MOST_AREA_SITES}
 use Rattle.aq_base.specs.declared.assumed.Assumed.{Assumed}
 use Rattle.aq_base.specs.declared.assumed.TheConstants.{MOST_ASSUMED}
 use Rattle.aq_rules.specs.Lines.Spellings.{◌>>=◌}
-use Rattle.aq_rd.specs.Words.{site_word}
+use Rattle.aq_rules.specs.Questions.Spelling.{site_word}
 use Rattle.aq_words.specs.Commas.{behind_comma}
-use Rattle.aq_words.specs.Words.{all_read, assumed_in, assumed_list, between_commas, if_few, if_sites, sites_word}
+use Rattle.aq_rules.specs.Questions.Spelling.{all_read, assumed_in, assumed_list, between_commas, if_few, if_sites, sites_word}
 
 -- ---- a text without a comma is one part
 

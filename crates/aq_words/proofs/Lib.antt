@@ -1,1 +1,4 @@
+pub mod Counted
 pub mod Entries
+pub mod Firsts
+pub mod Misspelled

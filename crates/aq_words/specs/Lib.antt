@@ -1,2 +1,4 @@
 pub mod Words
 pub mod Commas
+pub mod Parts
+pub mod Texts

@@ -1,15 +1,19 @@
-//! The words of the command line, and the command that they name. It takes no memory.
+//! The words of the command line, and the command that they name; and the questions about an office, as words
+//! and paths ask them: two readings of one table. It takes no memory.
 //!
 //! # What it has
 //!
-//! - `Command`: what the program is asked to do, with sites, days, standards and numbers as values;
-//!   `WhatIf`, `Decisive`, `Combined` and `AreaQuestion`: four of its questions.
+//! - `Command`: what the program is asked to do, with a question, sites, days and numbers as values.
+//! - `asked_in_words`, `asked_in_path`: the question that the words of a command ask, or the texts in a path.
+//!   `question_of` is a row's question by the texts of its parts. A path's refusal is `BAD_REQUEST` or `NOT_FOUND`.
 //! - `read_words(words)`: the command that the words name, the program's name left out, or `None`.
 //!
 //! # What it promises
 //!
 //! - The command that words name is the definition's (`command_of` in `specs/Words.antt`), and its
 //!   numbers are in their ranges (`read_words`).
+//! - Words and paths ask what the book's table of questions says, in its range, and nothing else
+//!   (`asked_in_words`, `asked_in_path`).
 //! - An area names at most 32 sites, and a list at most 64 entries (`limits_of_words_are_these_numbers`).
 //!
 //! # An example
@@ -19,12 +23,19 @@
 //! for word in ["show", "O3-2015", "06-037-1103", "2024"] {
 //!     words.push(String::from_str(alloc, word)?)?;
 //! }
-//! let Some(Command::Ask(Ask::Value(standard, site, 2024))) = read_words(&words) else { .. };
+//! let Some(Command::Ask(Question::Value(standard, site, 2024))) = read_words(&words) else { .. };
 //! ```
 #![tactic(auto)]
 
+mod asking;
 mod limits;
+mod lists;
+mod parts;
+mod rows;
 mod words;
+mod years;
 
+pub use asking::{BAD_REQUEST, NOT_FOUND, asked_in_path, asked_in_words};
 pub use limits::limits_of_words_are_these_numbers;
-pub use words::{AreaQuestion, Combined, Command, Decisive, WhatIf, read_words};
+pub use rows::question_of;
+pub use words::{Command, read_words};

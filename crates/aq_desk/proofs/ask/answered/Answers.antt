@@ -1,11 +1,12 @@
 use Rattle.aq_desk.proofs.Asking.{answered_over, answered_status, answered_unprinted, unopened_ask}
 use Rattle.aq_desk.proofs.Opening.{unopened_rises}
 use Rattle.aq_desk.proofs.Unread.{stays_at_from}
+use Rattle.aq_desk.specs.Ask.{ask_printout}
 use Rattle.aq_desk.proofs.ask.answered.Goals as goal
 
 pub returns-in_err-book-clause-told : goal.returns-in_err-book-clause-told
 returns-in_err-book-clause-told g c =
-    unopened_ask (g.Q.Question.printout c.args.question.now) c.from_residual.result _ _ _ _ c.in_err-book.field-0.0 c.from_residual.ensures.1 c.in_err-book.ensures.stopped
+    unopened_ask (ask_printout c.args.question.now) c.from_residual.result _ _ _ _ c.in_err-book.field-0.0 c.from_residual.ensures.1 c.in_err-book.ensures.stopped
 
 pub returns-in_err-book-clause-keeper_failed : goal.returns-in_err-book-clause-keeper_failed
 returns-in_err-book-clause-keeper_failed g c =
@@ -13,10 +14,10 @@ returns-in_err-book-clause-keeper_failed g c =
 
 pub returns-clause-told : goal.returns-clause-told
 returns-clause-told g c =
-    answered_over (g.Q.Question.printout c.args.question.now) c.in_ok-book.book c.text.result _ _ c.in_ok-book.ensures.opened c.text.ensures.text c.text.ensures.refused
+    answered_over (ask_printout c.args.question.now) c.in_ok-book.book c.text_of_answer.result _ _ c.in_ok-book.ensures.opened c.text_of_answer.ensures.text c.text_of_answer.ensures.refused
 
 pub returns-clause-unprinted : goal.returns-clause-unprinted
-returns-clause-unprinted g c = answered_unprinted _ c.text.result c.text.ensures.refused
+returns-clause-unprinted g c = answered_unprinted _ c.text_of_answer.result c.text_of_answer.ensures.refused
 
 pub returns-clause-keeper_failed : goal.returns-clause-keeper_failed
-returns-clause-keeper_failed g c = stays_at_from 5 _ _ _ (answered_status _ c.text.result c.text.ensures.refused) c.in_ok-book.ensures.steady
+returns-clause-keeper_failed g c = stays_at_from 5 _ _ _ (answered_status _ c.text_of_answer.result c.text_of_answer.ensures.refused) c.in_ok-book.ensures.steady

@@ -1,10 +1,10 @@
 use Rattle.aq_desk.proofs.Printing.{printed_door, printed_keeper, printed_over, printed_read, printed_silent, stopped_door, stopped_keeper, stopped_output, stopped_over, stopped_read}
-use Rattle.aq_desk.specs.Ask.{ask_outcome}
+use Rattle.aq_desk.specs.Ask.{ask_outcome, ask_printout}
 use Rattle.aq_desk.proofs.ask.ask.Goals as goal
 
 pub returns-in_err-text-clause-told : goal.returns-in_err-text-clause-told
 returns-in_err-text-clause-told g c =
-    stopped_over c.in_err-text.field-0.0 c.from_residual.result c.from_residual.ensures.1 c.in_err-text.ensures.unprinted (ask_outcome (g.Q.Question.printout c.args.question.now)) _ _ _ c.in_err-text.ensures.told
+    stopped_over c.in_err-text.field-0.0 c.from_residual.result c.from_residual.ensures.1 c.in_err-text.ensures.unprinted (ask_outcome (ask_printout c.args.question.now)) _ _ _ c.in_err-text.ensures.told
 
 pub returns-in_err-text-clause-no_input : goal.returns-in_err-text-clause-no_input
 returns-in_err-text-clause-no_input g c = stopped_read c.in_err-text.field-0.0 c.from_residual.result c.from_residual.ensures.1 c.in_err-text.ensures.unprinted
@@ -17,7 +17,7 @@ returns-in_err-text-clause-keeper_failed g c = stopped_keeper c.in_err-text.fiel
 
 pub returns-clause-told : goal.returns-clause-told
 returns-clause-told g c =
-    printed_over c.print_text.result c.print_text.ensures.cut (ask_outcome (g.Q.Question.printout c.args.question.now)) c.in_ok-text.text c.as_slice.result.now _ _ _ _ c.as_slice.ensures c.in_ok-text.ensures.told c.print_text.ensures.told
+    printed_over c.print_text.result c.print_text.ensures.cut (ask_outcome (ask_printout c.args.question.now)) c.in_ok-text.text c.as_slice.result.now _ _ _ _ c.as_slice.ensures c.in_ok-text.ensures.told c.print_text.ensures.told
 
 pub returns-clause-no_input : goal.returns-clause-no_input
 returns-clause-no_input g c = printed_read c.print_text.result c.print_text.ensures.cut

@@ -3,12 +3,9 @@ use Rattle.aq_desk.proofs.Causes.{keeper_kind, keeper_rises, printing, serving, 
 use Rattle.aq_desk.proofs.Printing.{cut_status}
 use Rattle.aq_desk.proofs.Serving.{serve_door, serve_keeper, serve_status}
 use Rattle.aq_desk.proofs.Unread.{stays_at}
-use Rattle.aq_desk.specs.Area.{area_printout}
 use Rattle.aq_desk.specs.Ask.{ask_outcome, ask_printout}
-use Rattle.aq_desk.specs.Combined.{combined_printout}
 use Rattle.std.specs.Prelude.{true}
 use Rattle.aq_desk.specs.Scan.{scan_outcome}
-use Rattle.aq_desk.specs.WhatIf.{decisive_printout, what_if_printout}
 use Rattle.aq_words.specs.declared.words.Command.TheVariants.{Scan, Load, Serve, Simulate}
 use Rattle.aq_desk.proofs.command.perform.Goals as goal
 
@@ -81,47 +78,3 @@ returns-in-Simulate-clause-door_failed g c = stays_at 8 _ _ (λ eight. omega (ar
 
 pub returns-in-Simulate-clause-silent : goal.returns-in-Simulate-clause-silent
 returns-in-Simulate-clause-silent g c = λ nothing. absurd (omega (arith, nothing, cut_status c.simulate.result c.simulate.ensures.cut))
-
-pub returns-in-WhatIf-clause-acts : goal.returns-in-WhatIf-clause-acts
-returns-in-WhatIf-clause-acts g c =
-    printing c.args.command.now _ c.in-WhatIf.is refl c.ask-in-WhatIf.result _ _ _ _ _
-    (without_reading (ask_outcome (what_if_printout _)) _ c.ask-in-WhatIf.result _ _ _ _ c.ask-in-WhatIf.ensures.no_input.1 c.ask-in-WhatIf.ensures.told)
-
-pub returns-in-WhatIf-clause-keeper_failed : goal.returns-in-WhatIf-clause-keeper_failed
-returns-in-WhatIf-clause-keeper_failed g c = keeper_rises _ _ _ _ c.ask-in-WhatIf.ensures.keeper_failed
-
-pub returns-in-WhatIf-clause-door_failed : goal.returns-in-WhatIf-clause-door_failed
-returns-in-WhatIf-clause-door_failed g c = stays_at 8 _ _ c.ask-in-WhatIf.ensures.no_door
-
-pub returns-in-Decisive-clause-acts : goal.returns-in-Decisive-clause-acts
-returns-in-Decisive-clause-acts g c =
-    printing c.args.command.now _ c.in-Decisive.is refl c.ask-in-Decisive.result _ _ _ _ _
-    (without_reading (ask_outcome (decisive_printout _)) _ c.ask-in-Decisive.result _ _ _ _ c.ask-in-Decisive.ensures.no_input.1 c.ask-in-Decisive.ensures.told)
-
-pub returns-in-Decisive-clause-keeper_failed : goal.returns-in-Decisive-clause-keeper_failed
-returns-in-Decisive-clause-keeper_failed g c = keeper_rises _ _ _ _ c.ask-in-Decisive.ensures.keeper_failed
-
-pub returns-in-Decisive-clause-door_failed : goal.returns-in-Decisive-clause-door_failed
-returns-in-Decisive-clause-door_failed g c = stays_at 8 _ _ c.ask-in-Decisive.ensures.no_door
-
-pub returns-in-Area-clause-acts : goal.returns-in-Area-clause-acts
-returns-in-Area-clause-acts g c =
-    printing c.args.command.now _ c.in-Area.is refl c.ask-in-Area.result _ _ _ _ _
-    (without_reading (ask_outcome (area_printout _)) _ c.ask-in-Area.result _ _ _ _ c.ask-in-Area.ensures.no_input.1 c.ask-in-Area.ensures.told)
-
-pub returns-in-Area-clause-keeper_failed : goal.returns-in-Area-clause-keeper_failed
-returns-in-Area-clause-keeper_failed g c = keeper_rises _ _ _ _ c.ask-in-Area.ensures.keeper_failed
-
-pub returns-in-Area-clause-door_failed : goal.returns-in-Area-clause-door_failed
-returns-in-Area-clause-door_failed g c = stays_at 8 _ _ c.ask-in-Area.ensures.no_door
-
-pub returns-in-Combined-clause-acts : goal.returns-in-Combined-clause-acts
-returns-in-Combined-clause-acts g c =
-    printing c.args.command.now _ c.in-Combined.is refl c.ask-in-Combined.result _ _ _ _ _
-    (without_reading (ask_outcome (combined_printout _)) _ c.ask-in-Combined.result _ _ _ _ c.ask-in-Combined.ensures.no_input.1 c.ask-in-Combined.ensures.told)
-
-pub returns-in-Combined-clause-keeper_failed : goal.returns-in-Combined-clause-keeper_failed
-returns-in-Combined-clause-keeper_failed g c = keeper_rises _ _ _ _ c.ask-in-Combined.ensures.keeper_failed
-
-pub returns-in-Combined-clause-door_failed : goal.returns-in-Combined-clause-door_failed
-returns-in-Combined-clause-door_failed g c = stays_at 8 _ _ c.ask-in-Combined.ensures.no_door

@@ -1,10 +1,14 @@
-use Rattle.std.proofs.Common.{ap, ◌∙◌}
-use Rattle.aq_office.specs.Answers.{seen}
-use Rattle.aq_desk.proofs.Outcomes.{has_windows, no_export}
+use Rattle.aq_desk.proofs.Asking.{answered_obeys, unanswered_obeys, windows_taken}
 use Rattle.aq_desk.proofs.scan.print_windows.Goals as goal
 
-pub unreachable-requires : goal.unreachable-requires
-unreachable-requires g c = no_export c.args.book.now c.args.site c.args.day c.in-Export.field-0.items (c.in_ok-sheet.ensures ∙ ap seen c.in-Export.is)
+pub returns-in_err-text-clause-told : goal.returns-in_err-text-clause-told
+returns-in_err-text-clause-told g c =
+    unanswered_obeys _ c.in_err-text.field-0.0 c.from_residual.result _ c.from_residual.ensures.1 c.in_err-text.ensures.refused
 
-pub unreachable-requires-in-NoLoad : goal.unreachable-requires-in-NoLoad
-unreachable-requires-in-NoLoad g c = has_windows c.args.book.now c.args.site c.args.day (c.in_ok-sheet.ensures ∙ ap seen c.in-NoLoad.is)
+pub returns-in_err-text-clause-taken : goal.returns-in_err-text-clause-taken
+returns-in_err-text-clause-taken g c =
+    windows_taken c.args.book.now c.args.site c.args.day c.in_err-text.field-0.0 c.from_residual.result c.from_residual.ensures.1 c.in_err-text.ensures.refused
+
+pub returns-clause-told : goal.returns-clause-told
+returns-clause-told g c =
+    answered_obeys _ c.in_ok-text.text c.as_slice.result.now c.print_text.result _ _ c.in_ok-text.ensures.text c.as_slice.ensures c.print_text.ensures.told

@@ -1,75 +1,61 @@
-use Rattle.std.proofs.Common.{refl, Some, None, [], ◌∷◌}
+use Rattle.std.proofs.Common.{refl, Some, None, [], ◌∷◌, ◌++◌}
 use Rattle.std.specs.Prelude.{codes}
 use Rattle.matchit.proofs.OnLiterals.{matchit_on_literals}
 use Rattle.aq_base.specs.Calendar.{days_of_months, days_of_years}
-use Rattle.aq_rd.specs.Words.{date_of, day_word, site_word}
+use Rattle.aq_base.specs.declared.question.Topic.TheVariants.{Area, Combined, Days, Decisive, Export, Pm10, Pm25, Reply, Report, Value, WhatIf, Windows}
 use Rattle.aq_rules.specs.Lines.Spellings.{site_in, year_in}
-use Rattle.aq_http.specs.declared.route.Route.TheVariants.{Days, Loads, Pm10, Pm25, Report, Value, Windows}
+use Rattle.aq_rules.specs.Questions.Asking.{asked_in_path, question_of}
+use Rattle.aq_rules.specs.Questions.QuestionExamples.{entries}
+use Rattle.aq_rules.specs.Questions.Spelling.{area_word, assumed_in, assumed_list, combined_word, county_word, date_of, day_word, design_year, site_word, sites_word}
+use Rattle.aq_rules.specs.Questions.Table.{pattern_of}
 use Rattle.aq_http.specs.declared.verb.Verb.TheVariants.{Get, Other, Post}
-use Rattle.aq_http.specs.Routes.{design_year, load_number, report_asked, site_and_year, site_asked, value_asked, windows_asked, with_routes, year_asked}
-use Rattle.aq_http.proofs.Routed.{found-by, found-walked}
+use Rattle.aq_http.specs.Routes.{load_number, texts_in, with_routes}
+use Rattle.aq_http.proofs.Routed.{found_walked}
 use Rattle.aq_http.proofs.Walking.{walk}
 use Rattle.aq_http.proofs.laws.worked_targets.Goals as goal
 
-pub returns-clause-head : goal.returns-clause-head
-returns-clause-head c = refl
-
-pub returns-clause-get : goal.returns-clause-get
-unfolding matchit_on_literals with_routes load_number
-returns-clause-get c = found-by Get (codes "/loads/5") (Some Loads) refl refl
-
-pub returns-clause-post : goal.returns-clause-post
-unfolding matchit_on_literals with_routes load_number
-returns-clause-post c = found-by Post (codes "/loads/5") (Some Loads) refl refl
-
-pub returns-clause-other : goal.returns-clause-other
-unfolding matchit_on_literals with_routes load_number
-returns-clause-other c = found-by Other (codes "/loads/5") (Some Loads) refl refl
-
-pub returns-clause-slash_at_the_end : goal.returns-clause-slash_at_the_end
-unfolding matchit_on_literals with_routes load_number
-returns-clause-slash_at_the_end c =
-    λ i. found-by Get (codes "/loads/5/") None refl refl i ∷ found-by Post (codes "/loads/5/") None refl refl i ∷ found-by Other (codes "/loads/5/") None refl refl i ∷ []
-
-pub returns-clause-no_number : goal.returns-clause-no_number
-unfolding matchit_on_literals with_routes load_number
-returns-clause-no_number c =
-    λ i. found-by Get (codes "/loads/") None refl refl i ∷ found-by Post (codes "/loads/") None refl refl i ∷ found-by Other (codes "/loads/") None refl refl i ∷ []
-
-pub returns-clause-no_slash : goal.returns-clause-no_slash
-unfolding matchit_on_literals with_routes load_number
-returns-clause-no_slash c =
-    λ i. found-by Get (codes "loads/5") None refl refl i ∷ found-by Post (codes "loads/5") None refl refl i ∷ found-by Other (codes "loads/5") None refl refl i ∷ []
-
-pub returns-clause-leading_zero : goal.returns-clause-leading_zero
-unfolding matchit_on_literals with_routes load_number
-returns-clause-leading_zero c =
-    λ i. found-by Get (codes "/loads/05") (Some Loads) refl refl i ∷ found-by Post (codes "/loads/05") (Some Loads) refl refl i ∷ found-by Other (codes "/loads/05") (Some Loads) refl refl i ∷ []
-
-pub returns-clause-not_decoded : goal.returns-clause-not_decoded
-unfolding matchit_on_literals with_routes load_number
-returns-clause-not_decoded c = found-by Get (codes "/loads/%35") (Some Loads) refl refl
-
-pub returns-clause-windows : goal.returns-clause-windows
-unfolding walk matchit_on_literals with_routes windows_asked site_asked site_word site_in day_word date_of days_of_years days_of_months
-returns-clause-windows c = found-walked Get (codes "/ozone/06-037-1103/windows/1990-01-02") (Some Windows) refl refl
-
-pub returns-clause-days : goal.returns-clause-days
-unfolding walk matchit_on_literals with_routes site_and_year site_asked site_word site_in year_asked year_in
-returns-clause-days c = found-walked Get (codes "/ozone/06-037-1103/days/2024") (Some Days) refl refl
-
-pub returns-clause-pm25 : goal.returns-clause-pm25
-unfolding walk matchit_on_literals with_routes site_and_year site_asked site_word site_in year_asked year_in
-returns-clause-pm25 c = found-walked Get (codes "/pm25/06-037-1103/quarters/2024") (Some Pm25) refl refl
-
-pub returns-clause-pm10 : goal.returns-clause-pm10
-unfolding walk matchit_on_literals with_routes site_and_year site_asked site_word site_in year_asked year_in
-returns-clause-pm10 c = found-walked Get (codes "/pm10/06-037-1103/quarters/2024") (Some Pm10) refl refl
-
-pub returns-clause-value : goal.returns-clause-value
-unfolding walk matchit_on_literals with_routes value_asked site_asked site_word site_in design_year year_asked year_in
-returns-clause-value c = found-walked Get (codes "/dv/O3-2015/06-037-1103/2024") (Some Value) refl refl
-
-pub returns-clause-report : goal.returns-clause-report
-unfolding walk matchit_on_literals with_routes report_asked design_year year_asked year_in
-returns-clause-report c = found-walked Get (codes "/report/PM10-24H-1987/2024") (Some Report) refl refl
+pub returns : goal.returns
+unfolding walk matchit_on_literals with_routes pattern_of texts_in load_number asked_in_path question_of area_word assumed_in assumed_list combined_word county_word date_of day_word days_of_months days_of_years design_year site_in site_word sites_word year_in
+returns c = record {
+  head = refl;
+  get = found_walked Get (codes "/loads/5") (Some Reply) refl refl;
+  post = found_walked Post (codes "/loads/5") (Some Reply) refl refl;
+  other = found_walked Other (codes "/loads/5") (Some Reply) refl refl;
+  slash_at_the_end = λ i.
+      found_walked Get (codes "/loads/5/") None refl refl i
+      ∷ found_walked Post (codes "/loads/5/") None refl refl i
+      ∷ found_walked Other (codes "/loads/5/") None refl refl i ∷ [];
+  no_number = λ i.
+      found_walked Get (codes "/loads/") None refl refl i
+      ∷ found_walked Post (codes "/loads/") None refl refl i
+      ∷ found_walked Other (codes "/loads/") None refl refl i ∷ [];
+  no_slash = λ i.
+      found_walked Get (codes "loads/5") None refl refl i
+      ∷ found_walked Post (codes "loads/5") None refl refl i
+      ∷ found_walked Other (codes "loads/5") None refl refl i ∷ [];
+  leading_zero = λ i.
+      found_walked Get (codes "/loads/05") (Some Reply) refl refl i
+      ∷ found_walked Post (codes "/loads/05") (Some Reply) refl refl i
+      ∷ found_walked Other (codes "/loads/05") (Some Reply) refl refl i ∷ [];
+  not_decoded = found_walked Get (codes "/loads/%35") (Some Reply) refl refl;
+  windows = found_walked Get (codes "/ozone/06-037-1103/windows/1990-01-02") (Some Windows) refl refl;
+  days = found_walked Get (codes "/ozone/06-037-1103/days/2024") (Some Days) refl refl;
+  pm25 = found_walked Get (codes "/pm25/06-037-1103/quarters/2024") (Some Pm25) refl refl;
+  pm10 = found_walked Get (codes "/pm10/06-037-1103/quarters/2024") (Some Pm10) refl refl;
+  value = found_walked Get (codes "/dv/O3-2015/06-037-1103/2024") (Some Value) refl refl;
+  report = found_walked Get (codes "/report/PM10-24H-1987/2024") (Some Report) refl refl;
+  export = found_walked Get (codes "/export/06-037-1103/44201/2024") (Some Export) refl refl;
+  whatif = found_walked Get (codes "/whatif/O3-2015/06-037-1103/2024/7Y,12N") (Some WhatIf) refl refl;
+  decisive = found_walked Get (codes "/decisive/O3-2015/06-037-1103/2024") (Some Decisive) refl refl;
+  combined = found_walked Get (codes "/combined/O3-2015/06-037-1103/2024") (Some Combined) refl refl;
+  area = found_walked Get (codes "/area/O3-2015/06-037/2024") (Some Area) refl refl;
+  no_standard = found_walked Get (codes "/dv/O3-2016/06-037-1103/2024") (Some Value) refl refl;
+  no_parameter = found_walked Get (codes "/export/06-037-1103/42602/2024") (Some Export) refl refl;
+  misspelled_beside = found_walked Get (codes "/dv/O3-2016/06-37-1103/2024") (Some Value) refl refl;
+  too_many_entries = found_walked Get (codes "/whatif/O3-2015/06-037-1103/2024/" ++ entries 65) (Some WhatIf) refl refl;
+  twice = found_walked Get (codes "/area/O3-2015/06-037-1103,06-037-1103/2024") (Some Area) refl refl;
+  pm10_pair = found_walked Get (codes "/combined/PM10-24H-1987/06-037-1103/2024") (Some Combined) refl refl;
+  no_post = found_walked Post (codes "/export/06-037-1103/44201/2024") (Some Export) refl refl;
+  further_slash = found_walked Get (codes "/export/06-037-1103/44201/2024/") None refl refl;
+  later = found_walked Get (codes "/sites") None refl refl;
+}

@@ -1,4 +1,4 @@
-use Rattle.std.proofs.Common.{◌≡◌, ◌∙◌, sym, ap, codes}
+use Rattle.std.proofs.Common.{◌∙◌, sym, ap, codes}
 use Rattle.http1.specs.Text.{eq_ignore_case}
 use Rattle.aq_http.proofs.Lengths.{named_at}
 use Rattle.aq_http.proofs.length.has_origin.Goals as goal

@@ -1,6 +1,6 @@
 use Rattle.std.proofs.Common.{rules, ◌∙◌, ap, sym, take, arith}
 use Rattle.std.proofs.lemmas.List.{take_all}
-use Rattle.aq_http.proofs.Routed.{first_at, first_nowhere}
+use Rattle.aq_words.proofs.Firsts.{first_at, first_nowhere}
 use Rattle.aq_http.proofs.routes.before.Goals as goal
 
 pub returns-in-Some : goal.returns-in-Some

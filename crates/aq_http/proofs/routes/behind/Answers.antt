@@ -1,6 +1,6 @@
 use Rattle.std.proofs.Common.{rules, ◌+◌, ◌∙◌, ap, sym, drop, length, arith}
 use Rattle.std.proofs.lemmas.List.{drop_all, length-drop, take_all}
-use Rattle.aq_http.proofs.Routed.{first_at, first_nowhere}
+use Rattle.aq_words.proofs.Firsts.{first_at, first_nowhere}
 use Rattle.aq_http.proofs.routes.behind.Goals as goal
 
 pub returns-in-Some : goal.returns-in-Some

@@ -7,4 +7,4 @@ use Rattle.aq_reports.proofs.export.write_codes.Goals as goal
 pub returns : goal.returns
 returns c =
     let none : drop c.loop-code.code-index c.args.codes.now ≡ [] = drop_all c.loop-code.code-index c.args.codes.now (omega arith) in
-    words_done c.args.out.now.items c.loop-code.out.items c.loop-code.space.now (map line.code_text c.args.codes.now) _ (ap (map line.code_text) none) c.loop-code.invariant
+    words_done 32 c.args.out.now.items c.loop-code.out.items c.loop-code.space.now (map line.code_text c.args.codes.now) _ (ap (map line.code_text) none) c.loop-code.invariant

@@ -5,4 +5,4 @@ use Rattle.aq_reports.proofs.export.write_codes.Given as goal
 
 abbrev pub invariant-loop-code : goal.invariant-loop-code
 invariant-loop-code l =
-    l.out.items ++ words_behind l.space (map line.code_text (drop l.code-index l.codes)) ≡ l.fn.out.items ++ words_behind [] (map line.code_text l.codes)
+    l.out.items ++ words_behind 32 l.space (map line.code_text (drop l.code-index l.codes)) ≡ l.fn.out.items ++ words_behind 32 [] (map line.code_text l.codes)

@@ -6,4 +6,4 @@ pub returns : goal.returns
 unfolding other_sheets.report_sheet
 returns c =
     let columns : c.in_ok-columns.columns ≡ codes "site" ∷ codes "value" ∷ codes "verdict" ∷ [] = c.in_ok-columns.ensures in
-    cc (c.new.ensures, c.in_ok-heads.ensures, c.in_ok-rows.ensures, columns)
+    cc (c.new.ensures, c.in_ok-heads.ensures.value, c.in_ok-rows.ensures, columns)

@@ -4,4 +4,4 @@ use Rattle.aq_reports.proofs.text.write_names.Given as goal
 
 abbrev pub invariant-loop-name : goal.invariant-loop-name
 invariant-loop-name l =
-    l.out.items ++ words_behind l.space (drop l.name-index l.names) ≡ l.fn.out.items ++ words_behind [] l.names
+    l.out.items ++ words_behind 32 l.space (drop l.name-index l.names) ≡ l.fn.out.items ++ words_behind 32 [] l.names

@@ -5,4 +5,4 @@ use Rattle.aq_reports.proofs.text.write_row.Given as goal
 
 abbrev pub invariant-loop-cell : goal.invariant-loop-cell
 invariant-loop-cell l =
-    l.out.items ++ words_behind l.space (map sheets.cell_text (drop l.cell-index l.cells)) ≡ l.fn.out.items ++ words_behind [] (map sheets.cell_text l.cells)
+    l.out.items ++ words_behind 32 l.space (map sheets.cell_text (drop l.cell-index l.cells)) ≡ l.fn.out.items ++ words_behind 32 [] (map sheets.cell_text l.cells)

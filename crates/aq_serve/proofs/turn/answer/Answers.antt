@@ -1,17 +1,12 @@
-use Rattle.std.proofs.Common.{ℕ, Bool, List, subst}
-use Rattle.aq_http.specs.Step.{Request}
-use Rattle.aq_http.specs.declared.verb.Verb.{Verb}
+use Rattle.std.proofs.Common.{subst}
+use Rattle.aq_http.specs.Step.{request_of}
 use Rattle.aq_serve.proofs.Answering.{IsWholeStep, answer_lost, answer_replies}
 use Rattle.aq_serve.proofs.turn.answer.Goals as goal
 
-abbrev request : (used : ℕ) (verb : Verb) (target body : List ℕ) (close : Bool) → Request
-request used verb target body close = record { used = used; verb = verb; target = target; body = body; close = close }
-
 pub returns-in-Ok-clause-answered : goal.returns-in-Ok-clause-answered
 returns-in-Ok-clause-answered g c =
-    let stands = c.in-Whole.ensures.step c.requires.whole.front c.requires.whole.more c.requires.whole.is c.requires.whole.stands in
-    answer_replies c.args.served c.args.input.now c.in-Ok.bytes.items
-    (request c.in-Whole.used c.in-Whole.verb c.in-Whole.target.now c.in-Whole.body.now c.in-Whole.close)
+    let stands = c.request-request.ensures.step c.requires.whole.front c.requires.whole.more c.requires.whole.is c.requires.whole.stands in
+    answer_replies c.args.served c.args.input.now c.in-Ok.bytes.items (request_of c.request-request.result)
     c.ends_behind-closes.result (g.V.Service.seen c.args.service.now c.args.keeper.now) (g.V.Service.seen c.answer.new.self c.answer.new.keeper)
     (λ more. c.steps_stay.ensures.step c.args.input.now more _ (λ e. subst IsWholeStep e tt) stands)
     c.ends_behind-closes.ensures.value
@@ -21,8 +16,7 @@ returns-in-Ok-clause-answered g c =
 
 pub returns-in-Err-clause-lost : goal.returns-in-Err-clause-lost
 returns-in-Err-clause-lost g c =
-    answer_lost c.args.served c.args.input.now
-    (request c.in-Whole.used c.in-Whole.verb c.in-Whole.target.now c.in-Whole.body.now c.in-Whole.close)
+    answer_lost c.args.served c.args.input.now (request_of c.request-request.result)
     (g.V.Service.seen c.args.service.now c.args.keeper.now) (g.V.Service.seen c.answer.new.self c.answer.new.keeper)
-    (c.in-Whole.ensures.step c.requires.whole.front c.requires.whole.more c.requires.whole.is c.requires.whole.stands)
+    (c.request-request.ensures.step c.requires.whole.front c.requires.whole.more c.requires.whole.is c.requires.whole.stands)
     c.in-Err.ensures.lost

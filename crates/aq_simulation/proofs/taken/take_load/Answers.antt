@@ -7,10 +7,11 @@ use Rattle.aq_rules.specs.Office.Load.{post}
 use Rattle.aq_simulation.proofs.Steps.{body_is, not_none}
 use Rattle.aq_simulation.proofs.taken.take_load.Goals as goal
 
-pub unreachable-requires : goal.unreachable-requires
-unreachable-requires c =
-    not_none c.args.start c.args.sites c.args.years c.args.load c.requires.first c.requires.last _ c.in_ok-body.ensures.body
-    (ap (option_map (λ (text : Vec ℕ Global). text.items)) c.in-None.is)
+pub returns-in_default-clause-book : goal.returns-in_default-clause-book
+returns-in_default-clause-book c = absurd (not_none c.args.start c.args.sites c.args.years c.args.load c.requires.first c.requires.last _ c.in_ok-body.ensures.body (ap (option_map (λ (text : Vec ℕ Global). text.items)) c.in_default.is))
+
+pub returns-in_default-clause-lines : goal.returns-in_default-clause-lines
+returns-in_default-clause-lines c = absurd (not_none c.args.start c.args.sites c.args.years c.args.load c.requires.first c.requires.last _ c.in_ok-body.ensures.body (ap (option_map (λ (text : Vec ℕ Global). text.items)) c.in_default.is))
 
 pub returns-clause-book : goal.returns-clause-book
 returns-clause-book c =

@@ -1,5 +1,5 @@
-use Rattle.aq_desk.specs.declared.stop.Stop.TheVariants.{InputFailed, OutputFailed, KeeperFailed, DoorFailed, Memory, TooManyBytes, LoadsFull, NoSiteInArea}
-use Rattle.aq_desk.proofs.Telling.{area_message, bytes_message, door_message, full_message, input_message, keeper_message, memory_message, output_message, writes_at}
+use Rattle.aq_desk.specs.declared.stop.Stop.TheVariants.{InputFailed, OutputFailed, KeeperFailed, DoorFailed, Memory, TooManyBytes, LoadsFull}
+use Rattle.aq_desk.proofs.Telling.{bytes_message, door_message, full_message, input_message, keeper_message, memory_message, output_message, writes_at}
 use Rattle.aq_desk.proofs.stop.Stop.write.Goals as goal
 
 pub returns-in-InputFailed : goal.returns-in-InputFailed
@@ -22,6 +22,3 @@ returns-in-TooManyBytes g c = writes_at _ _ TooManyBytes _ _ c.write_all-in-TooM
 
 pub returns-in-LoadsFull : goal.returns-in-LoadsFull
 returns-in-LoadsFull g c = writes_at _ _ LoadsFull _ _ c.write_all-in-LoadsFull.result c.in-LoadsFull.is full_message c.write_all-in-LoadsFull.ensures
-
-pub returns-in-NoSiteInArea : goal.returns-in-NoSiteInArea
-returns-in-NoSiteInArea g c = writes_at _ _ NoSiteInArea _ _ c.write_all-in-NoSiteInArea.result c.in-NoSiteInArea.is area_message c.write_all-in-NoSiteInArea.ensures

@@ -1,11 +1,12 @@
 use Rattle.std.proofs.Common.{subst, sym, ◌∙◌}
 use Rattle.sha2.specs.Sha256.{sha256}
 use Rattle.aq_rules.specs.Lines.Lines.{line_count}
+use Rattle.aq_rules.specs.Office.Load.{posted}
 use Rattle.aq_rules.specs.Office.Office.{IsOffice, Office}
 use Rattle.aq_keeper.specs.Standing.{Standing, standing_of}
 use Rattle.aq_office.specs.Posting.{LosesLoad}
-use Rattle.aq_office.proofs.PostedLoads.{is_numbered, posted_over}
-use Rattle.aq_service.proofs.Replied.{load_answered, post_lost, reply_lost, stands}
+use Rattle.aq_office.proofs.PostedLoads.{posted_over}
+use Rattle.aq_service.proofs.Replied.{load_answered, post_lost, reply_lost}
 use Rattle.aq_office.proofs.Taking.{if_ok, on_err}
 use Rattle.aq_service.proofs.service.OfficeService.answer_load.Goals as goal
 
@@ -22,22 +23,14 @@ returns-in_err-book-clause-lost g c =
     (g.K.Keeper.seen c.args.keeper.now).tables (g.K.Keeper.seen c.post_uncounted.new.keeper).tables (g.K.Keeper.seen c.args.keeper.now).faults (g.K.Keeper.seen c.post_uncounted.new.keeper).faults
     (subst P (c.replace-book.ensures.value ∙ c.self.view_is) c.in_err-book.ensures.lost))
 
-pub load_reply-requires-clause-stands : goal.load_reply-requires-clause-stands
-load_reply-requires-clause-stands g c =
-    let after : Standing = standing_of c.in_ok-book.book (g.K.Keeper.seen c.post_uncounted.new.keeper) in
-    let is = posted_over _ _ (c.replace-book.ensures.value ∙ c.self.view_is) c.args.number (sha256 c.args.body.now) c.args.body.now (line_count c.args.body.now)
-    (g.K.Keeper.seen c.args.keeper.now).tables (g.K.Keeper.seen c.args.keeper.now).faults after c.in_ok-book.posted c.in_ok-book.ensures.posted in
-    stands c.args.number (sha256 c.args.body.now) c.args.body.now (is_numbered c.args.number c.requires.number) (line_count c.args.body.now) c.args.close
-    (standing_of c.args.self.now (g.K.Keeper.seen c.args.keeper.now)) after c.in_ok-book.posted is
-
 pub returns-clause-answered : goal.returns-clause-answered
 returns-clause-answered g c =
     let after : Standing = standing_of c.in_ok-book.book (g.K.Keeper.seen c.post_uncounted.new.keeper) in
     let is = posted_over _ _ (c.replace-book.ensures.value ∙ c.self.view_is) c.args.number (sha256 c.args.body.now) c.args.body.now (line_count c.args.body.now)
     (g.K.Keeper.seen c.args.keeper.now).tables (g.K.Keeper.seen c.args.keeper.now).faults after c.in_ok-book.posted c.in_ok-book.ensures.posted in
     if_ok c.load_reply.result
-    (λ bytes reply. load_answered c.args.number (sha256 c.args.body.now) c.args.body.now (is_numbered c.args.number c.requires.number) (line_count c.args.body.now) c.args.close
-    (standing_of c.args.self.now (g.K.Keeper.seen c.args.keeper.now)) bytes.items after c.in_ok-book.posted is reply)
+    (λ bytes reply. load_answered c.args.number (line_count c.args.body.now) (standing_of c.args.self.now (g.K.Keeper.seen c.args.keeper.now))
+    (posted c.args.self.now c.args.number (sha256 c.args.body.now) c.args.body.now) c.args.close bytes.items after c.in_ok-book.posted is (reply after.office))
     c.load_reply.ensures
 
 pub returns-clause-lost : goal.returns-clause-lost
@@ -46,5 +39,5 @@ returns-clause-lost g c =
     let is = posted_over _ _ (c.replace-book.ensures.value ∙ c.self.view_is) c.args.number (sha256 c.args.body.now) c.args.body.now (line_count c.args.body.now)
     (g.K.Keeper.seen c.args.keeper.now).tables (g.K.Keeper.seen c.args.keeper.now).faults after c.in_ok-book.posted c.in_ok-book.ensures.posted in
     on_err _ c.load_reply.result
-    (reply_lost c.args.number (sha256 c.args.body.now) c.args.body.now (is_numbered c.args.number c.requires.number) (line_count c.args.body.now) c.args.close
-    (standing_of c.args.self.now (g.K.Keeper.seen c.args.keeper.now)) after c.in_ok-book.posted is)
+    (reply_lost c.args.number (line_count c.args.body.now) (standing_of c.args.self.now (g.K.Keeper.seen c.args.keeper.now))
+    (posted c.args.self.now c.args.number (sha256 c.args.body.now) c.args.body.now) after c.in_ok-book.posted is)
