@@ -1,3 +1,4 @@
 pub mod Pieces
+pub mod Ranks
 pub mod Scales
 pub mod Sheets

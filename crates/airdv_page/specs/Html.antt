@@ -55,6 +55,12 @@ rect y width =
     ++ (attribute (codes "x") 20
     ++ (attribute (codes "y") y ++ (attribute (codes "width") width ++ (attribute (codes "height") 24 ++ codes "/>"))))
 
+-- a circle round a place
+unfoldable pub circle : ℕ → ℕ → ℕ → List ℕ
+circle x y radius =
+    codes "<circle"
+    ++ (attribute (codes "cx") x ++ (attribute (codes "cy") y ++ (attribute (codes "r") radius ++ codes "/>")))
+
 -- the line at which a bar starts, this far from the top
 unfoldable pub start_mark : ℕ → List ℕ
 start_mark y = line (20, y) (20, y + 24)

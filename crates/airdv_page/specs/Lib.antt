@@ -5,4 +5,6 @@ pub mod Numbers
 pub mod Levels
 pub mod Subject
 pub mod Pictures
+pub mod Ranked
+pub mod Year
 pub mod Page

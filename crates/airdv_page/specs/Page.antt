@@ -1,17 +1,21 @@
 -- The page: its title, and a section for each sheet of a text, with its words, its heads and its rows as tables, and its picture (own).
-use Rattle.std.specs.Prelude.{ℕ, Bool, true, false, ◌||◌, if◌then◌else◌, List, [], ◌∷◌, ◌++◌, codes, flat_map, Option, Some, None, option_map, IsSomeAnd}
+use Rattle.std.specs.Prelude.{ℕ, Bool, true, false, ◌||◌, if◌then◌else◌, List, [], ◌∷◌, ◌++◌, codes, flat_map, slice_get, Option, Some, None, option_map, IsSomeAnd}
 use Rattle.std.specs.Io.KnownBytes.{Appends}
-use Rattle.aq_base.specs.declared.standard.Standard.{Standard}
 use Rattle.aq_base.specs.declared.standard.Standard.TheVariants.{Ozone2015}
+use Rattle.aq_rules.specs.Lines.Spellings.{parameter_in}
 use Rattle.aq_rules.specs.Questions.Spelling.{standard_word}
 use Rattle.airdv_page.specs.declared.kind.Picture.{Picture}
-use Rattle.airdv_page.specs.declared.kind.Picture.TheVariants.{Counts, Bars, Squares, Lines, Nothing}
+use Rattle.airdv_page.specs.declared.kind.Picture.TheVariants.{Counts, Bars, Squares, Lines, Days, Highest, Nothing}
+use Rattle.airdv_page.specs.declared.level.Level.{Level}
+use Rattle.airdv_page.specs.declared.level.Level.TheVariants.{Of}
 use Rattle.airdv_page.specs.Reading.{Line, SheetText, lines_of, sheets_of}
 use Rattle.airdv_page.specs.Html.{row}
 use Rattle.airdv_page.specs.Numbers.{word_at, has_number}
 use Rattle.airdv_page.specs.Subject.{heading, page_title}
-use Rattle.airdv_page.specs.Levels.{form_of, level_text}
-use Rattle.airdv_page.specs.Pictures.{bars, day}
+use Rattle.airdv_page.specs.Levels.{day_level, form_of, level_text, standard_in}
+use Rattle.airdv_page.specs.Pictures.{bars, day, highest}
+use Rattle.airdv_page.specs.Ranked.{value_place}
+use Rattle.airdv_page.specs.Year.{year}
 
 -- ---- the tables: each line of the sheet is a row, each word of it a cell, and there is nothing else
 
@@ -42,10 +46,13 @@ rows_table (column ∷ columns) rows = columns_and_rows (column ∷ columns) row
 
 -- ---- the rest of a section
 
--- the value of the first head
-abbrev pub first_value : List Line → List ℕ
-first_value [] = []
-first_value (line ∷ lines) = word_at 1 line
+abbrev pub value_of : Option Line → List ℕ
+value_of None = []
+value_of (Some line) = word_at 1 line
+
+-- the value of a head by its place from 0
+abbrev pub head_value : ℕ → List Line → List ℕ
+head_value place heads = value_of (slice_get heads place)
 
 abbrev pub has_lines : List Line → Bool
 has_lines [] = false
@@ -55,26 +62,38 @@ abbrev pub behind_first : List Line → List Line
 behind_first [] = []
 behind_first (line ∷ lines) = lines
 
--- the standard whose level is drawn: of a day that of ozone, else the one that the first head names
-abbrev pub standard_for : Picture → List Line → Option Standard
-standard_for Counts heads = None
-standard_for (Bars value verdict) heads = standard_word (first_value heads)
-standard_for (Squares verdict) heads = standard_word (first_value heads)
-standard_for Lines heads = Some Ozone2015
-standard_for Nothing heads = standard_word (first_value heads)
+-- the level of the standard of this name
+abbrev pub level_by_name : List ℕ → Option Level
+level_by_name word = option_map Of (standard_word word)
 
-unfoldable pub standard_line : Option Standard → List ℕ
-standard_line None = []
-standard_line (Some standard) = codes "<p>" ++ ((form_of standard).words ++ (codes ". " ++ (level_text standard ++ codes ".</p>\n")))
+-- the level beside which the days of this parameter are drawn
+abbrev pub level_by_parameter : List ℕ → Option Level
+level_by_parameter word = option_map day_level (parameter_in word)
+
+-- the level that is drawn: of a day that of ozone, of a year's days that of their pollutant, else that of the standard which the first head names
+abbrev pub level_for : Picture → List Line → Option Level
+level_for Counts heads = None
+level_for (Bars value verdict) heads = level_by_name (head_value 0 heads)
+level_for (Squares verdict) heads = level_by_name (head_value 0 heads)
+level_for Lines heads = Some (Of Ozone2015)
+level_for (Days pollutant) heads = Some (day_level pollutant)
+level_for Highest heads = level_by_parameter (head_value 1 heads)
+level_for Nothing heads = level_by_name (head_value 0 heads)
+
+unfoldable pub level_line : Option Level → List ℕ
+level_line None = []
+level_line (Some level) = codes "<p>" ++ ((form_of (standard_in level)).words ++ (codes ". " ++ (level_text level ++ codes ".</p>\n")))
 
 abbrev pub level_words : Picture → List Line → List ℕ
-level_words picture heads = standard_line (standard_for picture heads)
+level_words picture heads = level_line (level_for picture heads)
 
 unfoldable pub drawn_as : Picture → List Line → List Line → List ℕ
 drawn_as Counts heads rows = bars (Some 1) None None (behind_first heads)
-drawn_as (Bars value verdict) heads rows = bars (Some value) verdict (standard_word (first_value heads)) rows
+drawn_as (Bars value verdict) heads rows = bars (Some value) verdict (level_by_name (head_value 0 heads)) rows
 drawn_as (Squares verdict) heads rows = bars None (Some verdict) None rows
-drawn_as Lines heads rows = day Ozone2015 rows
+drawn_as Lines heads rows = day (Of Ozone2015) rows
+drawn_as (Days pollutant) heads rows = year pollutant rows
+drawn_as Highest heads rows = highest (head_value 4 heads) (level_by_parameter (head_value 1 heads)) rows
 drawn_as Nothing heads rows = []
 
 -- whether there is a number, or the verdict of an event, to draw
@@ -83,6 +102,8 @@ is_drawn Counts heads rows = has_number 1 (behind_first heads)
 is_drawn (Bars value verdict) heads rows = has_number value rows
 is_drawn (Squares verdict) heads rows = has_lines rows
 is_drawn Lines heads rows = has_number 1 rows || has_number 3 rows
+is_drawn (Days pollutant) heads rows = has_number (value_place pollutant) rows
+is_drawn Highest heads rows = has_number 2 rows
 is_drawn Nothing heads rows = false
 
 -- the sentence in place of a picture in which nothing would be drawn
@@ -91,6 +112,8 @@ in_its_place Counts = codes "<p>No picture: no count is a number.</p>\n"
 in_its_place (Bars value verdict) = codes "<p>No picture: no row has a value.</p>\n"
 in_its_place (Squares verdict) = codes "<p>No picture: no event alone would change the verdict.</p>\n"
 in_its_place Lines = codes "<p>No picture: no hour has an average.</p>\n"
+in_its_place (Days pollutant) = codes "<p>No picture: no day has a value.</p>\n"
+in_its_place Highest = codes "<p>No picture: no day is ranked.</p>\n"
 in_its_place Nothing = []
 
 unfoldable pub picture_of : Picture → List Line → List Line → List ℕ

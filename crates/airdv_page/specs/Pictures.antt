@@ -1,11 +1,13 @@
 -- The pictures of sheets in SVG. Every coordinate that stands for a number is its place by the one scale (own).
-use Rattle.std.specs.Prelude.{ℕ, ◌+◌, ◌-◌, ◌*◌, max, Bool, false, if◌then◌else◌, List, [], ◌∷◌, ◌++◌, length, take, codes, bytes_eq, Option, Some, None, is_some, pos}
+use Rattle.std.specs.Prelude.{ℕ, ◌+◌, ◌-◌, ◌*◌, ◌/◌, max, Bool, false, if◌then◌else◌, List, [], ◌∷◌, ◌++◌, length, take, codes, bytes_eq, Option, Some, None, is_some, pos}
 use Rattle.aq_base.specs.Decimal.{fixed}
-use Rattle.aq_base.specs.declared.standard.Standard.{Standard}
+use Rattle.aq_base.specs.declared.monitor.Pollutant.{Pollutant}
+use Rattle.aq_base.specs.declared.monitor.Pollutant.TheVariants.{Ozone, Pm25, Pm10}
 use Rattle.airdv_page.specs.Reading.{Line}
 use Rattle.airdv_page.specs.Html.{escaped, number, rect, start_mark, svg_start, text_start}
 use Rattle.airdv_page.specs.Numbers.{word_at, number_at, greatest, scaled}
 use Rattle.airdv_page.specs.Levels.{level_at, level_or_zero, level_mark}
+use Rattle.airdv_page.specs.declared.level.Level.{Level}
 use Rattle.airdv_page.specs.declared.bars.TheConstants.{LONGEST}
 use Rattle.airdv_page.specs.declared.day.TheConstants.{HIGHEST}
 
@@ -61,29 +63,52 @@ bars_from value verdict top room index (line ∷ lines) =
     labelled value verdict top room index line ++ bars_from value verdict top room (index + 1) lines
 
 -- the room above the bars, for the level in words; none if there is no level
-abbrev pub room_for : Option Standard → ℕ
+abbrev pub room_for : Option Level → ℕ
 room_for None = 0
-room_for (Some standard) = 48
+room_for (Some level) = 48
 
 -- a line across so many bars, where the level stands by the same scale
-unfoldable pub level_across : ℕ → ℕ → Option Standard → List ℕ
+unfoldable pub level_across : ℕ → ℕ → Option Level → List ℕ
 level_across top count None = []
-level_across top count (Some standard) =
-    let x : ℕ = 20 + scaled top LONGEST (level_at standard) in level_mark standard (x, 48) (x, 52 + 64 * count)
+level_across top count (Some level) =
+    let x : ℕ = 20 + scaled top LONGEST (level_at level) in level_mark level (x, 48) (x, 52 + 64 * count)
 
 -- the number at which the scale ends: the greatest of the values and the level
-abbrev pub end_of : Option ℕ → Option Standard → List Line → ℕ
-end_of None standard lines = max 1 (level_or_zero standard)
-end_of (Some place) standard lines = greatest place (max 1 (level_or_zero standard)) lines
+abbrev pub end_of : Option ℕ → Option Level → List Line → ℕ
+end_of None level lines = max 1 (level_or_zero level)
+end_of (Some place) level lines = greatest place (max 1 (level_or_zero level)) lines
 
-unfoldable pub bars_at : ℕ → ℕ → ℕ → Option ℕ → Option ℕ → Option Standard → List Line → List ℕ
-bars_at top room count value verdict standard lines =
+unfoldable pub bars_at : ℕ → ℕ → ℕ → Option ℕ → Option ℕ → Option Level → List Line → List ℕ
+bars_at top room count value verdict level lines =
     svg_start 720 (16 + room + 64 * count)
-    ++ (bars_from value verdict top room 0 lines ++ (level_across top count standard ++ codes "</svg>\n"))
+    ++ (bars_from value verdict top room 0 lines ++ (level_across top count level ++ codes "</svg>\n"))
 
 -- a bar for each line, beside the level
-unfoldable pub bars : Option ℕ → Option ℕ → Option Standard → List Line → List ℕ
-bars value verdict standard lines = bars_at (end_of value standard lines) (room_for standard) (length lines) value verdict standard lines
+unfoldable pub bars : Option ℕ → Option ℕ → Option Level → List Line → List ℕ
+bars value verdict level lines = bars_at (end_of value level lines) (room_for level) (length lines) value verdict level lines
+
+-- ---- the highest days
+
+-- the mark of a row whose rank decides, beside its label
+unfoldable pub decision : List ℕ → ℕ → ℕ → Line → List ℕ
+decision decides room index line =
+    if bytes_eq (word_at 0 line) decides
+    then text_start (codes "decides") 690 (28 + (room + 64 * index)) ++ codes "decides</text>\n"
+    else []
+
+abbrev pub decisions_from : List ℕ → ℕ → ℕ → List Line → List ℕ
+decisions_from decides room index [] = []
+decisions_from decides room index (line ∷ lines) = decision decides room index line ++ decisions_from decides room (index + 1) lines
+
+unfoldable pub highest_at : List ℕ → ℕ → ℕ → ℕ → Option ℕ → Option ℕ → Option Level → List Line → List ℕ
+highest_at decides top room count value verdict level lines =
+    svg_start 720 (16 + room + 64 * count)
+    ++ (bars_from value verdict top room 0 lines
+    ++ (decisions_from decides room 0 lines ++ (level_across top count level ++ codes "</svg>\n")))
+
+-- a bar for the value of each of the highest days, with its rank and its day, beside the level
+unfoldable pub highest : List ℕ → Option Level → List Line → List ℕ
+highest decides level lines = highest_at decides (end_of (Some 2) level lines) (room_for level) (length lines) (Some 2) (Some 1) level lines
 
 -- ---- the two lines of a day
 
@@ -124,32 +149,35 @@ abbrev pub hours_from : ℕ → List Line → List ℕ
 hours_from index [] = []
 hours_from index (line ∷ lines) = hour (across index) line ++ hours_from (index + 1) lines
 
-abbrev pub in_thousandths : ℕ → List ℕ
-in_thousandths n = fixed (pos n) 3
+-- a number of thousandths, with the places that the values of a pollutant have
+unfoldable pub in_unit : Pollutant → ℕ → List ℕ
+in_unit Ozone n = fixed (pos n) 3
+in_unit Pm25 n = fixed (pos (n / 100)) 1
+in_unit Pm10 n = fixed (pos (n / 100)) 1
 
 -- the number at which the scale ends
-unfoldable pub end_mark : ℕ → List ℕ
-end_mark top = text_start (codes "end") 4 66 ++ (in_thousandths top ++ codes "</text>\n")
+unfoldable pub end_mark : Pollutant → ℕ → List ℕ
+end_mark pollutant top = text_start (codes "end") 4 66 ++ (in_unit pollutant top ++ codes "</text>\n")
 
 -- where the scale begins, and which line is which
 unfoldable pub legend : List ℕ
 legend =
     codes "<text class=\"end\" x=\"44\" y=\"346\">0</text>\n<path class=\"full\" d=\"M80 412h60\"/><text x=\"152\" y=\"420\">full: all hours</text>\n<path class=\"net\" d=\"M80 448h60\"/><text x=\"152\" y=\"456\">average: without agreed events</text>\n</svg>\n"
 
--- a line along so many hours, where the level stands by the same scale
-unfoldable pub level_along : ℕ → ℕ → Standard → List ℕ
-level_along top count standard =
-    let y : ℕ = down top (level_at standard) in level_mark standard (64, y) (60 + 40 * count, y)
+-- a line that ends so far from the left, where the level stands by the same scale
+unfoldable pub level_along : ℕ → ℕ → Level → List ℕ
+level_along top right level =
+    let y : ℕ = down top (level_at level) in level_mark level (64, y) (right, y)
 
 -- the full averages and the net ones, and which is which
 unfoldable pub curves : ℕ → List Line → List ℕ
 curves top lines = curve (codes "full") 3 top lines ++ (curve (codes "net") 1 top lines ++ legend)
 
-unfoldable pub day_at : ℕ → ℕ → Standard → List Line → List ℕ
-day_at top count standard lines =
+unfoldable pub day_at : ℕ → ℕ → Level → List Line → List ℕ
+day_at top count level lines =
     svg_start (max 720 (80 + 40 * count)) 470
-    ++ (level_along top count standard ++ (end_mark top ++ (hours_from 0 lines ++ curves top lines)))
+    ++ (level_along top (60 + 40 * count) level ++ (end_mark Ozone top ++ (hours_from 0 lines ++ curves top lines)))
 
 -- the level, the full averages and the net ones, hour by hour
-unfoldable pub day : Standard → List Line → List ℕ
-day standard lines = day_at (greatest 3 (greatest 1 (max 1 (level_at standard)) lines) lines) (length lines) standard lines
+unfoldable pub day : Level → List Line → List ℕ
+day level lines = day_at (greatest 3 (greatest 1 (max 1 (level_at level)) lines) lines) (length lines) level lines

@@ -1,4 +1,4 @@
--- What a page is about, and what each of its sections is about: its standard, its site, its year or its day (own).
+-- What a page is about, and what each of its sections is about: its standard, its site, its parameter, its year or its day (own).
 use Rattle.std.specs.Prelude.{ℕ, Bool, true, false, ◌||◌, if◌then◌else◌, List, [], ◌∷◌, ◌++◌, codes}
 use Rattle.airdv_page.specs.Reading.{Line, is_head}
 use Rattle.airdv_page.specs.Numbers.{word_at}
@@ -7,7 +7,8 @@ use Rattle.airdv_page.specs.Html.{cell}
 -- whether a line is a head that says what its sheet is about
 unfoldable pub is_about : Line → Bool
 is_about line =
-    ((is_head (codes "standard") line || is_head (codes "site") line) || is_head (codes "year") line) || is_head (codes "day") line
+    (((is_head (codes "standard") line || is_head (codes "site") line) || is_head (codes "parameter") line) || is_head (codes "year") line)
+    || is_head (codes "day") line
 
 -- the words of the first such heads, those that follow one another, each between two texts; `begun` says that one stands before the lines
 abbrev pub subject_from : Bool → List ℕ → List ℕ → List Line → List ℕ

@@ -1,13 +1,13 @@
 //! A bar for each line of a sheet, beside the level.
 ghost use Rattle.std.specs.Prelude.{◌≡◌, ◌≤◌, ◌<◌, ◌++◌, ◌^◌, length, OnOk};
 ghost use Rattle.airdv_page.specs.Pictures as pictures;
-ghost use Rattle.airdv_page.specs.Pictures.{bar, bar_at, bars_at, bars_from, caption, end_of, label, labelled, level_across, look, look_of, room_for, word_if};
+ghost use Rattle.airdv_page.specs.Pictures.{bar, bar_at, bars_at, bars_from, caption, decision, decisions_from, end_of, highest_at, label, labelled, level_across, look, look_of, room_for, word_if};
 
 use crate::html::{write_escaped, write_rect, write_start_mark, write_svg_start, write_text_start};
-use crate::level::{level_at, level_or_zero, write_level_mark};
+use crate::level::{Level, level_at, level_or_zero, write_level_mark};
 use crate::numbers::{greatest, number_at, scaled, word_at};
 use crate::reading::Line;
-use aq_base::{Bytes, Memory, Standard};
+use aq_base::{Bytes, Memory};
 
 /// The length of a bar that stands for the greatest number.
 const LONGEST: u16 = 680;
@@ -155,16 +155,16 @@ fn write_level_across(
     out: &mut Vec<u8>,
     top: u32,
     count: u64,
-    standard: Option<Standard>,
+    level: Option<Level>,
 ) -> Result<(), Memory>
     requires top { 0 < top }
     requires count { count ≤ 100000 }
-    ensures { OnOk result (out.new.items ≡ out.old.items ++ level_across top count standard) }
+    ensures { OnOk result (out.new.items ≡ out.old.items ++ level_across top count level) }
 {
-    match standard {
-        Some(standard) => {
-            let x = 20 + scaled(top, LONGEST, level_at(standard));
-            write_level_mark(out, standard, (x, 48), (x, 52 + 64 * count))
+    match level {
+        Some(level) => {
+            let x = 20 + scaled(top, LONGEST, level_at(level));
+            write_level_mark(out, level, (x, 48), (x, 52 + 64 * count))
         }
         None => Ok(()),
     }
@@ -175,28 +175,28 @@ fn write_bars_at(
     out: &mut Vec<u8>,
     layout: Layout,
     count: u64,
-    standard: Option<Standard>,
+    level: Option<Level>,
     lines: &[Line],
 ) -> Result<(), Memory>
     requires top { 0 < layout.top }
     requires room { layout.room ≤ 48 }
     requires count { count ≤ 100000 }
     requires few { length lines.now ≤ 100000 }
-    ensures { OnOk result (out.new.items ≡ out.old.items ++ bars_at layout.top layout.room count layout.value layout.verdict standard lines.now) }
+    ensures { OnOk result (out.new.items ≡ out.old.items ++ bars_at layout.top layout.room count layout.value layout.verdict level lines.now) }
 {
     write_svg_start(out, 720, 16 + layout.room + 64 * count)?;
     write_bars(out, layout, lines)?;
-    write_level_across(out, layout.top, count, standard)?;
+    write_level_across(out, layout.top, count, level)?;
     out.extend_from_slice(b"</svg>\n")?;
     Ok(())
 }
 
 /// The number at which the scale ends: the greatest of the values and the level.
-fn end_of(value: Option<usize>, standard: Option<Standard>, lines: &[Line]) -> u32
-    ensures end { result ≡ end_of value standard lines.now }
+fn end_of(value: Option<usize>, level: Option<Level>, lines: &[Line]) -> u32
+    ensures end { result ≡ end_of value level lines.now }
     ensures above { 0 < result }
 {
-    let least = level_or_zero(standard).max(1);
+    let least = level_or_zero(level).max(1);
     match value {
         Some(place) => greatest(place, least, lines),
         None => least,
@@ -204,11 +204,11 @@ fn end_of(value: Option<usize>, standard: Option<Standard>, lines: &[Line]) -> u
 }
 
 /// The room above the bars, for the level in words; none if there is no level.
-fn room_for(standard: Option<Standard>) -> u64
-    ensures room { result ≡ room_for standard }
+fn room_for(level: Option<Level>) -> u64
+    ensures room { result ≡ room_for level }
     ensures small { result ≤ 48 }
 {
-    match standard {
+    match level {
         Some(_) => 48,
         None => 0,
     }
@@ -220,17 +220,95 @@ pub(crate) fn write_picture(
     out: &mut Vec<u8>,
     value: Option<usize>,
     verdict: Option<usize>,
-    standard: Option<Standard>,
+    level: Option<Level>,
     lines: &[Line],
 ) -> Result<(), Memory>
     requires { length lines.now ≤ 100000 }
-    ensures { OnOk result (out.new.items ≡ out.old.items ++ pictures.bars value verdict standard lines.now) }
+    ensures { OnOk result (out.new.items ≡ out.old.items ++ pictures.bars value verdict level lines.now) }
 {
     let layout = Layout {
         value,
         verdict,
-        top: end_of(value, standard, lines),
-        room: room_for(standard),
+        top: end_of(value, level, lines),
+        room: room_for(level),
     };
-    write_bars_at(out, layout, lines.len() as u64, standard, lines)
+    write_bars_at(out, layout, lines.len() as u64, level, lines)
+}
+
+/// Appends the mark of a row whose rank decides, beside its label.
+#[tactic(auto, unfolding(crate::specs::Pictures::decision))]
+fn write_decision(
+    out: &mut Vec<u8>,
+    decides: &[u8],
+    room: u64,
+    index: u64,
+    line: &[Bytes],
+) -> Result<(), Memory>
+    requires room { room ≤ 48 }
+    requires index { index ≤ 100000 }
+    ensures { OnOk result (out.new.items ≡ out.old.items ++ decision decides.now room index line.now) }
+{
+    if word_at(0, line) == decides {
+        write_text_start(out, b"decides", 690, 28 + (room + 64 * index))?;
+        out.extend_from_slice(b"decides</text>\n")?;
+    }
+    Ok(())
+}
+
+fn write_decisions(
+    out: &mut Vec<u8>,
+    decides: &[u8],
+    room: u64,
+    lines: &[Line],
+) -> Result<(), Memory>
+    requires room { room ≤ 48 }
+    requires few { length lines.now ≤ 100000 }
+    ensures { OnOk result (out.new.items ≡ out.old.items ++ decisions_from decides.now room 0 lines.now) }
+{
+    for (i, line) in lines.iter().enumerate() {
+        write_decision(out, decides, room, i as u64, line.as_slice())?;
+    }
+    Ok(())
+}
+
+/// Appends a bar for each of the highest days, beside the level, and marks the row whose rank decides.
+#[tactic(auto, unfolding(crate::specs::Pictures::highest))]
+pub(crate) fn write_highest(
+    out: &mut Vec<u8>,
+    decides: &[u8],
+    level: Option<Level>,
+    lines: &[Line],
+) -> Result<(), Memory>
+    requires { length lines.now ≤ 100000 }
+    ensures { OnOk result (out.new.items ≡ out.old.items ++ pictures.highest decides.now level lines.now) }
+{
+    let layout = Layout {
+        value: Some(2),
+        verdict: Some(1),
+        top: end_of(Some(2), level, lines),
+        room: room_for(level),
+    };
+    write_highest_at(out, decides, layout, lines.len() as u64, level, lines)
+}
+
+fn write_highest_at(
+    out: &mut Vec<u8>,
+    decides: &[u8],
+    layout: Layout,
+    count: u64,
+    level: Option<Level>,
+    lines: &[Line],
+) -> Result<(), Memory>
+    requires top { 0 < layout.top }
+    requires room { layout.room ≤ 48 }
+    requires count { count ≤ 100000 }
+    requires few { length lines.now ≤ 100000 }
+    ensures { OnOk result (out.new.items ≡ out.old.items ++ highest_at decides.now layout.top layout.room count layout.value layout.verdict level lines.now) }
+{
+    write_svg_start(out, 720, 16 + layout.room + 64 * count)?;
+    write_bars(out, layout, lines)?;
+    write_decisions(out, decides, layout.room, lines)?;
+    write_level_across(out, layout.top, count, level)?;
+    out.extend_from_slice(b"</svg>\n")?;
+    Ok(())
 }

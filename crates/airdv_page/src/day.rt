@@ -1,13 +1,13 @@
 //! The two lines of a day: the full 8-hour averages and the net ones, hour by hour.
 ghost use Rattle.std.specs.Prelude.{◌≡◌, ◌≤◌, ◌<◌, ◌++◌, ◌^◌, false, length, OnOk};
 ghost use Rattle.airdv_page.specs.Pictures as pictures;
-ghost use Rattle.airdv_page.specs.Pictures.{across, curve, curves, day_at, down, end_mark, hour, hour_word, hours_from, in_thousandths, legend, level_along, point, points_from};
+ghost use Rattle.airdv_page.specs.Pictures.{across, curve, curves, day_at, down, end_mark, hour, hour_word, hours_from, in_unit, legend, level_along, point, points_from};
 
 use crate::html::{write_escaped, write_number, write_svg_start, write_text_start};
-use crate::level::{level_at, write_level_mark};
+use crate::level::{Level, level_at, write_level_mark};
 use crate::numbers::{greatest, number_at, scaled, word_at};
 use crate::reading::Line;
-use aq_base::{Bytes, Memory, Standard};
+use aq_base::{Bytes, Memory, Pollutant};
 use aq_num::write_fixed;
 
 /// The height of a point that stands for the greatest number.
@@ -22,7 +22,7 @@ fn across(index: u32) -> u64
 }
 
 /// How far from the top a number stands, by the scale from the foot up.
-fn down(top: u32, number: u32) -> u64
+pub(crate) fn down(top: u32, number: u32) -> u64
     requires { 0 < top }
     ensures place { result ≡ down top number }
     ensures small { result < 2 ^ 63 }
@@ -118,19 +118,28 @@ fn write_hours(out: &mut Vec<u8>, lines: &[Line]) -> Result<(), Memory>
     Ok(())
 }
 
-fn write_thousandths(out: &mut Vec<u8>, value: u32) -> Result<(), Memory>
-    ensures { OnOk result (out.new.items ≡ out.old.items ++ in_thousandths value) }
+/// Appends a number of thousandths with the places that the values of a pollutant have.
+#[tactic(auto, unfolding(crate::specs::Pictures::in_unit))]
+fn write_in_unit(out: &mut Vec<u8>, pollutant: Pollutant, value: u32) -> Result<(), Memory>
+    ensures { OnOk result (out.new.items ≡ out.old.items ++ in_unit pollutant value) }
 {
-    write_fixed(out, i64::from(value), 3)
+    match pollutant {
+        Pollutant::Ozone => write_fixed(out, i64::from(value), 3),
+        Pollutant::Pm25 | Pollutant::Pm10 => write_fixed(out, i64::from(value / 100), 1),
+    }
 }
 
 /// Appends the number at which the scale ends.
 #[tactic(auto, unfolding(crate::specs::Pictures::end_mark))]
-fn write_end_mark(out: &mut Vec<u8>, top: u32) -> Result<(), Memory>
-    ensures { OnOk result (out.new.items ≡ out.old.items ++ end_mark top) }
+pub(crate) fn write_end_mark(
+    out: &mut Vec<u8>,
+    pollutant: Pollutant,
+    top: u32,
+) -> Result<(), Memory>
+    ensures { OnOk result (out.new.items ≡ out.old.items ++ end_mark pollutant top) }
 {
     write_text_start(out, b"end", 4, 66)?;
-    write_thousandths(out, top)?;
+    write_in_unit(out, pollutant, top)?;
     out.extend_from_slice(b"</text>\n")?;
     Ok(())
 }
@@ -158,20 +167,20 @@ fn write_curves(out: &mut Vec<u8>, top: u32, lines: &[Line]) -> Result<(), Memor
     write_legend(out)
 }
 
-/// Appends a line along so many hours, where the level stands by the same scale.
+/// Appends a line that ends so far from the left, where the level stands by the same scale.
 #[tactic(auto, unfolding(crate::specs::Pictures::level_along))]
-fn write_level_along(
+pub(crate) fn write_level_along(
     out: &mut Vec<u8>,
     top: u32,
-    count: u64,
-    standard: Standard,
+    right: u64,
+    level: Level,
 ) -> Result<(), Memory>
     requires top { 0 < top }
-    requires count { count ≤ 100000 }
-    ensures { OnOk result (out.new.items ≡ out.old.items ++ level_along top count standard) }
+    requires right { right < 2 ^ 63 }
+    ensures { OnOk result (out.new.items ≡ out.old.items ++ level_along top right level) }
 {
-    let y = down(top, level_at(standard));
-    write_level_mark(out, standard, (64, y), (60 + 40 * count, y))
+    let y = down(top, level_at(level));
+    write_level_mark(out, level, (64, y), (right, y))
 }
 
 /// Appends the picture of so many hours, on a scale that ends at `top`.
@@ -180,33 +189,33 @@ fn write_day_at(
     out: &mut Vec<u8>,
     top: u32,
     count: u64,
-    standard: Standard,
+    level: Level,
     lines: &[Line],
 ) -> Result<(), Memory>
     requires top { 0 < top }
     requires count { count ≤ 100000 }
     requires few { length lines.now ≤ 100000 }
-    ensures { OnOk result (out.new.items ≡ out.old.items ++ day_at top count standard lines.now) }
+    ensures { OnOk result (out.new.items ≡ out.old.items ++ day_at top count level lines.now) }
 {
     write_svg_start(out, (80 + 40 * count).max(720), 470)?;
-    write_level_along(out, top, count, standard)?;
-    write_end_mark(out, top)?;
+    write_level_along(out, top, 60 + 40 * count, level)?;
+    write_end_mark(out, Pollutant::Ozone, top)?;
     write_hours(out, lines)?;
     write_curves(out, top, lines)
 }
 
 /// Appends the full averages and the net ones, hour by hour. The scale ends at the greatest of them.
 #[tactic(auto, unfolding(crate::specs::Pictures::day))]
-pub(crate) fn write_day(out: &mut Vec<u8>, standard: Standard, lines: &[Line]) -> Result<(), Memory>
+pub(crate) fn write_day(out: &mut Vec<u8>, level: Level, lines: &[Line]) -> Result<(), Memory>
     requires { length lines.now ≤ 100000 }
-    ensures { OnOk result (out.new.items ≡ out.old.items ++ pictures.day standard lines.now) }
+    ensures { OnOk result (out.new.items ≡ out.old.items ++ pictures.day level lines.now) }
 {
-    let top = greatest(1, level_at(standard).max(1), lines);
+    let top = greatest(1, level_at(level).max(1), lines);
     write_day_at(
         out,
         greatest(3, top, lines),
         lines.len() as u64,
-        standard,
+        level,
         lines,
     )
 }

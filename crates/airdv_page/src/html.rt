@@ -1,7 +1,7 @@
 //! Texts, rows and the elements of a picture, in HTML. A place in a picture is so far from the left, and
 //! from the top.
 ghost use Rattle.std.specs.Prelude.{◌≡◌, ◌<◌, ◌^◌, ◌++◌, OnOk, flat_map};
-ghost use Rattle.airdv_page.specs.Html.{attribute, cell, escaped, escaped_byte, line, number, rect, row, start_mark, svg_start, text_start};
+ghost use Rattle.airdv_page.specs.Html.{attribute, cell, circle, escaped, escaped_byte, line, number, rect, row, start_mark, svg_start, text_start};
 
 use aq_base::{Bytes, Memory};
 use aq_num::write_fixed;
@@ -159,6 +159,21 @@ pub(crate) fn write_rect(out: &mut Vec<u8>, y: u64, width: u64) -> Result<(), Me
     write_attribute(out, b"y", y)?;
     write_attribute(out, b"width", width)?;
     write_attribute(out, b"height", 24)?;
+    out.extend_from_slice(b"/>")?;
+    Ok(())
+}
+
+/// Appends a circle round a place.
+#[tactic(auto, unfolding(crate::specs::Html::circle))]
+pub(crate) fn write_circle(out: &mut Vec<u8>, x: u64, y: u64, radius: u64) -> Result<(), Memory>
+    requires place { (x < 2 ^ 63) × (y < 2 ^ 63) }
+    requires radius { radius < 2 ^ 63 }
+    ensures { OnOk result (out.new.items ≡ out.old.items ++ circle x y radius) }
+{
+    out.extend_from_slice(b"<circle")?;
+    write_attribute(out, b"cx", x)?;
+    write_attribute(out, b"cy", y)?;
+    write_attribute(out, b"r", radius)?;
     out.extend_from_slice(b"/>")?;
     Ok(())
 }

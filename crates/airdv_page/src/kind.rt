@@ -2,6 +2,7 @@
 ghost use Rattle.std.specs.Prelude.{◌≡◌};
 ghost use Rattle.airdv_page.specs.Kinds as book;
 
+use aq_base::Pollutant;
 use std::marker::Model;
 
 /// What is drawn of a sheet.
@@ -18,6 +19,10 @@ pub enum Picture {
     Squares(usize),
     /// The two lines of a day.
     Lines,
+    /// The days of a year of a pollutant.
+    Days(Pollutant),
+    /// A bar for each of the highest days.
+    Highest,
     Nothing,
 }
 
@@ -53,9 +58,21 @@ fn value_kind(columns: &'static str, drawn: usize) -> Kind
     }
 }
 
+/// The highest days, of ozone or of the particles.
+fn highest_kind(columns: &'static str) -> Kind
+    ensures { result ≡ book.highest_kind columns.now }
+{
+    Kind {
+        title: "The highest days of a year",
+        heads: "site parameter year ranked decides",
+        columns,
+        picture: Picture::Highest,
+    }
+}
+
 /// All kinds, in the order in which they are tried.
 #[tactic(auto, unfolding(crate::specs::Kinds::kinds))]
-pub fn kinds() -> [Kind; 11]
+pub fn kinds() -> [Kind; 16]
     ensures { result ≡ book.kinds }
 {
     [
@@ -111,6 +128,26 @@ pub fn kinds() -> [Kind; 11]
             columns: "event verdict",
             picture: Picture::Squares(1),
         },
+        Kind {
+            title: "The ozone days of a year, in ppm",
+            heads: "site year season_first season_last season_days season_valid fourth",
+            columns: "day averages valid approved maximum",
+            picture: Picture::Days(Pollutant::Ozone),
+        },
+        Kind {
+            title: "The PM2.5 days of a year, in &#181;g/m&#179;",
+            heads: "site parameter year",
+            columns: "day scheduled value excluded credit",
+            picture: Picture::Days(Pollutant::Pm25),
+        },
+        Kind {
+            title: "The PM10 days of a year, in &#181;g/m&#179;",
+            heads: "site parameter year",
+            columns: "day scheduled stratum value excluded exceeds",
+            picture: Picture::Days(Pollutant::Pm10),
+        },
+        highest_kind("rank day value hour hours"),
+        highest_kind("rank day value"),
         Kind {
             title: "What a simulation took",
             heads: "loads lines observations",

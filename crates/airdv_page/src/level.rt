@@ -1,10 +1,40 @@
 //! The levels of the standards, in words and in a picture.
 ghost use Rattle.std.specs.Prelude.{◌≡◌, ◌≤◌, ◌<◌, ◌++◌, ◌^◌, OnOk};
-ghost use Rattle.airdv_page.specs.Levels.{form_of, level_at, level_mark, level_or_zero, level_text, unit_words};
+ghost use Rattle.airdv_page.specs.Levels.{day_level, form_of, level_at, level_mark, level_or_zero, level_text, standard_in, standard_level, unit_words};
 
 use crate::html::{write_line, write_text_start};
 use aq_base::{Memory, Pollutant, Standard};
 use aq_num::write_fixed;
+
+/// A level beside which numbers are drawn.
+#[derive(Clone, Copy)]
+pub enum Level {
+    /// That of a standard's design value.
+    Of(Standard),
+    /// That of a day of PM10, 150 µg/m3 (40 CFR 50.6).
+    Pm10Day,
+}
+
+/// The level beside which the days of a pollutant are drawn.
+pub(crate) fn day_level(pollutant: Pollutant) -> Level
+    ensures { result ≡ day_level pollutant }
+{
+    match pollutant {
+        Pollutant::Ozone => Level::Of(Standard::Ozone2015),
+        Pollutant::Pm25 => Level::Of(Standard::Daily2006),
+        Pollutant::Pm10 => Level::Pm10Day,
+    }
+}
+
+/// The standard that has the level.
+pub(crate) fn standard_in(level: Level) -> Standard
+    ensures { result ≡ standard_in level }
+{
+    match level {
+        Level::Of(standard) => standard,
+        Level::Pm10Day => Standard::Pm10Of1987,
+    }
+}
 
 /// What is held beside the level of a standard, in words.
 #[tactic(auto, unfolding(crate::specs::Levels::form_of))]
@@ -60,33 +90,53 @@ fn unit_words(pollutant: Pollutant) -> &'static str
     }
 }
 
-/// The level of a standard, in thousandths.
-#[tactic(auto, unfolding(crate::specs::Levels::level_at))]
-pub(crate) fn level_at(standard: Standard) -> u32
-    ensures level { result ≡ level_at standard }
+/// The level of a standard's design value, in thousandths.
+#[tactic(auto, unfolding(crate::specs::Levels::standard_level))]
+fn standard_level(standard: Standard) -> u32
+    ensures number { result ≡ standard_level standard }
     ensures within { result ≤ 999999999 }
 {
     standard.level().unsigned_abs() * 10u32.pow(u32::from(3 - places_of(standard)))
 }
 
-/// Appends the level of a standard in words.
-#[tactic(auto, unfolding(crate::specs::Levels::level_text))]
-pub(crate) fn write_level(out: &mut Vec<u8>, standard: Standard) -> Result<(), Memory>
-    ensures { OnOk result (out.new.items ≡ out.old.items ++ level_text standard) }
-{
-    out.extend_from_slice(b"Level: ")?;
-    write_fixed(out, i64::from(standard.level()), places_of(standard))?;
-    out.extend_from_slice(unit_words(standard.pollutant()).as_bytes())?;
-    Ok(())
-}
-
-/// The level of a standard, in thousandths, and 0 if there is none.
-pub(crate) fn level_or_zero(standard: Option<Standard>) -> u32
-    ensures level { result ≡ level_or_zero standard }
+/// A level in thousandths.
+#[tactic(auto, unfolding(crate::specs::Levels::level_at))]
+pub(crate) fn level_at(level: Level) -> u32
+    ensures number { result ≡ level_at level }
     ensures within { result ≤ 999999999 }
 {
-    match standard {
-        Some(standard) => level_at(standard),
+    match level {
+        Level::Of(standard) => standard_level(standard),
+        Level::Pm10Day => 150_000,
+    }
+}
+
+/// Appends a level in words.
+#[tactic(auto, unfolding(crate::specs::Levels::level_text))]
+pub(crate) fn write_level(out: &mut Vec<u8>, level: Level) -> Result<(), Memory>
+    ensures { OnOk result (out.new.items ≡ out.old.items ++ level_text level) }
+{
+    match level {
+        Level::Of(standard) => {
+            out.extend_from_slice(b"Level: ")?;
+            write_fixed(out, i64::from(standard.level()), places_of(standard))?;
+            out.extend_from_slice(unit_words(standard.pollutant()).as_bytes())?;
+            Ok(())
+        }
+        Level::Pm10Day => {
+            out.extend_from_slice(b"Level: 150 &#181;g/m&#179;")?;
+            Ok(())
+        }
+    }
+}
+
+/// A level in thousandths, and 0 if there is none.
+pub(crate) fn level_or_zero(level: Option<Level>) -> u32
+    ensures number { result ≡ level_or_zero level }
+    ensures within { result ≤ 999999999 }
+{
+    match level {
+        Some(level) => level_at(level),
         None => 0,
     }
 }
@@ -95,17 +145,17 @@ pub(crate) fn level_or_zero(standard: Option<Standard>) -> u32
 #[tactic(auto, unfolding(crate::specs::Levels::level_mark))]
 pub(crate) fn write_level_mark(
     out: &mut Vec<u8>,
-    standard: Standard,
+    level: Level,
     from: (u64, u64),
     to: (u64, u64),
 ) -> Result<(), Memory>
     requires from { (from.0 < 2 ^ 63) × (from.1 < 2 ^ 63) }
     requires to { (to.0 < 2 ^ 63) × (to.1 < 2 ^ 63) }
-    ensures { OnOk result (out.new.items ≡ out.old.items ++ level_mark standard from to) }
+    ensures { OnOk result (out.new.items ≡ out.old.items ++ level_mark level from to) }
 {
     out.extend_from_slice(b"<g class=\"level\">")?;
     write_text_start(out, b"label", 20, 34)?;
-    write_level(out, standard)?;
+    write_level(out, level)?;
     out.extend_from_slice(b"</text>")?;
     write_line(out, from, to)?;
     out.extend_from_slice(b"</g>\n")?;

@@ -7,9 +7,9 @@
 //!   `docs/COMMANDS.md`.
 //! - `page::page_of`: the page of a text, or that it has none. `reading` finds the sheets of a text,
 //!   `kind` says what each is called and what is drawn of it, `subject` what it is about, and `html`,
-//!   `numbers`, `bars` and `day` write it.
-//! - In `specs/`: `Kinds`, `Subject`, `Page` and `Pictures`, which say what a page is, and the one scale
-//!   of its pictures.
+//!   `numbers`, `bars`, `day` and `year` write it; `ranked` has the ten highest days of a year.
+//! - In `specs/`: `Kinds`, `Subject`, `Page`, `Pictures` and `Year`, which say what a page is, and the one
+//!   scale of its pictures.
 //!
 //! # What it promises
 //!
@@ -18,10 +18,13 @@
 //!   unless memory ran out, that page is made, and of any other text none (`page_of`).
 //! - The page is the definition's: after each title the tables have a row for each line of the sheet and
 //!   a cell for each of its words, escaped, in their order, and nothing else.
-//! - The title of the page and the head of each section say the standard, the site and the year or day
-//!   that the heads of a sheet name. A picture in which nothing would be drawn is a sentence.
+//! - The title of the page and the head of each section say the standard, the site, the parameter and the
+//!   year or day that the heads of a sheet name. A picture in which nothing would be drawn is a sentence.
 //! - Every coordinate of a picture that stands for a number is its place by one scale, `scaled`, from 0
-//!   to the greatest of the numbers drawn and the level; the level and its words are those of aq_base.
+//!   to the greatest of the numbers drawn and the level; the level and its words are those of aq_base, and
+//!   that of a day of PM10 is the book's.
+//! - The ten days that are marked in a year are the first ten in the book's order of ranked days
+//!   (`days_ranked`), of those that are not set apart.
 //! - With 0 the whole page of the input is on the output, and with 2 the input has no page, as far as
 //!   the streams tell their bytes; with 2 and 3 nothing is written (`show`).
 //! - That the page is good HTML, and what a browser makes of it, is only tried, by `bin/tries-page`.
@@ -45,9 +48,11 @@ mod kind;
 mod level;
 mod numbers;
 mod page;
+mod ranked;
 mod reading;
 mod style;
 mod subject;
+mod year;
 
 use aq_base::Bytes;
 use page::page_of;

@@ -1,19 +1,21 @@
 //! The page of a text.
 ghost use Rattle.std.specs.Prelude.{◌≡◌, ◌≤◌, ◌++◌, length, flat_map, IfOk, IfSome, OnOk, option_map};
 ghost use Rattle.airdv_page.specs.Page as pages;
-ghost use Rattle.airdv_page.specs.Page.{behind_first, cells, column_names, columns_and_rows, drawn_as, first_value, has_lines, heads_table, in_its_place, is_drawn, level_words, if_true, opening, picture_of, rows_table, section, section_of, standard_for, standard_line, written};
+ghost use Rattle.airdv_page.specs.Page.{behind_first, cells, column_names, columns_and_rows, drawn_as, has_lines, head_value, heads_table, in_its_place, is_drawn, level_by_name, level_by_parameter, level_for, level_line, level_words, if_true, opening, picture_of, rows_table, section, section_of, written};
 ghost use Rattle.airdv_page.specs.Reading.{lines_in, sheet_at, sheets_in};
 
 use crate::bars;
 use crate::day::write_day;
 use crate::html::write_row;
 use crate::kind::Picture;
-use crate::level::{words_of, write_level};
+use crate::level::{Level, day_level, standard_in, words_of, write_level};
 use crate::numbers::{has_number, word_at};
+use crate::ranked::value_place;
 use crate::reading::{Line, MOST_LINES, MOST_SHEETS, SheetText, is_end, lines_of, sheet_at};
 use crate::subject::{write_heading, write_page_title};
+use crate::year::write_year;
 use aq_base::{Bytes, Memory, Standard};
-use aq_rd::standard_word;
+use aq_rd::{parameter_in, standard_word};
 use std::alloc::Global;
 
 /// Appends a row for each line, with a cell for each word.
@@ -65,13 +67,13 @@ fn write_columns_and_rows(out: &mut Vec<u8>, columns: &[Bytes], rows: &[Line]) -
     Ok(())
 }
 
-/// The value of the first head.
-fn first_value(heads: &[Line]) -> &[u8]
-    ensures { result.now ≡ first_value heads.now }
+/// The value of a head by its place from 0.
+fn head_value(place: usize, heads: &[Line]) -> &[u8]
+    ensures { result.now ≡ head_value place heads.now }
 {
-    match heads {
-        [line, ..] => word_at(1, line.as_slice()),
-        [] => b"",
+    match heads.get(place) {
+        Some(line) => word_at(1, line.as_slice()),
+        None => b"",
     }
 }
 
@@ -85,29 +87,51 @@ fn behind_first(heads: &[Line]) -> &[Line]
     }
 }
 
-/// The standard whose level is drawn, if there is one.
-fn standard_for(picture: Picture, heads: &[Line]) -> Option<Standard>
-    ensures { result ≡ standard_for picture heads.now }
+/// The level of the standard of this name.
+fn level_by_name(word: &[u8]) -> Option<Level>
+    ensures { result ≡ level_by_name word.now }
 {
-    match picture {
-        Picture::Counts => None,
-        Picture::Bars { .. } | Picture::Squares(_) | Picture::Nothing => standard_word(first_value(
-            heads,
-        )),
-        Picture::Lines => Some(Standard::Ozone2015),
+    match standard_word(word) {
+        Some(standard) => Some(Level::Of(standard)),
+        None => None,
     }
 }
 
-/// Appends the standard and its level in words.
-#[tactic(auto, unfolding(crate::specs::Page::standard_line))]
-fn write_standard(out: &mut Vec<u8>, standard: Option<Standard>) -> Result<(), Memory>
-    ensures { OnOk result (out.new.items ≡ out.old.items ++ standard_line standard) }
+/// The level beside which the days of this parameter are drawn.
+fn level_by_parameter(word: &[u8]) -> Option<Level>
+    ensures { result ≡ level_by_parameter word.now }
 {
-    if let Some(standard) = standard {
+    match parameter_in(word) {
+        Some(pollutant) => Some(day_level(pollutant)),
+        None => None,
+    }
+}
+
+/// The level that is drawn, if there is one.
+fn level_for(picture: Picture, heads: &[Line]) -> Option<Level>
+    ensures { result ≡ level_for picture heads.now }
+{
+    match picture {
+        Picture::Counts => None,
+        Picture::Bars { .. } | Picture::Squares(_) | Picture::Nothing => level_by_name(head_value(
+            0, heads,
+        )),
+        Picture::Lines => Some(Level::Of(Standard::Ozone2015)),
+        Picture::Days(pollutant) => Some(day_level(pollutant)),
+        Picture::Highest => level_by_parameter(head_value(1, heads)),
+    }
+}
+
+/// Appends a standard and its level in words.
+#[tactic(auto, unfolding(crate::specs::Page::level_line))]
+fn write_level_line(out: &mut Vec<u8>, level: Option<Level>) -> Result<(), Memory>
+    ensures { OnOk result (out.new.items ≡ out.old.items ++ level_line level) }
+{
+    if let Some(level) = level {
         out.extend_from_slice(b"<p>")?;
-        out.extend_from_slice(words_of(standard).as_bytes())?;
+        out.extend_from_slice(words_of(standard_in(level)).as_bytes())?;
         out.extend_from_slice(b". ")?;
-        write_level(out, standard)?;
+        write_level(out, level)?;
         out.extend_from_slice(b".</p>\n")?;
     }
     Ok(())
@@ -116,12 +140,13 @@ fn write_standard(out: &mut Vec<u8>, standard: Option<Standard>) -> Result<(), M
 fn write_level_words(out: &mut Vec<u8>, picture: Picture, heads: &[Line]) -> Result<(), Memory>
     ensures { OnOk result (out.new.items ≡ out.old.items ++ level_words picture heads.now) }
 {
-    write_standard(out, standard_for(picture, heads))
+    write_level_line(out, level_for(picture, heads))
 }
 
 /// Appends the picture of a sheet in which something is drawn.
 #[tactic(auto, unfolding(crate::specs::Page::drawn_as))]
 fn write_drawn(
+    alloc: Global,
     out: &mut Vec<u8>,
     picture: Picture,
     heads: &[Line],
@@ -134,11 +159,16 @@ fn write_drawn(
     match picture {
         Picture::Counts => bars::write_picture(out, Some(1), None, None, behind_first(heads)),
         Picture::Bars { value, verdict } => {
-            let standard = standard_word(first_value(heads));
-            bars::write_picture(out, Some(value), verdict, standard, rows)
+            let level = level_by_name(head_value(0, heads));
+            bars::write_picture(out, Some(value), verdict, level, rows)
         }
         Picture::Squares(verdict) => bars::write_picture(out, None, Some(verdict), None, rows),
-        Picture::Lines => write_day(out, Standard::Ozone2015, rows),
+        Picture::Lines => write_day(out, Level::Of(Standard::Ozone2015), rows),
+        Picture::Days(pollutant) => write_year(alloc, out, pollutant, rows),
+        Picture::Highest => {
+            let level = level_by_parameter(head_value(1, heads));
+            bars::write_highest(out, head_value(4, heads), level, rows)
+        }
         Picture::Nothing => Ok(()),
     }
 }
@@ -162,6 +192,8 @@ fn is_drawn(picture: Picture, heads: &[Line], rows: &[Line]) -> bool
         Picture::Bars { value, .. } => has_number(value, rows),
         Picture::Squares(_) => has_lines(rows),
         Picture::Lines => has_number(1, rows) || has_number(3, rows),
+        Picture::Days(pollutant) => has_number(value_place(pollutant), rows),
+        Picture::Highest => has_number(2, rows),
         Picture::Nothing => false,
     }
 }
@@ -176,6 +208,8 @@ fn in_its_place(picture: Picture) -> &'static str
         Picture::Bars { .. } => "<p>No picture: no row has a value.</p>\n",
         Picture::Squares(_) => "<p>No picture: no event alone would change the verdict.</p>\n",
         Picture::Lines => "<p>No picture: no hour has an average.</p>\n",
+        Picture::Days(_) => "<p>No picture: no day has a value.</p>\n",
+        Picture::Highest => "<p>No picture: no day is ranked.</p>\n",
         Picture::Nothing => "",
     }
 }
@@ -183,6 +217,7 @@ fn in_its_place(picture: Picture) -> &'static str
 /// Appends the picture of a sheet, or the sentence in its place.
 #[tactic(auto, unfolding(crate::specs::Page::picture_of))]
 fn write_picture(
+    alloc: Global,
     out: &mut Vec<u8>,
     picture: Picture,
     heads: &[Line],
@@ -193,7 +228,7 @@ fn write_picture(
     ensures { OnOk result (out.new.items ≡ out.old.items ++ picture_of picture heads.now rows.now) }
 {
     if is_drawn(picture, heads, rows) {
-        write_drawn(out, picture, heads, rows)
+        write_drawn(alloc, out, picture, heads, rows)
     } else {
         out.extend_from_slice(in_its_place(picture).as_bytes())?;
         Ok(())
@@ -212,6 +247,7 @@ fn write_opening(out: &mut Vec<u8>, picture: Picture, heads: &[Line]) -> Result<
 /// Appends a section with this title, picture, heads, columns and rows.
 #[tactic(auto, unfolding(crate::specs::Page::section_of))]
 fn write_section_of(
+    alloc: Global,
     out: &mut Vec<u8>,
     title: &str,
     picture: Picture,
@@ -225,7 +261,7 @@ fn write_section_of(
 {
     write_heading(out, title, heads)?;
     write_opening(out, picture, heads)?;
-    write_picture(out, picture, heads, rows)?;
+    write_picture(alloc, out, picture, heads, rows)?;
     write_rows(out, columns, rows)?;
     out.extend_from_slice(b"</section>\n")?;
     Ok(())
@@ -233,12 +269,13 @@ fn write_section_of(
 
 /// Appends the section of a sheet.
 #[tactic(auto, unfolding(crate::specs::Page::section))]
-fn write_section(out: &mut Vec<u8>, sheet: &SheetText<'_>) -> Result<(), Memory>
+fn write_section(alloc: Global, out: &mut Vec<u8>, sheet: &SheetText<'_>) -> Result<(), Memory>
     requires heads { length sheet.now.heads ≤ 100000 }
     requires rows { length sheet.now.rows ≤ 100000 }
     ensures { OnOk result (out.new.items ≡ out.old.items ++ section sheet.now) }
 {
     write_section_of(
+        alloc,
         out,
         sheet.title,
         sheet.picture,
@@ -257,7 +294,7 @@ fn write_next(alloc: Global, lines: &[Line], out: &mut Vec<u8>) -> Result<Option
 {
     match sheet_at(alloc, lines)? {
         Some(sheet) => {
-            write_section(out, &sheet)?;
+            write_section(alloc, out, &sheet)?;
             Ok(Some(sheet.line_count()))
         }
         None => Ok(None),

@@ -35,6 +35,10 @@ line { stroke: var(--ink); stroke-width: 2 }
 .net, .full { fill: none; stroke-linecap: round; stroke-linejoin: round }
 .net { stroke: var(--plain); stroke-width: 8 }
 .full { stroke: var(--notmet); stroke-width: 4; stroke-dasharray: 2 10 }
+.days line, .stem { stroke: var(--plain); stroke-width: 2; stroke-linecap: round }
+.days circle, .ring { fill: var(--paper); stroke: var(--notmet); stroke-width: 2 }
+.dots circle, .dot { fill: var(--ink) }
+.decides { text-anchor: end; font-weight: bold }
 </style>
 ";
 

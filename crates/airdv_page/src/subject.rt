@@ -1,4 +1,5 @@
-//! What a page is about, and what each of its sections is about: its standard, its site, its year or its day.
+//! What a page is about, and what each of its sections is about: its standard, its site, its
+//! parameter, its year or its day.
 ghost use Rattle.std.specs.Prelude.{◌≡◌, ◌++◌, false, OnOk};
 ghost use Rattle.airdv_page.specs.Subject.{heading, is_about, page_title, subject_from};
 
@@ -14,6 +15,7 @@ fn is_about(line: &[Bytes]) -> bool
 {
     is_head(b"standard", line)
         || is_head(b"site", line)
+        || is_head(b"parameter", line)
         || is_head(b"year", line)
         || is_head(b"day", line)
 }

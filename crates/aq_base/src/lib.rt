@@ -8,8 +8,7 @@
 //! - `ObsKey`, `Observation`, `Code`, `Quals`: where a sample stands, what was reported, and its codes.
 //! - `OfficeRecord`, `OfficeKey`, `OfficeLine`: a record of the agency, its key, and a line for it.
 //! - `Rule`, `LoadReply`, `Listed`, `Rest`: the rules of lines, and what became of the lines of a load.
-//! - `Standard`, `Verdict`; `Ask`, `Shown`: the six standards; a question, and an observation of an
-//!   export.
+//! - `Standard`, `Verdict`; `Shown`: the six standards; an observation of an export.
 //! - `Question`, `Topic`: each question that there is, and its row in the table of questions.
 //! - `Area`, `SiteList`; `Assumed`, `AssumedList`, `DecisiveEvent`: areas; assumed concurrences.
 //! - `Items`, `Bytes`, `Steps`: lists that grow, and a count of look-ups that exists for clauses alone.
@@ -18,7 +17,7 @@
 //! # What it promises
 //!
 //! - A `SiteId`, `Day`, `Hour`, `Quarter`, `Quals`, `SiteList` or `AssumedList` is in its range, always.
-//! - The open types (`MonitorId`, `Observation`, the office records, keys and lines, `Ask`, `Question`,
+//! - The open types (`MonitorId`, `Observation`, the office records, keys and lines, `Question`,
 //!   `Area`, `Assumed`, `DecisiveEvent`) keep the ranges of their parts alone. They do not keep that a POC is 1
 //!   to 99 (0 in a designation of no monitor), an interval 1, 2, 3 or 6, a year one of the profile, an
 //!   event's number 1 to 999,999, a season in its year, an area's state and county of two and three
@@ -41,7 +40,6 @@
 #![tactic(auto)]
 
 mod area;
-mod ask;
 mod assumed;
 mod code;
 mod day;
@@ -55,12 +53,12 @@ mod question;
 mod refusal;
 mod reply;
 mod rule;
+mod shown;
 mod site;
 mod standard;
 mod steps;
 
 pub use area::{Area, MOST_AREA_SITES, SiteList};
-pub use ask::{Ask, Shown};
 pub use assumed::{Assumed, AssumedList, DecisiveEvent, MOST_ASSUMED};
 pub use code::Code;
 pub use day::{
@@ -81,6 +79,7 @@ pub use question::{Question, Topic};
 pub use refusal::{Failed, Memory};
 pub use reply::{Listed, ListedLine, LoadReply, Rest, RestRule};
 pub use rule::Rule;
+pub use shown::Shown;
 pub use site::SiteId;
 pub use standard::{Standard, Verdict};
 pub use steps::Steps;

@@ -23,9 +23,9 @@ use Rattle.aq_dirty.specs.Particles.{holds_particle, nothing as no_particles, Ma
 use Rattle.aq_dirty.specs.Reach.{is_of_ozone, marks, reads_row, record_row, row_of}
 use Rattle.aq_dirty.specs.declared.change.OfficeChange as dirty
 use Rattle.aq_series.specs.OfficeView.{office_of}
-use Rattle.aq_staging.specs.Batch.{change_in, changes_between, changes_in, AreChangesOf}
+use Rattle.aq_staging.specs.Batch.{change_in, changes_in}
 use Rattle.aq_staging.specs.Changes.{with_changes}
-use Rattle.aq_staging.specs.Staged.{StagedLoad}
+use Rattle.aq_staging.specs.Staged.{AreChangesOf, StagedLoad, changes_between}
 use Rattle.aq_staging.specs.declared.change.OfficeChange as staged
 use Rattle.aq_base.specs.Site.{Site}
 use Rattle.aq_rules.specs.Office.Approval.{approves}
@@ -239,7 +239,7 @@ rest-is changes i x within is = ap changes_in (drop_more changes i x within ∙ 
 
 -- the changes of a load, as those between the two offices without their loads
 pub changes-are : (records after : List OfficeRecord) (rows later : List (ObsKey × Observation)) (load : StagedLoad) (changes : List OfficeChange)
-    → after ≡ unwrap_or load.records records → later ≡ with_changes load.changes rows → AreChangesOf records rows load changes
+    → after ≡ unwrap_or load.records records → later ≡ with_changes load.changes rows → AreChangesOf records rows load.records load.changes changes
     → changes ≡ record_changes (office_of records rows) (office_of after later) ++ observation_changes (office_of records rows) (office_of after later)
 unfolding changes_between
 changes-are records after rows later load changes records_are rows_are of =

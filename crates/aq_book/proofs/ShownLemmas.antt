@@ -8,7 +8,7 @@ use Rattle.std.proofs.lemmas.List.{map-append}
 use Rattle.aq_base.specs.Calendar.{day_of_hour, days_in_year, year_first, year_of}
 use Rattle.aq_base.specs.Site.{Site}
 use Rattle.aq_base.specs.declared.day.TheConstants.{FIRST_YEAR, LAST_HOUR}
-use Rattle.aq_base.specs.declared.ask.Shown.{Shown}
+use Rattle.aq_base.specs.declared.shown.Shown.{Shown}
 use Rattle.aq_base.specs.declared.monitor.Duration.{Duration}
 use Rattle.aq_base.specs.declared.monitor.Duration.TheVariants.{Hour, Day}
 use Rattle.aq_base.specs.declared.monitor.Pollutant.{Pollutant}

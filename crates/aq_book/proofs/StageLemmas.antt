@@ -6,11 +6,11 @@ use Rattle.aq_base.specs.declared.office.OfficeRecord.{OfficeRecord}
 use Rattle.aq_base.specs.declared.reply.LoadReply.{LoadReply}
 use Rattle.aq_rules.specs.Limits.{MOST_OBSERVATIONS}
 use Rattle.aq_rules.specs.Lines.Lines.{body_lines}
-use Rattle.aq_rules.specs.Office.Load.{New, after_all, decide, load, reply, with_load}
+use Rattle.aq_rules.specs.Office.Load.{New, OfficeChange, after_all, decide, load, reply, with_load}
 use Rattle.aq_rules.specs.Office.Office.{IsOffice, Office, StoredLoad}
 use Rattle.aq_series.specs.OfficeView.{office_of}
 use Rattle.aq_staging.specs.Identity.{identity_of}
-use Rattle.aq_staging.specs.Staged.{StagedLoad, after_lines, IsStagedOn}
+use Rattle.aq_staging.specs.Staged.{AreChangesOf, StagedLoad, after_lines, IsStagedOn}
 use Rattle.aq_staging.specs.declared.identity.LoadIdentity.{LoadIdentity}
 use Rattle.aq_staging.specs.Changes.{with_changes}
 use Rattle.aq_book.specs.Staged.{kept_under, office_with, with_kept, Fits, IsStageOf}
@@ -58,6 +58,12 @@ module _ (staged : StagedLoad) (office : Office) (old : List OfficeRecord) (rows
   unfolding office_with
   room-after fits =
       subst (λ (o : Office). length (with_changes staged.changes o.observations) ≤ MOST_OBSERVATIONS) (sym view) fits.valid.few_observations
+
+  -- what it changes are the changes of its lines
+  pub changed-of : Fits staged office → (changes : List OfficeChange) → changes ≡ staged.office_changes → AreChangesOf old rows staged.records staged.changes changes
+  changed-of fits changes same =
+      subst (λ (l : List OfficeChange). AreChangesOf old rows staged.records staged.changes l) (sym same)
+      (subst (λ (o : Office). AreChangesOf o.records o.observations staged.records staged.changes staged.office_changes) (sym view) fits.on.changed)
 
   module _ (records : List OfficeRecord) (records_are : records ≡ unwrap_or staged.records old) (new : List (ObsKey × Observation)) (new_is : new ≡ with_changes staged.changes rows)
       (identity : Option LoadIdentity) (identity_is : identity ≡ staged.identity) (reply : LoadReply) (reply_is : reply ≡ staged.reply)

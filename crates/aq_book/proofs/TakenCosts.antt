@@ -8,9 +8,8 @@ use Rattle.aq_rules.specs.Kept.Reach.{cost}
 use Rattle.aq_rules.specs.Office.Load.{OfficeChange}
 use Rattle.aq_rules.specs.Office.Office.{Office, StoredLoad}
 use Rattle.aq_series.specs.OfficeView.{office_of}
-use Rattle.aq_staging.specs.Batch.{AreChangesOf}
 use Rattle.aq_staging.specs.Changes.{with_changes}
-use Rattle.aq_staging.specs.Staged.{StagedLoad}
+use Rattle.aq_staging.specs.Staged.{AreChangesOf, StagedLoad}
 use Rattle.aq_staging.specs.declared.identity.LoadIdentity.{LoadIdentity}
 use Rattle.aq_book.specs.Reached.{IsChange}
 use Rattle.aq_book.specs.Staged.{kept_under, office_with, Fits}
@@ -24,7 +23,7 @@ pub taken-costs : (staged : StagedLoad) (office : Office) (old : List OfficeReco
     (records : List OfficeRecord) (records_are : records ≡ unwrap_or staged.records old) (new : List (ObsKey × Observation)) (new_is : new ≡ with_changes staged.changes rows)
     (identity : Option LoadIdentity) (identity_is : identity ≡ staged.identity) (reply : LoadReply) (reply_is : reply ≡ staged.reply)
     (kept : List StoredLoad) (kept_is : kept ≡ kept_under identity reply loads)
-    → Fits staged office → (changes : List OfficeChange) → AreChangesOf old rows staged changes → (cells : Cells) → IsBook old rows loads cells → (start end : ℕ)
+    → Fits staged office → (changes : List OfficeChange) → AreChangesOf old rows staged.records staged.changes changes → (cells : Cells) → IsBook old rows loads cells → (start end : ℕ)
     → ((standing_rows : List (ObsKey × Observation)) → IsChange (office_of old standing_rows) (office_of records new) changes cells.ozone cells.pm25 cells.pm10 → end ≤ start + cost (office_of old standing_rows) (office_of records new))
     → end ≤ start + cost office (office_with staged office)
 taken-costs staged office old rows loads view records records_are new new_is identity identity_is reply reply_is kept kept_is fits changes are cells of start end settles =

@@ -1,7 +1,7 @@
 -- Why a question of a site has no answer, and the rows of an export and of a report.
 use Rattle.std.specs.Prelude.{◌≡◌, ℕ, Bool, true, false, List, codes}
 use Rattle.aq_base.specs.Site.{Site}
-use Rattle.aq_base.specs.declared.ask.Shown.{Shown}
+use Rattle.aq_base.specs.declared.shown.Shown.{Shown}
 use Rattle.aq_base.specs.declared.monitor.MonitorId.{MonitorId}
 use Rattle.aq_base.specs.declared.observation.Observation.{Observation}
 use Rattle.aq_base.specs.declared.office.OfficeRecord.{OfficeRecord}

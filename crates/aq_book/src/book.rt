@@ -1,7 +1,6 @@
 //! An office with its observations and records.
 ghost use Rattle.std.specs.Prelude.{◌≡◌, ◌≤◌, ◌+◌, ◌⊎◌, ℕ, List, length, option_map, IfOk};
 ghost use Rattle.aq_book.specs.Checks.{decision_of};
-ghost use Rattle.aq_staging.specs.Staged.{IsStagedOn};
 ghost use Rattle.aq_rows.specs.KeptLoads.{digest_in, reply_in};
 ghost use Rattle.aq_book.specs.Staged.{kept_under, office_with, Fits, IsStageOf};
 ghost use Rattle.aq_rules.specs.Kept.Reach.{cost};
@@ -84,6 +83,13 @@ impl Book {
         &self.registry
     }
 
+    /// The loads that were taken, lent. It takes no memory.
+    pub fn loads(&self) -> &Loads
+        ensures { result.now ≡ self.now.loads }
+    {
+        &self.loads
+    }
+
     /// What becomes of a load with a number from 1 on: a known number with the same digest is a repeat, and
     /// with another a conflict; for a new one there is no room if `MOST_LOADS` stand. It takes no memory.
     pub fn check(&self, number: u32, digest: &[u8; 32]) -> LoadCheck
@@ -151,16 +157,13 @@ impl Book {
     }
 
     /// The changes of rows that a load staged on this book makes, in the order of tables and keys and its own
-    /// row last, as a keeper takes them. A row that is the same after the load is not among them. It costs two
-    /// or three searches for each record and observation that the load touched.
+    /// row last, as a keeper takes them. A row that is the same after the load is not among them.
     pub fn batch(&self, alloc: Global, staged: &Staged) -> Result<RowChanges, Memory>
-        requires { IsStagedOn self.now.records self.now.observations staged.now }
         ensures { IfOk result (λ batch. (number : ℕ) (digest body : List ℕ)
             → IsStageOf self.now number digest body staged.now
             → batch ≡ row_batch self.now number digest body) }
     {
-        let changes = staged.changes(alloc, &self.registry, &self.shelf)?;
-        let batch = batch_of(alloc, &changes, staged.identity(), staged.reply())?;
+        let batch = batch_of(alloc, staged.changes(), staged.identity(), staged.reply())?;
         Ok(batch)
     }
 
@@ -177,7 +180,6 @@ impl Book {
         aq_pm25_cells::cells_out_of_reach_are_those_of_the_office_after_it();
         aq_pm10_cells::cells_out_of_reach_are_those_of_the_office_after_it();
         what_reads_a_changed_row_is_in_reach();
-        let changes = staged.changes(self.alloc, &self.registry, &self.shelf)?;
         let taken = staged.onto(self.shelf)?;
         let loads = with_load(self.loads, taken.identity, taken.reply)?;
         let mut cells = self.cells;
@@ -185,7 +187,7 @@ impl Book {
         bring_up(
             self.alloc,
             &mut cells,
-            &changes,
+            &taken.changes,
             &self.registry,
             after,
             &taken.shelf,

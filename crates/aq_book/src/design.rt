@@ -4,7 +4,7 @@ ghost use Rattle.aq_base.specs.declared.day.TheConstants.{FIRST_YEAR, LAST_YEAR}
 ghost use Rattle.aq_rules.specs.DesignValues as designs;
 ghost use Rattle.aq_rules.specs.Kept.Summaries.{pm25_summary};
 ghost use Rattle.aq_rules.specs.Particles.Pm10Estimate.{pm10_year};
-ghost use Rattle.aq_rules.specs.Shown.Answer.{is_registered};
+ghost use Rattle.aq_rules.specs.Questions.Answer.{is_registered};
 ghost use Rattle.aq_verdict.specs.Designs.{design_of};
 
 use crate::book::Book;

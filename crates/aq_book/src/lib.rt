@@ -16,7 +16,8 @@
 //!   why one has no answer.
 //! - `Book::report`: the design values of all sites, as `SiteValues`. A book is a source of `Years` for
 //!   aq_design.
-//! - `Book::shelf`, `registry`: its observations and records, lent to rooms that ask them themselves.
+//! - `Book::shelf`, `registry`, `loads`: its observations, records and loads, lent to rooms that ask them
+//!   themselves; and `has_site`, whether a monitor of a site is registered.
 //!
 //! # What it promises
 //!

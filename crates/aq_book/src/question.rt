@@ -7,7 +7,7 @@ ghost use Rattle.aq_rules.specs.Office.Approval as approvals;
 ghost use Rattle.aq_rules.specs.Office.Season as seasons;
 ghost use Rattle.aq_rules.specs.Ozone.OzoneDay as ozone;
 ghost use Rattle.aq_rules.specs.Ozone.OzoneYear as years;
-ghost use Rattle.aq_rules.specs.Shown.Answer.{is_registered};
+ghost use Rattle.aq_rules.specs.Questions.Answer.{is_registered};
 ghost use Rattle.aq_rules.specs.Shown.Export as exports;
 ghost use Rattle.aq_book.specs.Questions.{IsAskFault};
 ghost use Rattle.aq_registry.specs.Registry.{days_of};
@@ -178,11 +178,18 @@ impl Book {
         Ok(rows)
     }
 
+    /// Whether a monitor of a site is registered, by one search of the records.
+    pub fn has_site(&self, site: SiteId) -> bool
+        ensures { result ≡ is_registered self.now site }
+    {
+        self.registry.has_site(site)
+    }
+
     /// Finds a site among those that have a registered monitor, by one search of the records.
     pub(crate) fn find(&self, site: SiteId) -> Result<(), UnknownSite>
         ensures { is_ok result ≡ is_registered self.now site }
     {
-        if self.registry.has_site(site) {
+        if self.has_site(site) {
             Ok(())
         } else {
             Err(UnknownSite)

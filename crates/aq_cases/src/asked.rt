@@ -6,13 +6,9 @@
 //! - `pair_windows SITE DAY`: the same of the site and the one that is joined to it, or `none`.
 //! - `monitor_day SITE PARAMETER POC DAY`: the value of a monitor of particles in tenths of a µg/m3, and
 //!   whether it is excluded, or `none`.
-//! - `sites`, `records`, `monitors SITE`, `events SITE`, and with `SITE PARAMETER YEAR` `flags`, `completeness`
-//!   and `lines`: what stands, as text, with ` / ` between its lines, or `nothing`.
-//! - `changes FIRST LAST LINE..`: the lines for an extract of these lines, in the same way, or `line NUMBER rule
-//!   NUMBER NAME`.
-ghost use Rattle.std.specs.Int.{IsInRange};
+//! - `changes FIRST LAST LINE..`: the lines for an extract of these lines, with ` / ` between them, or `nothing`;
+//!   or `line NUMBER rule NUMBER NAME`.
 ghost use Rattle.std.specs.Prelude.{◌≡◌, ◌<◌, ◌≤◌, length, IfSome};
-ghost use Rattle.aq_base.specs.declared.day.TheConstants.{FIRST_YEAR, LAST_YEAR};
 ghost use Rattle.aq_rules.specs.Limits.{MOST_BYTES};
 ghost use Rattle.aq_series.specs.DayCells.{IsParticulate};
 
@@ -22,10 +18,8 @@ use aq_book::{Book, OpenFault, book_of};
 use aq_changes::{ChangesAnswer, changes};
 use aq_combine::pair_windows;
 use aq_keeper::Row;
-use aq_listed::{completeness, events, flags, lines, monitors, records, sites};
 use aq_ozone::{DayWindows, day_windows};
-use aq_rd::{parameter_in, site_word, year_in};
-use aq_reports::text_of;
+use aq_rd::site_word;
 use aq_series::{Cell, monitor_day};
 use aq_trials::{NOT_SO, Trouble, add_word, cut, day_in};
 use std::alloc::Global;
@@ -64,16 +58,6 @@ fn answer(alloc: Global, book: &Book, call: &str) -> Result<String, Trouble> {
         "day_windows" => windows(alloc, book, rest),
         "pair_windows" => windows_of_pair(alloc, book, rest),
         "monitor_day" => value(alloc, book, rest),
-        "sites" => {
-            let sheet = sites(alloc, book.registry())?;
-            in_a_line(alloc, &text_of(alloc, &sheet)?)
-        }
-        "records" => in_a_line(alloc, &records(alloc, book.registry())?),
-        "monitors" => list_of_site(alloc, book, OfSite::Monitors, rest),
-        "events" => list_of_site(alloc, book, OfSite::Events, rest),
-        "flags" => list_of_series(alloc, book, OfSeries::Flags, rest),
-        "completeness" => list_of_series(alloc, book, OfSeries::Completeness, rest),
-        "lines" => list_of_series(alloc, book, OfSeries::Lines, rest),
         "changes" => changes_for(alloc, book, rest),
         _ => Err(Trouble::Wrong("there is no such call")),
     }
@@ -122,48 +106,6 @@ fn value(alloc: Global, book: &Book, words: &str) -> Result<String, Trouble> {
         }
         None => Ok(String::from_str(alloc, "none")?),
     }
-}
-
-/// What is listed of a site.
-#[derive(Clone, Copy)]
-enum OfSite {
-    Monitors,
-    Events,
-}
-
-/// What is listed of a site, pollutant and year.
-#[derive(Clone, Copy)]
-enum OfSeries {
-    Flags,
-    Completeness,
-    Lines,
-}
-
-fn list_of_site(alloc: Global, book: &Book, list: OfSite, words: &str) -> Result<String, Trouble> {
-    let Some(site) = site_word(words.as_bytes()) else {
-        return Err(NOT_SO);
-    };
-    let text = counted_of_site::<Brand>(alloc, book, list, site, Blank::new(1))?;
-    in_a_line(alloc, &text)
-}
-
-fn list_of_series(
-    alloc: Global,
-    book: &Book,
-    list: OfSeries,
-    words: &str,
-) -> Result<String, Trouble> {
-    let (site, rest) = cut(words);
-    let (parameter, year) = cut(rest);
-    let (Some(site), Some(pollutant), Some(year)) = (
-        site_word(site.as_bytes()),
-        parameter_in(parameter.as_bytes()),
-        year_in(year.as_bytes()),
-    ) else {
-        return Err(NOT_SO);
-    };
-    let text = counted_of_series::<Brand>(alloc, book, list, site, pollutant, year, Blank::new(1))?;
-    in_a_line(alloc, &text)
 }
 
 fn changes_for(alloc: Global, book: &Book, words: &str) -> Result<String, Trouble> {
@@ -221,54 +163,6 @@ fn counted_day<L: Ledger>(book: &Book, monitor: MonitorId, day: Day, blank: Blan
 {
     let mut steps = Steps::<L>::new(blank);
     monitor_day(book.shelf(), book.registry(), monitor, day, &mut steps)
-}
-
-fn counted_of_site<L: Ledger>(
-    alloc: Global,
-    book: &Book,
-    list: OfSite,
-    site: SiteId,
-    blank: Blank,
-) -> Result<Vec<u8>, Memory>
-    requires name { blank.name ≡ L.name }
-    requires parts { blank.parts ≡ L.parts }
-    requires some { 0 < L.parts }
-{
-    let mut steps = Steps::<L>::new(blank);
-    let (shelf, registry) = (book.shelf(), book.registry());
-    let sheet = match list {
-        OfSite::Monitors => monitors(alloc, shelf, registry, site, &mut steps)?,
-        OfSite::Events => events(alloc, shelf, registry, site, &mut steps)?,
-    };
-    text_of(alloc, &sheet)
-}
-
-fn counted_of_series<L: Ledger>(
-    alloc: Global,
-    book: &Book,
-    list: OfSeries,
-    site: SiteId,
-    pollutant: Pollutant,
-    year: u16,
-    blank: Blank,
-) -> Result<Vec<u8>, Memory>
-    requires name { blank.name ≡ L.name }
-    requires parts { blank.parts ≡ L.parts }
-    requires some { 0 < L.parts }
-    requires year { IsInRange FIRST_YEAR LAST_YEAR year }
-{
-    let mut steps = Steps::<L>::new(blank);
-    let (shelf, registry) = (book.shelf(), book.registry());
-    let sheet = match list {
-        OfSeries::Flags => flags(alloc, shelf, registry, site, pollutant, year, &mut steps)?,
-        OfSeries::Completeness => {
-            completeness(alloc, shelf, registry, site, pollutant, year, &mut steps)?
-        }
-        OfSeries::Lines => {
-            return lines(alloc, shelf, registry, site, pollutant, year, &mut steps);
-        }
-    };
-    text_of(alloc, &sheet)
 }
 
 fn counted_changes<L: Ledger>(

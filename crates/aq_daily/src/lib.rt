@@ -1,5 +1,5 @@
 //! The days behind a number: of the particles each day of a site's year, and the ten highest days that a
-//! standard ranks. No command asks for them yet.
+//! standard ranks.
 //!
 //! # What it has
 //!

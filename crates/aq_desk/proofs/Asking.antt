@@ -61,6 +61,9 @@ module _ (rows : List Row) (before after : Option (List Row)) (keeps : (status :
   unanswered-gives printout (stops.Lacks what) cause =
       let P = λ (p : Printout). Gives (leaving rows p) (Err (stops.Lacks what)) before after in
       subst P (sym cause) (stopped_gives rows before after (stops.Lacks what) (keeps (ending_at (stops.Lacks what)).status (λ three. omega (arith, three, lacks-status what))))
+  unanswered-gives printout (stops.Refused line rule) cause =
+      let P = λ (p : Printout). Gives (leaving rows p) (Err (stops.Refused line rule)) before after in
+      subst P (sym cause) (stopped_gives rows before after (stops.Refused line rule) (keeps 17 (λ three. omega (arith, three))))
   unanswered-gives printout _ cause = absurd cause
 
   answered-gives : (printout : Printout) (answer : Result (List ℕ) Stop) → IfOk answer (λ text. printout ≡ printed text) → IfErr answer (IsUnanswered printout) → Gives (leaving rows printout) answer before after
@@ -82,9 +85,14 @@ module _ (printout : Office → Printout) (office : Office) (answer : Result (Li
             (answered-gives (rows_of office) before after (λ status three. keeps_opened over.all office status before after three over.is_all over.says.are_rows has.tables) (printout office) answer text refused);
       }
 
+-- memory ran out before there was one
+pub memory_unanswered : {A : Type 0} (printout : Printout) (answer : Result A Stop) → IsErrAnd answer (λ why. why ≡ stops.Memory) → IfErr answer (IsUnanswered printout)
+memory_unanswered printout answer is = subst (λ r. IfErr r (IsUnanswered printout)) (sym (stopped_by answer stops.Memory is)) tt
+
 unanswered-unprinted : (printout : Printout) (stop : Stop) → IsUnanswered printout stop → IsUnprinted stop × ((ending_at stop).status ≡ 5 → ⊥)
 unanswered-unprinted printout stops.Memory cause = (grind arith, (λ five. omega (arith, five)))
 unanswered-unprinted printout (stops.Lacks what) cause = let is = lacks-status what in (grind arith, (λ five. omega (arith, five, is)))
+unanswered-unprinted printout (stops.Refused line rule) cause = (grind arith, (λ five. omega (arith, five)))
 unanswered-unprinted printout _ cause = absurd cause
 
 pub answered_unprinted : (printout : Printout) (answer : Result (List ℕ) Stop) → IfErr answer (IsUnanswered printout) → IfErr answer IsUnprinted
@@ -103,6 +111,9 @@ unanswered-obeys printout stops.Memory output cause = without_memory printout st
 unanswered-obeys printout (stops.Lacks what) output cause =
     let P = λ (p : Printout). Obeys p (Err (stops.Lacks what)) output output in
     subst P (sym cause) (writes_nothing (ending_at (stops.Lacks what)) (Err (stops.Lacks what)) output refl (λ four. omega (arith, four, lacks-status what)))
+unanswered-obeys printout (stops.Refused line rule) output cause =
+    let P = λ (p : Printout). Obeys p (Err (stops.Refused line rule)) output output in
+    subst P (sym cause) (writes_nothing (ending_at (stops.Refused line rule)) (Err (stops.Refused line rule)) output refl (λ four. omega (arith, four)))
 unanswered-obeys printout _ output cause = absurd cause
 
 pub unanswered_obeys : (printout : Printout) (stop : Stop) (answer : Result Unit Stop) (output : SinkView) → IsErrAnd answer (λ why. why ≡ stop) → IsUnanswered printout stop → Obeys printout answer output output
@@ -125,6 +136,9 @@ unanswered-windows printout (stops.Lacks what) cause one =
     let is : printout.ending.status ≡ (ending_at (stops.Lacks what)).status = ap (λ (p : Printout). p.ending.status) cause in
     let far = lacks-status what in
     grind arith
+unanswered-windows printout (stops.Refused line rule) cause one =
+    let is : printout.ending.status ≡ 17 = ap (λ (p : Printout). p.ending.status) cause in
+    absurd (omega (arith, is, one))
 unanswered-windows printout _ cause one = absurd cause
 
 pub windows_taken : (office : Office) (site : Site) (day : ℕ) (stop : Stop) (answer : Result Unit Stop) → IsErrAnd answer (λ why. why ≡ stop) → IsUnanswered (ask_printout (Windows site day) office) stop → IsTaken (status_of answer)

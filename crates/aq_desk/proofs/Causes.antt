@@ -21,7 +21,7 @@ use Rattle.aq_office.specs.declared.answers.Lack.TheVariants.{NoSite, NoEvent, N
 use Rattle.aq_words.specs.declared.words.Command.{Command}
 use Rattle.aq_words.specs.declared.words.Command.TheVariants.{Serve}
 use Rattle.aq_desk.specs.declared.stop.Stop.{Stop}
-use Rattle.aq_desk.specs.declared.stop.Stop.TheVariants.{InputFailed, OutputFailed, KeeperFailed, DoorFailed, Damaged, Memory, Conflict, TooManyBytes, TooManyLines, LoadsFull, Lacks}
+use Rattle.aq_desk.specs.declared.stop.Stop.TheVariants.{InputFailed, OutputFailed, KeeperFailed, DoorFailed, Damaged, Memory, Conflict, TooManyBytes, TooManyLines, LoadsFull, Lacks, Refused}
 
 whole-0 : IsWhole 0
 whole-0 = grind arith
@@ -53,6 +53,9 @@ whole-15 = grind arith
 whole-16 : IsWhole 16
 whole-16 = grind arith
 
+whole-17 : IsWhole 17
+whole-17 = grind arith
+
 -- the message that was told is that of the status
 message-is : (outcome : Outcome) (answer : Result Unit Stop) → EndsAs outcome answer → (ending_of answer).message ≡ message_for outcome (status_of answer)
 message-is outcome (Ok nothing) ends = ap (λ ending. ending.message) (ends whole-0)
@@ -71,6 +74,7 @@ message-is outcome (Err (Lacks (NoEvent number))) ends = ap (λ ending. ending.m
 message-is outcome (Err (Lacks (NoCombination site))) ends = ap (λ ending. ending.message) (ends whole-14)
 message-is outcome (Err (Lacks NoSiteInArea)) ends = ap (λ ending. ending.message) (ends whole-15)
 message-is outcome (Err (Lacks (NoLoad number))) ends = ap (λ ending. ending.message) (ends whole-16)
+message-is outcome (Err (Refused line rule)) ends = ap (λ ending. ending.message) (ends whole-17)
 
 performs_follows : (outcome : Outcome) (answer : Result Unit Stop) (before after : SinkView) (tables_before tables_after : Option (List Row)) → Performs outcome answer before after tables_before tables_after → Follows outcome (status_of answer) before after tables_before tables_after
 performs_follows outcome answer before after tables_before tables_after performs = record {

@@ -6,6 +6,7 @@ pub mod Printing
 pub mod Opening
 pub mod Posting
 pub mod Asking
+pub mod Drafting
 pub mod Serving
 pub mod TableNames
 pub mod Telling

@@ -4,14 +4,16 @@ use Rattle.std.specs.Prelude.{Result, Ok, Err, IsErr, decimal}
 use Rattle.std.specs.Option.{option_map}
 use Rattle.std.specs.Fmt.{digits}
 use Rattle.std.proofs.lemmas.Fmt.{decimal_digit, decimal_step}
+use Rattle.aq_base.specs.Rule.{rule_name, rule_number}
 use Rattle.aq_base.specs.Site.{Site}
+use Rattle.aq_base.specs.declared.rule.Rule.{Rule}
 use Rattle.aq_rules.specs.Shown.Sheet.{site_text}
 use Rattle.aq_desk.proofs.Outcomes.{bytes_behind, front_behind, front_of_more, join, more_bytes}
 use Rattle.aq_desk.specs.Command.{Tells}
 use Rattle.aq_rules.specs.Kept.RowChanges.{table_name}
 use Rattle.aq_rules.specs.Questions.Table.{usage_of}
 use Rattle.aq_rules.specs.Shown.OtherSheets.{digest_text}
-use Rattle.aq_desk.specs.Ending.{conflict, damaged, door_failed, input_failed, keeper_failed, loads_full, no_combination, no_site_in_area, no_command, no_event, no_load, no_memory, no_site, output_failed, too_many_bytes, too_many_lines}
+use Rattle.aq_desk.specs.Ending.{conflict, damaged, door_failed, input_failed, keeper_failed, line_refused, loads_full, no_combination, no_site_in_area, no_command, no_event, no_load, no_memory, no_site, output_failed, too_many_bytes, too_many_lines}
 use Rattle.aq_base.specs.Faults.{HasRisen}
 use Rattle.aq_desk.specs.Stop.{ending_at}
 use Rattle.aq_desk.specs.declared.stop.Stop.{Stop}
@@ -116,6 +118,10 @@ sixteen : decimal 16 ≡ codes "16"
 unfolding digits
 sixteen = refl
 
+seventeen : decimal 17 ≡ codes "17"
+unfolding digits
+seventeen = refl
+
 two : decimal 2 ≡ codes "2"
 unfolding digits
 two = refl
@@ -124,7 +130,7 @@ most_bytes : decimal 8388608 ≡ codes "8388608"
 unfolding digits
 most_bytes = refl
 
-pub no_command_message : codes "airdv: 2 no command\nusage: airdv scan SITE DAY\nusage: airdv load NUMBER\nusage: airdv show STANDARD SITE YEAR\nusage: airdv report STANDARD YEAR\nusage: airdv export SITE PARAMETER YEAR\nusage: airdv whatif STANDARD SITE YEAR LIST\nusage: airdv decisive STANDARD SITE YEAR\nusage: airdv combined STANDARD SITE YEAR\nusage: airdv area STANDARD AREA YEAR\nusage: airdv reply NUMBER\nusage: airdv windows SITE DAY\nusage: airdv days SITE YEAR\nusage: airdv pm25 SITE YEAR\nusage: airdv pm10 SITE YEAR\nusage: airdv serve --port P --connections N\nusage: airdv simulate START SITES YEARS\n" ≡ no_command.message
+pub no_command_message : codes "airdv: 2 no command\nusage: airdv scan SITE DAY\nusage: airdv load NUMBER\nusage: airdv try\nusage: airdv changes FIRST LAST\nusage: airdv show STANDARD SITE YEAR\nusage: airdv report STANDARD YEAR\nusage: airdv export SITE PARAMETER YEAR\nusage: airdv whatif STANDARD SITE YEAR LIST\nusage: airdv decisive STANDARD SITE YEAR\nusage: airdv combined STANDARD SITE YEAR\nusage: airdv area STANDARD AREA YEAR\nusage: airdv reply NUMBER\nusage: airdv windows SITE DAY\nusage: airdv days SITE YEAR\nusage: airdv pm25 SITE YEAR\nusage: airdv pm10 SITE YEAR\nusage: airdv sites\nusage: airdv monitors SITE\nusage: airdv events SITE\nusage: airdv flags SITE PARAMETER YEAR\nusage: airdv loads\nusage: airdv daily SITE PARAMETER YEAR\nusage: airdv highest SITE PARAMETER YEAR\nusage: airdv completeness SITE PARAMETER YEAR\nusage: airdv reports YEAR\nusage: airdv records\nusage: airdv lines SITE PARAMETER YEAR\nusage: airdv serve --port P --connections N\nusage: airdv simulate START SITES YEARS\n" ≡ no_command.message
 unfolding usage_of
 no_command_message = rw two refl
 
@@ -188,6 +194,17 @@ event_message number = rw thirteen refl
 
 pub load_message : (number : ℕ) → (codes "airdv: 16 no load " ++ decimal number) ++ codes "\n" ≡ (no_load number).message
 load_message number = rw sixteen refl
+
+pub refused_message : (line : ℕ) (rule : Rule) → ((codes "airdv: 17 line " ++ decimal line) ++ codes " rule ") ++ (((decimal (rule_number rule) ++ codes " ") ++ rule_name rule) ++ codes "\n") ≡ (line_refused line rule).message
+refused_message line rule =
+    let front = (codes "airdv: 17 line " ++ decimal line) ++ codes " rule " in
+    let number = decimal (rule_number rule) in
+    let name = rule_name rule in
+    let end = codes "\n" in
+    rw seventeen
+    (sym (append_assoc front ((number ++ codes " ") ++ name) end)
+    ∙ ap (λ text. text ++ end) (sym (append_assoc front (number ++ codes " ") name))
+    ∙ ap (λ text. (text ++ name) ++ end) (sym (append_assoc front number (codes " "))))
 
 pub first_digit : (n : ℕ) → n < 10 → (48 + n % 10) ∷ [] ≡ decimal n
 first_digit n small = let same : n % 10 ≡ n = omega arith in ap (λ k. (48 + k) ∷ []) same ∙ sym (decimal_digit n small)

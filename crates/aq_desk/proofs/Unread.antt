@@ -11,7 +11,6 @@ use Rattle.aq_desk.proofs.Tables.{keeps_before, keeps_same, of_any, of_told}
 use Rattle.aq_desk.specs.Body.{HasTooManyBytes, HasTooManyLines, IsBodyFault, excess, is_within}
 use Rattle.aq_desk.specs.Command.{Keeps, Outcome, Printout, RisesAt, leaving, printout_of, unwritten}
 use Rattle.aq_desk.specs.Ending.{too_many_lines}
-use Rattle.aq_desk.specs.Load.{load_answer, load_outcome}
 use Rattle.aq_serve.specs.Outside.{IsAll, OfTold, SinkView, SourceView}
 use Rattle.aq_desk.specs.Scan.{scan_answer, scan_outcome}
 use Rattle.aq_desk.specs.Stop.{HasCauses, IsMeasured, Obeys, Performs, ending_at, status_of, stop_of}
@@ -124,45 +123,50 @@ read_scan site day left body seen answer before after told same within no_excess
       says = (subst P (ap (scan_answer site day) same ∙ sym (scan_within site day body within)) obeys, read_measured body (status_of answer) within no_excess);
     }
 
--- ---- loads
+-- ---- a body over the tables
 
-load_within : (number : ℕ) (rows : List Row) (body : List ℕ) → is_within body ≡ true → load_outcome number rows body ≡ load_answer number body rows
-load_within number rows body is = ap (λ few. if few then load_answer number body rows else leaving rows (unwritten (excess body))) is
+-- a body within the limits is answered, and another changes nothing
+abbrev pub within_limits : (List ℕ → List Row → Outcome) → List Row → List ℕ → Outcome
+within_limits answer_to rows body = if is_within body then answer_to body rows else leaving rows (unwritten (excess body))
 
-load_beyond : (number : ℕ) (rows : List Row) (body : List ℕ) → is_within body ≡ false → load_outcome number rows body ≡ leaving rows (unwritten (excess body))
-load_beyond number rows body is = ap (λ few. if few then load_answer number body rows else leaving rows (unwritten (excess body))) is
+module _ (answer_to : List ℕ → List Row → Outcome) where
+  body-within : (rows : List Row) (body : List ℕ) → is_within body ≡ true → within_limits answer_to rows body ≡ answer_to body rows
+  body-within rows body is = ap (λ few. if few then answer_to body rows else leaving rows (unwritten (excess body))) is
 
-pub unread_load : (number : ℕ) (left : Option (List ℕ)) (output : SinkView) (tables : Option (List Row)) (m n : ℕ) (why : BodyFault) (answer : Result Unit Stop) → IsErrAnd answer (λ stop. stop ≡ stop_of why) → IsBodyFault m n (HasTooManyBytes left) (HasTooManyLines left) why
-    → OfTold (told_through tables tables) (λ rows. OfTold left (λ body. Performs (load_outcome number rows body) answer output output tables tables × IsMeasured true body (status_of answer)))
-unread_load number left output tables m n why answer is cause =
-    let P = λ (r : Result Unit Stop). OfTold (told_through tables tables) (λ rows. OfTold left (λ body. Performs (load_outcome number rows body) r output output tables tables × IsMeasured true body (status_of r))) in
-    let over = unread left m n why cause in
-    subst P (sym (stopped_by answer (stop_of why) is))
-    (of_told (told_through tables tables) (λ rows. OfTold left (λ body. Performs (load_outcome number rows body) (Err (stop_of why)) output output tables tables × IsMeasured true body (ending_at (stop_of why)).status)) (λ rows told. record {
-      all = over.all;
-      is_all = over.is_all;
-      says = (
-        record {
-          obeys = unread_obeys (printout_of (load_outcome number rows over.all)) (stop_of why) over.all output (λ few. ap printout_of (load_beyond number rows over.all few)) over.says;
-          tables = unread_keeps (load_outcome number rows over.all) rows (stop_of why) over.all tables told (load_beyond number rows over.all) over.says;
-        },
-        unread_measured (stop_of why) over.all over.says,
-      );
-    }))
+  body-beyond : (rows : List Row) (body : List ℕ) → is_within body ≡ false → within_limits answer_to rows body ≡ leaving rows (unwritten (excess body))
+  body-beyond rows body is = ap (λ few. if few then answer_to body rows else leaving rows (unwritten (excess body))) is
 
-pub read_load : (number : ℕ) (left : Option (List ℕ)) (body seen : List ℕ) (answer : Result Unit Stop) (before after : SinkView) (tables_before tables_after : Option (List Row)) → IsAll left body → seen ≡ body → is_within body ≡ true → (status_of answer ≡ 10 → ⊥) → OfTold (told_through tables_before tables_after) (λ rows. Performs (load_answer number seen rows) answer before after tables_before tables_after)
-    → OfTold (told_through tables_before tables_after) (λ rows. OfTold left (λ body. Performs (load_outcome number rows body) answer before after tables_before tables_after × IsMeasured true body (status_of answer)))
-read_load number left body seen answer before after tables_before tables_after told same within no_excess over =
-    let P = λ (o : Outcome). Performs o answer before after tables_before tables_after in
-    record {
-      all = over.all;
-      is_all = over.is_all;
-      says = record {
-        all = body;
-        is_all = told;
-        says = (subst P (ap (λ b. load_answer number b over.all) same ∙ sym (load_within number over.all body within)) over.says, read_measured body (status_of answer) within no_excess);
-      };
-    }
+  pub unread_body : (left : Option (List ℕ)) (output : SinkView) (tables : Option (List Row)) (m n : ℕ) (why : BodyFault) (answer : Result Unit Stop) → IsErrAnd answer (λ stop. stop ≡ stop_of why) → IsBodyFault m n (HasTooManyBytes left) (HasTooManyLines left) why
+      → OfTold (told_through tables tables) (λ rows. OfTold left (λ body. Performs (within_limits answer_to rows body) answer output output tables tables × IsMeasured true body (status_of answer)))
+  unread_body left output tables m n why answer is cause =
+      let P = λ (r : Result Unit Stop). OfTold (told_through tables tables) (λ rows. OfTold left (λ body. Performs (within_limits answer_to rows body) r output output tables tables × IsMeasured true body (status_of r))) in
+      let over = unread left m n why cause in
+      subst P (sym (stopped_by answer (stop_of why) is))
+      (of_told (told_through tables tables) (λ rows. OfTold left (λ body. Performs (within_limits answer_to rows body) (Err (stop_of why)) output output tables tables × IsMeasured true body (ending_at (stop_of why)).status)) (λ rows told. record {
+        all = over.all;
+        is_all = over.is_all;
+        says = (
+          record {
+            obeys = unread_obeys (printout_of (within_limits answer_to rows over.all)) (stop_of why) over.all output (λ few. ap printout_of (body-beyond rows over.all few)) over.says;
+            tables = unread_keeps (within_limits answer_to rows over.all) rows (stop_of why) over.all tables told (body-beyond rows over.all) over.says;
+          },
+          unread_measured (stop_of why) over.all over.says,
+        );
+      }))
+
+  pub read_body_over : (left : Option (List ℕ)) (body seen : List ℕ) (answer : Result Unit Stop) (before after : SinkView) (tables_before tables_after : Option (List Row)) → IsAll left body → seen ≡ body → is_within body ≡ true → (status_of answer ≡ 10 → ⊥) → OfTold (told_through tables_before tables_after) (λ rows. Performs (answer_to seen rows) answer before after tables_before tables_after)
+      → OfTold (told_through tables_before tables_after) (λ rows. OfTold left (λ body. Performs (within_limits answer_to rows body) answer before after tables_before tables_after × IsMeasured true body (status_of answer)))
+  read_body_over left body seen answer before after tables_before tables_after told same within no_excess over =
+      let P = λ (o : Outcome). Performs o answer before after tables_before tables_after in
+      record {
+        all = over.all;
+        is_all = over.is_all;
+        says = record {
+          all = body;
+          is_all = told;
+          says = (subst P (ap (λ b. answer_to b over.all) same ∙ sym (body-within over.all body within)) over.says, read_measured body (status_of answer) within no_excess);
+        };
+      }
 
 -- ---- causes
 

@@ -6,7 +6,7 @@ use Rattle.aq_rules.specs.Kept.Rows.{Row, rows_of}
 use Rattle.aq_rules.specs.Office.Office.{Office}
 use Rattle.aq_rules.specs.Questions.Answer.{Answer, OfSheets, OfText, Lacks, Lack, NoSite, NoEvent, NoCombination, NoSiteInArea, NoLoad, answer, texts_of}
 use Rattle.aq_desk.specs.Command.{Outcome, Printout, leaving, printed, unwritten}
-use Rattle.aq_desk.specs.Ending.{Ending, no_combination, no_event, no_load, no_site, no_site_in_area}
+use Rattle.aq_desk.specs.Ending.{Ending, line_refused, no_combination, no_event, no_load, no_site, no_site_in_area}
 use Rattle.aq_desk.specs.Office.{over_office}
 use Rattle.aq_desk.specs.declared.stop.Stop.{Stop}
 use Rattle.aq_desk.specs.declared.stop.Stop.TheVariants as stops
@@ -32,8 +32,9 @@ answered (Lacks what) = unwritten (lacking what)
 unfoldable pub ask_printout : Question → Office → Printout
 ask_printout question office = answered (answer office question)
 
--- why an answer is not printed: something is missing, or memory ran out
+-- why an answer is not printed: something is missing, a line breaks a rule, or memory ran out
 abbrev pub IsUnanswered : Printout → Stop → Type 0
 IsUnanswered printout stops.Memory = ⊤
 IsUnanswered printout (stops.Lacks what) = printout ≡ unwritten (lacking (lack_of what))
+IsUnanswered printout (stops.Refused line rule) = printout ≡ unwritten (line_refused line rule)
 IsUnanswered printout _ = ⊥

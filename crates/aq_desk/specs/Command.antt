@@ -8,7 +8,7 @@ use Rattle.aq_desk.specs.Ending.{Ending, done, input_failed, output_failed, keep
 use Rattle.aq_base.specs.Faults.{HasRisen}
 use Rattle.aq_desk.specs.Writing.{WritesFront}
 use Rattle.aq_serve.specs.Outside.{SinkView}
-use Rattle.aq_desk.specs.declared.status.TheConstants.{DONE, NO_COMMAND, INPUT_FAILED, OUTPUT_FAILED, KEEPER_FAILED, DAMAGED, NO_MEMORY, DOOR_FAILED, CONFLICT, TOO_LARGE, LOADS_FULL, NO_SITE, NO_EVENT, NO_COMBINATION, NO_SITE_IN_AREA, NO_LOAD}
+use Rattle.aq_desk.specs.declared.status.TheConstants.{DONE, NO_COMMAND, INPUT_FAILED, OUTPUT_FAILED, KEEPER_FAILED, DAMAGED, NO_MEMORY, DOOR_FAILED, CONFLICT, TOO_LARGE, LOADS_FULL, NO_SITE, NO_EVENT, NO_COMBINATION, NO_SITE_IN_AREA, NO_LOAD, LINE_REFUSED}
 
 -- how a command ends, and what it writes on the output
 pub record Printout : Type 0 where
@@ -44,7 +44,7 @@ leaving rows printout = record { ending = printout.ending; output = printout.out
 
 -- the statuses of a run that did all of its command; the others are those of one that was cut short
 abbrev pub IsWhole : ℕ → Type 0
-IsWhole status = (status ≡ DONE) ⊎ (status ≡ NO_COMMAND) ⊎ (status ≡ DAMAGED) ⊎ (status ≡ CONFLICT) ⊎ (status ≡ TOO_LARGE) ⊎ (status ≡ LOADS_FULL) ⊎ (status ≡ NO_SITE) ⊎ (status ≡ NO_EVENT) ⊎ (status ≡ NO_COMBINATION) ⊎ (status ≡ NO_SITE_IN_AREA) ⊎ (status ≡ NO_LOAD)
+IsWhole status = (status ≡ DONE) ⊎ (status ≡ NO_COMMAND) ⊎ (status ≡ DAMAGED) ⊎ (status ≡ CONFLICT) ⊎ (status ≡ TOO_LARGE) ⊎ (status ≡ LOADS_FULL) ⊎ (status ≡ NO_SITE) ⊎ (status ≡ NO_EVENT) ⊎ (status ≡ NO_COMBINATION) ⊎ (status ≡ NO_SITE_IN_AREA) ⊎ (status ≡ NO_LOAD) ⊎ (status ≡ LINE_REFUSED)
 
 -- the statuses with which the tables are those of the command: it did all, or only its output failed
 abbrev pub IsKept : ℕ → Type 0
@@ -102,8 +102,8 @@ IsStatus status = IsWhole status ⊎ (status ≡ INPUT_FAILED) ⊎ (status ≡ O
 
 -- the statuses of a run that read its input to the end, within the limits, if its command reads it
 abbrev pub ReadsWhole : ℕ → Type 0
-ReadsWhole status = (status ≡ DONE) ⊎ (status ≡ OUTPUT_FAILED) ⊎ (status ≡ KEEPER_FAILED) ⊎ (status ≡ DAMAGED) ⊎ (status ≡ CONFLICT) ⊎ (status ≡ LOADS_FULL) ⊎ (status ≡ NO_SITE)
+ReadsWhole status = (status ≡ DONE) ⊎ (status ≡ OUTPUT_FAILED) ⊎ (status ≡ KEEPER_FAILED) ⊎ (status ≡ DAMAGED) ⊎ (status ≡ CONFLICT) ⊎ (status ≡ LOADS_FULL) ⊎ (status ≡ NO_SITE) ⊎ (status ≡ LINE_REFUSED)
 
 -- the statuses of one that wrote nothing on the output
 abbrev pub WritesNothing : ℕ → Type 0
-WritesNothing status = (status ≡ NO_COMMAND) ⊎ (status ≡ INPUT_FAILED) ⊎ (status ≡ KEEPER_FAILED) ⊎ (status ≡ DAMAGED) ⊎ (status ≡ DOOR_FAILED) ⊎ (status ≡ CONFLICT) ⊎ (status ≡ TOO_LARGE) ⊎ (status ≡ LOADS_FULL) ⊎ (status ≡ NO_EVENT) ⊎ (status ≡ NO_COMBINATION) ⊎ (status ≡ NO_SITE_IN_AREA) ⊎ (status ≡ NO_LOAD)
+WritesNothing status = (status ≡ NO_COMMAND) ⊎ (status ≡ INPUT_FAILED) ⊎ (status ≡ KEEPER_FAILED) ⊎ (status ≡ DAMAGED) ⊎ (status ≡ DOOR_FAILED) ⊎ (status ≡ CONFLICT) ⊎ (status ≡ TOO_LARGE) ⊎ (status ≡ LOADS_FULL) ⊎ (status ≡ NO_EVENT) ⊎ (status ≡ NO_COMBINATION) ⊎ (status ≡ NO_SITE_IN_AREA) ⊎ (status ≡ NO_LOAD) ⊎ (status ≡ LINE_REFUSED)

@@ -1,14 +1,16 @@
 -- How a run ends: its exit status, and its message on the errors stream (own).
 use Rattle.std.specs.Prelude.{ℕ, List, [], ◌∷◌, ◌++◌, flat_map, map, codes, decimal}
 use Rattle.std.specs.List.{join_with_byte}
+use Rattle.aq_base.specs.Rule.{rule_name, rule_number}
 use Rattle.aq_base.specs.Site.{Site}
+use Rattle.aq_base.specs.declared.rule.Rule.{Rule}
 use Rattle.aq_rules.specs.Limits.{MOST_BYTES}
 use Rattle.aq_rules.specs.Kept.RowChanges.{table_name}
 use Rattle.aq_rules.specs.Kept.Rows.{Place}
-use Rattle.aq_rules.specs.Questions.Table.{ASKED, usage_of}
+use Rattle.aq_rules.specs.Questions.Table.{all_topics, usage_of}
 use Rattle.aq_rules.specs.Shown.OtherSheets.{digest_text}
 use Rattle.aq_rules.specs.Shown.Sheet.{site_text}
-use Rattle.aq_desk.specs.declared.status.TheConstants.{DONE, NO_COMMAND, INPUT_FAILED, OUTPUT_FAILED, KEEPER_FAILED, DAMAGED, NO_MEMORY, DOOR_FAILED, CONFLICT, TOO_LARGE, LOADS_FULL, NO_SITE, NO_EVENT, NO_COMBINATION, NO_SITE_IN_AREA, NO_LOAD}
+use Rattle.aq_desk.specs.declared.status.TheConstants.{DONE, NO_COMMAND, INPUT_FAILED, OUTPUT_FAILED, KEEPER_FAILED, DAMAGED, NO_MEMORY, DOOR_FAILED, CONFLICT, TOO_LARGE, LOADS_FULL, NO_SITE, NO_EVENT, NO_COMBINATION, NO_SITE_IN_AREA, NO_LOAD, LINE_REFUSED}
 
 pub record Ending : Type 0 where
   pub status : ℕ
@@ -25,7 +27,7 @@ ends status cause = record { status = status; message = codes "airdv: " ++ decim
 -- the commands, as the usage text names them
 abbrev pub commands : List (List ℕ)
 commands =
-    codes "scan SITE DAY" ∷ codes "load NUMBER" ∷ map (λ topic. join_with_byte 32 (usage_of topic)) ASKED
+    codes "scan SITE DAY" ∷ codes "load NUMBER" ∷ codes "try" ∷ codes "changes FIRST LAST" ∷ map (λ topic. join_with_byte 32 (usage_of topic)) all_topics
     ++ codes "serve --port P --connections N" ∷ codes "simulate START SITES YEARS" ∷ []
 
 -- a line for each command
@@ -89,3 +91,8 @@ no_site_in_area = ends NO_SITE_IN_AREA (codes "no site in area")
 -- with the number of which no load stands
 abbrev pub no_load : ℕ → Ending
 no_load number = ends NO_LOAD (codes "no load " ++ decimal number)
+
+-- with the first line of the extract that breaks a rule, and the number and the name of the first rule that it breaks
+abbrev pub line_refused : ℕ → Rule → Ending
+line_refused line rule =
+    ends LINE_REFUSED (codes "line " ++ decimal line ++ codes " rule " ++ decimal (rule_number rule) ++ codes " " ++ rule_name rule)

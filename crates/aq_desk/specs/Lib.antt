@@ -1,4 +1,6 @@
 pub mod Ending
+pub mod Draft
+pub mod Asked
 pub mod Body
 pub mod Writing
 pub mod Command

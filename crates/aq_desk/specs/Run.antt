@@ -5,10 +5,11 @@ use Rattle.aq_base.specs.Faults.{HasRisen}
 use Rattle.aq_keeper.specs.Told.{KeeperView, told_through}
 use Rattle.aq_rules.specs.Kept.Rows.{Row}
 use Rattle.aq_words.specs.declared.words.Command.{Command}
-use Rattle.aq_words.specs.declared.words.Command.TheVariants.{Scan, Load, Serve, Simulate}
+use Rattle.aq_words.specs.declared.words.Command.TheVariants.{Scan, Load, Draft as OfDraft, Serve, Simulate}
 use Rattle.aq_words.specs.declared.words.Command.TheVariants as command
 use Rattle.aq_desk.specs.Ask.{ask_outcome, ask_printout}
 use Rattle.aq_desk.specs.Command.{BecomeRows, Follows, IsStatus, Outcome, RisesAt, Tells, WritesNothing, leaving, message_for, unwritten}
+use Rattle.aq_desk.specs.Draft.{draft_outcome}
 use Rattle.aq_desk.specs.Ending.{no_command}
 use Rattle.aq_desk.specs.Load.{load_outcome}
 use Rattle.aq_desk.specs.Office.{OnlyMigrates}
@@ -25,6 +26,7 @@ use Rattle.aq_desk.specs.declared.status.TheConstants.{DOOR_FAILED, INPUT_FAILED
 abbrev pub outcome_of : Command → List Row → List ℕ → Outcome
 outcome_of (Scan site day) rows body = leaving rows (scan_outcome site day body)
 outcome_of (Load number) rows body = load_outcome number rows body
+outcome_of (OfDraft draft) rows body = draft_outcome draft rows body
 outcome_of (command.Ask question) rows body = ask_outcome (ask_printout question) rows
 outcome_of (Serve port connections) rows body = serve_outcome rows
 outcome_of (Simulate start sites years) rows body = leaving rows (simulate_outcome start sites years)
@@ -39,6 +41,7 @@ outcome_for (Some command) rows body = outcome_of command rows body
 abbrev pub reads_input : Command → Bool
 reads_input (Scan site day) = true
 reads_input (Load number) = true
+reads_input (OfDraft draft) = true
 reads_input (command.Ask question) = false
 reads_input (Serve port connections) = false
 reads_input (Simulate start sites years) = false
@@ -46,6 +49,7 @@ reads_input (Simulate start sites years) = false
 abbrev pub uses_keeper : Command → Bool
 uses_keeper (Scan site day) = false
 uses_keeper (Load number) = true
+uses_keeper (OfDraft draft) = true
 uses_keeper (command.Ask question) = true
 uses_keeper (Serve port connections) = true
 uses_keeper (Simulate start sites years) = false
@@ -53,14 +57,16 @@ uses_keeper (Simulate start sites years) = false
 abbrev pub writes_output : Command → Bool
 writes_output (Scan site day) = true
 writes_output (Load number) = true
+writes_output (OfDraft draft) = true
 writes_output (command.Ask question) = true
 writes_output (Serve port connections) = false
 writes_output (Simulate start sites years) = true
 
--- the commands that ask, of which no load comes
+-- the commands of which no load comes: a question, and what an input would make
 abbrev pub asks : Command → Bool
 asks (Scan site day) = false
 asks (Load number) = false
+asks (OfDraft draft) = true
 asks (command.Ask question) = true
 asks (Serve port connections) = false
 asks (Simulate start sites years) = false
@@ -74,6 +80,7 @@ uses test (Some command) = test command
 abbrev pub hosting_in : Command → Option Hosting
 hosting_in (Scan site day) = None
 hosting_in (Load number) = None
+hosting_in (OfDraft draft) = None
 hosting_in (command.Ask question) = None
 hosting_in (Serve port connections) = Some (record { port = port; connections = connections })
 hosting_in (Simulate start sites years) = None
@@ -128,7 +135,7 @@ pub record HasReasons (command : Option Command) (status : ℕ) (before after : 
   pub only_serve : status ≡ DOOR_FAILED → IsSome (hosting_for command)
   -- how much of its input it read
   pub read : uses reads_input command ≡ true → HasRead status before.input.left after.input.left
-  -- a question commits nothing but a migration
+  -- a question, and a command that says what an input would make, commits nothing but a migration
   pub only_migrates : uses asks command ≡ true → OnlyMigrates before.keeper after.keeper
 
 -- What a run is, of what it is handed: the keeper, the door, the input and the output, before it and after it. It is the clause of `run` and of the programs.

@@ -7,7 +7,7 @@ use Rattle.aq_office.specs.Answers.{lack_of}
 use Rattle.aq_desk.specs.Ask.{lacking}
 use Rattle.aq_desk.specs.Body.{is_within}
 use Rattle.aq_desk.specs.Command.{IsWhole, Keeps, Outcome, Printout, ReadsWhole, RisesAt, printout_of}
-use Rattle.aq_desk.specs.Ending.{Ending, done, input_failed, output_failed, keeper_failed, damaged, no_memory, door_failed, conflict, too_many_bytes, too_many_lines, loads_full}
+use Rattle.aq_desk.specs.Ending.{Ending, done, input_failed, output_failed, keeper_failed, damaged, no_memory, door_failed, conflict, line_refused, too_many_bytes, too_many_lines, loads_full}
 use Rattle.aq_desk.specs.Writing.{WritesFront}
 use Rattle.aq_serve.specs.Outside.{IsAll, SinkView, SourceView}
 use Rattle.aq_rows.specs.declared.opening.OpenFault.{OpenFault}
@@ -17,8 +17,8 @@ use Rattle.aq_keeper.specs.declared.keeper.KeeperFault.TheVariants as keeper
 use Rattle.aq_desk.specs.declared.body.BodyFault.{BodyFault}
 use Rattle.aq_desk.specs.declared.body.BodyFault.TheVariants as fault
 use Rattle.aq_desk.specs.declared.stop.Stop.{Stop}
-use Rattle.aq_desk.specs.declared.stop.Stop.TheVariants.{InputFailed, OutputFailed, KeeperFailed, DoorFailed, Damaged, Memory, Conflict, TooManyBytes, TooManyLines, LoadsFull, Lacks}
-use Rattle.aq_desk.specs.declared.status.TheConstants.{DONE, INPUT_FAILED, OUTPUT_FAILED, KEEPER_FAILED, DAMAGED, NO_MEMORY, CONFLICT, TOO_LARGE, LOADS_FULL, NO_SITE, NO_EVENT, NO_COMBINATION, NO_SITE_IN_AREA, NO_LOAD}
+use Rattle.aq_desk.specs.declared.stop.Stop.TheVariants.{InputFailed, OutputFailed, KeeperFailed, DoorFailed, Damaged, Memory, Conflict, TooManyBytes, TooManyLines, LoadsFull, Lacks, Refused}
+use Rattle.aq_desk.specs.declared.status.TheConstants.{DONE, INPUT_FAILED, OUTPUT_FAILED, KEEPER_FAILED, DAMAGED, NO_MEMORY, CONFLICT, TOO_LARGE, LOADS_FULL, NO_SITE, NO_EVENT, NO_COMBINATION, NO_SITE_IN_AREA, NO_LOAD, LINE_REFUSED}
 
 abbrev pub ending_at : Stop → Ending
 ending_at InputFailed = input_failed
@@ -32,6 +32,7 @@ ending_at TooManyBytes = too_many_bytes
 ending_at (TooManyLines lines) = too_many_lines lines
 ending_at LoadsFull = loads_full
 ending_at (Lacks what) = lacking (lack_of what)
+ending_at (Refused line rule) = line_refused line rule
 
 -- a command that was done, or stopped
 abbrev pub ending_of : {A : Type 0} → Result A Stop → Ending
@@ -90,7 +91,7 @@ IsCutShort stop = ((ending_at stop).status ≡ OUTPUT_FAILED) ⊎ ((ending_at st
 abbrev pub IsUnprinted : Stop → Type 0
 IsUnprinted stop =
     let status = (ending_at stop).status in
-    (status ≡ KEEPER_FAILED) ⊎ (status ≡ DAMAGED) ⊎ (status ≡ NO_MEMORY) ⊎ (status ≡ CONFLICT) ⊎ (status ≡ LOADS_FULL) ⊎ (status ≡ NO_SITE) ⊎ (status ≡ NO_EVENT) ⊎ (status ≡ NO_COMBINATION) ⊎ (status ≡ NO_SITE_IN_AREA) ⊎ (status ≡ NO_LOAD)
+    (status ≡ KEEPER_FAILED) ⊎ (status ≡ DAMAGED) ⊎ (status ≡ NO_MEMORY) ⊎ (status ≡ CONFLICT) ⊎ (status ≡ LOADS_FULL) ⊎ (status ≡ NO_SITE) ⊎ (status ≡ NO_EVENT) ⊎ (status ≡ NO_COMBINATION) ⊎ (status ≡ NO_SITE_IN_AREA) ⊎ (status ≡ NO_LOAD) ⊎ (status ≡ LINE_REFUSED)
 
 -- why it ended so: a count of faults rose
 pub record HasCauses (status : ℕ) (input_before input_after : SourceView) (output_before output_after : SinkView) : Type 0 where

@@ -1,19 +1,16 @@
 //! The commands that ask.
 ghost use Rattle.std.specs.Prelude.{◌≡◌, false, IfErr, IfOk, IsTrue};
-ghost use Rattle.aq_base.specs.Questions.{topic_of};
 ghost use Rattle.aq_keeper.specs.Told.{told_through};
-ghost use Rattle.aq_rules.specs.Questions.Asking.{is_asked, is_of};
-ghost use Rattle.aq_rules.specs.Questions.Table.{ASKED};
+ghost use Rattle.aq_rules.specs.Questions.Asking.{is_asked};
 ghost use Rattle.aq_desk.specs.Ask.{IsUnanswered, ask_outcome, ask_printout};
 ghost use Rattle.aq_desk.specs.Command.{RisesAt, WritesNothing, printed};
 ghost use Rattle.aq_desk.specs.Office.{OnlyMigrates};
 ghost use Rattle.aq_serve.specs.Outside.{OfTold};
-ghost use Rattle.aq_desk.specs.Stop.{Gives, IsUnprinted, Performs, status_of};
+ghost use Rattle.aq_desk.specs.Stop.{Performs, status_of};
 ghost use Rattle.aq_desk.specs.declared.status.TheConstants.{DOOR_FAILED, INPUT_FAILED, KEEPER_FAILED, OUTPUT_FAILED, TOO_LARGE};
 
-use crate::office::open;
+use crate::asked::{Asked, print_asked};
 use crate::stop::Stop;
-use crate::writing::print_text;
 use aq_base::{Bytes, Question};
 use aq_book::Book;
 use aq_keeper::Keeper;
@@ -29,8 +26,7 @@ pub(crate) fn ask<K: Keeper, O: Sink>(
     keeper: &mut K,
     output: &mut O,
 ) -> Result<(), Stop>
-    requires range { IsTrue (is_asked question.now) }
-    requires today { IsTrue (is_of ASKED (topic_of question.now)) }
+    requires { IsTrue (is_asked question.now) }
     ensures told { OfTold (told_through (K.seen keeper.old).tables (K.seen keeper.new).tables)
         (λ rows. Performs (ask_outcome (ask_printout question.now) rows) result
         (O.seen output.old) (O.seen output.new) (K.seen keeper.old).tables
@@ -46,48 +42,12 @@ pub(crate) fn ask<K: Keeper, O: Sink>(
     ensures gone { (K.seen keeper.new).is_held ≡ false }
     ensures only_migrates { OnlyMigrates (K.seen keeper.old) (K.seen keeper.new) }
 {
-    let text = asked(alloc, question, keeper)?;
-    print_text(text.as_slice(), output)
-}
-
-/// The text of the answer over the office of the tables, which are let go.
-fn asked<K: Keeper>(alloc: Global, question: &Question, keeper: &mut K) -> Result<Bytes, Stop>
-    requires range { IsTrue (is_asked question.now) }
-    requires today { IsTrue (is_of ASKED (topic_of question.now)) }
-    ensures told { OfTold (told_through (K.seen keeper.old).tables (K.seen keeper.new).tables)
-        (λ rows. Gives (ask_outcome (ask_printout question.now) rows) result
-        (K.seen keeper.old).tables (K.seen keeper.new).tables) }
-    ensures unprinted { IfErr result IsUnprinted }
-    ensures keeper_failed { RisesAt KEEPER_FAILED (status_of result) (K.seen keeper.old).faults
-        (K.seen keeper.new).faults }
-    ensures gone { (K.seen keeper.new).is_held ≡ false }
-    ensures only_migrates { OnlyMigrates (K.seen keeper.old) (K.seen keeper.new) }
-{
-    let text = answered(alloc, question, keeper);
-    keeper.let_go();
-    text
-}
-
-/// The text of the answer over the office of the tables.
-fn answered<K: Keeper>(alloc: Global, question: &Question, keeper: &mut K) -> Result<Bytes, Stop>
-    requires range { IsTrue (is_asked question.now) }
-    requires today { IsTrue (is_of ASKED (topic_of question.now)) }
-    ensures told { OfTold (told_through (K.seen keeper.old).tables (K.seen keeper.new).tables)
-        (λ rows. Gives (ask_outcome (ask_printout question.now) rows) result
-        (K.seen keeper.old).tables (K.seen keeper.new).tables) }
-    ensures unprinted { IfErr result IsUnprinted }
-    ensures keeper_failed { RisesAt KEEPER_FAILED (status_of result) (K.seen keeper.old).faults
-        (K.seen keeper.new).faults }
-    ensures only_migrates { OnlyMigrates (K.seen keeper.old) (K.seen keeper.new) }
-{
-    let book = open(alloc, keeper)?;
-    text_of_answer(alloc, &book, question)
+    print_asked(alloc, &Asked::Question(question), keeper, output)
 }
 
 /// The text of the answer over an office.
 pub(crate) fn text_of_answer(alloc: Global, book: &Book, question: &Question) -> Result<Bytes, Stop>
-    requires range { IsTrue (is_asked question.now) }
-    requires today { IsTrue (is_of ASKED (topic_of question.now)) }
+    requires { IsTrue (is_asked question.now) }
     ensures text { IfOk result (λ text. ask_printout question.now book.now ≡ printed text) }
     ensures refused { IfErr result (IsUnanswered (ask_printout question.now book.now)) }
 {

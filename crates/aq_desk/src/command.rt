@@ -13,6 +13,7 @@ ghost use Rattle.aq_words.specs.declared.words.Command.{Command};
 ghost use Rattle.aq_desk.specs.declared.status.TheConstants.{DAMAGED, DONE, DOOR_FAILED, INPUT_FAILED, KEEPER_FAILED, NO_MEMORY, OUTPUT_FAILED};
 
 use crate::ask::ask;
+use crate::draft::draft;
 use crate::load::load;
 use crate::scan::scan;
 use crate::serve::serve;
@@ -29,6 +30,8 @@ use std::alloc::Global;
 const NO_COMMAND_TEXT: &[u8] = b"airdv: 2 no command\n\
 usage: airdv scan SITE DAY\n\
 usage: airdv load NUMBER\n\
+usage: airdv try\n\
+usage: airdv changes FIRST LAST\n\
 usage: airdv show STANDARD SITE YEAR\n\
 usage: airdv report STANDARD YEAR\n\
 usage: airdv export SITE PARAMETER YEAR\n\
@@ -41,6 +44,17 @@ usage: airdv windows SITE DAY\n\
 usage: airdv days SITE YEAR\n\
 usage: airdv pm25 SITE YEAR\n\
 usage: airdv pm10 SITE YEAR\n\
+usage: airdv sites\n\
+usage: airdv monitors SITE\n\
+usage: airdv events SITE\n\
+usage: airdv flags SITE PARAMETER YEAR\n\
+usage: airdv loads\n\
+usage: airdv daily SITE PARAMETER YEAR\n\
+usage: airdv highest SITE PARAMETER YEAR\n\
+usage: airdv completeness SITE PARAMETER YEAR\n\
+usage: airdv reports YEAR\n\
+usage: airdv records\n\
+usage: airdv lines SITE PARAMETER YEAR\n\
 usage: airdv serve --port P --connections N\n\
 usage: airdv simulate START SITES YEARS\n";
 
@@ -161,6 +175,7 @@ pub fn perform<K: Keeper, D: Door, S: Source, O: Sink>(
     match command {
         Command::Scan { site, day } => scan(alloc, *site, *day, input, output),
         Command::Load(number) => load(alloc, *number, keeper, input, output),
+        Command::Draft(it) => draft(alloc, it, keeper, input, output),
         Command::Ask(question) => ask(alloc, question, keeper, output),
         Command::Serve { port, connections } => serve(alloc, *port, *connections, keeper, door),
         Command::Simulate {

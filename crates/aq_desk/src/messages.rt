@@ -1,13 +1,14 @@
 //! The messages on the errors stream that have a number or a name in them. They take no memory.
 ghost use Rattle.std.specs.Prelude.{◌≡◌, ◌<◌, ◌++◌, codes, decimal};
+ghost use Rattle.aq_base.specs.Rule.{rule_name, rule_number};
 ghost use Rattle.aq_rules.specs.Kept.RowChanges.{table_name};
 ghost use Rattle.aq_rules.specs.Shown.OtherSheets.{digest_text};
 ghost use Rattle.aq_rules.specs.Shown.Sheet.{site_text};
-ghost use Rattle.aq_desk.specs.Ending.{conflict, damaged, no_combination, no_event, no_load, no_site, too_many_lines};
+ghost use Rattle.aq_desk.specs.Ending.{conflict, damaged, line_refused, no_combination, no_event, no_load, no_site, too_many_lines};
 ghost use Rattle.aq_desk.specs.Writing.{Writes};
 
 use crate::writing::write_all;
-use aq_base::{Failed, SiteId};
+use aq_base::{Failed, Rule, SiteId};
 use aq_book::Place;
 use aq_reports::{hex_digits, site_text};
 use aq_serve::Sink;
@@ -116,6 +117,25 @@ pub(crate) fn write_no_load<E: Sink>(number: u32, errors: &mut E) -> Result<(), 
         (E.seen errors.new) result }
 {
     write_counted(b"airdv: 16 no load ", number as u64, b"\n", errors)
+}
+
+/// Writes the first line of an extract that breaks a rule, and the first rule that it breaks.
+pub(crate) fn write_refused<E: Sink>(line: u32, rule: Rule, errors: &mut E) -> Result<(), Failed>
+    ensures { let ending = line_refused line rule in Writes ending.message (E.seen errors.old)
+        (E.seen errors.new) result }
+{
+    write_counted(b"airdv: 17 line ", line as u64, b" rule ", errors)?;
+    write_rule(rule, errors)
+}
+
+/// Writes a rule's number and name, to the end of a line.
+fn write_rule<E: Sink>(rule: Rule, errors: &mut E) -> Result<(), Failed>
+    ensures { Writes (((decimal (rule_number rule) ++ codes " ") ++ rule_name rule) ++ codes "\n")
+        (E.seen errors.old) (E.seen errors.new) result }
+{
+    write_counted(b"", rule.number() as u64, b" ", errors)?;
+    write_all(errors, rule.name().as_bytes())?;
+    write_all(errors, b"\n")
 }
 
 /// Writes a number between two texts.

@@ -1,6 +1,6 @@
 //! The exit statuses of a run (own). Each has its name here once, and all else cites it.
 ghost use Rattle.std.specs.Prelude.{◌≡◌};
-ghost use Rattle.aq_desk.specs.declared.status.TheConstants.{DONE, NO_COMMAND, INPUT_FAILED, OUTPUT_FAILED, KEEPER_FAILED, DAMAGED, NO_MEMORY, DOOR_FAILED, CONFLICT, TOO_LARGE, LOADS_FULL, NO_SITE, NO_EVENT, NO_COMBINATION, NO_SITE_IN_AREA, NO_LOAD};
+ghost use Rattle.aq_desk.specs.declared.status.TheConstants.{DONE, NO_COMMAND, INPUT_FAILED, OUTPUT_FAILED, KEEPER_FAILED, DAMAGED, NO_MEMORY, DOOR_FAILED, CONFLICT, TOO_LARGE, LOADS_FULL, NO_SITE, NO_EVENT, NO_COMBINATION, NO_SITE_IN_AREA, NO_LOAD, LINE_REFUSED};
 
 /// The command was done.
 pub const DONE: u8 = 0;
@@ -50,6 +50,9 @@ pub const NO_SITE_IN_AREA: u8 = 15;
 /// No load with the number stands.
 pub const NO_LOAD: u8 = 16;
 
+/// A line of an extract breaks a rule.
+pub const LINE_REFUSED: u8 = 17;
+
 /// The statuses are these numbers, on which scripts of an agency rest.
 pub fn statuses_are_these_numbers()
     ensures done { DONE ≡ 0 }
@@ -68,4 +71,5 @@ pub fn statuses_are_these_numbers()
     ensures no_combination { NO_COMBINATION ≡ 14 }
     ensures no_site_in_area { NO_SITE_IN_AREA ≡ 15 }
     ensures no_load { NO_LOAD ≡ 16 }
+    ensures line_refused { LINE_REFUSED ≡ 17 }
 {}

@@ -5,13 +5,13 @@ ghost use Rattle.aq_desk.specs.Writing.{Writes};
 
 use crate::body::BodyFault;
 use crate::lack::{status_of_lack, write_lack};
-use crate::messages::{write_conflict, write_damaged, write_lines};
+use crate::messages::{write_conflict, write_damaged, write_lines, write_refused};
 use crate::status::{
-    CONFLICT, DAMAGED, DOOR_FAILED, INPUT_FAILED, KEEPER_FAILED, LOADS_FULL, NO_MEMORY,
-    OUTPUT_FAILED, TOO_LARGE,
+    CONFLICT, DAMAGED, DOOR_FAILED, INPUT_FAILED, KEEPER_FAILED, LINE_REFUSED, LOADS_FULL,
+    NO_MEMORY, OUTPUT_FAILED, TOO_LARGE,
 };
 use crate::writing::write_all;
-use aq_base::Failed;
+use aq_base::{Failed, Rule};
 use aq_book::{OpenFault, Place};
 use aq_keeper::KeeperFault;
 use aq_office::Lack;
@@ -40,6 +40,11 @@ pub enum Stop {
     LoadsFull,
     /// What a question asks for is not there.
     Lacks(Lack),
+    /// A line of an extract breaks a rule: the first such line, and its first rule.
+    Refused {
+        line: u32,
+        rule: Rule,
+    },
 }
 
 impl Stop {
@@ -58,6 +63,7 @@ impl Stop {
             Stop::TooManyBytes | Stop::TooManyLines(_) => TOO_LARGE,
             Stop::LoadsFull => LOADS_FULL,
             Stop::Lacks(what) => status_of_lack(what),
+            Stop::Refused { .. } => LINE_REFUSED,
         }
     }
 
@@ -78,6 +84,7 @@ impl Stop {
             Stop::TooManyLines(lines) => write_lines(*lines, errors),
             Stop::LoadsFull => write_all(errors, b"airdv: 11 loads full\n"),
             Stop::Lacks(what) => write_lack(what, errors),
+            Stop::Refused { line, rule } => write_refused(*line, *rule, errors),
         }
     }
 }

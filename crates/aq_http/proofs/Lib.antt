@@ -5,6 +5,5 @@ pub mod Numbers
 pub mod Reading
 pub mod Replies
 pub mod Routed
-pub mod Seeking
 pub mod Steps
 pub mod Walking

@@ -1,21 +1,16 @@
 -- Routes that a router takes, and what it finds.
-use Rattle.std.proofs.Common.{◌≡◌, ◌≢◌, ℕ, zero, suc, ◌<◌, get_or, Bool, true, false, cond, List, [], ◌∷◌, length, refl, sym, ap, ◌∙◌, subst, arith, Option, None, Some}
+use Rattle.std.proofs.Common.{◌≡◌, ℕ, zero, suc, Bool, true, false, cond, List, [], ◌∷◌, refl, sym, ap, ◌∙◌, arith, Option, None}
 use Rattle.std.specs.Str.{IsAscii, IsUtf8, is_utf8}
 use Rattle.std.proofs.lemmas.Str.{IsUtf8-from_ascii, IsUtf8-from_is_utf8, is_utf8-from_IsUtf8}
-use Rattle.matchit.proofs.OnLiterals.{matchit_on_literals}
 use Rattle.matchit.specs.Router.{RouteOf}
 use Rattle.aq_base.specs.declared.question.Topic.{Topic}
-use Rattle.aq_rules.specs.Questions.Asking.{is_of}
-use Rattle.aq_rules.specs.Questions.Table.{ASKED, pattern_of}
-use Rattle.std.specs.Prelude.{◌==◌, nat_lt, option_map, IfSome, IsTrue}
-use Rattle.std.specs.List.{list_all, position_or_len}
-use Rattle.std.proofs.lemmas.Bool.{and_parts, eq-eqb, ne_eqb}
+use Rattle.std.specs.Prelude.{nat_lt, option_map}
+use Rattle.std.specs.List.{list_all}
+use Rattle.std.proofs.lemmas.Bool.{and_parts}
 use Rattle.std.proofs.lemmas.Bool.Decides.{nat_tests}
-use Rattle.std.proofs.lemmas.List.Sums.{position_or_len_is}
 use Rattle.matchit.specs.Seek.{first}
 use Rattle.aq_http.specs.declared.verb.Verb.{Verb}
-use Rattle.aq_http.specs.Routes.{all_routes, found, found_on, path_of, route_of, with_routes}
-use Rattle.aq_http.proofs.Seeking.{AllRows, seek_keeps}
+use Rattle.aq_http.specs.Routes.{all_routes, found, found_on, path_of, route_of}
 use Rattle.aq_http.proofs.Walking.{walk, walks}
 
 -- a text that is no UTF-8
@@ -57,22 +52,3 @@ pub found_walked : (verb : Verb) (target : List ℕ) (route : Option Topic) → 
     → option_map (λ r. r.value) (walk 0 all_routes (path_of target)) ≡ route → found verb target ≡ found_on verb route (path_of target)
 found_walked verb target route plain is =
     found_by verb target route plain (ap (λ row. option_map (λ r. r.value) row) (walks 0 all_routes (path_of target)) ∙ is)
-
--- ---- what is asked today
-
-abbrev IsToday : RouteOf Topic → Type 0
-IsToday row = IsTrue (is_of ASKED row.value)
-
-all_today : AllRows IsToday all_routes
-unfolding matchit_on_literals with_routes pattern_of
-all_today = (refl, (refl, (refl, (refl, (refl, (refl, (refl, (refl, (refl, (refl, (refl, (refl, tt))))))))))))
-
--- the topic of a path is asked today
-pub asked_today : (path : List ℕ) (topic : Topic) → route_of path ≡ Some topic → IsTrue (is_of ASKED topic)
-asked_today path topic is =
-    subst (λ found. IfSome found (λ t. IsTrue (is_of ASKED t))) is (by_test (is_utf8 path) (first all_routes path) (seek_keeps IsToday 0 all_routes path all_today))
-  where
-    by_test : (test : Bool) (row : Option (RouteOf Topic)) → IfSome row IsToday → IfSome (routed test row) (λ t. IsTrue (is_of ASKED t))
-    by_test true (Some row) today = today
-    by_test true None today = tt
-    by_test false row today = tt

@@ -12,9 +12,9 @@ use Rattle.aq_base.specs.declared.question.Question.{Question}
 use Rattle.aq_base.specs.declared.question.Topic.{Topic}
 use Rattle.aq_base.specs.declared.question.Topic.TheVariants.{Reply}
 use Rattle.aq_rules.specs.Limits.{LAST_LOAD_NUMBER}
-use Rattle.aq_rules.specs.Questions.Asking.{asked_in_path, is_asked, is_load_number, is_of}
+use Rattle.aq_rules.specs.Questions.Asking.{asked_in_path, is_asked, is_load_number}
 use Rattle.aq_rules.specs.Questions.Spelling.{number_to}
-use Rattle.aq_rules.specs.Questions.Table.{ASKED, Step, Word, Hole, pattern_of, row_of, topic_of}
+use Rattle.aq_rules.specs.Questions.Table.{Step, Word, Hole, all_topics, pattern_of, row_of}
 use Rattle.aq_http.specs.declared.routes.Found.{Found}
 use Rattle.aq_http.specs.declared.routes.Found.TheVariants.{Ask as Asks, Load, Status, NotAllowed}
 use Rattle.aq_http.specs.declared.verb.Verb.{Verb}
@@ -22,9 +22,9 @@ use Rattle.aq_http.specs.declared.verb.Verb.TheVariants.{Get, Post, Other}
 
 -- ---- which route a path takes, by `matchit`
 
--- the path of each question that is asked: each takes GET, and that of a load's reply POST too
+-- the path of each question: each takes GET, and that of a load's reply POST too
 abbrev pub routes : List (List ℕ × Topic)
-routes = map (λ topic. (pattern_of topic, topic)) ASKED
+routes = map (λ topic. (pattern_of topic, topic)) all_topics
 
 -- a router with one route more
 abbrev pub with_read : {E : Type 0} → Result Scan E → Topic → RowsOf (RouteOf Topic) → RowsOf (RouteOf Topic)
@@ -110,14 +110,9 @@ found verb target = found_on verb (route_of (path_of target)) (path_of target)
 abbrev pub IsFoundStatus : ℕ → Type 0
 IsFoundStatus status = (status ≡ 400) ⊎ (status ≡ 404)
 
--- a question that is asked today, in its range
-pub record IsAsked (question : Question) : Type 0 where
-  pub range : IsTrue (is_asked question)
-  pub today : IsTrue (is_of ASKED (topic_of question))
-
--- nothing else than what the book of rules answers is asked
+-- a question that is asked is in its range
 abbrev pub IsFound : Found → Type 0
-IsFound (Asks question) = IsAsked question
+IsFound (Asks question) = IsTrue (is_asked question)
 IsFound (Load number) = IsTrue (is_load_number number)
 IsFound (Status status) = IsFoundStatus status
 IsFound (NotAllowed post) = Unit {0}

@@ -5,7 +5,7 @@ ghost use Rattle.aq_rules.specs.Ozone.OzoneExamples.{site};
 ghost use Rattle.aq_rules.specs.Questions.QuestionExamples.{entries};
 ghost use Rattle.aq_base.specs.declared.area.Area.TheVariants.{County};
 ghost use Rattle.aq_base.specs.declared.monitor.Pollutant.TheVariants.{Ozone};
-ghost use Rattle.aq_base.specs.declared.question.Question.TheVariants.{Area, Combined, Days, Decisive, Export, Pm10, Pm25, Reply, Report, Value, WhatIf, Windows};
+ghost use Rattle.aq_base.specs.declared.question.Question.TheVariants.{Area, Combined, Completeness, Daily, Days, Decisive, Events, Export, Flags, Highest, Lines, Loads, Monitors, Pm10, Pm25, Records, Reply, Report, Reports, Sites, Value, WhatIf, Windows};
 ghost use Rattle.aq_base.specs.declared.standard.Standard.TheVariants.{Ozone2015, Pm10Of1987};
 ghost use Rattle.aq_http.specs.declared.limits.TheConstants.{MOST_HEAD};
 ghost use Rattle.aq_http.specs.declared.routes.Found.TheVariants.{Ask as Asks, Load, NotAllowed, Status};
@@ -44,6 +44,9 @@ pub fn steps_are_bounded()
 /// of the profile. A standard or a parameter that there is not is not found (404), and of PM10 no sites are
 /// combined. A part that is misspelled, a list of 65 entries and an area with one site twice are bad
 /// requests (400).
+/// The sites, the loads and the records of the office stand at a path without a part, which takes GET alone.
+/// A question of a series is asked of 1990 to 2059, and the reports of all standards of 1992 to 2059. Any
+/// other year is a bad request (400).
 pub fn worked_targets()
     ensures head { verb_of (codes "HEAD") ≡ Other }
     ensures get { found Get (codes "/loads/5") ≡ Asks (Reply 5) }
@@ -74,5 +77,29 @@ pub fn worked_targets()
     ensures pm10_pair { found Get (codes "/combined/PM10-24H-1987/06-037-1103/2024") ≡ Status 404 }
     ensures no_post { found Post (codes "/export/06-037-1103/44201/2024") ≡ NotAllowed false }
     ensures further_slash { found Get (codes "/export/06-037-1103/44201/2024/") ≡ Status 404 }
-    ensures later { found Get (codes "/sites") ≡ Status 404 }
+    ensures sites { found Get (codes "/sites") ≡ Asks Sites }
+    ensures monitors { found Get (codes "/monitors/06-037-1103") ≡ Asks (Monitors site) }
+    ensures events { found Get (codes "/events/06-037-1103") ≡ Asks (Events site) }
+    ensures flags { found Get (codes "/flags/06-037-1103/44201/2024") ≡ Asks (Flags site Ozone 2024) }
+    ensures loads { found Get (codes "/loads") ≡ Asks Loads }
+    ensures daily { found Get (codes "/daily/06-037-1103/44201/2024") ≡ Asks (Daily site Ozone 2024) }
+    ensures highest { found Get (codes "/highest/06-037-1103/44201/2024") ≡ Asks (Highest site Ozone 2024) }
+    ensures completeness { found Get (codes "/completeness/06-037-1103/44201/2024") ≡ Asks (Completeness site Ozone 2024) }
+    ensures reports { found Get (codes "/reports/2024") ≡ Asks (Reports 2024) }
+    ensures records { found Get (codes "/records") ≡ Asks Records }
+    ensures lines { found Get (codes "/lines/06-037-1103/44201/2024") ≡ Asks (Lines site Ozone 2024) }
+    ensures sites_slash { found Get (codes "/sites/") ≡ Status 404 }
+    ensures sites_part { found Get (codes "/sites/x") ≡ Status 404 }
+    ensures no_site { found Get (codes "/monitors") ≡ Status 404 }
+    ensures bad_site { map (λ path. found Get path) (codes "/monitors/6-37-1103" ∷ codes "/events/6-37-1103" ∷ []) ≡ replicate 2 (Status 400) }
+    ensures no_series { map (λ path. found Get path) (codes "/flags/06-037-1103/42602/2024" ∷ codes "/daily/06-037-1103/42602/2024"
+        ∷ codes "/highest/06-037-1103/42602/2024" ∷ codes "/completeness/06-037-1103/42602/2024" ∷ codes "/lines/06-037-1103/42602/2024" ∷ [])
+        ≡ replicate 5 (Status 404) }
+    ensures before_1990 { map (λ path. found Get path) (codes "/flags/06-037-1103/44201/1989" ∷ codes "/daily/06-037-1103/44201/1989"
+        ∷ codes "/highest/06-037-1103/44201/1989" ∷ codes "/completeness/06-037-1103/44201/1989" ∷ codes "/lines/06-037-1103/44201/1989" ∷ [])
+        ≡ replicate 5 (Status 400) }
+    ensures report_years { map (λ path. found Get path) (codes "/reports/1991" ∷ codes "/reports/1992" ∷ codes "/reports/2059" ∷ codes "/reports/2060" ∷ [])
+        ≡ Status 400 ∷ Asks (Reports 1992) ∷ Asks (Reports 2059) ∷ Status 400 ∷ [] }
+    ensures lists_take_no_post { map (λ path. found Post path) (codes "/sites" ∷ codes "/loads" ∷ codes "/records" ∷ []) ≡ replicate 3 (NotAllowed false) }
+    ensures lists_take_no_head { map (λ path. found Other path) (codes "/sites" ∷ codes "/loads" ∷ codes "/records" ∷ []) ≡ replicate 3 (NotAllowed false) }
 {}

@@ -23,7 +23,7 @@
 //! - A refusal and a whole request stay, whatever bytes come after (`steps_stay`); more are wanted only
 //!   of fewer than a head and a body may have together (`steps_are_bounded`).
 //! - What a target asks is the definition's (`Routes::find`), with worked targets of each route
-//!   (`worked_targets`). It is a question that is asked today, in its range.
+//!   (`worked_targets`). A question that is found is in its range.
 //! - The bytes of a reply are the definition's (`reply_bytes`).
 //!
 //! # An example

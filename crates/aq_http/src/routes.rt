@@ -2,8 +2,8 @@
 ghost use Rattle.std.specs.Prelude.{◌≡◌, ◌==◌, map, option_map, IfOk, IfErr, IsTrue, OnOk};
 ghost use Rattle.std.specs.List.{before_first, after_first};
 ghost use Rattle.matchit.specs.Seek.{first};
-ghost use Rattle.aq_rules.specs.Questions.Asking.{asked_in_path, is_asked, is_load_number, is_of};
-ghost use Rattle.aq_rules.specs.Questions.Table.{ASKED, topic_of};
+ghost use Rattle.aq_rules.specs.Questions.Asking.{asked_in_path, is_asked, is_load_number};
+ghost use Rattle.aq_rules.specs.Questions.Table.{topic_of};
 ghost use Rattle.aq_http.specs.Routes.{AreApart, IsFound, IsFoundStatus, all_routes, found, found_at, load_number, part, route_of, takes_post, texts_in, with_routes};
 
 use crate::verb::Verb;
@@ -15,8 +15,8 @@ use std::alloc::Global;
 use std::marker::Model;
 use std::str::from_utf8;
 
-/// The path of each question that is asked today.
-const ROUTES: [(&str, Topic); 12] = [
+/// The path of each question.
+const ROUTES: [(&str, Topic); 23] = [
     ("/dv/{standard}/{site}/{year}", Topic::Value),
     ("/report/{standard}/{year}", Topic::Report),
     ("/export/{site}/{parameter}/{year}", Topic::Export),
@@ -29,6 +29,20 @@ const ROUTES: [(&str, Topic); 12] = [
     ("/ozone/{site}/days/{year}", Topic::Days),
     ("/pm25/{site}/quarters/{year}", Topic::Pm25),
     ("/pm10/{site}/quarters/{year}", Topic::Pm10),
+    ("/sites", Topic::Sites),
+    ("/monitors/{site}", Topic::Monitors),
+    ("/events/{site}", Topic::Events),
+    ("/flags/{site}/{parameter}/{year}", Topic::Flags),
+    ("/loads", Topic::Loads),
+    ("/daily/{site}/{parameter}/{year}", Topic::Daily),
+    ("/highest/{site}/{parameter}/{year}", Topic::Highest),
+    (
+        "/completeness/{site}/{parameter}/{year}",
+        Topic::Completeness,
+    ),
+    ("/reports/{year}", Topic::Reports),
+    ("/records", Topic::Records),
+    ("/lines/{site}/{parameter}/{year}", Topic::Lines),
 ];
 
 /// What a request asks, as far as its verb and target say.
@@ -117,7 +131,6 @@ fn add_all(router: &mut Router<Topic>, routes: &[(&str, Topic)]) -> Result<(), M
 }
 
 fn found_at(verb: Verb, topic: Topic, path: &[u8]) -> Found
-    requires { IsTrue (is_of ASKED topic) }
     ensures value { result ≡ found_at verb topic path.now }
     ensures asked { IsFound result }
 {

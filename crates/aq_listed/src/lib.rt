@@ -1,6 +1,5 @@
 //! What stands in an office, as lists: its sites, the monitors and events of a site, the flags of a year and
-//! how complete its months are; and its records and observations as the lines that make them anew. No command
-//! asks for them yet.
+//! how complete its months are; and its records and observations as the lines that make them anew.
 //!
 //! # What it has
 //!

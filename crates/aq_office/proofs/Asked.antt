@@ -7,7 +7,6 @@ use Rattle.std.proofs.lemmas.List.{length-map}
 use Rattle.std.proofs.lemmas.List.FromFn.{length-range_with_len, map-range_with_len_more}
 use Rattle.aq_base.specs.Calendar.{days_in_year, year_first}
 use Rattle.aq_base.specs.Site.{Site}
-use Rattle.aq_base.specs.declared.question.Question.TheVariants.{Report}
 use Rattle.aq_base.specs.declared.refusal.Memory.{Memory}
 use Rattle.aq_base.specs.declared.reply.LoadReply.{LoadReply}
 use Rattle.aq_base.specs.declared.standard.Standard.{Standard}
@@ -21,13 +20,10 @@ use Rattle.aq_rules.specs.Office.Season.{season_of}
 use Rattle.aq_rules.specs.Ozone.OzoneDay.{OzoneDay}
 use Rattle.aq_rules.specs.Ozone.OzoneYear.{OzoneYear, days_of, ozone_days, ozone_year}
 use Rattle.aq_rules.specs.Standards.{pollutant_of}
-use Rattle.aq_rules.specs.Questions.Answer.{answer, of_sheet}
 use Rattle.aq_rules.specs.Shown.OtherSheets.{Judged, judged, judged_by, report_answer, report_sheet, sites_with}
 use Rattle.aq_rules.specs.Shown.Sheet.{Sheet}
 use Rattle.aq_rules.specs.Shown.Sheets.{days_answer, days_sheet, load_sheet}
 use Rattle.aq_verdict.specs.declared.design_value.DesignValue.{DesignValue}
-use Rattle.aq_office.specs.Answers.{seen}
-use Rattle.aq_office.specs.declared.answers.Answer.{Answer}
 
 -- ---- a load
 
@@ -56,12 +52,12 @@ judged_values office standard year values sites is = of_values values ∙ ap (ma
     of_sites [] = refl
     of_sites (s ∷ ss) = ap (λ l. judged standard office year s ∷ l) (of_sites ss)
 
-pub report_told : (office : Office) (standard : Standard) (year : ℕ) (values : List (Site × DesignValue)) (sheet : Sheet) (result : Result Answer Memory)
-    → map valued_in values ≡ map (valued standard office year) (sites_with office (pollutant_of standard)) → sheet ≡ report_sheet standard year (map judged_in values)
-    → IfOk result (λ found. of_sheet sheet ≡ seen found) → IfOk result (λ found. answer office (Report standard year) ≡ seen found)
-unfolding answer report_answer
-report_told office standard year values sheet result are is =
-    subst (λ (s : Sheet). IfOk result (λ found. of_sheet s ≡ seen found)) (is ∙ ap (report_sheet standard year) (judged_values office standard year values _ are))
+pub report_told : (office : Office) (standard : Standard) (year : ℕ) (values : List (Site × DesignValue)) (result : Result Sheet Memory)
+    → map valued_in values ≡ map (valued standard office year) (sites_with office (pollutant_of standard))
+    → IfOk result (λ sheet. sheet ≡ report_sheet standard year (map judged_in values)) → IfOk result (λ sheet. sheet ≡ report_answer standard office year)
+unfolding report_answer
+report_told office standard year values result are =
+    subst (λ (s : Sheet). IfOk result (λ sheet. sheet ≡ s)) (ap (report_sheet standard year) (judged_values office standard year values _ are))
 
 -- ---- the days of a year
 

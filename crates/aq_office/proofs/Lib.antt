@@ -3,6 +3,9 @@ pub mod Areas
 pub mod Asked
 pub mod Assuming
 pub mod Joining
+pub mod Listing
+pub mod LoadlessDays
+pub mod OzoneMaxima
 pub mod PostedLoads
 pub mod Showing
 pub mod Taking

@@ -1,22 +1,29 @@
 //! The answers to questions about an office.
 ghost use Rattle.std.specs.Prelude.{◌≡◌, ◌<◌, IfOk, IsTrue};
-ghost use Rattle.aq_rules.specs.Office.Office.{IsOffice};
+ghost use Rattle.aq_base.specs.declared.question.Question.{Question as Asked};
+ghost use Rattle.aq_rules.specs.Office.Office.{IsOffice, Office};
 ghost use Rattle.aq_rules.specs.Questions.Answer as questions;
-ghost use Rattle.aq_rules.specs.Questions.Asking.{is_asked, is_of};
-ghost use Rattle.aq_rules.specs.Questions.Table.{ASKED, topic_of};
-ghost use Rattle.aq_rules.specs.Shown.Sheet as shown;
+ghost use Rattle.aq_rules.specs.Questions.Asking.{is_asked};
 ghost use Rattle.aq_rules.specs.Shown.WellFormed.{IsWellFormed};
 ghost use Rattle.aq_office.specs.Answers.{IsShown, seen};
+ghost use Rattle.aq_office.specs.Shown.{AreWellFormed, has_law};
 
 use crate::area::area_of;
 use crate::combined::combined_of;
+use crate::daily::daily_of;
 use crate::days::days_of;
+use crate::highest::highest_of;
+use crate::lists::{
+    completeness_of, events_of, flags_of, lines_of, monitors_of, records_of, sites_of,
+};
+use crate::loads::loads_of;
+use crate::reports::reports_of;
 use crate::sheets::{export_of, pm10_of, pm25_of, reply_of, report_of, value_of, windows_of};
 use crate::what_if::{decisive_of, what_if_of};
 use aq_base::{Items, Memory, Question, SiteId, Steps};
 use aq_book::Book;
 use aq_reports::{Sheet, list};
-use aq_rules::shown::well_formed::answers_are_well_formed;
+use aq_rules::shown::well_formed::{answers_are_well_formed, sheets_of_lists_are_well_formed};
 use std::alloc::Global;
 use std::marker::Brand;
 use std::sync::ledger::{Blank, Ledger};
@@ -68,7 +75,6 @@ impl Answer {
 /// The answer to a question. Nobody counts the steps.
 pub fn answer_to(alloc: Global, book: &Book, question: &Question) -> Result<Answer, Memory>
     requires range { IsTrue (is_asked question.now) }
-    requires today { IsTrue (is_of ASKED (topic_of question.now)) }
     ensures answer { IfOk result (λ found. questions.answer book.now question.now ≡ seen found) }
     ensures shown { IsOffice book.now → IfOk result (λ found. IsShown found) }
 {
@@ -86,11 +92,10 @@ fn counted<L: Ledger>(
     requires parts { blank.parts ≡ L.parts }
     requires some { 0 < L.parts }
     requires range { IsTrue (is_asked question.now) }
-    requires today { IsTrue (is_of ASKED (topic_of question.now)) }
     ensures answer { IfOk result (λ found. questions.answer book.now question.now ≡ seen found) }
     ensures shown { IsOffice book.now → IfOk result (λ found. IsShown found) }
 {
-    answers_are_well_formed();
+    answers_of_an_office_are_well_formed();
     let mut steps = Steps::<L>::new(blank);
     match *question {
         Question::Value(standard, site, year) => {
@@ -121,6 +126,35 @@ fn counted<L: Ledger>(
         Question::Days(site, year) => days_of(alloc, book, site, year, &mut steps),
         Question::Pm25(site, year) => pm25_of(alloc, book, site, year, &mut steps),
         Question::Pm10(site, year) => pm10_of(alloc, book, site, year, &mut steps),
-        _ => unreachable!(),
+        Question::Sites => sites_of(alloc, book),
+        Question::Monitors(site) => monitors_of(alloc, book, site, &mut steps),
+        Question::Events(site) => events_of(alloc, book, site, &mut steps),
+        Question::Flags(site, pollutant, year) => {
+            flags_of(alloc, book, site, pollutant, year, &mut steps)
+        }
+        Question::Loads => loads_of(alloc, book),
+        Question::Daily(site, pollutant, year) => {
+            daily_of(alloc, book, site, pollutant, year, &mut steps)
+        }
+        Question::Highest(site, pollutant, year) => {
+            highest_of(alloc, book, site, pollutant, year, &mut steps)
+        }
+        Question::Completeness(site, pollutant, year) => {
+            completeness_of(alloc, book, site, pollutant, year, &mut steps)
+        }
+        Question::Reports(year) => reports_of(alloc, book, year, &mut steps),
+        Question::Records => records_of(alloc, book),
+        Question::Lines(site, pollutant, year) => {
+            lines_of(alloc, book, site, pollutant, year, &mut steps)
+        }
     }
+}
+
+/// In a valid office the answers of which the laws speak are well formed.
+fn answers_of_an_office_are_well_formed()
+    ensures { (office : Office) (question : Asked)
+        → IsOffice office → IsTrue (is_asked question) → IsTrue (has_law question) → AreWellFormed (questions.answer office question) }
+{
+    answers_are_well_formed();
+    sheets_of_lists_are_well_formed();
 }

@@ -11,8 +11,8 @@
 //!
 //! # What it promises
 //!
-//! - A question about an office is answered as the book of rules has it (`answer_to`, clause `answer`), and
-//!   each sheet of an answer is well formed in a valid office (clause `shown`).
+//! - Each of the 23 questions about an office is answered as the book of rules has it (`answer_to`, clause
+//!   `answer`), and each sheet of an answer is well formed in a valid office (clause `shown`).
 //! - A load that is posted is what the book's `posted` says of it: it is committed before it is taken,
 //!   and after a failed commit the office and the tables are as before (`post`). The answer has the sheet of
 //!   the load's reply, or the two digests that differ. It makes at most the steps that the change costs,
@@ -34,8 +34,13 @@
 mod answers;
 mod area;
 mod combined;
+mod daily;
 mod days;
+mod highest;
+mod lists;
+mod loads;
 mod posting;
+mod reports;
 mod sheets;
 mod what_if;
 

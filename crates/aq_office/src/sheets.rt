@@ -3,13 +3,14 @@ ghost use Rattle.std.specs.Prelude.{◌≡◌, ◌≤◌, IfOk, IsTrue};
 ghost use Rattle.aq_base.specs.Calendar.{is_design_year, is_year};
 ghost use Rattle.aq_base.specs.declared.question.Question.TheVariants as question;
 ghost use Rattle.aq_rules.specs.Questions.Answer.{answer};
+ghost use Rattle.aq_rules.specs.Shown.OtherSheets.{report_answer};
 ghost use Rattle.aq_office.specs.Answers.{IsShown, seen};
 
 use crate::answers::{Answer, Lack};
 use aq_base::{Day, Memory, Pollutant, SiteId, Standard, Steps};
 use aq_book::{AskFault, Book, UnknownSite};
 use aq_reports::{
-    export_of as export_text, load_sheet, pm10_sheet, pm25_sheet, report_sheet, value_sheet,
+    Sheet, export_of as export_text, load_sheet, pm10_sheet, pm25_sheet, report_sheet, value_sheet,
     windows_sheet,
 };
 use std::alloc::Global;
@@ -47,11 +48,22 @@ pub(crate) fn report_of<L: Ledger>(
     requires { IsTrue (is_design_year year) }
     ensures { IfOk result (λ found. answer book.now (question.Report standard year) ≡ seen found) }
 {
+    Answer::of_sheet(alloc, report_sheet_of(alloc, book, standard, year, steps)?)
+}
+
+/// The sheet of the design values of all sites.
+pub(crate) fn report_sheet_of<L: Ledger>(
+    alloc: Global,
+    book: &Book,
+    standard: Standard,
+    year: u16,
+    steps: &mut Steps<L>,
+) -> Result<Sheet, Memory>
+    requires { IsTrue (is_design_year year) }
+    ensures { IfOk result (λ sheet. sheet ≡ report_answer standard book.now year) }
+{
     let values = book.report(alloc, standard, year, steps)?;
-    Answer::of_sheet(
-        alloc,
-        report_sheet(alloc, standard, year, values.as_slice())?,
-    )
+    report_sheet(alloc, standard, year, values.as_slice())
 }
 
 /// The observations of a site, pollutant and year.

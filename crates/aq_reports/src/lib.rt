@@ -14,7 +14,7 @@
 //! - `text_of`, `json_of`: a sheet as text, and a well-formed one as JSON.
 //! - `texts_of`, `json_of_sheets`: several sheets as text, and well-formed ones as JSON.
 //! - `export_of`: observations as CSV, each with whether it is excluded.
-//! - `site_text`, `hex_digits`: a site as `SS-CCC-NNNN`, and a byte as two digits.
+//! - `site_text`, `digest_text`, `hex_digits`: a site as `SS-CCC-NNNN`, a digest as its digits, and a byte as two.
 //!
 //! # What it promises
 //!
@@ -67,7 +67,7 @@ pub use quarters::{pm10_sheet, pm25_sheet};
 pub use report::report_sheet;
 pub use sheet::{Cells, Head, Heads, Names, Rows, Sheet};
 pub use sheets::{json_of_sheets, texts_of};
-pub use single::{conflict_sheet, error_sheet, hex_digits, summary_sheet};
+pub use single::{conflict_sheet, digest_text, error_sheet, hex_digits, summary_sheet};
 pub use text::{site_text, text_of};
 pub use value::value_sheet;
 pub use windows::windows_sheet;

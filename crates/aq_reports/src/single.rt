@@ -77,7 +77,8 @@ fn add_digest(
     add_text(alloc, heads, name, text.as_slice())
 }
 
-fn digest_text(alloc: Global, digest: &[u8; 32]) -> Result<Vec<u8>, Memory>
+/// A digest as 64 lower case hexadecimal digits.
+pub fn digest_text(alloc: Global, digest: &[u8; 32]) -> Result<Vec<u8>, Memory>
     ensures { IfOk result (λ text. text.items ≡ other_sheets.digest_text digest.now) }
 {
     let mut text = Vec::new(alloc);

@@ -10,7 +10,7 @@ use Rattle.std.proofs.lemmas.Fmt.{decimal_is_IsNumeral}
 use Rattle.aq_base.specs.Calendar.{day_of_hour, hour_of_day}
 use Rattle.aq_base.specs.Decimal.{fixed, last_digits}
 use Rattle.aq_base.specs.Site.{Site}
-use Rattle.aq_base.specs.declared.ask.Shown.{Shown}
+use Rattle.aq_base.specs.declared.shown.Shown.{Shown}
 use Rattle.aq_base.specs.declared.code.Code.{Code}
 use Rattle.aq_base.specs.declared.day.TheConstants.{LAST_HOUR}
 use Rattle.aq_base.specs.declared.monitor.Pollutant.{Pollutant}

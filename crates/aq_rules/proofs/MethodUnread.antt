@@ -5,7 +5,7 @@ use Rattle.std.specs.List.{cons_option}
 use Rattle.std.specs.Option.{option_and_then}
 use Rattle.aq_base.specs.Calendar.{day_of_hour}
 use Rattle.aq_base.specs.Site.{Site}
-use Rattle.aq_base.specs.declared.ask.Shown.{Shown}
+use Rattle.aq_base.specs.declared.shown.Shown.{Shown}
 use Rattle.aq_base.specs.declared.monitor.Duration.{Duration}
 use Rattle.aq_base.specs.declared.monitor.MonitorId.{MonitorId}
 use Rattle.aq_base.specs.declared.monitor.Pollutant.{Pollutant}

@@ -22,6 +22,7 @@ use Rattle.aq_rules.specs.Particles.DailyVerdict.{daily_design, filled_percentil
 use Rattle.aq_rules.specs.Particles.Pm10Estimate.{Pm10Quarter, pm10_year, quarter_estimate, quarter_lower, year_of_quarters}
 use Rattle.aq_rules.specs.Particles.Pm10Verdict.{Pm10Dv, pm10_design, is_complete_year, exceedances_in}
 use Rattle.aq_rules.specs.Particles.Substitution.{minimum_for, maximum_for}
+use Rattle.aq_base.specs.Calendar.{is_design_year}
 use Rattle.aq_rules.specs.Particles.YearParts.{of_values}
 use Rattle.aq_rules.specs.Kept.Summaries.{PmQuarter, PmYear, KeepsOzoneYear, KeepsPm10Year, counts_of}
 use Rattle.aq_rules.specs.Kept.SummaryVerdicts.{mean_of_sums, kept_percentile, kept_counted}
@@ -30,7 +31,6 @@ use Rattle.aq_rules.specs.Shown.Sheet.SheetCell.{Text}
 use Rattle.aq_rules.specs.Shown.Sheets.{design_cell, value_heads, year_cells, ozone_value_sheet}
 use Rattle.aq_rules.specs.Shown.ParticleSheets.{annual_cells, annual_value_sheet, daily_cells, daily_value_sheet, pm10_year_cells, pm10_value_sheet}
 use Rattle.aq_rules.specs.Shown.OtherSheets.{Judged, judged, judged_cells, report_answer, report_sheet, sites_with, value_answer, value_sheet}
-use Rattle.aq_rules.specs.Shown.Answer.{is_design_year}
 use Rattle.aq_rules.specs.Shown.WellFormed.{is_cell, is_head, is_row, IsWellFormed}
 use Rattle.aq_rules.proofs.Elements.{Every}
 use Rattle.aq_rules.proofs.ValueRange.{trunc-in_range}

@@ -7,6 +7,5 @@ pub mod AreaSheets
 pub mod WellFormed
 pub mod Json
 pub mod Export
-pub mod Answer
 pub mod Generator
 pub mod ShownExamples

@@ -1,11 +1,11 @@
 //! The bytes of replies over an office.
 ghost use Rattle.std.specs.Prelude.{◌≡◌, [], IfOk, IsTrue};
 ghost use Rattle.aq_http.specs.Reply.{is_reply_status, reply_text};
-ghost use Rattle.aq_http.specs.Routes.{IsAsked};
 ghost use Rattle.aq_http.specs.declared.media.MediaType.TheVariants.{Json};
 ghost use Rattle.aq_office.specs.Posting.{IsPostedShown};
 ghost use Rattle.aq_rules.specs.Office.Office.{IsOffice, Office};
 ghost use Rattle.aq_rules.specs.Questions.Answer.{answer};
+ghost use Rattle.aq_rules.specs.Questions.Asking.{is_asked};
 ghost use Rattle.aq_rules.specs.Questions.Table.{topic_of};
 ghost use Rattle.aq_rules.specs.Shown.OtherSheets.{conflict_sheet};
 ghost use Rattle.aq_rules.specs.Shown.Json as json;
@@ -31,7 +31,7 @@ pub(crate) fn question_reply(
     close: bool,
 ) -> Result<Vec<u8>, Memory>
     requires valid { IsOffice book.now }
-    requires asked { IsAsked question.now }
+    requires range { IsTrue (is_asked question.now) }
     ensures { IfOk result (λ reply. reply.items ≡ reply_of
         (to_question book.now (topic_of question.now) (answer book.now question.now)) close) }
 {

@@ -1,5 +1,5 @@
 //! Generated loads, taken one after the other.
-ghost use Rattle.std.specs.Prelude.{◌≡◌, ◌+◌, ◌-◌, ◌*◌, ◌≤◌, true, length, IfOk, OnOk};
+ghost use Rattle.std.specs.Prelude.{◌≡◌, ◌+◌, ◌-◌, ◌*◌, ◌≤◌, true, length, IfOk};
 ghost use Rattle.sha2.specs.Sha256.{sha256};
 ghost use Rattle.aq_rules.specs.Limits.{MOST_BYTES, MOST_LINES, MOST_GENERATED_SITES, FEWEST_GENERATED_YEARS, MOST_GENERATED_YEARS};
 ghost use Rattle.aq_rules.specs.Lines.Lines.{line_count};
@@ -15,7 +15,6 @@ use aq_keeper::SteadyKeeper;
 use aq_office::post_uncounted;
 use aq_rules::office::valid_load::an_office_of_nothing_is_valid;
 use std::alloc::Global;
-use std::mem;
 
 /// An office of the loads that were taken, and how many lines they have in all.
 #[derive(Drop)]
@@ -42,7 +41,7 @@ pub(crate) fn take_all(alloc: Global, start: u64, sites: u8, years: u8) -> Resul
     let count = load_count(sites, years);
     let mut load = 1;
     while load <= count {
-        take_load(alloc, start, sites, years, load, &mut keeper, &mut taken)?;
+        taken = take_load(alloc, start, sites, years, load, &mut keeper, taken)?;
         load += 1;
     }
     Ok(taken)
@@ -56,25 +55,25 @@ fn take_load(
     years: u8,
     load: u32,
     keeper: &mut SteadyKeeper,
-    taken: &mut Taken,
-) -> Result<(), Memory>
+    taken: Taken,
+) -> Result<Taken, Memory>
     requires some_sites { 1 ≤ sites }
     requires few_sites { sites ≤ MOST_GENERATED_SITES }
     requires some_years { FEWEST_GENERATED_YEARS ≤ years }
     requires few_years { years ≤ MOST_GENERATED_YEARS }
     requires first { 1 ≤ load }
     requires last { load ≤ load_count sites years }
-    requires room { taken.old.lines ≤ 400 * MOST_LINES }
-    requires valid { IsOffice taken.old.book }
+    requires room { taken.lines ≤ 400 * MOST_LINES }
+    requires valid { IsOffice taken.book }
     requires held { keeper.old.is_held ≡ true }
     ensures held { keeper.new.is_held ≡ true }
-    ensures valid { OnOk result (IsOffice taken.new.book) }
-    ensures book { OnOk result (taken.new.book ≡ post taken.old.book load (sha256 (generated_load start sites years load)) (generated_load start sites years load)) }
-    ensures lines { OnOk result (taken.new.lines ≡ taken.old.lines + line_count (generated_load start sites years load)) }
-    ensures few_lines { OnOk result (taken.new.lines ≤ taken.old.lines + MOST_LINES) }
+    ensures valid { IfOk result (λ after. IsOffice after.book) }
+    ensures book { IfOk result (λ after. after.book ≡ post taken.book load (sha256 (generated_load start sites years load)) (generated_load start sites years load)) }
+    ensures lines { IfOk result (λ after. after.lines ≡ taken.lines + line_count (generated_load start sites years load)) }
+    ensures few_lines { IfOk result (λ after. after.lines ≤ taken.lines + MOST_LINES) }
 {
     let Some(body) = generate(alloc, start, sites, years, load)? else {
-        return Ok(());
+        return Ok(taken);
     };
     take(alloc, load, &body, keeper, taken)
 }
@@ -85,21 +84,21 @@ fn take(
     number: u32,
     body: &[u8],
     keeper: &mut SteadyKeeper,
-    taken: &mut Taken,
-) -> Result<(), Memory>
+    taken: Taken,
+) -> Result<Taken, Memory>
     requires bytes { length body.now ≤ MOST_BYTES }
     requires lines { line_count body.now ≤ MOST_LINES }
-    requires room { taken.old.lines ≤ 400 * MOST_LINES }
-    requires valid { IsOffice taken.old.book }
+    requires room { taken.lines ≤ 400 * MOST_LINES }
+    requires valid { IsOffice taken.book }
     requires held { keeper.old.is_held ≡ true }
     ensures held { keeper.new.is_held ≡ true }
-    ensures valid { OnOk result (IsOffice taken.new.book) }
-    ensures book { OnOk result (taken.new.book ≡ post taken.old.book number (sha256 body.now) body.now) }
-    ensures lines { OnOk result (taken.new.lines ≡ taken.old.lines + line_count body.now) }
+    ensures valid { IfOk result (λ after. IsOffice after.book) }
+    ensures book { IfOk result (λ after. after.book ≡ post taken.book number (sha256 body.now) body.now) }
+    ensures lines { IfOk result (λ after. after.lines ≡ taken.lines + line_count body.now) }
 {
-    let book = mem::replace(&mut taken.book, Book::new(alloc));
-    let (book, _) = post_uncounted(alloc, book, keeper, number, body)?;
-    taken.book = book;
-    taken.lines += count_lines(body);
-    Ok(())
+    let (book, _) = post_uncounted(alloc, taken.book, keeper, number, body)?;
+    Ok(Taken {
+        book,
+        lines: taken.lines + count_lines(body),
+    })
 }

@@ -17,10 +17,10 @@ use Rattle.aq_rules.specs.Office.Load.{OfficeChange, PutObservation, PutRecord, 
 use Rattle.aq_rules.specs.Office.Office.{comes_before, content_of, is_same, key_numbers, key_of, observation_key, observation_numbers, observation_rank, record_rank, rises, rises_from, row_at}
 use Rattle.aq_rules.specs.Office.RowOrder.{before-trans}
 use Rattle.aq_staging.specs.declared.changes.Changes.{Changes}
-use Rattle.aq_staging.specs.Batch.{changes_between, observation_change_at, record_change_at, AreChangesOf}
+use Rattle.aq_staging.specs.Batch.{observation_change_at, record_change_at}
 use Rattle.aq_staging.specs.Changes.{with_changes, AreChanges}
 use Rattle.aq_staging.specs.Keys.{either_keys, keys_in}
-use Rattle.aq_staging.specs.Staged.{StagedLoad, IsStagedOn}
+use Rattle.aq_staging.specs.Staged.{AreChangesOf, changes_between}
 use Rattle.aq_staging.specs.Touched.{AreTouched}
 use Rattle.aq_staging.proofs.ChangeLemmas.{found-with_changes, or_else, unless}
 
@@ -172,11 +172,12 @@ observations-same rows changes are =
 
 -- ---- the whole
 
-pub batch-is : (staged : StagedLoad) (records : List OfficeRecord) (observations : List (ObsKey × Observation)) → IsStagedOn records observations staged → rises record_rank records ≡ true
-    → (start middle end : List OfficeChange) → start ≡ [] → middle ≡ start ++ filter_map (record_change_at records (unwrap_or staged.records records)) (map key_of staged.touched)
-    → end ≡ middle ++ filter_map (observation_change_at observations (with_changes staged.changes observations)) (either_keys (keys_in staged.changes.dropped) (keys_in staged.changes.left))
-    → AreChangesOf records observations staged end
+pub batch-is : (left : Option (List OfficeRecord)) (touched : List OfficeRecord) (changes : Changes) (records : List OfficeRecord) (observations : List (ObsKey × Observation))
+    → AreTouched records (unwrap_or left records) touched → AreChanges observations changes → rises record_rank records ≡ true
+    → (start middle end : List OfficeChange) → start ≡ [] → middle ≡ start ++ filter_map (record_change_at records (unwrap_or left records)) (map key_of touched)
+    → end ≡ middle ++ filter_map (observation_change_at observations (with_changes changes observations)) (either_keys (keys_in changes.dropped) (keys_in changes.left))
+    → AreChangesOf records observations left changes end
 unfolding changes_between
-batch-is staged records observations on rising start middle end none first second loads =
-    let of_records = first ∙ ap (λ (l : List OfficeChange). l ++ filter_map (record_change_at records (unwrap_or staged.records records)) (map key_of staged.touched)) none ∙ records-same records (unwrap_or staged.records records) staged.touched rising on.touched in
-    second ∙ (λ i. of_records i ++ observations-same observations staged.changes on.changes i)
+batch-is left touched changes records observations are_touched are rising start middle end none first second loads =
+    let of_records = first ∙ ap (λ (l : List OfficeChange). l ++ filter_map (record_change_at records (unwrap_or left records)) (map key_of touched)) none ∙ records-same records (unwrap_or left records) touched rising are_touched in
+    second ∙ (λ i. of_records i ++ observations-same observations changes are i)

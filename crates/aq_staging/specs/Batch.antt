@@ -1,17 +1,15 @@
 -- The changes that a load makes to an office's records and observations.
-use Rattle.std.specs.Prelude.{◌≡◌, Option, List, ◌++◌, map}
+use Rattle.std.specs.Prelude.{Option, List, map}
 use Rattle.aq_base.specs.declared.observation.ObsKey.{ObsKey}
 use Rattle.aq_base.specs.declared.observation.Observation.{Observation}
 use Rattle.aq_base.specs.declared.office.OfficeRecord.{OfficeRecord}
 use Rattle.aq_base.specs.declared.office.OfficeKey.{OfficeKey}
-use Rattle.aq_rules.specs.Office.Load.{record_change, observation_change, record_changes, observation_changes}
+use Rattle.aq_rules.specs.Office.Load.{record_change, observation_change}
 use Rattle.aq_rules.specs.Office.Load as load
-use Rattle.aq_rules.specs.Office.Office.{Office, StoredLoad}
 use Rattle.aq_rules.specs.Office.Questions.{record_of}
 use Rattle.aq_shelf.specs.Standing.{content_at}
 use Rattle.aq_staging.specs.declared.change.OfficeChange.{OfficeChange}
 use Rattle.aq_staging.specs.declared.change.OfficeChange.TheVariants.{PutRecord, DropRecord, PutObservation, DropObservation}
-use Rattle.aq_staging.specs.Staged.{StagedLoad, after_lines}
 
 -- a change as the book of rules has it
 abbrev pub change_in : OfficeChange → load.OfficeChange
@@ -30,16 +28,3 @@ record_change_at before after key = record_change key (record_of before key) (re
 -- what becomes of the observation at a key
 abbrev pub observation_change_at : List (ObsKey × Observation) → List (ObsKey × Observation) → ObsKey → Option load.OfficeChange
 observation_change_at before after key = observation_change key (content_at key before) (content_at key after)
-
--- the changes of records and of observations between two offices, in the order of their tables and keys
-unfoldable pub changes_between : Office → Office → List load.OfficeChange
-changes_between before after = record_changes before after ++ observation_changes before after
-
--- the office of these records, observations and loads
-abbrev pub office_beside : List StoredLoad → List OfficeRecord → List (ObsKey × Observation) → Office
-office_beside loads records observations = record { records = records; observations = observations; loads = loads }
-
--- the changes that the lines of a staged load make to an office of these records and observations, whatever its loads are
-abbrev pub AreChangesOf : List OfficeRecord → List (ObsKey × Observation) → StagedLoad → List load.OfficeChange → Type 0
-AreChangesOf records observations staged changes =
-    (loads : List StoredLoad) → changes ≡ changes_between (office_beside loads records observations) (after_lines staged (office_beside loads records observations))

@@ -1,11 +1,12 @@
 //! The changes that a load makes to the records and observations.
-ghost use Rattle.std.specs.Prelude.{◌≡◌, true, ◌++◌, map, option_map, IfOk, OnOk};
+ghost use Rattle.std.specs.Prelude.{◌≡◌, true, ◌++◌, map, option_map, unwrap_or, IfOk, OnOk};
 ghost use Rattle.std.specs.List.{filter_map};
 ghost use Rattle.std.specs.Option.{option_to_list};
-ghost use Rattle.aq_staging.specs.Batch.{change_in, observation_change_at, record_change_at, AreChangesOf};
+ghost use Rattle.aq_staging.specs.Batch.{change_in, observation_change_at, record_change_at};
 ghost use Rattle.aq_staging.specs.Changes.{with_changes, AreChanges};
 ghost use Rattle.aq_staging.specs.Keys.{either_keys, keys_in};
-ghost use Rattle.aq_staging.specs.Staged.{IsStagedOn};
+ghost use Rattle.aq_staging.specs.Staged.{AreChangesOf};
+ghost use Rattle.aq_staging.specs.Touched.{AreTouched};
 ghost use Rattle.aq_rules.specs.Office.Office.{key_of, record_rank, rises};
 
 use crate::change::{OfficeChange, observation_change, record_change};
@@ -13,34 +14,34 @@ use crate::changes::Changes;
 use crate::keys::EitherKeys;
 use crate::late_copy::registry_after;
 use crate::list::OfficeChanges;
-use crate::staged::Staged;
 use crate::uncounted::{content_at, rows_of};
 use aq_base::{Memory, OfficeKey};
 use aq_registry::{Records, Registry};
 use aq_shelf::Shelf;
 use std::alloc::Global;
 
-impl Staged {
-    /// The changes that a load makes to the records and observations that it was staged on, in the order of
-    /// their tables and keys. A record or an observation that is the same after the load is not among them.
-    /// It costs a few searches for each record and observation that the load touched, and no walk over those
-    /// that it did not.
-    pub fn changes(
-        &self,
-        alloc: Global,
-        registry: &Registry,
-        shelf: &Shelf,
-    ) -> Result<OfficeChanges, Memory>
-        requires staged { IsStagedOn registry.now shelf.now self.now }
-        requires order { rises record_rank registry.now ≡ true }
-        ensures { IfOk result (AreChangesOf registry.now shelf.now self.now) }
-    {
-        let mut changes = OfficeChanges::new(alloc);
-        let after = registry_after(&self.registry, registry);
-        add_records(&mut changes, &self.touched, registry, after)?;
-        add_observations(&mut changes, &self.changes, shelf)?;
-        Ok(changes)
-    }
+/// The changes that a load makes to these records and observations, in the order of their tables and keys,
+/// if it leaves a copy of the records and changes of the observations, and its lines touched these records. A
+/// record or an observation that is the same after the load is not among them. It costs a few searches for
+/// each record and observation that the load touched, and no walk over those that it did not.
+pub(crate) fn changes_of(
+    alloc: Global,
+    left: &Option<Registry>,
+    touched: &Records,
+    staged: &Changes,
+    registry: &Registry,
+    shelf: &Shelf,
+) -> Result<OfficeChanges, Memory>
+    requires order { rises record_rank registry.now ≡ true }
+    requires touched { AreTouched registry.now (unwrap_or left.now registry.now) touched.now }
+    requires changes { AreChanges shelf.now staged.now }
+    ensures { IfOk result (AreChangesOf registry.now shelf.now left.now staged.now) }
+{
+    let mut changes = OfficeChanges::new(alloc);
+    let after = registry_after(left, registry);
+    add_records(&mut changes, touched, registry, after)?;
+    add_observations(&mut changes, staged, shelf)?;
+    Ok(changes)
 }
 
 /// Adds what becomes of the records of the touched keys.

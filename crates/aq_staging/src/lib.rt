@@ -8,7 +8,7 @@
 //! - `LoadIdentity`: under what a load is kept, its number and the digest of its body. A load that is not
 //!   kept has none.
 //! - `Staged::reply`, `identity`: the reply to the load, and under what it is kept.
-//! - `Staged::changes`: what the load changes, as `OfficeChanges`, a list of `OfficeChange`.
+//! - `Staged::changes`: what the load changes, as `OfficeChanges`, a list of `OfficeChange`; it is made once.
 //! - `Staged::onto(shelf)`: what stands after the load, as a `Taken`; `registry_after`: the records then.
 //!
 //! # What it promises
@@ -16,7 +16,7 @@
 //! - The reply to a load is the book's, and the office with what is staged is the one after its lines
 //!   (`stage_load`, `Staged::reply`).
 //! - What it changes of the records and observations are the changes that the book names, in their
-//!   order, with none for a row that is the same (`changes`).
+//!   order, with none for a row that is the same (`stage_load`, clause `staged_on`).
 //! - What is taken has the records that were staged, if they may differ from those before the load, and the
 //!   observations with the changes; after want of memory the shelf is gone (`onto`).
 //! - A load without a line of the office copies no record (`LateCopy`).
@@ -27,7 +27,7 @@
 //! let identity = LoadIdentity::new(1, digest);
 //! let staged = stage_load(alloc, &registry, &shelf, identity, body)?;
 //! if staged.reply().refused == 0 {
-//!     let changes = staged.changes(alloc, &registry, &shelf)?;
+//!     let batch = batch_of(staged.changes());
 //!     let Taken { registry: after, shelf, .. } = staged.onto(shelf)?;
 //!     let registry = after.unwrap_or(registry);
 //! }

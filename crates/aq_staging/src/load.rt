@@ -1,13 +1,15 @@
 //! A load's lines, taken in their order beside the office.
-ghost use Rattle.std.specs.Prelude.{◌≡◌, ◌≤◌, ◌++◌, length, IfOk, OnOk};
+ghost use Rattle.std.specs.Prelude.{◌≡◌, ◌≤◌, ◌++◌, length, true, IfOk, OnOk};
 ghost use Rattle.aq_staging.specs.Identity.{number_in};
 ghost use Rattle.aq_staging.specs.Refusals.{office_before, office_in, AreNoted};
 ghost use Rattle.aq_staging.specs.Staged.{after_lines, IsStagedOn};
 ghost use Rattle.aq_rules.specs.Limits.{MOST_BYTES};
 ghost use Rattle.aq_rules.specs.Lines.Lines.{body_lines};
 ghost use Rattle.aq_rules.specs.Office.Load.{after, after_all, listed_for, refusal, reply};
+ghost use Rattle.aq_rules.specs.Office.Office.{record_rank, rises};
 ghost use Rattle.aq_staging.specs.OfficeView.{office_of};
 
+use crate::batch::changes_of;
 use crate::identity::{LoadIdentity, number_in};
 use crate::reply::reply_of;
 use crate::staged::Staged;
@@ -29,7 +31,8 @@ pub fn stage_load(
     identity: Option<LoadIdentity>,
     body: &[u8],
 ) -> Result<Staged, Memory>
-    requires { length body.now ≤ MOST_BYTES }
+    requires bytes { length body.now ≤ MOST_BYTES }
+    requires order { rises record_rank registry.now ≡ true }
     ensures reply { IfOk result (λ staged. staged.reply ≡ reply (office_of registry.now shelf.now) (number_in identity) body.now) }
     ensures identity { IfOk result (λ staged. staged.identity ≡ identity) }
     ensures staged_on { IfOk result (IsStagedOn registry.now shelf.now) }
@@ -44,10 +47,13 @@ pub fn stage_load(
     }
     let number = number_in(identity);
     let reply = reply_of(alloc, number, count_lines(body), taken, &refused)?;
+    let left = staging.records.into_copy();
+    let changes = staging.observations.into_changes();
+    let office_changes = changes_of(alloc, &left, &staging.touched, &changes, registry, shelf)?;
     Ok(Staged {
-        registry: staging.records.into_copy(),
-        touched: staging.touched,
-        changes: staging.observations.into_changes(),
+        registry: left,
+        changes,
+        office_changes,
         identity,
         reply,
     })

@@ -5,18 +5,19 @@ ghost use Rattle.aq_rules.specs.Limits.{MOST_OBSERVATIONS};
 
 use crate::changes::Changes;
 use crate::identity::LoadIdentity;
+use crate::list::OfficeChanges;
 use aq_base::{LoadReply, Memory};
-use aq_registry::{Records, Registry};
+use aq_registry::Registry;
 use aq_shelf::Shelf;
 use std::marker::Model;
 
-/// What a load makes of an office, held beside it: the records after it, if it may have changed one, those
-/// that its lines put or dropped, the observations that it changed, under what it is kept, if it is, and its reply.
+/// What a load makes of an office, held beside it: the records after it, if it may have changed one, what it
+/// leaves of the observations, what it changes of both, under what it is kept, if it is, and its reply.
 #[derive(Drop)]
 pub struct Staged {
     pub(crate) registry: Option<Registry>,
-    pub(crate) touched: Records,
     pub(crate) changes: Changes,
+    pub(crate) office_changes: OfficeChanges,
     pub(crate) identity: Option<LoadIdentity>,
     pub(crate) reply: LoadReply,
 }
@@ -26,7 +27,7 @@ impl Model for Staged {
 
     ghost Value = { StagedLoad };
 
-    ghost view = { λ staged. record { records = staged.registry; touched = staged.touched; changes = staged.changes; identity = staged.identity; reply = staged.reply } };
+    ghost view = { λ staged. record { records = staged.registry; changes = staged.changes; office_changes = staged.office_changes; identity = staged.identity; reply = staged.reply } };
 }
 
 impl Staged {
@@ -35,6 +36,14 @@ impl Staged {
         ensures { result.now ≡ self.now.reply }
     {
         &self.reply
+    }
+
+    /// The changes that the load makes to the records and observations that it was staged on, in the order
+    /// of their tables and keys. One that is the same after the load is not among them.
+    pub fn changes(&self) -> &OfficeChanges
+        ensures { result.now ≡ self.now.office_changes }
+    {
+        &self.office_changes
     }
 
     /// Under what the load is kept, if it is.
@@ -50,24 +59,27 @@ impl Staged {
         requires { length (with_changes self.changes shelf) ≤ MOST_OBSERVATIONS }
         ensures records { IfOk result (λ taken. taken.registry ≡ self.records) }
         ensures observations { IfOk result (λ taken. taken.shelf ≡ with_changes self.changes shelf) }
+        ensures changes { IfOk result (λ taken. taken.changes ≡ self.office_changes) }
         ensures identity { IfOk result (λ taken. taken.identity ≡ self.identity) }
         ensures reply { IfOk result (λ taken. taken.reply ≡ self.reply) }
     {
         Ok(Taken {
             registry: self.registry,
             shelf: self.changes.onto(shelf)?,
+            changes: self.office_changes,
             identity: self.identity,
             reply: self.reply,
         })
     }
 }
 
-/// What stands after a load: the records, if it may have changed one, the observations, and of the load under
-/// what it is kept, if it is, and its reply.
+/// What stands after a load: the records, if it may have changed one, the observations, what it changed of
+/// both, and of the load under what it is kept, if it is, and its reply.
 #[derive(Drop)]
 pub struct Taken {
     pub registry: Option<Registry>,
     pub shelf: Shelf,
+    pub changes: OfficeChanges,
     pub identity: Option<LoadIdentity>,
     pub reply: LoadReply,
 }

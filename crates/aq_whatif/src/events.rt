@@ -9,7 +9,7 @@ ghost use Rattle.aq_registry.specs.Registry.{office_with};
 ghost use Rattle.aq_rules.specs.DesignValues.{is_same_verdict};
 ghost use Rattle.aq_rules.specs.Lines.Spellings.{is_event_number};
 ghost use Rattle.aq_rules.specs.Office.Office.{IsOffice, event_stands};
-ghost use Rattle.aq_rules.specs.Shown.Answer.{is_registered};
+ghost use Rattle.aq_rules.specs.Questions.Answer.{is_registered};
 ghost use Rattle.aq_rules.specs.WhatIf.Assumed.{assume_one, decisive, events_at, turned_round, verdict_turned};
 ghost use Rattle.aq_reach.specs.Outside.{AreAsBefore};
 ghost use Rattle.aq_series.specs.OfficeView.{office_of};

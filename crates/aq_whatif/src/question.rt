@@ -8,7 +8,7 @@ ghost use Rattle.aq_base.specs.declared.standard.Standard.TheVariants.{Ozone2015
 ghost use Rattle.aq_rules.specs.DesignValues.{design_value};
 ghost use Rattle.aq_rules.specs.Lines.Canonical.{canonical_office};
 ghost use Rattle.aq_rules.specs.Office.Load.{after};
-ghost use Rattle.aq_rules.specs.Shown.Answer.{is_registered};
+ghost use Rattle.aq_rules.specs.Questions.Answer.{is_registered};
 ghost use Rattle.aq_rules.specs.WhatIf.Assumed.{unknown_event, what_if};
 ghost use Rattle.aq_series.specs.OfficeView.{office_of};
 ghost use Rattle.aq_verdict.specs.Designs.{design_of};

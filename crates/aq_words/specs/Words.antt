@@ -3,11 +3,12 @@ use Rattle.std.specs.Prelude.{ℕ, ◌==◌, Bool, true, ◌&&◌, nat_le, List,
 use Rattle.std.specs.Option.{option_map}
 use Rattle.aq_rules.specs.Limits.{LAST_LOAD_NUMBER, MOST_GENERATED_SITES, FEWEST_GENERATED_YEARS, MOST_GENERATED_YEARS}
 use Rattle.aq_rules.specs.Lines.Spellings.{◌>>=◌}
-use Rattle.aq_rules.specs.Questions.Asking.{asked_in_words, is_asked, is_load_number, is_of}
+use Rattle.aq_rules.specs.Questions.Asking.{asked_in_words, is_asked, is_load_number}
 use Rattle.aq_rules.specs.Questions.Spelling.{day_word, number_to, site_word}
-use Rattle.aq_rules.specs.Questions.Table.{ASKED, topic_of}
+use Rattle.aq_rules.specs.Questions.Table.{all_topics}
 use Rattle.aq_words.specs.declared.words.Command.{Command}
-use Rattle.aq_words.specs.declared.words.Command.TheVariants.{Scan, Load, Ask, Serve, Simulate}
+use Rattle.aq_words.specs.declared.words.Command.TheVariants.{Scan, Load, Draft as OfDraft, Ask, Serve, Simulate}
+use Rattle.aq_words.specs.declared.words.Draft.TheVariants.{Try, Changes}
 
 abbrev pub LAST_PORT : ℕ
 LAST_PORT = 65535
@@ -32,6 +33,22 @@ load_of (text ∷ []) = do
   number ← number_to LAST_LOAD_NUMBER text
   Some (Load number)
 load_of _ = None
+
+-- `try`
+unfoldable pub try_of : List (List ℕ) → Option Command
+try_of [] = Some (OfDraft Try)
+try_of _ = None
+
+-- `changes FIRST LAST`, of which the first day is not after the last
+abbrev pub changes_between : ℕ → ℕ → Option Command
+changes_between first last = if nat_le first last then Some (OfDraft (Changes first last)) else None
+
+unfoldable pub changes_of : List (List ℕ) → Option Command
+changes_of (first ∷ last ∷ []) = do
+  from ← day_word first
+  until ← day_word last
+  changes_between from until
+changes_of _ = None
 
 -- ---- `serve --port P --connections N`
 
@@ -118,20 +135,23 @@ abbrev pub command_in : List ℕ → List (List ℕ) → Option Command → Opti
 command_in name words question =
     if bytes_eq name (codes "scan") then scan_of words
     else (if bytes_eq name (codes "load") then load_of words
+    else (if bytes_eq name (codes "try") then try_of words
+    else (if bytes_eq name (codes "changes") then changes_of words
     else (if bytes_eq name (codes "serve") then serve_of words
     else (if bytes_eq name (codes "simulate") then simulate_of words
-    else question)))
+    else question)))))
 
 -- the command of the words, which are all required, and none more
 abbrev pub command_of : List (List ℕ) → Option Command
 command_of [] = None
-command_of (name ∷ words) = command_in name words (option_map Ask (asked_in_words ASKED (name ∷ words)))
+command_of (name ∷ words) = command_in name words (option_map Ask (asked_in_words all_topics (name ∷ words)))
 
 -- ---- what words may name
 
 abbrev pub is_command : Command → Bool
 is_command (Scan site day) = true
 is_command (Load number) = is_load_number number
-is_command (Ask question) = is_asked question && is_of ASKED (topic_of question)
+is_command (OfDraft draft) = true
+is_command (Ask question) = is_asked question
 is_command (Serve port connections) = true
 is_command (Simulate start sites years) = nat_le 1 sites && nat_le sites MOST_GENERATED_SITES && nat_le FEWEST_GENERATED_YEARS years && nat_le years MOST_GENERATED_YEARS

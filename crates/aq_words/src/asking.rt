@@ -1,8 +1,8 @@
 //! The questions about an office, as the words of a command and the texts in a path ask them: two readings of
 //! one table.
 ghost use Rattle.std.specs.Prelude.{◌≡◌, ◌⊎◌, map, string_bytes, IfErr, IfOk, IfSome, IsTrue};
-ghost use Rattle.aq_rules.specs.Questions.Asking.{asked_in_path, asked_in_words, is_asked, is_of, question_of, refusal_of, topic_named};
-ghost use Rattle.aq_rules.specs.Questions.Table.{ASKED, topic_of};
+ghost use Rattle.aq_rules.specs.Questions.Asking.{asked_in_path, asked_in_words, is_asked, question_of, refusal_of, topic_named};
+ghost use Rattle.aq_rules.specs.Questions.Table.{all_topics, name_of, topic_of};
 ghost use Rattle.aq_words.specs.Parts.{part_of};
 ghost use Rattle.aq_words.specs.Texts.{texts_of};
 ghost use Rattle.aq_words.specs.declared.asking.TheConstants.{BAD_REQUEST, NOT_FOUND};
@@ -18,13 +18,12 @@ pub const BAD_REQUEST: u16 = 400;
 /// There is no such standard or parameter.
 pub const NOT_FOUND: u16 = 404;
 
-/// The question that the words of a command ask: the name of one that is asked today, and a word for each part.
+/// The question that the words of a command ask: its name, and a word for each part.
 /// It takes no memory.
 #[tactic(auto, unfolding(aq_rules::specs::Questions::Asking::asked_in_words))]
 pub fn asked_in_words(words: &[String]) -> Option<Question>
-    ensures question { result ≡ asked_in_words ASKED (map string_bytes words.now) }
+    ensures question { result ≡ asked_in_words all_topics (map string_bytes words.now) }
     ensures range { IfSome result (λ question. IsTrue (is_asked question)) }
-    ensures today { IfSome result (λ question. IsTrue (is_of ASKED (topic_of question))) }
 {
     questions_asked_are_in_range();
     let [name, words @ ..] = words else {
@@ -58,25 +57,52 @@ fn question_in(topic: Topic, words: &[String]) -> Option<Question>
     }
 }
 
-/// The question of this name, if it is asked today.
+/// The question of this name, if there is one.
 fn topic_named(name: &[u8]) -> Option<Topic>
-    ensures topic { result ≡ topic_named ASKED name.now }
-    ensures today { IfSome result (λ topic. IsTrue (is_of ASKED topic)) }
+    ensures { result ≡ topic_named all_topics name.now }
 {
-    match name {
-        b"show" => Some(Topic::Value),
-        b"report" => Some(Topic::Report),
-        b"export" => Some(Topic::Export),
-        b"whatif" => Some(Topic::WhatIf),
-        b"decisive" => Some(Topic::Decisive),
-        b"combined" => Some(Topic::Combined),
-        b"area" => Some(Topic::Area),
-        b"reply" => Some(Topic::Reply),
-        b"windows" => Some(Topic::Windows),
-        b"days" => Some(Topic::Days),
-        b"pm25" => Some(Topic::Pm25),
-        b"pm10" => Some(Topic::Pm10),
-        _ => None,
+    first_named(&Topic::all(), name)
+}
+
+fn first_named(topics: &[Topic], name: &[u8]) -> Option<Topic>
+    ensures { result ≡ topic_named topics.now name.now }
+{
+    for topic in topics {
+        if name_of(*topic).as_bytes() == name {
+            return Some(*topic);
+        }
+    }
+    None
+}
+
+/// The name of a question, with which its words begin.
+fn name_of(topic: Topic) -> &'static str
+    ensures { result.now ≡ name_of topic }
+{
+    match topic {
+        Topic::Value => "show",
+        Topic::Report => "report",
+        Topic::Export => "export",
+        Topic::WhatIf => "whatif",
+        Topic::Decisive => "decisive",
+        Topic::Combined => "combined",
+        Topic::Area => "area",
+        Topic::Reply => "reply",
+        Topic::Windows => "windows",
+        Topic::Days => "days",
+        Topic::Pm25 => "pm25",
+        Topic::Pm10 => "pm10",
+        Topic::Sites => "sites",
+        Topic::Monitors => "monitors",
+        Topic::Events => "events",
+        Topic::Flags => "flags",
+        Topic::Loads => "loads",
+        Topic::Daily => "daily",
+        Topic::Highest => "highest",
+        Topic::Completeness => "completeness",
+        Topic::Reports => "reports",
+        Topic::Records => "records",
+        Topic::Lines => "lines",
     }
 }
 

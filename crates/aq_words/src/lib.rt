@@ -3,7 +3,8 @@
 //!
 //! # What it has
 //!
-//! - `Command`: what the program is asked to do, with a question, sites, days and numbers as values.
+//! - `Command`: what the program is asked to do, with a question, sites, days and numbers as values. A `Draft`
+//!   is what is said of an input beside an office that stays as it is.
 //! - `asked_in_words`, `asked_in_path`: the question that the words of a command ask, or the texts in a path.
 //!   `question_of` is a row's question by the texts of its parts. A path's refusal is `BAD_REQUEST` or `NOT_FOUND`.
 //! - `read_words(words)`: the command that the words name, the program's name left out, or `None`.
@@ -38,4 +39,4 @@ mod years;
 pub use asking::{BAD_REQUEST, NOT_FOUND, asked_in_path, asked_in_words};
 pub use limits::limits_of_words_are_these_numbers;
 pub use rows::question_of;
-pub use words::{Command, read_words};
+pub use words::{Command, Draft, read_words};

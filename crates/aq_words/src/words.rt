@@ -2,10 +2,10 @@
 ghost use Rattle.std.specs.Prelude.{◌≡◌, ◌≤◌, map, string_bytes, IfSome, IsTrue};
 ghost use Rattle.std.specs.Option.{option_map};
 ghost use Rattle.aq_rules.specs.Questions.Asking.{asked_in_words};
-ghost use Rattle.aq_rules.specs.Questions.Table.{ASKED};
+ghost use Rattle.aq_rules.specs.Questions.Table.{all_topics};
 ghost use Rattle.aq_rules.specs.Limits.{FEWEST_GENERATED_YEARS, MOST_GENERATED_YEARS};
 ghost use Rattle.aq_words.specs.declared.words.Command.TheVariants.{Ask};
-ghost use Rattle.aq_words.specs.Words.{command_of, is_command, load_of, option_of, pair_of, scan_of, serve_of, served_by, simulate_of, start_in, years_in};
+ghost use Rattle.aq_words.specs.Words.{changes_of, command_of, is_command, load_of, option_of, pair_of, scan_of, serve_of, served_by, simulate_of, start_in, try_of, years_in};
 
 use crate::asking::asked_in_words;
 use aq_base::{
@@ -24,12 +24,23 @@ pub enum Command {
     Scan { site: SiteId, day: Day },
     /// Takes the input as the load with this number over the office of the tables.
     Load(u32),
+    /// Says what the input would make of the office of the tables, which stays as it is.
+    Draft(Draft),
     /// Answers a question about the office of the tables.
     Ask(Question),
     /// Listens on this port of the machine, and serves so many connections at most.
     Serve { port: u16, connections: u32 },
     /// Takes generated loads of so many sites and years over an empty office, and prints a summary.
     Simulate { start: u64, sites: u8, years: u8 },
+}
+
+/// What is said of an input beside an office that stays as it is.
+#[derive(Clone, Copy, Debug, PartialEq, Eq)]
+pub enum Draft {
+    /// The reply that a load of it would get.
+    Try,
+    /// The lines that bring what stands up to date with it, an extract of these days.
+    Changes { first: Day, last: Day },
 }
 
 #[tactic(auto, unfolding(crate::specs::Words::scan_of))]
@@ -55,6 +66,34 @@ fn load(words: &[String]) -> Option<Command>
     };
     let number = number_to(u64::from(LAST_LOAD_NUMBER), number.as_bytes())?;
     Some(Command::Load(number as u32))
+}
+
+#[tactic(auto, unfolding(crate::specs::Words::try_of))]
+fn try_load(words: &[String]) -> Option<Command>
+    ensures command { result ≡ try_of (map string_bytes words.now) }
+    ensures range { IfSome result (λ command. IsTrue (is_command command)) }
+{
+    match words {
+        [] => Some(Command::Draft(Draft::Try)),
+        _ => None,
+    }
+}
+
+#[tactic(auto, unfolding(crate::specs::Words::changes_of))]
+fn changes(words: &[String]) -> Option<Command>
+    ensures command { result ≡ changes_of (map string_bytes words.now) }
+    ensures range { IfSome result (λ command. IsTrue (is_command command)) }
+{
+    let [first, last] = words else {
+        return None;
+    };
+    let first = day_word(first.as_bytes())?;
+    let last = day_word(last.as_bytes())?;
+    if first.number() <= last.number() {
+        Some(Command::Draft(Draft::Changes { first, last }))
+    } else {
+        None
+    }
 }
 
 #[tactic(auto, unfolding(crate::specs::Words::serve_of))]
@@ -172,6 +211,8 @@ pub fn read_words(words: &[String]) -> Option<Command>
     match name.as_str() {
         "scan" => scan(parts),
         "load" => load(parts),
+        "try" => try_load(parts),
+        "changes" => changes(parts),
         "serve" => serve(parts),
         "simulate" => simulate(parts),
         _ => asked(words),
@@ -180,7 +221,7 @@ pub fn read_words(words: &[String]) -> Option<Command>
 
 /// A question, by its name and a word for each part.
 fn asked(words: &[String]) -> Option<Command>
-    ensures command { result ≡ option_map Ask (asked_in_words ASKED (map string_bytes words.now)) }
+    ensures command { result ≡ option_map Ask (asked_in_words all_topics (map string_bytes words.now)) }
     ensures range { IfSome result (λ command. IsTrue (is_command command)) }
 {
     let question = asked_in_words(words)?;

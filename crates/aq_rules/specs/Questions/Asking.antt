@@ -1,6 +1,5 @@
 -- A question, as the words of a command and the parts of a path ask it (own).
 use Rattle.std.specs.Prelude.{ℕ, Bool, true, false, ◌&&◌, ◌||◌, nat_le, if◌then◌else◌, Option, Some, None, is_none, Result, Ok, Err, List, [], ◌∷◌, find, bytes_eq}
-use Rattle.std.specs.List.{list_any}
 use Rattle.aq_base.specs.Calendar.{is_year, is_design_year}
 use Rattle.aq_base.specs.declared.area.Area.{Area}
 use Rattle.aq_base.specs.declared.area.Area.TheVariants as areas
@@ -114,7 +113,3 @@ is_asked (Completeness site pollutant year) = is_year year
 is_asked (Reports year) = is_design_year year
 is_asked Records = true
 is_asked (Lines site pollutant year) = is_year year
-
--- whether the question is one of these
-abbrev pub is_of : List Topic → Topic → Bool
-is_of topics topic = list_any (λ other. bytes_eq (name_of other) (name_of topic)) topics

@@ -135,10 +135,3 @@ step_pattern (Hole part) = pattern_word part
 -- the pattern of a question's path, with each part in braces
 unfoldable pub pattern_of : Topic → List ℕ
 pattern_of topic = flat_map (λ step. codes "/" ++ step_pattern step) (row_of topic).path
-
--- ---- what is asked today
-
--- the questions that can be asked; the others wait for what answers them
-abbrev pub ASKED : List Topic
-ASKED =
-    Value ∷ Report ∷ Export ∷ WhatIf ∷ Decisive ∷ Combined ∷ AreaTopic ∷ Reply ∷ Windows ∷ Days ∷ Pm25 ∷ Pm10 ∷ []

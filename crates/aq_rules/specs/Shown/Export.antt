@@ -4,7 +4,7 @@ use Rattle.std.specs.List.{join_with_byte, list_all}
 use Rattle.aq_base.specs.Calendar.{year_of, day_of_hour, hour_of_day}
 use Rattle.aq_base.specs.Decimal.{last_digits}
 use Rattle.aq_base.specs.Site.{Site}
-pub use Rattle.aq_base.specs.declared.ask.Shown.{Shown}
+pub use Rattle.aq_base.specs.declared.shown.Shown.{Shown}
 use Rattle.aq_base.specs.declared.code.Code.{Code}
 use Rattle.aq_base.specs.declared.monitor.Pollutant.{Pollutant}
 use Rattle.aq_base.specs.declared.observation.ObsKey.{ObsKey}

@@ -24,7 +24,7 @@ use Rattle.aq_rules.specs.Particles.Pm10Estimate.{Pm10Quarter}
 use Rattle.aq_rules.specs.Particles.Pm10Verdict.{Pm10Dv}
 use Rattle.aq_rules.specs.Kept.Summaries.{PmQuarter, PmYear}
 use Rattle.aq_rules.specs.Shown.Sheet.{SheetCell, Sheet, cell_at}
-use Rattle.aq_rules.specs.Shown.Answer.{Answer, OfSheet, OfExport, NoSite, NoLoad}
+use Rattle.aq_rules.specs.Questions.Answer.{Answer, OfSheets, OfText, Lacks}
 use Rattle.aq_rules.specs.Ozone.OzoneExamples.{site, office_of, summer_day}
 use Rattle.aq_rules.specs.Particles.ParticleExamples.{winter_day}
 
@@ -153,19 +153,19 @@ between_levels =
 
 -- ---- answers
 
--- the cells under these heads, and the column names
+-- of the first sheet the cells under these heads, and the column names
 abbrev pub outline : List (List ℕ) → Answer → Option (List SheetCell × List (List ℕ))
-outline names (OfSheet sheet) = Some (map (λ name. cell_at name sheet) names, sheet.columns)
-outline names (OfExport text) = None
-outline names NoSite = None
-outline names NoLoad = None
+outline names (OfSheets []) = None
+outline names (OfSheets (sheet ∷ sheets)) = Some (map (λ name. cell_at name sheet) names, sheet.columns)
+outline names (OfText text) = None
+outline names (Lacks what) = None
 
--- what is made of an answer's sheet
+-- what is made of an answer's first sheet
 abbrev pub map_sheet : {X : Type 0} → (Sheet → X) → Answer → Option X
-map_sheet f (OfSheet sheet) = Some (f sheet)
-map_sheet f (OfExport text) = None
-map_sheet f NoSite = None
-map_sheet f NoLoad = None
+map_sheet f (OfSheets []) = None
+map_sheet f (OfSheets (sheet ∷ sheets)) = Some (f sheet)
+map_sheet f (OfText text) = None
+map_sheet f (Lacks what) = None
 
 -- the columns of a design value's years
 abbrev pub value_columns : Standard → List (List ℕ)

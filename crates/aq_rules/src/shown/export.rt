@@ -4,7 +4,7 @@
 ghost use Rattle.std.specs.Prelude.{◌≡◌, ℕ, true, false, ◌∷◌, [], map, IsTrue, codes, ◌++◌};
 ghost use Rattle.std.specs.List.{list_all};
 ghost use Rattle.aq_base.specs.Site.{Site};
-ghost use Rattle.aq_base.specs.declared.ask.Shown.{Shown};
+ghost use Rattle.aq_base.specs.declared.shown.Shown.{Shown};
 ghost use Rattle.aq_base.specs.declared.monitor.Pollutant.{Pollutant};
 ghost use Rattle.aq_base.specs.declared.monitor.Pollutant.TheVariants.{Ozone, Pm25};
 ghost use Rattle.aq_rules.specs.Shown.Export.{export_answer, needs_no_quotes, shown_fields, shown_of};

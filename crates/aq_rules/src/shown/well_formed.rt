@@ -19,34 +19,31 @@ ghost use Rattle.aq_rules.specs.Listed.Loads.{loads_answer};
 ghost use Rattle.aq_rules.specs.Listed.Monitors.{monitors_answer};
 ghost use Rattle.aq_rules.specs.Listed.Sites.{sites_answer};
 ghost use Rattle.aq_rules.specs.Office.Office.{IsOffice, Office, StoredLoad, is_reply, load_at};
-ghost use Rattle.aq_rules.specs.Questions.Asking.{is_asked as may_be_asked};
+ghost use Rattle.aq_rules.specs.Questions.Asking.{is_asked};
 ghost use Rattle.aq_rules.specs.Shown.Sheet.{Sheet};
 ghost use Rattle.aq_rules.specs.Shown.Sheets.{days_answer, load_sheet, windows_answer};
 ghost use Rattle.aq_rules.specs.Shown.ParticleSheets.{pm10_answer, pm25_answer};
 ghost use Rattle.aq_rules.specs.Shown.OtherSheets.{conflict_sheet, error_names, error_sheet, report_answer, summary_sheet, value_answer};
-ghost use Rattle.aq_rules.specs.Shown.Answer.{Ask, Days, OfSheet, Pm10, Pm25, Report, Value, Windows, answer, is_asked};
 ghost use Rattle.aq_rules.specs.Shown.AreaSheets.{area_sheet, area_sites_sheet, decisive_sheet};
 ghost use Rattle.aq_rules.specs.Shown.WellFormed.{IsWellFormed, is_whole_if};
 
 /// Of a valid office the sheets of a load, of windows, days and quarters, of a value and of a report are well
 /// formed, each for what may be asked of it.
 pub fn answers_are_well_formed()
-    ensures answer { (office : Office) (ask : Ask) (sheet : Sheet)
-        → IsOffice office → IsTrue (is_asked ask) → answer office ask ≡ OfSheet sheet → IsWellFormed sheet }
     ensures reply { (office : Office) (number : ℕ) (load : StoredLoad)
         → IsOffice office → load_at office number ≡ Some load → IsWellFormed (load_sheet load.reply) }
     ensures windows { (office : Office) (site : Site) (day : ℕ)
-        → IsOffice office → IsTrue (is_asked (Windows site day)) → IsWellFormed (windows_answer office site day) }
+        → IsOffice office → IsTrue (is_asked (question.Windows site day)) → IsWellFormed (windows_answer office site day) }
     ensures days { (office : Office) (site : Site) (year : ℕ)
-        → IsOffice office → IsTrue (is_asked (Days site year)) → IsWellFormed (days_answer office site year) }
+        → IsOffice office → IsTrue (is_asked (question.Days site year)) → IsWellFormed (days_answer office site year) }
     ensures fine { (office : Office) (site : Site) (year : ℕ)
-        → IsOffice office → IsTrue (is_asked (Pm25 site year)) → IsWellFormed (pm25_answer office site year) }
+        → IsOffice office → IsTrue (is_asked (question.Pm25 site year)) → IsWellFormed (pm25_answer office site year) }
     ensures coarse { (office : Office) (site : Site) (year : ℕ)
-        → IsOffice office → IsTrue (is_asked (Pm10 site year)) → IsWellFormed (pm10_answer office site year) }
+        → IsOffice office → IsTrue (is_asked (question.Pm10 site year)) → IsWellFormed (pm10_answer office site year) }
     ensures value { (office : Office) (standard : Standard) (site : Site) (year : ℕ)
-        → IsOffice office → IsTrue (is_asked (Value standard site year)) → IsWellFormed (value_answer standard office site year) }
+        → IsOffice office → IsTrue (is_asked (question.Value standard site year)) → IsWellFormed (value_answer standard office site year) }
     ensures report { (office : Office) (standard : Standard) (year : ℕ)
-        → IsOffice office → IsTrue (is_asked (Report standard year)) → IsWellFormed (report_answer standard office year) }
+        → IsOffice office → IsTrue (is_asked (question.Report standard year)) → IsWellFormed (report_answer standard office year) }
 {}
 
 /// So are the sheets of a load's reply, of a conflict of two digests, of each error, and of a summary
@@ -85,12 +82,12 @@ pub fn sheets_of_lists_are_well_formed()
     ensures monitors { (office : Office) (site : Site) → IsOffice office → IsWellFormed (monitors_answer office site) }
     ensures events { (office : Office) (site : Site) → IsOffice office → IsWellFormed (events_answer office site) }
     ensures flags { (office : Office) (site : Site) (pollutant : Pollutant) (year : ℕ)
-        → IsOffice office → IsTrue (may_be_asked (question.Flags site pollutant year)) → IsWellFormed (flags_answer office site pollutant year) }
+        → IsOffice office → IsTrue (is_asked (question.Flags site pollutant year)) → IsWellFormed (flags_answer office site pollutant year) }
     ensures loads { (office : Office) → IsOffice office → IsWellFormed (loads_answer office) }
     ensures daily { (office : Office) (site : Site) (pollutant : Pollutant) (year : ℕ)
-        → IsOffice office → IsTrue (may_be_asked (question.Daily site pollutant year)) → IsWellFormed (daily_answer office site pollutant year) }
+        → IsOffice office → IsTrue (is_asked (question.Daily site pollutant year)) → IsWellFormed (daily_answer office site pollutant year) }
     ensures highest { (office : Office) (site : Site) (pollutant : Pollutant) (year : ℕ)
-        → IsOffice office → IsTrue (may_be_asked (question.Highest site pollutant year)) → IsWellFormed (highest_answer office site pollutant year) }
+        → IsOffice office → IsTrue (is_asked (question.Highest site pollutant year)) → IsWellFormed (highest_answer office site pollutant year) }
     ensures completeness { (office : Office) (site : Site) (pollutant : Pollutant) (year : ℕ)
-        → IsOffice office → IsTrue (may_be_asked (question.Completeness site pollutant year)) → IsWellFormed (completeness_answer office site pollutant year) }
+        → IsOffice office → IsTrue (is_asked (question.Completeness site pollutant year)) → IsWellFormed (completeness_answer office site pollutant year) }
 {}

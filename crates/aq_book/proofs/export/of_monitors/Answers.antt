@@ -1,6 +1,6 @@
 use Rattle.std.proofs.Common.{◌*◌, ◌++◌, List, map, length, ap, sym, ◌∙◌, arith}
 use Rattle.std.proofs.lemmas.List.{append_assoc, append-nil}
-use Rattle.aq_base.specs.declared.ask.Shown.{Shown}
+use Rattle.aq_base.specs.declared.shown.Shown.{Shown}
 use Rattle.aq_shelf.specs.Standing.{observations_in}
 use Rattle.aq_series.specs.DayCells.{monitor_at}
 use Rattle.aq_book.specs.Questions.{shown_at}

@@ -17,6 +17,9 @@ returns-in-Scan-clause-acts g c =
 pub returns-in-Load-clause-acts : goal.returns-in-Load-clause-acts
 returns-in-Load-clause-acts g c = printing c.args.command.now (Load c.in-Load.number) c.in-Load.is refl c.load.result _ _ _ _ _ c.load.ensures.told
 
+pub returns-in-Draft-clause-acts : goal.returns-in-Draft-clause-acts
+returns-in-Draft-clause-acts g c = printing c.args.command.now _ c.in-Draft.is refl c.draft.result _ _ _ _ _ c.draft.ensures.told
+
 pub returns-in-Ask-clause-acts : goal.returns-in-Ask-clause-acts
 returns-in-Ask-clause-acts g c =
     printing c.args.command.now _ c.in-Ask.is refl c.ask.result _ _ _ _ _
@@ -41,6 +44,12 @@ returns-in-Load-clause-keeper_failed g c = keeper_rises _ _ _ _ c.load.ensures.k
 
 pub returns-in-Load-clause-door_failed : goal.returns-in-Load-clause-door_failed
 returns-in-Load-clause-door_failed g c = stays_at 8 _ _ c.load.ensures.no_door
+
+pub returns-in-Draft-clause-keeper_failed : goal.returns-in-Draft-clause-keeper_failed
+returns-in-Draft-clause-keeper_failed g c = keeper_rises _ _ _ _ c.draft.ensures.keeper_failed
+
+pub returns-in-Draft-clause-door_failed : goal.returns-in-Draft-clause-door_failed
+returns-in-Draft-clause-door_failed g c = stays_at 8 _ _ c.draft.ensures.no_door
 
 pub returns-in-Ask-clause-keeper_failed : goal.returns-in-Ask-clause-keeper_failed
 returns-in-Ask-clause-keeper_failed g c = keeper_rises _ _ _ _ c.ask.ensures.keeper_failed

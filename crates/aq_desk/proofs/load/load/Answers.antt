@@ -1,11 +1,12 @@
 use Rattle.aq_desk.proofs.Outcomes.{is_within-few}
 use Rattle.aq_desk.proofs.Reading.{read-on, read-stopped}
-use Rattle.aq_desk.proofs.Unread.{read_causes, read_load, unread_causes, unread_keeper, unread_load}
+use Rattle.aq_desk.proofs.Unread.{read_body_over, read_causes, unread_body, unread_causes, unread_keeper}
+use Rattle.aq_desk.specs.Load.{load_answer}
 use Rattle.aq_desk.proofs.load.load.Goals as goal
 
 pub returns-in_err-body-clause-told : goal.returns-in_err-body-clause-told
 returns-in_err-body-clause-told g c =
-    unread_load c.args.number _ _ _ _ _ c.in_err-body.field-0.0 c.from_residual.result c.from_residual.ensures.1 c.in_err-body.ensures.fault
+    unread_body (load_answer c.args.number) _ _ _ _ _ c.in_err-body.field-0.0 c.from_residual.result c.from_residual.ensures.1 c.in_err-body.ensures.fault
 
 pub returns-in_err-body-clause-causes : goal.returns-in_err-body-clause-causes
 returns-in_err-body-clause-causes g c =
@@ -17,7 +18,7 @@ returns-in_err-body-clause-keeper_failed g c = unread_keeper _ c.in_err-body.fie
 pub returns-clause-told : goal.returns-clause-told
 returns-clause-told g c =
     let within = is_within-few c.in_ok-body.body.items c.in_ok-body.ensures.bytes c.in_ok-body.ensures.lines in
-    read_load c.args.number _ c.in_ok-body.body.items c.deref.result.now c.answer.result _ _ _ _ c.in_ok-body.ensures.body c.deref.ensures.value within c.answer.ensures.no_input.1 c.answer.ensures.told
+    read_body_over (load_answer c.args.number) _ c.in_ok-body.body.items c.deref.result.now c.answer.result _ _ _ _ c.in_ok-body.ensures.body c.deref.ensures.value within c.answer.ensures.no_input.1 c.answer.ensures.told
 
 pub returns-clause-causes : goal.returns-clause-causes
 returns-clause-causes g c = read_causes _ _ _ _ _ c.in_ok-body.ensures.steady c.answer.ensures.no_input.0 c.answer.ensures.output_failed

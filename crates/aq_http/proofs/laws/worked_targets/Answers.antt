@@ -2,7 +2,7 @@ use Rattle.std.proofs.Common.{refl, Some, None, [], ◌∷◌, ◌++◌}
 use Rattle.std.specs.Prelude.{codes}
 use Rattle.matchit.proofs.OnLiterals.{matchit_on_literals}
 use Rattle.aq_base.specs.Calendar.{days_of_months, days_of_years}
-use Rattle.aq_base.specs.declared.question.Topic.TheVariants.{Area, Combined, Days, Decisive, Export, Pm10, Pm25, Reply, Report, Value, WhatIf, Windows}
+use Rattle.aq_base.specs.declared.question.Topic.TheVariants.{Area, Combined, Completeness, Daily, Days, Decisive, Events, Export, Flags, Highest, Lines, Loads, Monitors, Pm10, Pm25, Records, Reply, Report, Reports, Sites, Value, WhatIf, Windows}
 use Rattle.aq_rules.specs.Lines.Spellings.{site_in, year_in}
 use Rattle.aq_rules.specs.Questions.Asking.{asked_in_path, question_of}
 use Rattle.aq_rules.specs.Questions.QuestionExamples.{entries}
@@ -57,5 +57,46 @@ returns c = record {
   pm10_pair = found_walked Get (codes "/combined/PM10-24H-1987/06-037-1103/2024") (Some Combined) refl refl;
   no_post = found_walked Post (codes "/export/06-037-1103/44201/2024") (Some Export) refl refl;
   further_slash = found_walked Get (codes "/export/06-037-1103/44201/2024/") None refl refl;
-  later = found_walked Get (codes "/sites") None refl refl;
+  sites = found_walked Get (codes "/sites") (Some Sites) refl refl;
+  monitors = found_walked Get (codes "/monitors/06-037-1103") (Some Monitors) refl refl;
+  events = found_walked Get (codes "/events/06-037-1103") (Some Events) refl refl;
+  flags = found_walked Get (codes "/flags/06-037-1103/44201/2024") (Some Flags) refl refl;
+  loads = found_walked Get (codes "/loads") (Some Loads) refl refl;
+  daily = found_walked Get (codes "/daily/06-037-1103/44201/2024") (Some Daily) refl refl;
+  highest = found_walked Get (codes "/highest/06-037-1103/44201/2024") (Some Highest) refl refl;
+  completeness = found_walked Get (codes "/completeness/06-037-1103/44201/2024") (Some Completeness) refl refl;
+  reports = found_walked Get (codes "/reports/2024") (Some Reports) refl refl;
+  records = found_walked Get (codes "/records") (Some Records) refl refl;
+  lines = found_walked Get (codes "/lines/06-037-1103/44201/2024") (Some Lines) refl refl;
+  sites_slash = found_walked Get (codes "/sites/") None refl refl;
+  sites_part = found_walked Get (codes "/sites/x") None refl refl;
+  no_site = found_walked Get (codes "/monitors") None refl refl;
+  bad_site = λ i.
+      found_walked Get (codes "/monitors/6-37-1103") (Some Monitors) refl refl i
+      ∷ found_walked Get (codes "/events/6-37-1103") (Some Events) refl refl i ∷ [];
+  no_series = λ i.
+      found_walked Get (codes "/flags/06-037-1103/42602/2024") (Some Flags) refl refl i
+      ∷ found_walked Get (codes "/daily/06-037-1103/42602/2024") (Some Daily) refl refl i
+      ∷ found_walked Get (codes "/highest/06-037-1103/42602/2024") (Some Highest) refl refl i
+      ∷ found_walked Get (codes "/completeness/06-037-1103/42602/2024") (Some Completeness) refl refl i
+      ∷ found_walked Get (codes "/lines/06-037-1103/42602/2024") (Some Lines) refl refl i ∷ [];
+  before_1990 = λ i.
+      found_walked Get (codes "/flags/06-037-1103/44201/1989") (Some Flags) refl refl i
+      ∷ found_walked Get (codes "/daily/06-037-1103/44201/1989") (Some Daily) refl refl i
+      ∷ found_walked Get (codes "/highest/06-037-1103/44201/1989") (Some Highest) refl refl i
+      ∷ found_walked Get (codes "/completeness/06-037-1103/44201/1989") (Some Completeness) refl refl i
+      ∷ found_walked Get (codes "/lines/06-037-1103/44201/1989") (Some Lines) refl refl i ∷ [];
+  report_years = λ i.
+      found_walked Get (codes "/reports/1991") (Some Reports) refl refl i
+      ∷ found_walked Get (codes "/reports/1992") (Some Reports) refl refl i
+      ∷ found_walked Get (codes "/reports/2059") (Some Reports) refl refl i
+      ∷ found_walked Get (codes "/reports/2060") (Some Reports) refl refl i ∷ [];
+  lists_take_no_post = λ i.
+      found_walked Post (codes "/sites") (Some Sites) refl refl i
+      ∷ found_walked Post (codes "/loads") (Some Loads) refl refl i
+      ∷ found_walked Post (codes "/records") (Some Records) refl refl i ∷ [];
+  lists_take_no_head = λ i.
+      found_walked Other (codes "/sites") (Some Sites) refl refl i
+      ∷ found_walked Other (codes "/loads") (Some Loads) refl refl i
+      ∷ found_walked Other (codes "/records") (Some Records) refl refl i ∷ [];
 }

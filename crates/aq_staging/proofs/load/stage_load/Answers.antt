@@ -1,4 +1,5 @@
 use Rattle.std.proofs.Common.{rules, ◌≡◌, ◌≤◌, sym, unwrap_or, List, length, ap, subst, ◌∙◌, arith}
+use Rattle.std.specs.Prelude.{Err, IfOk, IsErrAnd, Ok, Result}
 use Rattle.aq_base.specs.declared.observation.ObsKey.{ObsKey}
 use Rattle.aq_base.specs.declared.observation.Observation.{Observation}
 use Rattle.aq_base.specs.declared.office.OfficeRecord.{OfficeRecord}
@@ -23,7 +24,7 @@ reply_of-requires c =
 
 pub returns-clause-office : goal.returns-clause-office
 returns-clause-office c =
-    staged-office c.loop-line.staging c.into_copy.result c.into_changes.result c.args.identity c.in_ok-reply.reply c.args.registry.now c.args.shelf.now c.loop-line.invariant.before c.into_copy.ensures c.into_changes.ensures.standing
+    staged-office c.loop-line.staging c.into_copy-left.result c.into_changes-changes.result c.args.registry.now c.args.shelf.now c.loop-line.invariant.before c.into_copy-left.ensures c.into_changes-changes.ensures.standing
     ∙ after_all_lines _ _ _ c.in-None.ensures.steps.0 c.loop-line.invariant.office
 
 pub returns-clause-reply : goal.returns-clause-reply
@@ -36,16 +37,40 @@ returns-clause-reply c =
     in
     c.in_ok-reply.ensures ∙ reply_for-same c.number_in-number.result _ c.count_lines.result _ c.loop-line.taken _ c.deref.result.now _ c.number_in-number.ensures c.count_lines.ensures taken refused
 
-pub returns-clause-staged_on : goal.returns-clause-staged_on
-returns-clause-staged_on c = record {
+pub changes_of-requires : goal.changes_of-requires
+changes_of-requires c = record {
+  order = c.requires.order;
   touched =
       subst (λ (after : List OfficeRecord). AreTouched c.args.registry.now after c.loop-line.staging.touched)
-      (sym c.into_copy.ensures ∙ ap (λ (o : Office). unwrap_or c.into_copy.result o.records) c.loop-line.invariant.before) c.loop-line.invariant.touched;
-  changes = subst (λ (o : Office). AreChanges o.observations c.into_changes.result) c.loop-line.invariant.before c.into_changes.ensures.changes;
-  few =
-      subst (λ (o : Office). length (with_changes c.into_changes.result o.observations) ≤ MOST_OBSERVATIONS) c.loop-line.invariant.before
-      (subst (λ (rows : List (ObsKey × Observation)). length rows ≤ MOST_OBSERVATIONS) (sym c.into_changes.ensures.standing) c.into_changes.ensures.few);
+      (sym c.into_copy-left.ensures ∙ ap (λ (o : Office). unwrap_or c.into_copy-left.result o.records) c.loop-line.invariant.before) c.loop-line.invariant.touched;
+  changes = subst (λ (o : Office). AreChanges o.observations c.into_changes-changes.result) c.loop-line.invariant.before c.into_changes-changes.ensures.changes;
 }
+
+pub returns-clause-staged_on : goal.returns-clause-staged_on
+returns-clause-staged_on c = record {
+  changed = c.in_ok-office_changes.ensures;
+  changes = subst (λ (o : Office). AreChanges o.observations c.into_changes-changes.result) c.loop-line.invariant.before c.into_changes-changes.ensures.changes;
+  few =
+      subst (λ (o : Office). length (with_changes c.into_changes-changes.result o.observations) ≤ MOST_OBSERVATIONS) c.loop-line.invariant.before
+      (subst (λ (rows : List (ObsKey × Observation)). length rows ≤ MOST_OBSERVATIONS) (sym c.into_changes-changes.ensures.standing) c.into_changes-changes.ensures.few);
+}
+
+-- nothing is answered for want of memory
+unanswered : {X E : Type 0} (P : X → Type 0) (Q : E → Type 0) (answer : Result X E) → IsErrAnd answer Q → IfOk answer P
+unanswered P Q (Ok x) is = absurd is
+unanswered P Q (Err e) is = tt
+
+pub returns-in_err-office_changes-clause-reply : goal.returns-in_err-office_changes-clause-reply
+returns-in_err-office_changes-clause-reply c = unanswered _ _ c.from_residual-in_err-office_changes.result c.from_residual-in_err-office_changes.ensures.1
+
+pub returns-in_err-office_changes-clause-identity : goal.returns-in_err-office_changes-clause-identity
+returns-in_err-office_changes-clause-identity c = unanswered _ _ c.from_residual-in_err-office_changes.result c.from_residual-in_err-office_changes.ensures.1
+
+pub returns-in_err-office_changes-clause-staged_on : goal.returns-in_err-office_changes-clause-staged_on
+returns-in_err-office_changes-clause-staged_on c = unanswered _ _ c.from_residual-in_err-office_changes.result c.from_residual-in_err-office_changes.ensures.1
+
+pub returns-in_err-office_changes-clause-office : goal.returns-in_err-office_changes-clause-office
+returns-in_err-office_changes-clause-office c = unanswered _ _ c.from_residual-in_err-office_changes.result c.from_residual-in_err-office_changes.ensures.1
 
 pub loop-line-preserved : goal.loop-line-preserved
 loop-line-preserved c = record {

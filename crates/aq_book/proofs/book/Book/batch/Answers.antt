@@ -7,5 +7,5 @@ use Rattle.aq_book.proofs.book.Book.batch.Goals as goal
 pub returns : goal.returns
 returns c number digest body stage =
     c.in_ok-batch.ensures
-    ∙ (λ i. map row_change c.in_ok-changes.changes ++ map row_change (own_change (c.identity.ensures i) (c.reply.ensures i)))
-    ∙ batch_is c.args.staged.now c.self.inside.registry c.self.inside.shelf c.self.inside.loads c.args.self.now c.self.view_is c.in_ok-changes.changes c.in_ok-changes.ensures number digest body stage
+    ∙ (λ i. map row_change (c.changes.ensures i) ++ map row_change (own_change (c.identity.ensures i) (c.reply.ensures i)))
+    ∙ batch_is c.args.staged.now c.args.self.now number digest body stage

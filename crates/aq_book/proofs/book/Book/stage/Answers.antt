@@ -5,6 +5,9 @@ use Rattle.aq_series.specs.OfficeView.{office_of}
 use Rattle.aq_book.proofs.StageLemmas.{office-is, stage-is, valid-loaded}
 use Rattle.aq_book.proofs.book.Book.stage.Goals as goal
 
+pub stage_load-requires-clause-order : goal.stage_load-requires-clause-order
+stage_load-requires-clause-order c = c.self.invariant.office.keys_rise.records
+
 pub returns-clause-staged : goal.returns-clause-staged
 returns-clause-staged c =
     stage-is c.in_ok-staged.staged c.self.inside.registry c.self.inside.shelf c.self.inside.loads c.args.self.now c.self.view_is c.args.number c.args.digest c.args.body.now

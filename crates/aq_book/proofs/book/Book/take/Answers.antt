@@ -7,15 +7,9 @@ use Rattle.aq_pm10_cells.specs.Pm10Levels as pm10_cells
 use Rattle.aq_pm25_cells.specs.Pm25Levels as pm25_cells
 use Rattle.aq_staging.specs.Staged.{IsStagedOn}
 use Rattle.aq_book.proofs.ReachedLemmas.{changes-are, loadless, none-amiss, pm10-else, pm25-else, reached-by}
-use Rattle.aq_book.proofs.StageLemmas.{room-after, taken-office, valid-after}
+use Rattle.aq_book.proofs.StageLemmas.{changed-of, room-after, taken-office, valid-after}
 use Rattle.aq_book.proofs.TakenCosts.{taken-costs}
 use Rattle.aq_book.proofs.book.Book.take.Goals as goal
-
-pub changes-requires : goal.changes-requires
-changes-requires g c = record {
-  staged = subst (λ (o : Office). IsStagedOn o.records o.observations c.args.staged) (sym c.self.view_is) c.requires.on;
-  order = c.self.invariant.office.keys_rise.records;
-}
 
 pub onto-requires : goal.onto-requires
 onto-requires g c =
@@ -24,9 +18,9 @@ onto-requires g c =
 pub bring_up-requires-clause-drops : goal.bring_up-requires-clause-drops
 bring_up-requires-clause-drops g c =
     let records_are = c.registry_after-after.ensures ∙ ap (λ (o : Option (List OfficeRecord)). unwrap_or o c.self.inside.registry) c.in_ok-taken.ensures.records in
-    none-amiss (office_of c.self.inside.registry c.self.inside.shelf) (office_of c.registry_after-after.result.now c.in_ok-taken.taken.shelf) c.in_ok-changes.changes
-    (changes-are c.self.inside.registry c.registry_after-after.result.now c.self.inside.shelf c.in_ok-taken.taken.shelf c.args.staged c.in_ok-changes.changes
-    records_are c.in_ok-taken.ensures.observations c.in_ok-changes.ensures)
+    none-amiss (office_of c.self.inside.registry c.self.inside.shelf) (office_of c.registry_after-after.result.now c.in_ok-taken.taken.shelf) c.in_ok-taken.taken.changes
+    (changes-are c.self.inside.registry c.registry_after-after.result.now c.self.inside.shelf c.in_ok-taken.taken.shelf c.args.staged c.in_ok-taken.taken.changes
+    records_are c.in_ok-taken.ensures.observations (changed-of c.args.staged c.args.self c.self.inside.registry c.self.inside.shelf c.self.inside.loads c.self.view_is c.requires c.in_ok-taken.taken.changes c.in_ok-taken.ensures.changes))
 
 pub bring_up-requires-clause-ozone : goal.bring_up-requires-clause-ozone
 bring_up-requires-clause-ozone g c cell out =
@@ -39,15 +33,15 @@ bring_up-requires-clause-ozone g c cell out =
     c.in_ok-taken.taken.reply c.in_ok-taken.ensures.reply c.in_ok-loads.loads c.in_ok-loads.ensures c.requires
     in
     let are =
-    changes-are c.self.inside.registry c.registry_after-after.result.now c.self.inside.shelf c.in_ok-taken.taken.shelf c.args.staged c.in_ok-changes.changes
-    records_are c.in_ok-taken.ensures.observations c.in_ok-changes.ensures
+    changes-are c.self.inside.registry c.registry_after-after.result.now c.self.inside.shelf c.in_ok-taken.taken.shelf c.args.staged c.in_ok-taken.taken.changes
+    records_are c.in_ok-taken.ensures.observations (changed-of c.args.staged c.args.self c.self.inside.registry c.self.inside.shelf c.self.inside.loads c.self.view_is c.requires c.in_ok-taken.taken.changes c.in_ok-taken.ensures.changes)
     in
     c.cells_out_of_reach_are_those_of_the_office_after_it.ensures before after c.self.inside.cells.ozone cell
     (loadless c.self.inside.registry c.self.inside.shelf c.self.inside.loads c.self.invariant.office)
     (loadless c.registry_after-after.result.now c.in_ok-taken.taken.shelf c.in_ok-loads.loads valid)
     c.self.invariant.ozone_kept
     (λ kind.
-    reached-by c.self.inside.registry c.registry_after-after.result.now c.self.inside.shelf c.in_ok-taken.taken.shelf c.in_ok-changes.changes are cell
+    reached-by c.self.inside.registry c.registry_after-after.result.now c.self.inside.shelf c.in_ok-taken.taken.shelf c.in_ok-taken.taken.changes are cell
     (c.what_reads_a_changed_row_is_in_reach.ensures before after cell) ∙ out kind c.self.inside.shelf)
 
 pub bring_up-requires-clause-pm25 : goal.bring_up-requires-clause-pm25
@@ -61,8 +55,8 @@ bring_up-requires-clause-pm25 g c cell out =
     c.in_ok-taken.taken.reply c.in_ok-taken.ensures.reply c.in_ok-loads.loads c.in_ok-loads.ensures c.requires
     in
     let are =
-    changes-are c.self.inside.registry c.registry_after-after.result.now c.self.inside.shelf c.in_ok-taken.taken.shelf c.args.staged c.in_ok-changes.changes
-    records_are c.in_ok-taken.ensures.observations c.in_ok-changes.ensures
+    changes-are c.self.inside.registry c.registry_after-after.result.now c.self.inside.shelf c.in_ok-taken.taken.shelf c.args.staged c.in_ok-taken.taken.changes
+    records_are c.in_ok-taken.ensures.observations (changed-of c.args.staged c.args.self c.self.inside.registry c.self.inside.shelf c.self.inside.loads c.self.view_is c.requires c.in_ok-taken.taken.changes c.in_ok-taken.ensures.changes)
     in
     pm25-else after c.self.inside.cells.pm25 cell
     (λ kind.
@@ -70,7 +64,7 @@ bring_up-requires-clause-pm25 g c cell out =
     (loadless c.self.inside.registry c.self.inside.shelf c.self.inside.loads c.self.invariant.office)
     (loadless c.registry_after-after.result.now c.in_ok-taken.taken.shelf c.in_ok-loads.loads valid)
     c.self.invariant.pm25_kept
-    (reached-by c.self.inside.registry c.registry_after-after.result.now c.self.inside.shelf c.in_ok-taken.taken.shelf c.in_ok-changes.changes are cell
+    (reached-by c.self.inside.registry c.registry_after-after.result.now c.self.inside.shelf c.in_ok-taken.taken.shelf c.in_ok-taken.taken.changes are cell
     (c.what_reads_a_changed_row_is_in_reach.ensures before after cell) ∙ out kind c.self.inside.shelf))
 
 pub bring_up-requires-clause-pm10 : goal.bring_up-requires-clause-pm10
@@ -84,8 +78,8 @@ bring_up-requires-clause-pm10 g c cell out =
     c.in_ok-taken.taken.reply c.in_ok-taken.ensures.reply c.in_ok-loads.loads c.in_ok-loads.ensures c.requires
     in
     let are =
-    changes-are c.self.inside.registry c.registry_after-after.result.now c.self.inside.shelf c.in_ok-taken.taken.shelf c.args.staged c.in_ok-changes.changes
-    records_are c.in_ok-taken.ensures.observations c.in_ok-changes.ensures
+    changes-are c.self.inside.registry c.registry_after-after.result.now c.self.inside.shelf c.in_ok-taken.taken.shelf c.args.staged c.in_ok-taken.taken.changes
+    records_are c.in_ok-taken.ensures.observations (changed-of c.args.staged c.args.self c.self.inside.registry c.self.inside.shelf c.self.inside.loads c.self.view_is c.requires c.in_ok-taken.taken.changes c.in_ok-taken.ensures.changes)
     in
     pm10-else after c.self.inside.cells.pm10 cell
     (λ kind.
@@ -93,7 +87,7 @@ bring_up-requires-clause-pm10 g c cell out =
     (loadless c.self.inside.registry c.self.inside.shelf c.self.inside.loads c.self.invariant.office)
     (loadless c.registry_after-after.result.now c.in_ok-taken.taken.shelf c.in_ok-loads.loads valid)
     c.self.invariant.pm10_kept
-    (reached-by c.self.inside.registry c.registry_after-after.result.now c.self.inside.shelf c.in_ok-taken.taken.shelf c.in_ok-changes.changes are cell
+    (reached-by c.self.inside.registry c.registry_after-after.result.now c.self.inside.shelf c.in_ok-taken.taken.shelf c.in_ok-taken.taken.changes are cell
     (c.what_reads_a_changed_row_is_in_reach.ensures before after cell) ∙ out kind c.self.inside.shelf))
 
 pub invariant_of-result : goal.invariant_of-result
@@ -128,7 +122,7 @@ returns-clause-steps g c =
     taken-costs c.args.staged c.args.self c.self.inside.registry c.self.inside.shelf c.self.inside.loads c.self.view_is
     c.registry_after-after.result.now records_are c.in_ok-taken.taken.shelf c.in_ok-taken.ensures.observations c.in_ok-taken.taken.identity c.in_ok-taken.ensures.identity
     c.in_ok-taken.taken.reply c.in_ok-taken.ensures.reply c.in_ok-loads.loads c.in_ok-loads.ensures
-    c.requires c.in_ok-changes.changes c.in_ok-changes.ensures c.self.inside.cells c.self.invariant c.args.steps.now c.bring_up.new.steps c.bring_up.ensures.steps
+    c.requires c.in_ok-taken.taken.changes (changed-of c.args.staged c.args.self c.self.inside.registry c.self.inside.shelf c.self.inside.loads c.self.view_is c.requires c.in_ok-taken.taken.changes c.in_ok-taken.ensures.changes) c.self.inside.cells c.self.invariant c.args.steps.now c.bring_up.new.steps c.bring_up.ensures.steps
 
 pub returns-in_err-bring_up-clause-steps : goal.returns-in_err-bring_up-clause-steps
 returns-in_err-bring_up-clause-steps g c =
@@ -136,4 +130,4 @@ returns-in_err-bring_up-clause-steps g c =
     taken-costs c.args.staged c.args.self c.self.inside.registry c.self.inside.shelf c.self.inside.loads c.self.view_is
     c.registry_after-after.result.now records_are c.in_ok-taken.taken.shelf c.in_ok-taken.ensures.observations c.in_ok-taken.taken.identity c.in_ok-taken.ensures.identity
     c.in_ok-taken.taken.reply c.in_ok-taken.ensures.reply c.in_ok-loads.loads c.in_ok-loads.ensures
-    c.requires c.in_ok-changes.changes c.in_ok-changes.ensures c.self.inside.cells c.self.invariant c.args.steps.now c.bring_up.new.steps c.bring_up.ensures.steps
+    c.requires c.in_ok-taken.taken.changes (changed-of c.args.staged c.args.self c.self.inside.registry c.self.inside.shelf c.self.inside.loads c.self.view_is c.requires c.in_ok-taken.taken.changes c.in_ok-taken.ensures.changes) c.self.inside.cells c.self.invariant c.args.steps.now c.bring_up.new.steps c.bring_up.ensures.steps

@@ -6,7 +6,7 @@ use Rattle.aq_http.proofs.routes.Routes.new.Goals as goal
 
 apart : AreApart [] routes
 unfolding matchit_on_literals AreApart pattern_of
-apart = (refl, (refl, (refl, (refl, (refl, (refl, (refl, (refl, (refl, (refl, (refl, (refl, tt))))))))))))
+apart = (refl, (refl, (refl, (refl, (refl, (refl, (refl, (refl, (refl, (refl, (refl, (refl, (refl, (refl, (refl, (refl, (refl, (refl, (refl, (refl, (refl, (refl, (refl, tt)))))))))))))))))))))))
 
 pub add_all-requires : goal.add_all-requires
 unfolding pattern_of

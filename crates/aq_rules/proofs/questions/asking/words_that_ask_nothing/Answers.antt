@@ -7,4 +7,4 @@ use Rattle.aq_rules.proofs.questions.asking.words_that_ask_nothing.Goals as goal
 
 pub returns : goal.returns
 unfolding area_word asked_in_words assumed_in assumed_list combined_word county_word date_of day_word days_of_months days_of_years design_year question_of site_in site_word sites_word year_in
-returns c = record { asked = refl; later = refl; show = refl; none = refl; capital = refl; too_few = refl; too_many = refl; before = refl; after = refl; number = refl; zeros = refl; pm10_pair = refl }
+returns c = record { none = refl; capital = refl; too_few = refl; too_many = refl; before = refl; after = refl; number = refl; zeros = refl; pm10_pair = refl }

@@ -1,10 +1,11 @@
-use Rattle.std.proofs.Common.{◌≡◌, ℕ, Bool, true, false, Some, [], ◌∷◌, refl}
-use Rattle.std.specs.Prelude.{codes, if◌then◌else◌}
+use Rattle.std.proofs.Common.{◌≡◌, ℕ, true, Some, [], ◌∷◌, refl}
+use Rattle.std.specs.Prelude.{codes}
 use Rattle.aq_base.specs.Site.{Site}
 use Rattle.aq_base.specs.Standard.{standard_name}
 use Rattle.aq_base.specs.declared.standard.Standard.{Standard}
 use Rattle.aq_rules.specs.Office.Office.{Office}
-use Rattle.aq_rules.specs.Shown.Answer.{Answer, Value, NoSite, answer, is_registered}
+use Rattle.aq_base.specs.declared.question.Question.TheVariants.{Value}
+use Rattle.aq_rules.specs.Questions.Answer.{answer, is_registered}
 use Rattle.aq_rules.specs.Shown.ShownExamples.{outline, value_columns}
 use Rattle.aq_rules.specs.Shown.Sheet.SheetCell.{Text}
 use Rattle.aq_base.specs.declared.standard.Standard.TheVariants.{Ozone2015, Annual2012, AnnualSecondary, Annual2024, Daily2006, Pm10Of1987}
@@ -39,10 +40,16 @@ asked_value office Annual2024 site year at = rw at refl
 asked_value office Daily2006 site year at = rw at refl
 asked_value office Pm10Of1987 site year at = rw at refl
 
-unregistered : (registered : Bool) (reply : Answer) → registered ≡ false → (if registered then reply else NoSite) ≡ NoSite
-unregistered true reply none = cc
-unregistered false reply none = refl
-
 pub returns : goal.returns
 unfolding answer load_sheet windows_answer windows_sheet days_answer days_sheet pm25_answer pm25_sheet pm10_answer pm10_sheet value_answer value_sheet design_value ozone_value_sheet annual_value_sheet daily_value_sheet pm10_value_sheet report_answer report_sheet digits days_of_years days_of_months year_of month_of last_digits ranked primary_on excluded is_eligible is_scheduled eligible_pocs monitor_day site_day days_of_quarter credits quarter_counts quarter_values pm25_year pm25_summary text_of site_text annual_design judged sites_with
-returns c = record { windows = λ office site day none. unregistered (is_registered office site) _ none; days = λ office site year none. unregistered (is_registered office site) _ none; fine = λ office site year none. unregistered (is_registered office site) _ none; coarse = λ office site year none. unregistered (is_registered office site) _ none; site = λ office standard site year none. unregistered (is_registered office site) _ none; export = λ office site pollutant year none. unregistered (is_registered office site) _ none; load = λ office number none. rw none refl; each_ask_has_its_own_sheet_load = λ office number load at. rw at refl; each_ask_has_its_own_sheet_windows = λ office site day at. rw at refl; each_ask_has_its_own_sheet_days = λ office site year at. rw at refl; each_ask_has_its_own_sheet_fine = λ office site year at. rw at refl; each_ask_has_its_own_sheet_coarse = λ office site year at. rw at refl; value = asked_value; report = λ office standard year. refl; each_ask_has_its_own_sheet_export = λ office site pollutant year at. rw at refl; other = refl; without = refl; sites_are_answered_if_they_are_registered_report = refl }
+returns c = record {
+  load = λ office number load at. rw at refl;
+  windows = λ office site day at. rw at refl;
+  days = λ office site year at. rw at refl;
+  fine = λ office site year at. rw at refl;
+  coarse = λ office site year at. rw at refl;
+  value = asked_value;
+  report = λ office standard year. refl;
+  without = refl;
+  of_sites = refl;
+}

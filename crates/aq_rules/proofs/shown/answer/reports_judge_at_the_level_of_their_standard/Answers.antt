@@ -12,7 +12,7 @@ use Rattle.aq_rules.specs.Particles.ParticleDay.{eligible_pocs, monitor_day, sit
 use Rattle.aq_rules.specs.Particles.QuarterCounts.{days_of_quarter, credits, quarter_counts, quarter_values, pm25_year}
 use Rattle.aq_rules.specs.Particles.AnnualVerdict.{annual_design}
 use Rattle.aq_rules.specs.Kept.Summaries.{pm25_summary}
-use Rattle.aq_rules.specs.Shown.Answer.{answer}
+use Rattle.aq_rules.specs.Questions.Answer.{answer}
 use Rattle.aq_rules.specs.Shown.OtherSheets.{judged, report_answer, report_sheet, sites_with}
 use Rattle.aq_rules.specs.Shown.Sheet.{text_of}
 use Rattle.aq_base.specs.Text.{site_text}
