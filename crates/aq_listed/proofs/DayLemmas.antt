@@ -1,5 +1,5 @@
--- The days of the first and the last observation, as a walk over a monitor's hours finds them.
-use Rattle.std.proofs.Common.{◌≡◌, ℕ, ◌-◌, suc, ◌≤◌, Option, Some, None, List, [], ◌∷◌, length, map, refl, ap, sym, ◌∙◌, arith}
+-- The days of the first and the last of a monitor's rows, and how many it has.
+use Rattle.std.proofs.Common.{◌≡◌, ℕ, ◌-◌, ◌≤◌, Option, Some, None, List, [], ◌∷◌, length, map, refl, ap, ◌∙◌, arith}
 use Rattle.std.specs.Prelude.{filter, option_map, slice_get}
 use Rattle.std.proofs.lemmas.List.{length-map}
 use Rattle.std.proofs.lemmas.Option.{slice_get-map}
@@ -11,33 +11,6 @@ use Rattle.aq_rules.specs.Listed.Monitors.{day_of_row}
 use Rattle.aq_rules.proofs.Pm10Facts.{length-filter-le}
 use Rattle.aq_shelf.specs.Standing.{IsShelf, hour_content, in_span, observations_in}
 use Rattle.aq_listed.specs.MonitorDays.{day_of_item, first_day, last_day}
-
--- the first day so far, and what is left
-abbrev pub first_behind : Option ℕ → List (ℕ × Observation) → Option ℕ
-first_behind None items = first_day items
-first_behind (Some day) items = Some day
-
--- the last day so far, and what is left
-abbrev pub last_behind : Option ℕ → List (ℕ × Observation) → Option ℕ
-last_behind day [] = day
-last_behind day (item ∷ items) = last_behind (Some (day_of_item item)) items
-
-pub first_done : (day : Option ℕ) → first_behind day [] ≡ day
-first_done None = refl
-first_done (Some day) = refl
-
-last-is : (day : Option ℕ) (item : ℕ × Observation) (items : List (ℕ × Observation)) → last_behind day (item ∷ items) ≡ last_day (item ∷ items)
-last-is day item [] = refl
-last-is day item (next ∷ items) =
-    let one_less : length (item ∷ next ∷ items) - 1 ≡ suc (length (next ∷ items) - 1) = omega arith in
-    last-is (Some (day_of_item item)) next items
-    ∙ ap (λ n. option_map day_of_item (slice_get (item ∷ next ∷ items) n)) (sym one_less)
-
-pub last_of_all : (items : List (ℕ × Observation)) → last_behind None items ≡ last_day items
-last_of_all [] = refl
-last_of_all (item ∷ items) = last-is None item items
-
--- ---- the same of rows
 
 pub first_row : (rows : List (ObsKey × Observation)) → first_day (map hour_content rows) ≡ option_map day_of_row (slice_get rows 0)
 first_row [] = refl

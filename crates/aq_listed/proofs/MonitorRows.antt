@@ -21,7 +21,7 @@ use Rattle.aq_listed.specs.Registrations.{registered_as}
 use Rattle.aq_listed.proofs.DayLemmas.{few_in_span, first_row, last_row}
 use Rattle.aq_listed.proofs.StandingLemmas.{span_all}
 
--- a span over all hours, by the days that a walk over it finds
+-- a span over all hours, by the days of its first and its last observation
 module _ (rows : List (ObsKey × Observation)) (monitor : MonitorId) (from hours : ℕ) (span : List (ℕ × Observation)) (shelf : IsShelf rows) (is : span ≡ observations_in monitor from hours rows) where
   pub few_of_span : length span ≤ MOST_OBSERVATIONS
   few_of_span = subst (λ (l : List (ℕ × Observation)). length l ≤ MOST_OBSERVATIONS) (sym is) (few_in_span monitor from hours rows shelf)

@@ -95,8 +95,8 @@ fn add_monitor<L: Ledger>(
     Ok(())
 }
 
-/// A monitor of this duration that is eligible or not, with what stands of it, by one walk over its
-/// observations.
+/// A monitor of this duration that is eligible or not, with what stands of it, by its stretches of
+/// observations and not by a walk over them.
 fn listed_monitor<L: Ledger>(
     shelf: &Shelf,
     id: &MonitorId,

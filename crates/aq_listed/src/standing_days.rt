@@ -1,12 +1,11 @@
 //! What stands of a monitor: how much, and from when to when.
-ghost use Rattle.std.specs.Prelude.{◌≡◌, ◌≤◌, length};
+ghost use Rattle.std.specs.Prelude.{◌≡◌, ◌≤◌, length, option_map};
 ghost use Rattle.aq_base.specs.Calendar.{day_of_hour};
 ghost use Rattle.aq_base.specs.declared.limits.TheConstants.{MOST_OBSERVATIONS};
 ghost use Rattle.aq_listed.specs.MonitorDays.{first_day, last_day};
 
 use aq_base::{Day, Hour};
 use aq_shelf::Span;
-use std::iter::Iterator;
 
 /// How many observations stand, and the days of the first and of the last of them.
 #[derive(Clone, Copy, Debug, PartialEq, Eq)]
@@ -16,29 +15,27 @@ pub(crate) struct Observations {
     pub(crate) last: Option<Day>,
 }
 
-/// What a span has, by one walk over it.
+/// What a span has, by the ends of its stretches.
 pub(crate) fn observed(span: Span<'_>) -> Observations
     requires { length span ≤ MOST_OBSERVATIONS }
     ensures count { result.count ≡ length span.entry }
     ensures first { result.first ≡ first_day span.entry }
     ensures last { result.last ≡ last_day span.entry }
 {
-    let mut count = 0;
-    let mut first = None;
-    let mut last = None;
-    for (hour, _) in span {
-        count += 1;
-        last = Some(day_of(hour));
-        if first.is_none() {
-            first = last;
-        }
+    let extent = span.extent();
+    Observations {
+        count: extent.count,
+        first: day_of(extent.first),
+        last: day_of(extent.last),
     }
-    Observations { count, first, last }
 }
 
-/// The day of an hour.
-fn day_of(hour: Hour) -> Day
-    ensures { result ≡ day_of_hour hour }
+/// The day of an hour, if there is one.
+fn day_of(hour: Option<Hour>) -> Option<Day>
+    ensures { result ≡ option_map day_of_hour hour }
 {
-    Day::new((hour.number() / 24) as u16)
+    match hour {
+        Some(hour) => Some(Day::new((hour.number() / 24) as u16)),
+        None => None,
+    }
 }

@@ -2,5 +2,6 @@
 pub mod Order
 pub mod HourLemmas
 pub mod StretchLemmas
+pub mod ExtentLemmas
 pub mod ShelfLemmas
 pub mod Cases

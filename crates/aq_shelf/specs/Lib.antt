@@ -3,3 +3,4 @@ pub mod Standing
 pub mod Faults
 pub mod Stretches
 pub mod Places
+pub mod Extents

@@ -8,6 +8,8 @@
 //! - `Shelf::insert`, `update`, `remove`: put an observation, change one, take one away.
 //! - `Shelf::at`: the observation of a key.
 //! - `Shelf::span`: the observations of a monitor in some hours from one on, as a `Span`.
+//! - `Span::extent`: how many observations a span has, and the hours of the first and of the last of them,
+//!   as an `Extent`.
 //! - `Shelf::rows`: all of them, in order, as `Rows`.
 //! - `ShelfFault` and `NotThere`: why a call is refused.
 //!
@@ -22,6 +24,7 @@
 //! - What stands is read by `at`, `span` and `rows` alone, and each counts its steps: a look-up one, a
 //!   span one and one more for each observation, a walk one for each. `update` and `remove` count none:
 //!   they answer what stood at the key that they change.
+//! - The extent of a span is that of its list. It searches each stretch and walks over none.
 //!
 //! # An example
 //!
@@ -35,6 +38,7 @@
 //! ```
 #![tactic(auto)]
 
+mod extent;
 mod fault;
 mod hours;
 mod rows;
@@ -42,6 +46,7 @@ mod shelf;
 mod span;
 mod stretch;
 
+pub use extent::Extent;
 pub use fault::{NotThere, ShelfFault};
 pub use rows::Rows;
 pub use shelf::Shelf;

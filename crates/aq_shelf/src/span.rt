@@ -1,9 +1,13 @@
 //! A monitor's observations in some hours.
+ghost use Rattle.std.specs.Prelude.{◌≡◌, ◌≤◌, ◌∷◌, [], length, IfNone, IfSome};
 ghost use Rattle.std.specs.Iterator.{YieldsFirst, item_count};
+ghost use Rattle.aq_shelf.specs.Extents.{first_hour, last_hour};
+ghost use Rattle.aq_shelf.specs.Stretches.{hours_between};
 
+use crate::extent::Extent;
 use crate::hours::Hours;
 use crate::stretch::Stretch;
-use aq_base::{Hour, Observation};
+use aq_base::{Hour, MOST_OBSERVATIONS, Observation};
 use std::cmp::Reverse;
 use std::collections::btree_map::Range;
 use std::iter::{DoubleEndedIterator, Iterator};
@@ -32,9 +36,6 @@ impl<'a> Model for Span<'a> {
 }
 
 impl<'a> Span<'a> {
-    ghost use Rattle.std.specs.Prelude.{◌≡◌, ◌∷◌, [], IfNone, IfSome};
-    ghost use Rattle.aq_shelf.specs.Stretches.{hours_between};
-
     /// What starts at `from` or later and before `end` in some stretches, which are latest first.
     pub(crate) fn new(
         stretches: Range<'a, Reverse<Stretch>, Hours>,
@@ -67,6 +68,23 @@ impl<'a> Span<'a> {
         self.hours = &self.hours[1..];
         Some(first)
     }
+
+    /// What is left of the span: how much, and from which hour to which. It looks at the ends of each
+    /// stretch and does not walk over its hours.
+    pub fn extent(self) -> Extent
+        requires { length self ≤ MOST_OBSERVATIONS }
+        ensures count { result.count ≡ length self.entry }
+        ensures first { result.first ≡ first_hour self.entry }
+        ensures last { result.last ≡ last_hour self.entry }
+    {
+        let Span {
+            hours,
+            behind,
+            from,
+            end,
+        } = self;
+        extent_between(behind, from, end).after(hours)
+    }
 }
 
 impl<'a> Iterator for Span<'a> {
@@ -82,4 +100,23 @@ impl<'a> Iterator for Span<'a> {
             None => None,
         }
     }
+}
+
+/// The extent of what starts at `from` or later and before `end` in some stretches, which are latest
+/// first.
+fn extent_between(stretches: Range<'_, Reverse<Stretch>, Hours>, from: u32, end: u32) -> Extent
+    requires { length (hours_between from end stretches) ≤ MOST_OBSERVATIONS }
+    ensures count { result.count ≡ length (hours_between from end stretches.entry) }
+    ensures first { result.first ≡ first_hour (hours_between from end stretches.entry) }
+    ensures last { result.last ≡ last_hour (hours_between from end stretches.entry) }
+{
+    let mut seen = Extent {
+        count: 0,
+        first: None,
+        last: None,
+    };
+    for (_, hours) in stretches {
+        seen = seen.after(hours.between(from, end));
+    }
+    seen
 }
