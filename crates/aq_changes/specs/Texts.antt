@@ -19,9 +19,12 @@ abbrev pub is_put : Bool → Option Observation → Observation → Bool
 is_put update None content = not update
 is_put update (Some standing) content = update && not (is_same_content standing content)
 
+-- what a row of an extract asks for, beside what stands at its key
+abbrev pub put_beside : Bool → Option Observation → Office → (ObsKey × Observation) → Option RdValue
+put_beside update standing office row = if is_put update standing row.1 then Some (put_of update office row) else None
+
 abbrev pub put_change : Bool → Office → (ObsKey × Observation) → Option RdValue
-put_change update office row =
-    if is_put update (observation_at office row.0) row.1 then Some (put_of update office row) else None
+put_change update office row = put_beside update (observation_at office row.0) office row
 
 abbrev pub put_line : Bool → Office → (ObsKey × Observation) → List ℕ
 put_line update office row = optional_text (put_change update office row)

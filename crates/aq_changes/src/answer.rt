@@ -80,7 +80,16 @@ fn change_lines<L: Ledger>(
 {
     let mut text = Vec::new(alloc);
     add_deletions(alloc, &mut text, days, shelf, rows, steps)?;
-    add_puts(alloc, &mut text, true, shelf, registry, rows, steps)?;
-    add_puts(alloc, &mut text, false, shelf, registry, rows, steps)?;
+    let mut insertions = Vec::new(alloc);
+    add_puts(
+        alloc,
+        &mut text,
+        &mut insertions,
+        shelf,
+        registry,
+        rows,
+        steps,
+    )?;
+    text.extend_from_slice(&insertions)?;
     Ok(text)
 }

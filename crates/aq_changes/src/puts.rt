@@ -1,6 +1,6 @@
 //! The updates and the insertions: what an extract says and does not stand so.
-ghost use Rattle.std.specs.Prelude.{◌≡◌, ◌++◌, flat_map, option_map, OnOk};
-ghost use Rattle.aq_changes.specs.Texts.{is_put, put_change, put_line};
+ghost use Rattle.std.specs.Prelude.{◌≡◌, ◌++◌, false, flat_map, option_map, true, OnOk};
+ghost use Rattle.aq_changes.specs.Texts.{is_put, put_beside, put_line};
 ghost use Rattle.aq_rd.specs.RdReading.{value_of};
 ghost use Rattle.aq_registry.specs.Registry.{office_with};
 ghost use Rattle.aq_rules.specs.Extracts.Changes.{put_of};
@@ -16,39 +16,41 @@ use aq_shelf::Shelf;
 use std::alloc::Global;
 use std::sync::ledger::Ledger;
 
-/// Adds the updates, or else the insertions, of the rows of an extract, in the order of keys. It costs a
-/// search of the standing observations for each row, and one of the records for each change.
+/// Adds the updates of the rows of an extract to one text, and the insertions to another, each in the order of
+/// keys. It costs a search of the standing observations for each row, and one of the records for each change.
 pub(crate) fn add_puts<L: Ledger>(
     alloc: Global,
-    text: &mut Vec<u8>,
-    update: bool,
+    updates: &mut Vec<u8>,
+    insertions: &mut Vec<u8>,
     shelf: &Shelf,
     registry: &Registry,
     rows: &Shelf,
     steps: &mut Steps<L>,
 ) -> Result<(), Memory>
-    ensures { OnOk result (text.new.items ≡ text.old.items ++ flat_map (put_line update (office_of registry.now shelf.now)) rows.now) }
+    ensures updates { OnOk result (updates.new.items ≡ updates.old.items ++ flat_map (put_line true (office_of registry.now shelf.now)) rows.now) }
+    ensures insertions { OnOk result (insertions.new.items ≡ insertions.old.items ++ flat_map (put_line false (office_of registry.now shelf.now)) rows.now) }
 {
     for (key, content) in rows.rows(steps) {
-        let change = put_change(update, shelf, registry, &key, &content, steps);
-        add_change(alloc, text, change)?;
+        let standing = shelf.at(key, steps);
+        let update = put_change(true, &standing, registry, &key, &content);
+        add_change(alloc, updates, update)?;
+        let insertion = put_change(false, &standing, registry, &key, &content);
+        add_change(alloc, insertions, insertion)?;
     }
     Ok(())
 }
 
-/// The update, or else the insertion, of a row of an extract, if there is one.
-fn put_change<L: Ledger>(
+/// The update, or else the insertion, of a row of an extract beside what stands at its key, if there is one.
+fn put_change(
     update: bool,
-    shelf: &Shelf,
+    standing: &Option<Observation>,
     registry: &Registry,
     key: &ObsKey,
     content: &Observation,
-    steps: &mut Steps<L>,
 ) -> Option<RdLine>
-    ensures { option_map value_of result ≡ put_change update (office_of registry.now shelf.now) (key.now, content.now) }
+    ensures { option_map value_of result ≡ put_beside update standing.now (office_with registry.now) (key.now, content.now) }
 {
-    let standing = shelf.at(*key, steps);
-    if is_put(update, &standing, content) {
+    if is_put(update, standing, content) {
         Some(put_line(update, registry, key, content))
     } else {
         None
