@@ -2,6 +2,7 @@
 use Rattle.std.proofs.Common.{◌≡◌, ℕ, List, refl}
 use Rattle.aq_base.specs.Site.{Site}
 use Rattle.aq_base.specs.declared.monitor.Pollutant.{Pollutant}
+use Rattle.aq_base.specs.declared.monitor.Pollutant.TheVariants.{Pm10, Pm25}
 use Rattle.aq_base.specs.declared.observation.ObsKey.{ObsKey}
 use Rattle.aq_base.specs.declared.observation.Observation.{Observation}
 use Rattle.aq_base.specs.declared.office.OfficeRecord.{OfficeRecord}
@@ -31,6 +32,14 @@ module _ (records : List OfficeRecord) (rows : List (ObsKey × Observation)) (lo
   pub ozone_year_is : (year : ℕ) → ozone_year (office_of records rows) site year ≡ ozone_year (standing records rows loads) site year
   unfolding ozone_year ozone_days ozone_day windows window site_hour
   ozone_year_is year = refl
+
+  pub pm25_day_is : (day : ℕ) → site_day (office_of records rows) site Pm25 day ≡ site_day (standing records rows loads) site Pm25 day
+  unfolding site_day monitor_day
+  pm25_day_is day = refl
+
+  pub pm10_day_is : (day : ℕ) → site_day (office_of records rows) site Pm10 day ≡ site_day (standing records rows loads) site Pm10 day
+  unfolding site_day monitor_day
+  pm10_day_is day = refl
 
   pub pm25_summary_is : (year : ℕ) → pm25_summary (office_of records rows) site year ≡ pm25_summary (standing records rows loads) site year
   unfolding pm25_summary pm25_year quarter_counts quarter_values credits site_day monitor_day

@@ -1,12 +1,10 @@
 //! An office with its observations and records.
-ghost use Rattle.std.specs.Prelude.{◌≡◌, ◌≤◌, ◌+◌, ◌⊎◌, ℕ, List, length, option_map, IfOk};
+ghost use Rattle.std.specs.Prelude.{◌≡◌, ◌≤◌, ◌+◌, ◌⊎◌, ℕ, List, option_map, IfOk, OnErr, OnOk};
 ghost use Rattle.aq_book.specs.Checks.{decision_of};
 ghost use Rattle.aq_rows.specs.KeptLoads.{digest_in, reply_in};
 ghost use Rattle.aq_book.specs.Staged.{kept_under, office_with, Fits, IsStageOf};
 ghost use Rattle.aq_rules.specs.Kept.Reach.{cost};
 ghost use Rattle.aq_rules.specs.Kept.RowChanges.{row_batch};
-ghost use Rattle.aq_rules.specs.Limits.{MOST_BYTES, MOST_LINES};
-ghost use Rattle.aq_rules.specs.Lines.Lines.{line_count};
 ghost use Rattle.aq_rules.specs.Office.Load.{New, decide, load, reply};
 ghost use Rattle.aq_rules.specs.Office.Office.{load_at, nothing};
 
@@ -15,6 +13,7 @@ use crate::cells::Cells;
 use crate::check::LoadCheck;
 use crate::reached::bring_up;
 use aq_base::{LoadReply, Memory, Steps};
+use aq_forms::Body;
 use aq_ozone_cells::OzoneCells;
 use aq_pm10_cells::Pm10Cells;
 use aq_pm25_cells::Pm25Cells;
@@ -26,6 +25,7 @@ use aq_shelf::Shelf;
 use aq_staging::{LoadIdentity, Staged, registry_after, stage_load};
 use std::alloc::Global;
 use std::marker::Model;
+use std::mem;
 use std::sync::ledger::Ledger;
 
 /// An office with its records, observations and loads, as it stands between two loads, and with its
@@ -129,19 +129,17 @@ impl Book {
     }
 
     /// What a load makes of the book, which is not changed. The number is that of a new load, or 0, the
-    /// number of a load that is not kept. A body has at most 8,388,608 bytes and 120,000 lines. It costs for
-    /// each line some searches of the records, of the observations, and of those that the lines before it
-    /// changed; a load with a line of the office costs a copy of the records besides.
+    /// number of a load that is not kept. It costs for each line some searches of the records, of the
+    /// observations, and of those that the lines before it changed; a load with a line of the office costs a
+    /// copy of the records besides.
     pub fn stage(
         &self,
         alloc: Global,
         number: u32,
         digest: [u8; 32],
-        body: &[u8],
+        body: &Body<'_>,
     ) -> Result<Staged, Memory>
         requires number { (number ≡ 0) ⊎ (decide self.now number digest ≡ New) }
-        requires bytes { length body.now ≤ MOST_BYTES }
-        requires lines { line_count body.now ≤ MOST_LINES }
         ensures reply { IfOk result (λ staged. staged.reply ≡ reply self.now number body.now) }
         ensures office { IfOk result
             (λ staged. office_with staged self.now ≡ load self.now number digest body.now) }
@@ -149,8 +147,9 @@ impl Book {
         ensures staged { IfOk result (IsStageOf self.now number digest body.now) }
     {
         loads_leave_the_office_valid();
-        // The proof learns that the digest is 32 bytes.
+        // The proof learns that the digest is 32 bytes, and that the lines are few.
         digest_is_32_bytes(&digest);
+        body.line_count();
         let identity = LoadIdentity::new(number, digest);
         let staged = stage_load(alloc, &self.registry, &self.shelf, identity, body)?;
         Ok(staged)
@@ -167,11 +166,24 @@ impl Book {
         Ok(batch)
     }
 
-    /// The book after a load that fits it: one that was staged on this book. It costs a search of the
-    /// observations for each that the load changed, or two, and brings the cells that the load reaches up to
-    /// date, lower levels first, in at most the steps that the change from the one office to the other costs.
-    /// After want of memory the book is gone.
-    pub fn take<L: Ledger>(self, staged: Staged, steps: &mut Steps<L>) -> Result<Book, Memory>
+    /// Takes a load that fits the book: one that was staged on it. It costs a search of the observations for
+    /// each that the load changed, or two, and brings the cells that the load reaches up to date, lower levels
+    /// first, in at most the steps that the change from the one office to the other costs. After want of
+    /// memory nothing stands in the book.
+    pub fn take<L: Ledger>(&mut self, staged: Staged, steps: &mut Steps<L>) -> Result<(), Memory>
+        requires { Fits staged self.old }
+        ensures book { OnOk result (self.new ≡ office_with staged self.old) }
+        ensures lost { OnErr result (self.new ≡ nothing) }
+        ensures steps { steps.new ≤ steps.old + cost self.old (office_with staged self.old) }
+    {
+        let empty = Book::new(self.alloc);
+        let before = mem::replace(self, empty);
+        *self = before.taken(staged, steps)?;
+        Ok(())
+    }
+
+    // The book after a load that fits it. After want of memory the book is gone.
+    fn taken<L: Ledger>(self, staged: Staged, steps: &mut Steps<L>) -> Result<Book, Memory>
         requires { Fits staged self }
         ensures book { IfOk result (λ book. book ≡ office_with staged self) }
         ensures steps { steps.new ≤ steps.old + cost self (office_with staged self) }

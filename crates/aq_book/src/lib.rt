@@ -9,13 +9,13 @@
 //! - `migrate`, `Migration`: the batch that brings rows of version 1 up to date, and the rows after it.
 //! - `Book::check`, `reply_of`, `digest_of`: what becomes of a load's number (`LoadCheck`), and what is
 //!   kept of a load.
-//! - `Book::stage`, `batch`, `take`: a load beside the book (`Staged`), its changes of rows, the book
-//!   after it.
+//! - `Book::stage`, `batch`, `take`: a load beside the book (`Staged`), its changes of rows, and the change
+//!   of the book by it.
 //! - `Book::windows`, `season`, `is_approved`, `ozone_days`, `ozone_year`, `pm25_year`, `pm10_year`,
 //!   `design_value`, `observations`, `observation_count`: questions; `UnknownSite` and `AskFault` say
 //!   why one has no answer.
-//! - `Book::report`: the design values of all sites, as `SiteValues`. A book is a source of `Years` for
-//!   aq_design.
+//! - `Book::report`: the design values of all sites, as `SiteValues`. A book is a source of `Years` and of
+//!   `ParticleDays` for aq_design and whoever asks them.
 //! - `Book::shelf`, `registry`, `loads`: its observations, records and loads, lent to rooms that ask them
 //!   themselves; and `has_site`, whether a monitor of a site is registered.
 //!
@@ -28,23 +28,25 @@
 //!   what is kept of a load is found (`reply_of`, `digest_of`).
 //! - A load is staged beside the book and changes nothing: its reply is the book of rules' reply, the
 //!   office with what is staged is the one after the load, and its batch is the book's (`stage`,
-//!   `batch`). Taken, it gives the book of that office (`take`).
+//!   `batch`). Once taken, the book is that of this office; after want of memory nothing stands in it
+//!   (`take`).
 //! - A question of a site is answered as the book of rules answers it, and refused exactly if no monitor
 //!   of the site is registered, or for want of memory where its answer takes some.
 //! - Each cell that is kept is the office's, in every book (the invariant of `Book`): a load that is taken
 //!   marks what reads one of its changes, before it or after it, and nothing else, and brings it up to
 //!   date. So a year, a design value and a report make no step (`ozone_year`, `pm25_year`, `pm10_year`,
-//!   `design_value`, `report`), and a day's windows are those of the hours that are kept (`windows`).
+//!   `design_value`, `report`), a day's windows are those of the hours that are kept (`windows`), and a
+//!   particle day is the one that is kept (`ParticleDays`).
 //! - The report of a standard has the sites with a monitor of its pollutant, in rising order, each with
 //!   its whole design value (`report`).
 //!
 //! # An example
 //!
 //! ```rust
-//! let book = Book::new(alloc);
-//! let staged = book.stage(alloc, 1, digest, body)?;
+//! let mut book = Book::new(alloc);
+//! let staged = book.stage(alloc, 1, digest, &body)?;
 //! let batch = book.batch(alloc, &staged)?; // a keeper commits it, and then
-//! let book = book.take(staged, &mut steps)?;
+//! book.take(staged, &mut steps)?;
 //! let value = book.design_value(Standard::Ozone2015, site, 2024, &mut steps)?;
 //! ```
 #![tactic(auto)]
@@ -59,6 +61,7 @@ mod fault;
 mod migration;
 mod opening;
 mod ozone;
+mod particle_days;
 mod question;
 mod reached;
 mod report;

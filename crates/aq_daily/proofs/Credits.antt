@@ -7,18 +7,15 @@ use Rattle.std.proofs.lemmas.Bool.{eqb-true}
 use Rattle.std.proofs.lemmas.List.Sums.{sum_by-cons}
 use Rattle.aq_base.specs.Calendar.{days_in_quarter, quarter_first}
 use Rattle.aq_base.specs.Site.{Site}
-use Rattle.aq_base.specs.declared.observation.ObsKey.{ObsKey}
-use Rattle.aq_base.specs.declared.observation.Observation.{Observation}
 use Rattle.aq_base.specs.declared.office.OfficeRecord.{OfficeRecord}
 use Rattle.aq_base.specs.declared.office.OfficeRecord.TheVariants.{Makeup as MakeupRecord}
 use Rattle.aq_cal.proofs.Within.{quarter_holds}
 use Rattle.aq_rules.specs.Listed.Daily.{is_credited, makeup_of_site}
 use Rattle.aq_rules.specs.Office.Monitors.{is_same_site}
-use Rattle.aq_rules.specs.Office.Office.{IsOffice, makes_up_on}
+use Rattle.aq_rules.specs.Office.Office.{IsOffice, Office, makes_up_on}
 use Rattle.aq_rules.specs.Office.Questions.{missed_for, missed_of}
 use Rattle.aq_rules.specs.Particles.QuarterCounts.{Makeup, gives_credit}
 use Rattle.aq_registry.specs.Registry.{office_with}
-use Rattle.aq_series.specs.OfficeView.{office_of}
 use Rattle.aq_pm25.specs.SiteDays.{as_makeup}
 use Rattle.aq_pm25.proofs.MakeupDays.{one_makeup}
 
@@ -93,17 +90,18 @@ module _ (site : Site) (day : ℕ) (g : Makeup → Bool) where
           ∙ ap (λ d. g (as_makeup missed d)) day-is
   one (r ∷ rows) few = one rows (omega (arith, few, number-cons r rows))
 
-module _ (records : List OfficeRecord) (rows : List (ObsKey × Observation)) (site : Site) (day : ℕ) (valid : IsOffice (office_with records)) where
-  pub credited-by : is_credited (office_of records rows) site day ≡ option_map_or (λ missed. gives_credit (office_of records rows) site (as_makeup missed day)) (missed_of records site day) false
+module _ (office : Office) (records : List OfficeRecord) (its : records ≡ office.records) (site : Site) (day : ℕ) (valid : IsOffice (office_with records)) where
+  credited-by : is_credited office site day ≡ option_map_or (λ missed. gives_credit office site (as_makeup missed day)) (missed_of records site day) false
   unfolding is_credited missed_of
   credited-by =
-      one site day (gives_credit (office_of records rows) site) records
+      ap (on_day site day (gives_credit office site)) (sym its)
+      ∙ one site day (gives_credit office site) records
       (one_makeup records site 0 (quarter_first 0) (days_in_quarter 0) valid (quarter_holds 0) day)
 
-  pub none-credited : None ≡ missed_of records site day → false ≡ is_credited (office_of records rows) site day
+  pub none-credited : None ≡ missed_of records site day → false ≡ is_credited office site day
   none-credited is =
-      ap (λ (o : Option ℕ). option_map_or (λ missed. gives_credit (office_of records rows) site (as_makeup missed day)) o false) is ∙ sym credited-by
+      ap (λ (o : Option ℕ). option_map_or (λ missed. gives_credit office site (as_makeup missed day)) o false) is ∙ sym credited-by
 
-  pub one-credited : (missed : ℕ) → Some missed ≡ missed_of records site day → gives_credit (office_of records rows) site (as_makeup missed day) ≡ is_credited (office_of records rows) site day
+  pub one-credited : (missed : ℕ) → Some missed ≡ missed_of records site day → gives_credit office site (as_makeup missed day) ≡ is_credited office site day
   one-credited missed is =
-      ap (λ (o : Option ℕ). option_map_or (λ m. gives_credit (office_of records rows) site (as_makeup m day)) o false) is ∙ sym credited-by
+      ap (λ (o : Option ℕ). option_map_or (λ m. gives_credit office site (as_makeup m day)) o false) is ∙ sym credited-by

@@ -1,34 +1,36 @@
 //! Whether a day's sample makes up for a missed day (40 CFR Part 50, Appendix N, 1.0(c)).
 ghost use Rattle.std.specs.Prelude.{◌≡◌};
 ghost use Rattle.aq_rules.specs.Listed.Daily as daily;
-ghost use Rattle.aq_series.specs.OfficeView.{office_of};
+ghost use Rattle.aq_rules.specs.Particles.QuarterCounts as counts;
+ghost use Rattle.aq_pm25.specs.SiteDays.{as_makeup};
 
-use crate::source::AtSite;
-use aq_base::{Day, Pollutant, SiteId, Steps};
-use aq_pm25::gives_credit;
-use aq_registry::Registry;
-use aq_shelf::Shelf;
-use std::sync::ledger::Ledger;
+use crate::schedule::SiteSchedule;
+use aq_base::{Day, Pollutant, SiteId};
+use aq_design::ParticleDays;
+use aq_pm25::{Pm25Schedule, is_makeup_day};
 
 /// Whether a day is the make-up day of a record that gives credit. A day has one such record at most.
-pub(crate) fn is_credited<L: Ledger>(
-    shelf: &Shelf,
-    registry: &Registry,
-    site: SiteId,
-    day: Day,
-    steps: &mut Steps<L>,
-) -> bool
-    ensures { result ≡ daily.is_credited (office_of registry.now shelf.now) site day }
+pub(crate) fn is_credited<S: ParticleDays>(source: &S, site: SiteId, day: Day) -> bool
+    ensures { result ≡ daily.is_credited (S.office source.now) site day }
 {
+    let records = source.records();
     // The proof learns that the records are those of a valid office.
-    let _ = registry.next_poc(site, Pollutant::Pm25, 0);
-    let Some(missed) = registry.missed_of(site, day) else {
+    let _ = records.next_poc(site, Pollutant::Pm25, 0);
+    let Some(missed) = records.missed_of(site, day) else {
         return false;
     };
-    let at = AtSite {
-        shelf,
-        registry,
-        site,
-    };
-    gives_credit(&at, missed, day, steps)
+    gives_credit(source, site, missed, day)
+}
+
+/// Whether a sample makes up for a missed day: a scheduled day without one, by a sample of an unscheduled day
+/// before the next scheduled one or exactly a week later.
+fn gives_credit<S: ParticleDays>(source: &S, site: SiteId, missed: Day, makeup: Day) -> bool
+    ensures { result ≡ counts.gives_credit (S.office source.now) site (as_makeup missed makeup) }
+{
+    let records = source.records();
+    let schedule = SiteSchedule { records, site };
+    schedule.is_scheduled(missed)
+        && source.particle_day(site, Pollutant::Pm25, missed).is_none()
+        && is_makeup_day(&schedule, missed, makeup)
+        && source.particle_day(site, Pollutant::Pm25, makeup).is_some()
 }

@@ -1,24 +1,19 @@
 //! The highest days of a particle year.
-ghost use Rattle.std.specs.Prelude.{◌≡◌, ◌≤◌, ◌++◌, IfOk, OnOk, map, option_and_then};
+ghost use Rattle.std.specs.Prelude.{◌≡◌, ◌≤◌, IfOk, map, option_and_then};
 ghost use Rattle.std.specs.Int.{IsInRange};
 ghost use Rattle.aq_base.specs.declared.day.TheConstants.{FIRST_YEAR, LAST_YEAR};
-ghost use Rattle.aq_base.specs.declared.monitor.Pollutant.TheVariants.{Pm25};
 ghost use Rattle.aq_rules.specs.Listed.Highest as highest;
 ghost use Rattle.aq_rules.specs.Ozone.OzoneYear.{days_of};
 ghost use Rattle.aq_rules.specs.Particles.ParticleDay.{net_day, unless_excluded};
-ghost use Rattle.aq_rules.specs.Particles.QuarterCounts.{days_of_quarter};
 ghost use Rattle.aq_series.specs.DayCells.{IsParticulate};
-ghost use Rattle.aq_series.specs.OfficeView.{office_of};
 
 use crate::highest_sheet::highest_particles_sheet;
 use crate::ranked::ten_highest;
-use aq_base::{Day, Items, Memory, Pollutant, Quarter, SiteId, Steps};
-use aq_cal::{quarter_span, year_span};
-use aq_pm25::part_of;
-use aq_registry::Registry;
+use aq_base::{Day, Items, Memory, Pollutant, SiteId, Steps};
+use aq_cal::year_span;
+use aq_design::ParticleDays;
 use aq_reports::Sheet;
-use aq_series::{Cell, site_day, site_days};
-use aq_shelf::Shelf;
+use aq_series::Cell;
 use aq_verdict::{counted_in, rank_of};
 use std::alloc::Global;
 use std::sync::ledger::Ledger;
@@ -26,10 +21,9 @@ use std::sync::ledger::Ledger;
 /// The ten highest days of a PM2.5 or PM10 year of a site: the greatest values that are not excluded, of
 /// equal ones the earlier day first; how many days are ranked; and the rank that decides, that of the 98th
 /// percentile of PM2.5 (40 CFR Part 50, Appendix N, 4.5). The year is 1990 to 2059.
-pub fn highest_particles<L: Ledger>(
+pub fn highest_particles<S: ParticleDays, L: Ledger>(
     alloc: Global,
-    shelf: &Shelf,
-    registry: &Registry,
+    source: &S,
     site: SiteId,
     pollutant: Pollutant,
     year: u16,
@@ -37,94 +31,32 @@ pub fn highest_particles<L: Ledger>(
 ) -> Result<Sheet, Memory>
     requires particles { IsParticulate pollutant }
     requires year { IsInRange FIRST_YEAR LAST_YEAR year }
-    ensures { IfOk result (λ sheet. sheet ≡ highest.highest_answer (office_of registry.now shelf.now) site pollutant year) }
+    ensures { IfOk result (λ sheet. sheet ≡ highest.highest_answer (S.office source.now) site pollutant year) }
 {
-    let values = net_values(alloc, shelf, registry, site, pollutant, year, steps)?;
+    let values = net_values(alloc, source, site, pollutant, year)?;
     let (first, _) = year_span(year);
     let found = ten_highest(alloc, first, values.as_slice())?;
-    let decides = deciding_rank(shelf, registry, site, pollutant, year, steps);
+    let decides = deciding_rank(source, site, pollutant, year, steps);
     highest_particles_sheet(alloc, site, pollutant, year, &found, decides)
 }
 
 /// The values of a year's days, each unless it is excluded.
-fn net_values<L: Ledger>(
+fn net_values<S: ParticleDays>(
     alloc: Global,
-    shelf: &Shelf,
-    registry: &Registry,
+    source: &S,
     site: SiteId,
     pollutant: Pollutant,
     year: u16,
-    steps: &mut Steps<L>,
 ) -> Result<Items<Option<i32>>, Memory>
     requires particles { IsParticulate pollutant }
     requires year { IsInRange FIRST_YEAR LAST_YEAR year }
-    ensures { IfOk result (λ values. values ≡ map (net_day (office_of registry.now shelf.now) site pollutant) (days_of year)) }
-{
-    match pollutant {
-        Pollutant::Pm25 => pm25_values(alloc, shelf, registry, site, year, steps),
-        _ => each_value(alloc, shelf, registry, site, pollutant, year, steps),
-    }
-}
-
-/// Those of PM2.5, read quarter by quarter.
-fn pm25_values<L: Ledger>(
-    alloc: Global,
-    shelf: &Shelf,
-    registry: &Registry,
-    site: SiteId,
-    year: u16,
-    steps: &mut Steps<L>,
-) -> Result<Items<Option<i32>>, Memory>
-    requires year { IsInRange FIRST_YEAR LAST_YEAR year }
-    ensures { IfOk result (λ values. values ≡ map (net_day (office_of registry.now shelf.now) site Pm25) (days_of year)) }
-{
-    let mut values = Items::new(alloc);
-    for part in 0..4 {
-        let quarter = part_of(year, part);
-        add_quarter(&mut values, shelf, registry, site, quarter, steps)?;
-    }
-    Ok(values)
-}
-
-/// Adds the PM2.5 values of a quarter's days, which are read at once.
-fn add_quarter<L: Ledger>(
-    values: &mut Items<Option<i32>>,
-    shelf: &Shelf,
-    registry: &Registry,
-    site: SiteId,
-    quarter: Quarter,
-    steps: &mut Steps<L>,
-) -> Result<(), Memory>
-    ensures { OnOk result (values.new ≡ values.old ++ map (net_day (office_of registry.now shelf.now) site Pm25) (days_of_quarter quarter)) }
-{
-    let (first, days) = quarter_span(quarter);
-    let cells = site_days(shelf, registry, site, first, days, steps);
-    for place in 0..days {
-        let cell = cells[usize::from(place)];
-        values.push(net_of(&cell))?;
-    }
-    Ok(())
-}
-
-/// The values of a year's days, read one by one.
-fn each_value<L: Ledger>(
-    alloc: Global,
-    shelf: &Shelf,
-    registry: &Registry,
-    site: SiteId,
-    pollutant: Pollutant,
-    year: u16,
-    steps: &mut Steps<L>,
-) -> Result<Items<Option<i32>>, Memory>
-    requires particles { IsParticulate pollutant }
-    requires year { IsInRange FIRST_YEAR LAST_YEAR year }
-    ensures { IfOk result (λ values. values ≡ map (net_day (office_of registry.now shelf.now) site pollutant) (days_of year)) }
+    ensures { IfOk result (λ values. values ≡ map (net_day (S.office source.now) site pollutant) (days_of year)) }
 {
     let (first, days) = year_span(year);
     let mut values = Items::new(alloc);
     for place in 0..days {
         let day = Day::new(first.number() + place);
-        let cell = site_day(shelf, registry, site, pollutant, day, steps);
+        let cell = source.particle_day(site, pollutant, day);
         values.push(net_of(&cell))?;
     }
     Ok(values)
@@ -141,9 +73,8 @@ fn net_of(cell: &Option<Cell>) -> Option<i32>
 }
 
 /// The rank that the standard takes.
-fn deciding_rank<L: Ledger>(
-    shelf: &Shelf,
-    registry: &Registry,
+fn deciding_rank<S: ParticleDays, L: Ledger>(
+    source: &S,
     site: SiteId,
     pollutant: Pollutant,
     year: u16,
@@ -151,12 +82,12 @@ fn deciding_rank<L: Ledger>(
 ) -> Option<u8>
     requires particles { IsParticulate pollutant }
     requires year { IsInRange FIRST_YEAR LAST_YEAR year }
-    ensures { result ≡ highest.deciding_rank (office_of registry.now shelf.now) site pollutant year }
+    ensures { result ≡ highest.deciding_rank (S.office source.now) site pollutant year }
 {
     match pollutant {
         Pollutant::Ozone => Some(4),
         Pollutant::Pm25 => {
-            let year = aq_pm25::year(shelf, registry, site, year, steps);
+            let year = source.pm25(site, year, steps);
             deciding_pm25(counted_in(&year))
         }
         Pollutant::Pm10 => None,

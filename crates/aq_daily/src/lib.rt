@@ -1,5 +1,6 @@
 //! The days behind a number: of the particles each day of a site's year, and the ten highest days that a
-//! standard ranks.
+//! standard ranks. The particle days are asked of a source that knows them (`ParticleDays` of aq_design), so no
+//! observation is read.
 //!
 //! # What it has
 //!
@@ -15,8 +16,8 @@
 //!
 //! # What it promises
 //!
-//! - The days of a particle year, and its highest days, are the book's sheets of the office that the registry
-//!   and the shelf make (`pm25_days`, `pm10_days`, `highest_particles`).
+//! - The days of a particle year, and its highest days, are the book's sheets of the office whose days the source
+//!   gives (`pm25_days`, `pm10_days`, `highest_particles`).
 //! - Of any list of values the ten highest are the first ten of the book's order, and the number is that of all
 //!   ranked (`ten_highest`). The start of a maximum and the sheet of an ozone year are the book's (`first_at`,
 //!   `highest_ozone_sheet`). Together they are the answer for ozone, if the values are the maxima of the days
@@ -26,8 +27,8 @@
 //! # An example
 //!
 //! ```rust
-//! let sheet = pm25_days(alloc, &shelf, &registry, site, 2024, &mut steps)?;
-//! let highest = highest_particles(alloc, &shelf, &registry, site, Pollutant::Pm25, 2024, &mut steps)?;
+//! let sheet = pm25_days(alloc, &book, site, 2024)?; // of a book, whose cells are kept
+//! let highest = highest_particles(alloc, &book, site, Pollutant::Pm25, 2024, &mut steps)?;
 //!
 //! let found = ten_highest(alloc, first, &maxima)?; // the maxima of the valid days of an ozone year
 //! for day in &found.days {
@@ -46,7 +47,7 @@ mod maximum;
 mod pm10_sheet;
 mod pm25_sheet;
 mod ranked;
-mod source;
+mod schedule;
 mod strata;
 
 pub use highest::highest_particles;

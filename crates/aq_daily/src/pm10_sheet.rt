@@ -8,21 +8,18 @@ ghost use Rattle.aq_rules.specs.Listed.Daily as daily;
 ghost use Rattle.aq_rules.specs.Ozone.OzoneYear.{days_of};
 ghost use Rattle.aq_rules.specs.Particles.Pm10Estimate.{exceeds};
 ghost use Rattle.aq_rules.specs.Particles.QuarterCounts.{days_of_quarter};
-ghost use Rattle.aq_series.specs.OfficeView.{office_of};
 ghost use Rattle.aq_daily.specs.DayRows.{pm10_row, pm10_row_among};
 
 use crate::cells::{exclusion_of, series_heads, truth_cell, value_of};
 use crate::strata::Begun;
-use aq_base::{Day, Memory, Pollutant, Quarter, SiteId, Steps};
+use aq_base::{Day, Memory, Pollutant, Quarter, SiteId};
 use aq_cal::{day_text, quarter_span};
+use aq_design::ParticleDays;
 use aq_pm10::{exceeds, quarter_in};
-use aq_registry::Registry;
 use aq_reports::{Cells, Rows, Sheet, SheetCell, list, names};
-use aq_series::{Cell, site_day};
-use aq_shelf::Shelf;
+use aq_series::Cell;
 use std::alloc::Global;
 use std::marker::Model;
-use std::sync::ledger::Ledger;
 
 /// A day: whether a sample is asked for, the place of its stratum, and what the site has. Contracts see the
 /// book's day.
@@ -47,16 +44,14 @@ impl Model for Pm10Day {
 /// The PM10 days of a year of a site: whether each is scheduled (40 CFR 58.12), the place of its stratum in
 /// its quarter (40 CFR Part 50, Appendix K, 3.2), the site's value with whether it is excluded, and whether
 /// it exceeds by itself. The year is 1990 to 2059.
-pub fn pm10_days<L: Ledger>(
+pub fn pm10_days<S: ParticleDays>(
     alloc: Global,
-    shelf: &Shelf,
-    registry: &Registry,
+    source: &S,
     site: SiteId,
     year: u16,
-    steps: &mut Steps<L>,
 ) -> Result<Sheet, Memory>
     requires year { IsInRange FIRST_YEAR LAST_YEAR year }
-    ensures { IfOk result (λ sheet. sheet ≡ daily.daily_answer (office_of registry.now shelf.now) site Pm10 year) }
+    ensures { IfOk result (λ sheet. sheet ≡ daily.daily_answer (S.office source.now) site Pm10 year) }
 {
     let heads = series_heads(alloc, site, Pollutant::Pm10, year)?;
     let columns = names(
@@ -70,60 +65,54 @@ pub fn pm10_days<L: Ledger>(
             b"exceeds",
         ],
     )?;
-    let rows = pm10_rows(alloc, shelf, registry, site, year, steps)?;
+    let rows = pm10_rows(alloc, source, site, year)?;
     Ok(Sheet::new(heads, columns, rows))
 }
 
 /// A row for each day of a year.
-fn pm10_rows<L: Ledger>(
+fn pm10_rows<S: ParticleDays>(
     alloc: Global,
-    shelf: &Shelf,
-    registry: &Registry,
+    source: &S,
     site: SiteId,
     year: u16,
-    steps: &mut Steps<L>,
 ) -> Result<Rows, Memory>
     requires year { IsInRange FIRST_YEAR LAST_YEAR year }
-    ensures { IfOk result (λ rows. rows ≡ map (pm10_row (office_of registry.now shelf.now) site) (days_of year)) }
+    ensures { IfOk result (λ rows. rows ≡ map (pm10_row (S.office source.now) site) (days_of year)) }
 {
     let mut rows = Rows::new(alloc);
     for part in 0..4 {
         let quarter = quarter_in(year, part);
-        add_quarter(alloc, &mut rows, shelf, registry, site, quarter, steps)?;
+        add_quarter(alloc, &mut rows, source, site, quarter)?;
     }
     Ok(rows)
 }
 
 /// Adds a row for each day of a quarter.
-fn add_quarter<L: Ledger>(
+fn add_quarter<S: ParticleDays>(
     alloc: Global,
     rows: &mut Rows,
-    shelf: &Shelf,
-    registry: &Registry,
+    source: &S,
     site: SiteId,
     quarter: Quarter,
-    steps: &mut Steps<L>,
 ) -> Result<(), Memory>
-    ensures { OnOk result (rows.new ≡ rows.old ++ map (pm10_row (office_of registry.now shelf.now) site) (days_of_quarter quarter)) }
+    ensures { OnOk result (rows.new ≡ rows.old ++ map (pm10_row (S.office source.now) site) (days_of_quarter quarter)) }
 {
     let (first, days) = quarter_span(quarter);
-    add_days(alloc, rows, shelf, registry, site, first, days, steps)
+    add_days(alloc, rows, source, site, first, days)
 }
 
 /// Adds a row for each of the days that a quarter has from its first one on.
-fn add_days<L: Ledger>(
+fn add_days<S: ParticleDays>(
     alloc: Global,
     rows: &mut Rows,
-    shelf: &Shelf,
-    registry: &Registry,
+    source: &S,
     site: SiteId,
     first: Day,
     days: u8,
-    steps: &mut Steps<L>,
 ) -> Result<(), Memory>
     requires few { days ≤ 92 }
     requires in_profile { first + days ≤ LAST_DAY + 1 }
-    ensures { OnOk result (rows.new ≡ rows.old ++ map (pm10_row_among (office_of registry.now shelf.now) site (range_with_len first days)) (range_with_len first days)) }
+    ensures { OnOk result (rows.new ≡ rows.old ++ map (pm10_row_among (S.office source.now) site (range_with_len first days)) (range_with_len first days)) }
 {
     let mut begun = Begun {
         strata: 0,
@@ -131,13 +120,13 @@ fn add_days<L: Ledger>(
     };
     for place in 0..days {
         let day = Day::new(first.number() + u16::from(place));
-        let scheduled = registry.is_scheduled(site, Pollutant::Pm10, day);
+        let scheduled = source.records().is_scheduled(site, Pollutant::Pm10, day);
         begun = begun.with_day(day.number(), scheduled);
         let row = Pm10Day {
             day,
             scheduled,
             stratum: begun.strata,
-            sample: site_day(shelf, registry, site, Pollutant::Pm10, day, steps),
+            sample: source.particle_day(site, Pollutant::Pm10, day),
         };
         rows.push(pm10_day_cells(alloc, &row)?)?;
     }

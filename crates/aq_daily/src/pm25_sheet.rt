@@ -1,27 +1,21 @@
 //! The PM2.5 days of a site's year: what is scheduled, what it has, and what it makes up for.
-ghost use Rattle.std.specs.Prelude.{◌≡◌, ◌++◌, IfOk, OnOk, map};
+ghost use Rattle.std.specs.Prelude.{◌≡◌, IfOk, map};
 ghost use Rattle.std.specs.Int.{IsInRange};
 ghost use Rattle.aq_base.specs.declared.day.TheConstants.{FIRST_YEAR, LAST_YEAR};
 ghost use Rattle.aq_base.specs.declared.monitor.Pollutant.TheVariants.{Pm25};
 ghost use Rattle.aq_rules.specs.Listed.Daily as daily;
 ghost use Rattle.aq_rules.specs.Ozone.OzoneYear.{days_of};
-ghost use Rattle.aq_rules.specs.Particles.ParticleDay.{site_day};
-ghost use Rattle.aq_rules.specs.Particles.QuarterCounts.{days_of_quarter};
-ghost use Rattle.aq_series.specs.OfficeView.{office_of};
 ghost use Rattle.aq_daily.specs.DayRows.{pm25_row};
 
 use crate::cells::{exclusion_of, series_heads, truth_cell, value_of};
 use crate::credit::is_credited;
-use aq_base::{Day, Memory, Pollutant, Quarter, SiteId, Steps};
-use aq_cal::{day_text, quarter_span};
-use aq_pm25::part_of;
-use aq_registry::Registry;
+use aq_base::{Day, Memory, Pollutant, SiteId};
+use aq_cal::{day_text, year_span};
+use aq_design::ParticleDays;
 use aq_reports::{Cells, Rows, Sheet, SheetCell, list, names};
-use aq_series::{Cell, site_days};
-use aq_shelf::Shelf;
+use aq_series::Cell;
 use std::alloc::Global;
 use std::marker::Model;
-use std::sync::ledger::Ledger;
 
 /// A day: whether a sample is asked for, what the site has, and whether that makes up for a missed day.
 /// Contracts see the book's day.
@@ -46,86 +40,53 @@ impl Model for Pm25Day {
 /// The PM2.5 days of a year of a site: whether each is scheduled (40 CFR 58.12), the site's value with
 /// whether it is excluded, and whether it is the make-up day of a record that gives credit (40 CFR Part 50,
 /// Appendix N, 1.0(c)). The year is 1990 to 2059.
-pub fn pm25_days<L: Ledger>(
+pub fn pm25_days<S: ParticleDays>(
     alloc: Global,
-    shelf: &Shelf,
-    registry: &Registry,
+    source: &S,
     site: SiteId,
     year: u16,
-    steps: &mut Steps<L>,
 ) -> Result<Sheet, Memory>
     requires year { IsInRange FIRST_YEAR LAST_YEAR year }
-    ensures { IfOk result (λ sheet. sheet ≡ daily.daily_answer (office_of registry.now shelf.now) site Pm25 year) }
+    ensures { IfOk result (λ sheet. sheet ≡ daily.daily_answer (S.office source.now) site Pm25 year) }
 {
     let heads = series_heads(alloc, site, Pollutant::Pm25, year)?;
     let columns = names(
         alloc,
         &[b"day", b"scheduled", b"value", b"excluded", b"credit"],
     )?;
-    let rows = pm25_rows(alloc, shelf, registry, site, year, steps)?;
+    let rows = pm25_rows(alloc, source, site, year)?;
     Ok(Sheet::new(heads, columns, rows))
 }
 
 /// A row for each day of a year.
-fn pm25_rows<L: Ledger>(
+fn pm25_rows<S: ParticleDays>(
     alloc: Global,
-    shelf: &Shelf,
-    registry: &Registry,
+    source: &S,
     site: SiteId,
     year: u16,
-    steps: &mut Steps<L>,
 ) -> Result<Rows, Memory>
     requires year { IsInRange FIRST_YEAR LAST_YEAR year }
-    ensures { IfOk result (λ rows. rows ≡ map (pm25_row (office_of registry.now shelf.now) site) (days_of year)) }
+    ensures { IfOk result (λ rows. rows ≡ map (pm25_row (S.office source.now) site) (days_of year)) }
 {
+    let (first, days) = year_span(year);
     let mut rows = Rows::new(alloc);
-    for part in 0..4 {
-        let quarter = part_of(year, part);
-        add_quarter(alloc, &mut rows, shelf, registry, site, quarter, steps)?;
+    for place in 0..days {
+        let day = Day::new(first.number() + place);
+        let row = pm25_day(source, site, day);
+        rows.push(pm25_day_cells(alloc, &row)?)?;
     }
     Ok(rows)
 }
 
-/// Adds a row for each day of a quarter, whose samples are read at once.
-fn add_quarter<L: Ledger>(
-    alloc: Global,
-    rows: &mut Rows,
-    shelf: &Shelf,
-    registry: &Registry,
-    site: SiteId,
-    quarter: Quarter,
-    steps: &mut Steps<L>,
-) -> Result<(), Memory>
-    ensures { OnOk result (rows.new ≡ rows.old ++ map (pm25_row (office_of registry.now shelf.now) site) (days_of_quarter quarter)) }
-{
-    let (first, days) = quarter_span(quarter);
-    let samples = site_days(shelf, registry, site, first, days, steps);
-    for place in 0..days {
-        let day = Day::new(first.number() + u16::from(place));
-        let sample = samples[usize::from(place)];
-        let row = pm25_day(shelf, registry, site, day, sample, steps);
-        rows.push(pm25_day_cells(alloc, &row)?)?;
-    }
-    Ok(())
-}
-
-/// What is said of a day, by the sample that the site has for it.
-fn pm25_day<L: Ledger>(
-    shelf: &Shelf,
-    registry: &Registry,
-    site: SiteId,
-    day: Day,
-    sample: Option<Cell>,
-    steps: &mut Steps<L>,
-) -> Pm25Day
-    requires { sample ≡ site_day (office_of registry.now shelf.now) site Pm25 day }
-    ensures { result ≡ daily.pm25_day (office_of registry.now shelf.now) site day }
+/// What is said of a day.
+fn pm25_day<S: ParticleDays>(source: &S, site: SiteId, day: Day) -> Pm25Day
+    ensures { result ≡ daily.pm25_day (S.office source.now) site day }
 {
     Pm25Day {
         day,
-        scheduled: registry.is_scheduled(site, Pollutant::Pm25, day),
-        sample,
-        credit: is_credited(shelf, registry, site, day, steps),
+        scheduled: source.records().is_scheduled(site, Pollutant::Pm25, day),
+        sample: source.particle_day(site, Pollutant::Pm25, day),
+        credit: is_credited(source, site, day),
     }
 }
 

@@ -5,6 +5,8 @@
 //!
 //! - [`Years`]: gives the ozone, PM2.5 and PM10 years of an office's sites, which contracts name
 //!   (`office`).
+//! - [`ParticleDays`]: gives besides what the sites have for each day of particles, and the records, without
+//!   a step.
 //! - [`FromShelf`]: a shelf and a registry as such a source; each year is computed at the call.
 //! - [`design_value`]: the design value of a standard for a site and the three years that end with a
 //!   year, as a `DesignValue` of aq_verdict. The year is 1992 to 2059.
@@ -17,7 +19,8 @@
 //!   200 for each day and for the one after the last, over a shelf and a registry. For particles it makes
 //!   none if the source keeps their years (clause `particles`).
 //! - What a source gives is the book's year of the site in its office (the trait `Years`), and so is
-//!   what is computed from a shelf and a registry (`FromShelf`).
+//!   what is computed from a shelf and a registry (`FromShelf`). A day that a source gives is the book's
+//!   day of the site in the same office (the trait `ParticleDays`).
 //!
 //! # An example
 //!
@@ -29,9 +32,11 @@
 #![tactic(auto)]
 
 mod from_shelf;
+mod particle_days;
 mod value;
 mod years;
 
 pub use from_shelf::FromShelf;
+pub use particle_days::ParticleDays;
 pub use value::design_value;
 pub use years::Years;

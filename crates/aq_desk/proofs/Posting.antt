@@ -1,19 +1,16 @@
 -- A load over the office of the tables.
-use Rattle.std.proofs.Common.{◌≡◌, ℕ, ◌≤◌, ◌⊎◌, inl, inr, Bool, true, false, cond, List, Option, Some, None, refl, sym, subst, arith}
-use Rattle.std.specs.Prelude.{⊤, Result, Ok, Err, IfErr, IsSome, IsErrAnd}
+use Rattle.std.proofs.Common.{◌≡◌, ℕ, ◌⊎◌, inl, inr, List, Option, refl, sym, subst, arith}
+use Rattle.std.specs.Prelude.{Result, Ok, Err, IfErr, IsSome, IsErrAnd}
 use Rattle.aq_keeper.proofs.Telling.{stays_still}
 use Rattle.aq_keeper.specs.Told.{Stays, told_through}
 use Rattle.std.specs.Option.{option_map}
 use Rattle.sha2.specs.Sha256.{sha256}
 use Rattle.aq_base.specs.Faults.{HasRisen}
 use Rattle.aq_base.specs.declared.reply.LoadReply.{LoadReply}
-use Rattle.aq_rules.proofs.Loads.{posted-few}
 use Rattle.aq_rules.specs.Kept.Rows.{Row, rows_of}
-use Rattle.aq_rules.specs.Limits.{MOST_LINES}
-use Rattle.aq_rules.specs.Lines.Lines.{line_count}
-use Rattle.aq_rules.specs.Office.Load.{TooManyLines, Repeated, Differing, NoRoom, Taken, load, office_after, posted, posted_beside, reply}
+use Rattle.aq_rules.specs.Office.Load.{TooManyLines, Repeated, Differing, NoRoom, Taken, office_after, posted}
 use Rattle.aq_rules.specs.Office.Load as loads
-use Rattle.aq_rules.specs.Office.Office.{Office, StoredLoad, load_at}
+use Rattle.aq_rules.specs.Office.Office.{Office}
 use Rattle.aq_rules.specs.Shown.Sheet.{Sheet, text_of}
 use Rattle.aq_rules.specs.Shown.Sheets.{load_sheet}
 use Rattle.aq_keeper.specs.Standing.{AreOfOffice, Become, Keeps, Standing}
@@ -46,11 +43,6 @@ unopened_load number body before after m n stop answer is cause =
 
 -- ---- what becomes of a load
 
--- one that no answer of too many lines is given to
-abbrev IsFew : loads.Posted → Type 0
-IsFew TooManyLines = ⊥
-IsFew _ = ⊤
-
 -- the rows after it
 rows-after : (number : ℕ) (body : List ℕ) (office : Office) (p : loads.Posted) → rows_of (office_after p office) ≡ (posted_outcome number office body p).rows
 rows-after number body office TooManyLines = refl
@@ -58,21 +50,6 @@ rows-after number body office (Repeated kept) = refl
 rows-after number body office (Differing kept sent) = refl
 rows-after number body office NoRoom = refl
 rows-after number body office (Taken reply now) = refl
-
-is-few : (office : Office) (number : ℕ) (digest body : List ℕ) → line_count body ≤ MOST_LINES → IsFew (posted office number digest body)
-is-few office number digest body few = subst IsFew (sym (posted-few office number digest body few)) (by_found (load_at office number))
-  where
-    by_room : (b : Bool) → IsFew (cond b NoRoom (Taken (reply office number body) (load office number digest body)))
-    by_room true = tt
-    by_room false = tt
-
-    by_digest : (kept : StoredLoad) (b : Bool) → IsFew (cond b (Repeated kept.reply) (Differing kept.digest digest))
-    by_digest kept true = tt
-    by_digest kept false = tt
-
-    by_found : (found : Option StoredLoad) → IsFew (posted_beside found office number digest body)
-    by_found None = by_room _
-    by_found (Some kept) = by_digest kept _
 
 -- ---- the text of its sheet
 
@@ -135,13 +112,11 @@ module _ (number : ℕ) (rows : List Row) (body : List ℕ) (start : Option (Lis
       subst P (sym text)
       (cut_gives outcome stops.KeeperFailed start after.tables (λ kept. omega (arith, kept))
       (keeps_at_most_opened (rows_of now) 5 start after.tables (λ kept. omega (arith, kept)) (λ three. omega (arith, three)) (inr (stays_still (option_map opened_rows start) before.tables after.tables opened taken.1))))
-  taken-gives (answered.Lines lines) answer made now taken text = absurd taken
   taken-gives (answered.Conflict kept sent) answer made now taken text = absurd taken
   taken-gives answered.Full answer made now taken text = absurd taken
 
-  pub posted_gives : (p : loads.Posted) (ans : answers.Posted) (answer : Result (List ℕ) Stop) → IsPosted p (line_count body) before after ans → IsTextOf ans number answer → Gives (posted_outcome number before.office body p) answer start after.tables
-  posted_gives TooManyLines ans answer posted text =
-      stopped-gives (stops.TooManyLines (line_count body)) answer (λ three. omega (arith, three)) posted.1 (same-text ans (answered.Lines (line_count body)) answer posted.0 text)
+  pub posted_gives : (p : loads.Posted) (ans : answers.Posted) (answer : Result (List ℕ) Stop) → IsPosted p before after ans → IsTextOf ans number answer → Gives (posted_outcome number before.office body p) answer start after.tables
+  posted_gives TooManyLines ans answer posted text = absurd posted
   posted_gives (Repeated made) ans answer posted text =
       sheet-gives (load_sheet made) (load_sheet made) (rows_of before.office) answer start after.tables refl (same-text ans (answered.Done (load_sheet made)) answer posted.0 text) (same-keeps 0 (λ three. omega (arith, three)) posted.1)
   posted_gives (Differing kept sent) ans answer posted text =
@@ -183,16 +158,15 @@ module _ (before after : Standing) (its-own : AreOfOffice before) where
   taken-tells : (ans : answers.Posted) (made : LoadReply) (now : Office) → TakenBy ans made now before after → IsSome after.tables → IsSome before.tables
   taken-tells (answered.Done sheet) made now taken = become-tells after.office (taken.3 its-own)
   taken-tells answered.Failed made now taken = tells_still before.tables after.tables taken.1
-  taken-tells (answered.Lines count) made now taken = absurd taken
   taken-tells (answered.Conflict kept sent) made now taken = absurd taken
   taken-tells answered.Full made now taken = absurd taken
 
-  posted-tells : (p : loads.Posted) (ans : answers.Posted) (lines : ℕ) → IsPosted p lines before after ans → IsSome after.tables → IsSome before.tables
-  posted-tells TooManyLines ans lines posted = same-tells posted.1
-  posted-tells (Repeated made) ans lines posted = same-tells posted.1
-  posted-tells (Differing kept sent) ans lines posted = same-tells posted.1
-  posted-tells NoRoom ans lines posted = same-tells posted.1
-  posted-tells (Taken made now) ans lines posted = taken-tells ans made now posted
+  posted-tells : (p : loads.Posted) (ans : answers.Posted) → IsPosted p before after ans → IsSome after.tables → IsSome before.tables
+  posted-tells TooManyLines ans posted = absurd posted
+  posted-tells (Repeated made) ans posted = same-tells posted.1
+  posted-tells (Differing kept sent) ans posted = same-tells posted.1
+  posted-tells NoRoom ans posted = same-tells posted.1
+  posted-tells (Taken made now) ans posted = taken-tells ans made now posted
 
   lost-tells : (number : ℕ) (digest body : List ℕ) → LosesLoad number digest body before after → IsSome after.tables → IsSome before.tables
   lost-tells number digest body lost = by (lost.tables its-own)
@@ -202,25 +176,6 @@ module _ (before after : Standing) (its-own : AreOfOffice before) where
       by (inr load) = become-tells (loads.post before.office number digest body) load
 
 -- ---- what it is answered with
-
--- not with too many lines
-abbrev IsWithin : answers.Posted → Type 0
-IsWithin (answered.Lines count) = ⊥
-IsWithin _ = ⊤
-
-taken-within : (ans : answers.Posted) (made : LoadReply) (now : Office) (before after : Standing) → TakenBy ans made now before after → IsWithin ans
-taken-within (answered.Done sheet) made now before after taken = tt
-taken-within answered.Failed made now before after taken = tt
-taken-within (answered.Lines count) made now before after taken = taken
-taken-within (answered.Conflict kept sent) made now before after taken = tt
-taken-within answered.Full made now before after taken = tt
-
-posted-within : (p : loads.Posted) (ans : answers.Posted) (lines : ℕ) (before after : Standing) → IsFew p → IsPosted p lines before after ans → IsWithin ans
-posted-within TooManyLines ans lines before after few posted = absurd few
-posted-within (Repeated made) ans lines before after few posted = subst IsWithin (sym posted.0) tt
-posted-within (Differing kept sent) ans lines before after few posted = subst IsWithin (sym posted.0) tt
-posted-within NoRoom ans lines before after few posted = subst IsWithin (sym posted.0) tt
-posted-within (Taken made now) ans lines before after few posted = taken-within ans made now before after posted
 
 -- the keeper failed, or it did not and the count is as before
 abbrev IsCounted : answers.Posted → ℕ → ℕ → Type 0
@@ -236,16 +191,15 @@ counted-same ans kind before after is steady =
 counted-taken : (ans : answers.Posted) (made : LoadReply) (now : Office) (before after : Standing) → TakenBy ans made now before after → IsCounted ans before.faults after.faults
 counted-taken (answered.Done sheet) made now before after taken = taken.2
 counted-taken answered.Failed made now before after taken = taken.2
-counted-taken (answered.Lines count) made now before after taken = absurd taken
 counted-taken (answered.Conflict kept sent) made now before after taken = absurd taken
 counted-taken answered.Full made now before after taken = absurd taken
 
-is-counted : (p : loads.Posted) (ans : answers.Posted) (lines : ℕ) (before after : Standing) → IsPosted p lines before after ans → IsCounted ans before.faults after.faults
-is-counted TooManyLines ans lines before after posted = counted-same ans (answered.Lines lines) before after posted refl
-is-counted (Repeated made) ans lines before after posted = counted-same ans (answered.Done (load_sheet made)) before after posted refl
-is-counted (Differing kept sent) ans lines before after posted = counted-same ans (answered.Conflict kept sent) before after posted refl
-is-counted NoRoom ans lines before after posted = counted-same ans answered.Full before after posted refl
-is-counted (Taken made now) ans lines before after posted = counted-taken ans made now before after posted
+is-counted : (p : loads.Posted) (ans : answers.Posted) (before after : Standing) → IsPosted p before after ans → IsCounted ans before.faults after.faults
+is-counted TooManyLines ans before after posted = absurd posted
+is-counted (Repeated made) ans before after posted = counted-same ans (answered.Done (load_sheet made)) before after posted refl
+is-counted (Differing kept sent) ans before after posted = counted-same ans (answered.Conflict kept sent) before after posted refl
+is-counted NoRoom ans before after posted = counted-same ans answered.Full before after posted refl
+is-counted (Taken made now) ans before after posted = counted-taken ans made now before after posted
 
 -- why a sheet has no text
 sheet-unprinted : (sheet : Sheet) (answer : Result (List ℕ) Stop) → IsTextOfSheet sheet answer → IfErr answer IsUnprinted × (status_of answer ≡ 5 → ⊥)
@@ -254,19 +208,17 @@ sheet-unprinted sheet (Err stop) is =
     let P = λ (s : Stop). IsUnprinted s × ((ending_at s).status ≡ 5 → ⊥) in
     subst P (sym is) (grind arith, (λ five. omega (arith, five)))
 
-text-unprinted : (ans : answers.Posted) (number : ℕ) (answer : Result (List ℕ) Stop) → IsWithin ans → IsTextOf ans number answer → IfErr answer IsUnprinted
-text-unprinted (answered.Done sheet) number answer within text = let both = sheet-unprinted sheet answer text in both.0
-text-unprinted (answered.Lines lines) number answer within text = absurd within
-text-unprinted (answered.Conflict kept sent) number answer within text = subst (λ (r : Result (List ℕ) Stop). IfErr r IsUnprinted) (sym text) (grind arith)
-text-unprinted answered.Full number answer within text = subst (λ (r : Result (List ℕ) Stop). IfErr r IsUnprinted) (sym text) (grind arith)
-text-unprinted answered.Failed number answer within text = subst (λ (r : Result (List ℕ) Stop). IfErr r IsUnprinted) (sym text) (grind arith)
+pub text_unprinted : (ans : answers.Posted) (number : ℕ) (answer : Result (List ℕ) Stop) → IsTextOf ans number answer → IfErr answer IsUnprinted
+text_unprinted (answered.Done sheet) number answer text = let both = sheet-unprinted sheet answer text in both.0
+text_unprinted (answered.Conflict kept sent) number answer text = subst (λ (r : Result (List ℕ) Stop). IfErr r IsUnprinted) (sym text) (grind arith)
+text_unprinted answered.Full number answer text = subst (λ (r : Result (List ℕ) Stop). IfErr r IsUnprinted) (sym text) (grind arith)
+text_unprinted answered.Failed number answer text = subst (λ (r : Result (List ℕ) Stop). IfErr r IsUnprinted) (sym text) (grind arith)
 
 stopped-rises : (stop : Stop) (answer : Result (List ℕ) Stop) (m n : ℕ) → answer ≡ Err stop → RisesAt 5 (ending_at stop).status m n → RisesAt 5 (status_of answer) m n
 stopped-rises stop answer m n is rises = subst (λ (r : Result (List ℕ) Stop). RisesAt 5 (status_of r) m n) (sym is) rises
 
 text-rises : (ans : answers.Posted) (number : ℕ) (answer : Result (List ℕ) Stop) (m n : ℕ) → IsTextOf ans number answer → IsCounted ans m n → RisesAt 5 (status_of answer) m n
 text-rises (answered.Done sheet) number answer m n text same = let both = sheet-unprinted sheet answer text in stays_at_from 5 _ m n both.1 same
-text-rises (answered.Lines lines) number answer m n text same = stopped-rises (stops.TooManyLines lines) answer m n text (stays_at_from 5 10 m n (λ five. omega (arith, five)) same)
 text-rises (answered.Conflict kept sent) number answer m n text same = stopped-rises (stops.Conflict number kept sent) answer m n text (stays_at_from 5 9 m n (λ five. omega (arith, five)) same)
 text-rises answered.Full number answer m n text same = stopped-rises stops.LoadsFull answer m n text (stays_at_from 5 11 m n (λ five. omega (arith, five)) same)
 text-rises answered.Failed number answer m n text risen = stopped-rises stops.KeeperFailed answer m n text (rises_at 5 m n risen)
@@ -281,7 +233,7 @@ module _ (number : ℕ) (body : List ℕ) (office now : Office) (between after :
   later = record { office = now; tables = after; faults = n }
 
   abbrev Posts : answers.Posted → Type 0
-  Posts ans = IsPosted (posted office number (sha256 body) body) (line_count body) view later ans
+  Posts ans = IsPosted (posted office number (sha256 body) body) view later ans
 
   -- a fact over the rows of before
   over-load : (before : Option (List Row)) → HasOpened office before between → (answer : Result (List ℕ) Stop) → (AreOfOffice view → IsSome after → IsSome between)
@@ -301,7 +253,7 @@ module _ (number : ℕ) (body : List ℕ) (office now : Office) (between after :
   pub posted_over : (before : Option (List Row)) → HasOpened office before between → (ans : answers.Posted) (answer : Result (List ℕ) Stop) → Posts ans → IsTextOf ans number answer → OfTold (told_through before after) (λ rows. Gives (load_answer number body rows) answer before after)
   posted_over before has ans answer is text =
       let p = posted office number (sha256 body) body in
-      over-load before has answer (λ own. posted-tells view later own p ans (line_count body) is)
+      over-load before has answer (λ own. posted-tells view later own p ans is)
       (λ rows told are. posted_gives number rows body before view later told are has.tables p ans answer is text)
 
   pub lost_over : (before : Option (List Row)) → HasOpened office before between → (answer : Result (List ℕ) Stop) → IsErrAnd answer (λ stop. stop ≡ stops.Memory) → LosesLoad number (sha256 body) body view later → OfTold (told_through before after) (λ rows. Gives (load_answer number body rows) answer before after)
@@ -309,12 +261,7 @@ module _ (number : ℕ) (body : List ℕ) (office now : Office) (between after :
       over-load before has answer (λ own. lost-tells view later own number (sha256 body) body lost)
       (λ rows told are. lost_gives number rows body before view later told are has.tables answer is lost)
 
-  pub posted_unprinted : (ans : answers.Posted) (answer : Result (List ℕ) Stop) → line_count body ≤ MOST_LINES → Posts ans → IsTextOf ans number answer → IfErr answer IsUnprinted
-  posted_unprinted ans answer few is text =
-      let p = posted office number (sha256 body) body in
-      text-unprinted ans number answer (posted-within p ans (line_count body) view later (is-few office number (sha256 body) body few) is) text
-
   pub posted_rises : (ans : answers.Posted) (answer : Result (List ℕ) Stop) (k : ℕ) → m ≡ k → Posts ans → IsTextOf ans number answer → RisesAt 5 (status_of answer) k n
   posted_rises ans answer k steady is text =
       subst (λ (j : ℕ). RisesAt 5 (status_of answer) j n) steady
-      (text-rises ans number answer m n text (is-counted (posted office number (sha256 body) body) ans (line_count body) view later is))
+      (text-rises ans number answer m n text (is-counted (posted office number (sha256 body) body) ans view later is))

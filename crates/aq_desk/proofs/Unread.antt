@@ -1,14 +1,15 @@
 -- A body that was not read, and one that was.
-use Rattle.std.proofs.Common.{◌≡◌, ℕ, ◌<◌, ◌⊎◌, inl, inr, true, false, List, Option, refl, sym, ap, subst, ◌∙◌, arith}
-use Rattle.std.specs.Prelude.{Result, Ok, Err, IfErr, IsErrAnd, if◌then◌else◌}
+use Rattle.std.proofs.Common.{◌≡◌, ℕ, ◌<◌, ◌≤◌, ◌⊎◌, inl, inr, true, false, List, length, Option, refl, sym, ap, subst, ◌∙◌, arith}
+use Rattle.std.specs.Prelude.{Result, Ok, Err, IsErrAnd, if◌then◌else◌}
 use Rattle.aq_base.specs.Faults.{HasRisen}
 use Rattle.aq_keeper.specs.Told.{told_through}
 use Rattle.aq_base.specs.Site.{Site}
 use Rattle.aq_rules.specs.Kept.Rows.{Row}
-use Rattle.aq_rules.specs.Limits.{MOST_LINES}
-use Rattle.aq_desk.proofs.Outcomes.{excess-bytes, excess-lines, is_within-bytes, is_within-lines, scan_beyond, scan_within, without_input, without_memory, writes_nothing}
+use Rattle.aq_rules.specs.Limits.{MOST_BYTES, MOST_LINES}
+use Rattle.aq_rules.specs.Lines.Lines.{line_count}
+use Rattle.aq_desk.proofs.Outcomes.{excess-bytes, excess-lines, is_within-bytes, is_within-few, is_within-lines, scan_beyond, scan_within, without_input, without_memory, writes_nothing}
 use Rattle.aq_desk.proofs.Tables.{keeps_before, keeps_same, of_any, of_told}
-use Rattle.aq_desk.specs.Body.{HasTooManyBytes, HasTooManyLines, IsBodyFault, excess, is_within}
+use Rattle.aq_desk.specs.Body.{HasTooManyBytes, IsBodyFault, IsLinesFault, IsTooLong, excess, is_within}
 use Rattle.aq_desk.specs.Command.{Keeps, Outcome, Printout, RisesAt, leaving, printout_of, unwritten}
 use Rattle.aq_desk.specs.Ending.{too_many_lines}
 use Rattle.aq_serve.specs.Outside.{IsAll, OfTold, SinkView, SourceView}
@@ -39,24 +40,34 @@ out_of_memory outcome answer output why =
     let P = λ (ends : Result Unit Stop). Obeys outcome ends output output in
     subst P (sym (stopped_by answer Memory why)) (without_memory outcome Memory output refl)
 
--- a body that was not filled has no lines that were counted
-pub unfilled : {A : Type 0} (m n : ℕ) (bytes : Type 0) (lines : ℕ → Type 0) (why : BodyFault) (answer : Result A BodyFault) → IsErrAnd answer (λ fault. fault ≡ why) → IsBodyFault m n bytes (λ _. ⊥) why → IfErr answer (λ fault. IsBodyFault m n bytes lines fault)
-unfilled m n bytes lines why (Ok body) is cause = absurd is
-unfilled m n bytes lines why (Err other) is cause =
-    let P = λ (w : BodyFault). IsBodyFault m n bytes lines w in
-    subst P (sym is) (by why cause)
-  where
-    by : (w : BodyFault) → IsBodyFault m n bytes (λ _. ⊥) w → IsBodyFault m n bytes lines w
-    by fault.InputFailed risen = risen
-    by fault.Memory same = same
-    by fault.TooManyBytes many = many
-    by (fault.TooManyLines count) none = absurd none.1
+-- why there is no body of what is left
+abbrev pub IsUnmade : ℕ → ℕ → Option (List ℕ) → BodyFault → Type 0
+IsUnmade m n left why = IsBodyFault m n (HasTooManyBytes left) (λ lines. OfTold left (IsTooLong lines)) why
+
+-- its bytes were not read
+pub unfilled : (m n : ℕ) (left : Option (List ℕ)) (why : BodyFault) → IsBodyFault m n (HasTooManyBytes left) (λ _. ⊥) why → IsUnmade m n left why
+unfilled m n left fault.InputFailed risen = risen
+unfilled m n left fault.Memory same = same
+unfilled m n left fault.TooManyBytes many = many
+unfilled m n left (fault.TooManyLines count) none = absurd none.1
+
+-- they were, and have too many lines
+pub too_long : (m n : ℕ) (left : Option (List ℕ)) (bytes seen : List ℕ) (why : BodyFault) → IsAll left bytes → seen ≡ bytes → n ≡ m → IsLinesFault seen why → IsUnmade m n left why
+too_long m n left bytes seen fault.InputFailed told same steady none = absurd none
+too_long m n left bytes seen fault.Memory told same steady none = absurd none
+too_long m n left bytes seen fault.TooManyBytes told same steady none = absurd none
+too_long m n left bytes seen (fault.TooManyLines count) told same steady many =
+    (steady, record { all = bytes; is_all = told; says = subst (IsTooLong count) same many })
+
+-- they were, and have few
+pub few_lines : (bytes seen : List ℕ) → length bytes ≤ MOST_BYTES → seen ≡ bytes → line_count seen ≤ MOST_LINES → is_within bytes ≡ true
+few_lines bytes seen few same lines = is_within-few bytes few (subst (λ (b : List ℕ). line_count b ≤ MOST_LINES) same lines)
 
 -- the input or memory failed, or the body is beyond a limit
 abbrev IsUnread : Stop → List ℕ → Type 0
 IsUnread stop body = (stop ≡ InputFailed) ⊎ ((stop ≡ Memory) ⊎ ((is_within body ≡ false) × ((ending_at stop ≡ excess body) × ((ending_at stop).status ≡ 10))))
 
-unread : (left : Option (List ℕ)) (m n : ℕ) (why : BodyFault) → IsBodyFault m n (HasTooManyBytes left) (HasTooManyLines left) why → OfTold left (IsUnread (stop_of why))
+unread : (left : Option (List ℕ)) (m n : ℕ) (why : BodyFault) → IsUnmade m n left why → OfTold left (IsUnread (stop_of why))
 unread left m n fault.InputFailed cause = of_any left (IsUnread InputFailed) (λ body. inl refl)
 unread left m n fault.Memory cause = of_any left (IsUnread Memory) (λ body. inr (inl refl))
 unread left m n fault.TooManyBytes cause =
@@ -101,7 +112,7 @@ unread_measured stop body (inr (inr cause)) = record { too_many = λ _. cause.0;
 read_measured : (body : List ℕ) (status : ℕ) → is_within body ≡ true → (status ≡ 10 → ⊥) → IsMeasured true body status
 read_measured body status within no_excess = record { too_many = λ ten. absurd (no_excess ten); whole = λ _ _. within }
 
-pub unread_told : (site : Site) (day : ℕ) (left : Option (List ℕ)) (output : SinkView) (m n : ℕ) (why : BodyFault) (answer : Result Unit Stop) → IsErrAnd answer (λ stop. stop ≡ stop_of why) → IsBodyFault m n (HasTooManyBytes left) (HasTooManyLines left) why
+pub unread_told : (site : Site) (day : ℕ) (left : Option (List ℕ)) (output : SinkView) (m n : ℕ) (why : BodyFault) (answer : Result Unit Stop) → IsErrAnd answer (λ stop. stop ≡ stop_of why) → IsUnmade m n left why
     → OfTold left (λ body. Obeys (scan_outcome site day body) answer output output × IsMeasured true body (status_of answer))
 unread_told site day left output m n why answer is cause =
     let P = λ (r : Result Unit Stop). OfTold left (λ body. Obeys (scan_outcome site day body) r output output × IsMeasured true body (status_of r)) in
@@ -136,7 +147,7 @@ module _ (answer_to : List ℕ → List Row → Outcome) where
   body-beyond : (rows : List Row) (body : List ℕ) → is_within body ≡ false → within_limits answer_to rows body ≡ leaving rows (unwritten (excess body))
   body-beyond rows body is = ap (λ few. if few then answer_to body rows else leaving rows (unwritten (excess body))) is
 
-  pub unread_body : (left : Option (List ℕ)) (output : SinkView) (tables : Option (List Row)) (m n : ℕ) (why : BodyFault) (answer : Result Unit Stop) → IsErrAnd answer (λ stop. stop ≡ stop_of why) → IsBodyFault m n (HasTooManyBytes left) (HasTooManyLines left) why
+  pub unread_body : (left : Option (List ℕ)) (output : SinkView) (tables : Option (List Row)) (m n : ℕ) (why : BodyFault) (answer : Result Unit Stop) → IsErrAnd answer (λ stop. stop ≡ stop_of why) → IsUnmade m n left why
       → OfTold (told_through tables tables) (λ rows. OfTold left (λ body. Performs (within_limits answer_to rows body) answer output output tables tables × IsMeasured true body (status_of answer)))
   unread_body left output tables m n why answer is cause =
       let P = λ (r : Result Unit Stop). OfTold (told_through tables tables) (λ rows. OfTold left (λ body. Performs (within_limits answer_to rows body) r output output tables tables × IsMeasured true body (status_of r))) in
@@ -170,7 +181,7 @@ module _ (answer_to : List ℕ → List Row → Outcome) where
 
 -- ---- causes
 
-unread_caused : (before after : SourceView) (output : SinkView) (why : BodyFault) → IsBodyFault before.faults after.faults (HasTooManyBytes before.left) (HasTooManyLines before.left) why
+unread_caused : (before after : SourceView) (output : SinkView) (why : BodyFault) → IsUnmade before.faults after.faults before.left why
     → HasCauses (ending_at (stop_of why)).status before after output output
 unread_caused before after output fault.InputFailed cause = record {
   input = rises_at 3 before.faults after.faults cause;
@@ -190,7 +201,7 @@ unread_caused before after output (fault.TooManyLines lines) cause = record {
 }
 
 pub unread_causes : (before after : SourceView) (output : SinkView) (why : BodyFault) (answer : Result Unit Stop) → IsErrAnd answer (λ stop. stop ≡ stop_of why)
-    → IsBodyFault before.faults after.faults (HasTooManyBytes before.left) (HasTooManyLines before.left) why → HasCauses (status_of answer) before after output output
+    → IsUnmade before.faults after.faults before.left why → HasCauses (status_of answer) before after output output
 unread_causes before after output why answer is cause =
     let P = λ (r : Result Unit Stop). HasCauses (status_of r) before after output output in
     subst P (sym (stopped_by answer (stop_of why) is)) (unread_caused before after output why cause)

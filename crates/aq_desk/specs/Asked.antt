@@ -1,7 +1,5 @@
 -- What is asked of the office of the tables: a question, or what an input would make of it (own).
-use Rattle.std.specs.Prelude.{◌≤◌, IsTrue, length}
-use Rattle.aq_rules.specs.Limits.{MOST_BYTES, MOST_LINES}
-use Rattle.aq_rules.specs.Lines.Lines.{line_count}
+use Rattle.std.specs.Prelude.{⊤, IsTrue}
 use Rattle.aq_rules.specs.Office.Office.{Office}
 use Rattle.aq_rules.specs.Questions.Asking.{is_asked}
 use Rattle.aq_desk.specs.Ask.{ask_printout}
@@ -14,7 +12,7 @@ abbrev pub asked_printout : Asked → Office → Printout
 asked_printout (Question question) = ask_printout question.now
 asked_printout (Draft draft body) = draft_printout draft.now body.now
 
--- a question has its numbers in range, and a body is within the limits
+-- a question has its numbers in range
 abbrev pub IsAskable : Asked → Type 0
 IsAskable (Question question) = IsTrue (is_asked question.now)
-IsAskable (Draft draft body) = (length body.now ≤ MOST_BYTES) × (line_count body.now ≤ MOST_LINES)
+IsAskable (Draft draft body) = ⊤

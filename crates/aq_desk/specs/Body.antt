@@ -42,12 +42,14 @@ pub record IsTooLong (lines : ℕ) (body : List ℕ) : Type 0 where
   pub counted : lines ≡ line_count body
   pub many : MOST_LINES < lines
 
-abbrev pub HasTooManyLines : Option (List ℕ) → ℕ → Type 0
-HasTooManyLines left lines = OfTold left (IsTooLong lines)
-
--- why a body is not read: the source's count rose, or, if it did not, there are too many bytes or lines; want of memory has no cause that is told
+-- why there is no body: the source's count rose, or, if it did not, there are too many bytes or lines; want of memory has no cause that is told
 abbrev pub IsBodyFault : ℕ → ℕ → Type 0 → (ℕ → Type 0) → BodyFault → Type 0
 IsBodyFault before after bytes lines InputFailed = HasRisen before after
 IsBodyFault before after bytes lines Memory = after ≡ before
 IsBodyFault before after bytes lines TooManyBytes = (after ≡ before) × bytes
 IsBodyFault before after bytes lines (TooManyLines count) = (after ≡ before) × lines count
+
+-- why bytes that were read are no body: they have too many lines
+abbrev pub IsLinesFault : List ℕ → BodyFault → Type 0
+IsLinesFault bytes (TooManyLines count) = IsTooLong count bytes
+IsLinesFault bytes _ = ⊥

@@ -14,7 +14,7 @@ use Rattle.aq_desk.specs.Office.{over_office}
 use Rattle.aq_desk.specs.declared.stop.Stop.{Stop}
 use Rattle.aq_desk.specs.declared.stop.Stop.TheVariants as stops
 use Rattle.aq_office.specs.declared.posting.Posted as answers
-use Rattle.aq_office.specs.declared.posting.Posted.TheVariants.{Done, Lines, Conflict, Full, Failed}
+use Rattle.aq_office.specs.declared.posting.Posted.TheVariants.{Done, Conflict, Full, Failed}
 
 -- a known number with the same body gives the kept reply; the office changes only if the load is taken
 abbrev pub posted_outcome : ℕ → Office → List ℕ → Posted → Outcome
@@ -46,7 +46,6 @@ IsTextOfSheet sheet (Err stop) = stop ≡ stops.Memory
 -- what is printed of it, or what stops the command
 abbrev pub IsTextOf : answers.Posted → ℕ → Result (List ℕ) Stop → Type 0
 IsTextOf (Done sheet) number answer = IsTextOfSheet sheet answer
-IsTextOf (Lines lines) number answer = answer ≡ Err (stops.TooManyLines lines)
 IsTextOf (Conflict kept sent) number answer = answer ≡ Err (stops.Conflict number kept sent)
 IsTextOf Full number answer = answer ≡ Err stops.LoadsFull
 IsTextOf Failed number answer = answer ≡ Err stops.KeeperFailed

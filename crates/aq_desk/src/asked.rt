@@ -16,6 +16,7 @@ use crate::stop::Stop;
 use crate::writing::print_text;
 use aq_base::{Bytes, Question};
 use aq_book::Book;
+use aq_forms::Body;
 use aq_keeper::Keeper;
 use aq_serve::Sink;
 use aq_words::Draft;
@@ -25,8 +26,8 @@ use std::alloc::Global;
 #[derive(Drop)]
 pub(crate) enum Asked<'a> {
     Question(&'a Question),
-    /// What a body within the limits would make of it.
-    Draft(&'a Draft, &'a [u8]),
+    /// What a body would make of it.
+    Draft(&'a Draft, &'a Body<'a>),
 }
 
 /// Prints the answer over the office of the tables, which are let go before.

@@ -1,18 +1,19 @@
 //! The body of a load, read from a source to its end.
 ghost use Rattle.std.specs.Prelude.{◌≡◌, ◌<◌, ◌≤◌, length, vec_len, [], IfOk, IfErr, OnOk};
+ghost use Rattle.aq_rules.specs.Limits.{MOST_LINES};
 ghost use Rattle.aq_rules.specs.Lines.Lines.{line_count};
-ghost use Rattle.aq_desk.specs.Body.{Extends, HasTooManyBytes, HasTooManyLines, IsBodyFault, TakesFew};
+ghost use Rattle.aq_desk.specs.Body.{Extends, HasTooManyBytes, IsBodyFault, IsLinesFault, TakesFew};
 ghost use Rattle.aq_desk.specs.Stop.{HasRead, ending_at, stop_of};
 ghost use Rattle.aq_serve.specs.Outside.{IsAll};
 
-use aq_base::{Failed, MOST_BYTES, MOST_LINES};
-use aq_forms::count_lines;
+use aq_base::{Failed, MOST_BYTES};
+use aq_forms::Body;
 use aq_serve::Source;
 use std::alloc::{AllocError, Global};
 
 const PIECE: usize = 65_536;
 
-// Why a body was not read.
+// Why there is no body.
 #[derive(Clone, Copy, Debug, PartialEq, Eq)]
 pub(crate) enum BodyFault {
     InputFailed,
@@ -87,26 +88,32 @@ fn fill<S: Source>(input: &mut S, buffer: &mut [u8], body: &mut Vec<u8>) -> Resu
     Err(BodyFault::TooManyBytes)
 }
 
-/// Reads a source to its end, or as far as one byte beyond what a body may have. More lines than a body
-/// may have are refused, too.
+/// Reads a source to its end, or as far as one byte beyond what a body may have.
 pub(crate) fn read_body<S: Source>(alloc: Global, input: &mut S) -> Result<Vec<u8>, BodyFault>
     ensures body { IfOk result (λ body. IsAll (S.seen input.old).left body.items) }
     ensures bytes { IfOk result (λ body. length body.items ≤ MOST_BYTES) }
-    ensures lines { IfOk result (λ body. line_count body.items ≤ MOST_LINES) }
     ensures read { OnOk result (HasRead 0 (S.seen input.old).left (S.seen input.new).left) }
     ensures cut { IfErr result (λ fault. let ending = ending_at (stop_of fault) in
         HasRead ending.status (S.seen input.old).left (S.seen input.new).left) }
     ensures steady { OnOk result ((S.seen input.new).faults ≡ (S.seen input.old).faults) }
     ensures fault { IfErr result (λ fault. IsBodyFault (S.seen input.old).faults
-        (S.seen input.new).faults (HasTooManyBytes (S.seen input.old).left)
-        (HasTooManyLines (S.seen input.old).left) fault) }
+        (S.seen input.new).faults (HasTooManyBytes (S.seen input.old).left) (λ _. ⊥) fault) }
 {
     let mut buffer = vec![in alloc; 0; PIECE]?;
     let mut body = Vec::new(alloc);
     fill(input, &mut buffer, &mut body)?;
-    let lines = count_lines(&body);
-    if lines > MOST_LINES {
-        return Err(BodyFault::TooManyLines(lines));
-    }
     Ok(body)
+}
+
+/// The bytes that were read, as a body: here its lines are counted. More than a body may have are refused.
+pub(crate) fn body_of(bytes: &[u8]) -> Result<Body<'_>, BodyFault>
+    requires { length bytes.now ≤ MOST_BYTES }
+    ensures body { IfOk result (λ body. body ≡ bytes.now) }
+    ensures lines { OnOk result (line_count bytes.now ≤ MOST_LINES) }
+    ensures fault { IfErr result (IsLinesFault bytes.now) }
+{
+    match Body::new(bytes) {
+        Ok(body) => Ok(body),
+        Err(lines) => Err(BodyFault::TooManyLines(lines)),
+    }
 }

@@ -1,10 +1,8 @@
 //! The commands that say what an input would make of the office: `try` and `changes`.
-ghost use Rattle.std.specs.Prelude.{◌≡◌, ◌<◌, ◌≤◌, ◌⊎◌, length, true, false, IfErr, IfOk};
+ghost use Rattle.std.specs.Prelude.{◌≡◌, ◌<◌, ◌⊎◌, true, false, IfErr, IfOk};
 ghost use Rattle.aq_changes.specs.Answers.{answer_in};
 ghost use Rattle.aq_keeper.specs.Told.{told_through};
 ghost use Rattle.aq_rules.specs.Extracts.Changes.{changes_answer};
-ghost use Rattle.aq_rules.specs.Limits.{MOST_BYTES, MOST_LINES};
-ghost use Rattle.aq_rules.specs.Lines.Lines.{line_count};
 ghost use Rattle.aq_desk.specs.Ask.{IsUnanswered};
 ghost use Rattle.aq_desk.specs.Command.{RisesAt, WritesNothing, printed};
 ghost use Rattle.aq_desk.specs.Draft.{draft_outcome, draft_printout};
@@ -15,11 +13,12 @@ ghost use Rattle.aq_words.specs.declared.words.Draft.TheVariants.{Changes, Try};
 ghost use Rattle.aq_desk.specs.declared.status.TheConstants.{DOOR_FAILED, INPUT_FAILED, KEEPER_FAILED, OUTPUT_FAILED, TOO_LARGE};
 
 use crate::asked::{Asked, print_asked};
-use crate::body::read_body;
+use crate::body::{body_of, read_body};
 use crate::stop::Stop;
 use aq_base::{Bytes, Day, Memory, Steps};
 use aq_book::Book;
 use aq_changes::{ChangesAnswer, changes};
+use aq_forms::Body;
 use aq_keeper::Keeper;
 use aq_reports::{load_sheet, text_of};
 use aq_serve::{Sink, Source};
@@ -51,7 +50,8 @@ pub(crate) fn draft<K: Keeper, S: Source, O: Sink>(
     ensures gone { (output.new ≡ output.old) ⊎ ((K.seen keeper.new).is_held ≡ false) }
     ensures only_migrates { OnlyMigrates (K.seen keeper.old) (K.seen keeper.new) }
 {
-    let body = read_body(alloc, input)?;
+    let bytes = read_body(alloc, input)?;
+    let body = body_of(&bytes)?;
     print_asked(alloc, &Asked::Draft(draft, &body), keeper, output)
 }
 
@@ -60,10 +60,8 @@ pub(crate) fn text_of_draft(
     alloc: Global,
     book: &Book,
     draft: &Draft,
-    body: &[u8],
+    body: &Body<'_>,
 ) -> Result<Bytes, Stop>
-    requires bytes { length body.now ≤ MOST_BYTES }
-    requires lines { line_count body.now ≤ MOST_LINES }
     ensures text { IfOk result (λ text. draft_printout draft.now body.now book.now ≡ printed text) }
     ensures refused { IfErr result (IsUnanswered (draft_printout draft.now body.now book.now)) }
 {
@@ -75,9 +73,7 @@ pub(crate) fn text_of_draft(
 
 /// The text of the reply that a load of a body would get.
 #[tactic(auto, unfolding(crate::specs::Draft::draft_printout, aq_rules::specs::Extracts::Try::try_answer))]
-fn text_of_reply(alloc: Global, book: &Book, body: &[u8]) -> Result<Bytes, Stop>
-    requires bytes { length body.now ≤ MOST_BYTES }
-    requires lines { line_count body.now ≤ MOST_LINES }
+fn text_of_reply(alloc: Global, book: &Book, body: &Body<'_>) -> Result<Bytes, Stop>
     ensures text { IfOk result (λ text. draft_printout Try body.now book.now ≡ printed text) }
     ensures refused { IfErr result (IsUnanswered (draft_printout Try body.now book.now)) }
 {
@@ -93,9 +89,8 @@ fn text_of_changes(
     book: &Book,
     first: Day,
     last: Day,
-    body: &[u8],
+    body: &Body<'_>,
 ) -> Result<Bytes, Stop>
-    requires { length body.now ≤ MOST_BYTES }
     ensures text { IfOk result (λ text. draft_printout (Changes first last) body.now book.now ≡ printed text) }
     ensures refused { IfErr result (IsUnanswered (draft_printout (Changes first last) body.now book.now)) }
 {
@@ -111,13 +106,12 @@ fn uncounted<L: Ledger>(
     book: &Book,
     first: Day,
     last: Day,
-    body: &[u8],
+    body: &Body<'_>,
     blank: Blank,
 ) -> Result<ChangesAnswer, Memory>
     requires name { blank.name ≡ L.name }
     requires parts { blank.parts ≡ L.parts }
     requires some { 0 < L.parts }
-    requires bytes { length body.now ≤ MOST_BYTES }
     ensures { IfOk result (λ answer. answer_in answer ≡ changes_answer (record { first = first; last = last }) book.now body.now) }
 {
     let mut steps = Steps::<L>::new(blank);
@@ -127,7 +121,7 @@ fn uncounted<L: Ledger>(
         book.registry(),
         first,
         last,
-        body,
+        body.text(),
         &mut steps,
     )
 }

@@ -1,19 +1,18 @@
 //! The command `load`.
-ghost use Rattle.std.specs.Prelude.{◌≡◌, ◌≤◌, ◌⊎◌, length, true, false, IfErr};
+ghost use Rattle.std.specs.Prelude.{◌≡◌, ◌⊎◌, true, false, IfErr};
 ghost use Rattle.aq_keeper.specs.Told.{told_through};
-ghost use Rattle.aq_rules.specs.Limits.{MOST_BYTES, MOST_LINES};
-ghost use Rattle.aq_rules.specs.Lines.Lines.{line_count};
 ghost use Rattle.aq_desk.specs.Command.{RisesAt, WritesNothing};
 ghost use Rattle.aq_desk.specs.Load.{IsTextOf, load_answer, load_outcome};
 ghost use Rattle.aq_serve.specs.Outside.{OfTold};
 ghost use Rattle.aq_desk.specs.Stop.{Gives, HasCauses, HasRead, IsMeasured, IsUnprinted, Performs, status_of};
 ghost use Rattle.aq_desk.specs.declared.status.TheConstants.{DOOR_FAILED, INPUT_FAILED, KEEPER_FAILED, OUTPUT_FAILED, TOO_LARGE};
 
-use crate::body::read_body;
+use crate::body::{body_of, read_body};
 use crate::office::open;
 use crate::stop::Stop;
 use crate::writing::print_text;
 use aq_base::Bytes;
+use aq_forms::Body;
 use aq_keeper::Keeper;
 use aq_office::{Posted, post_uncounted};
 use aq_reports::text_of;
@@ -43,20 +42,19 @@ pub(crate) fn load<K: Keeper, S: Source, O: Sink>(
     ensures silent { WritesNothing (status_of result) → output.new ≡ output.old }
     ensures gone { (output.new ≡ output.old) ⊎ ((K.seen keeper.new).is_held ≡ false) }
 {
-    let body = read_body(alloc, input)?;
+    let bytes = read_body(alloc, input)?;
+    let body = body_of(&bytes)?;
     answer(alloc, number, &body, keeper, output)
 }
 
-/// Takes a body within the limits, and prints the sheet of the load.
+/// Takes a body, and prints the sheet of the load.
 fn answer<K: Keeper, O: Sink>(
     alloc: Global,
     number: u32,
-    body: &[u8],
+    body: &Body<'_>,
     keeper: &mut K,
     output: &mut O,
 ) -> Result<(), Stop>
-    requires bytes { length body.now ≤ MOST_BYTES }
-    requires lines { line_count body.now ≤ MOST_LINES }
     ensures told { OfTold (told_through (K.seen keeper.old).tables (K.seen keeper.new).tables)
         (λ rows. Performs (load_answer number body.now rows) result (O.seen output.old)
         (O.seen output.new) (K.seen keeper.old).tables (K.seen keeper.new).tables) }
@@ -74,15 +72,13 @@ fn answer<K: Keeper, O: Sink>(
     print_text(text.as_slice(), output)
 }
 
-/// Takes a body within the limits, lets the tables go, and answers the text of the load's sheet.
+/// Takes a body, lets the tables go, and answers the text of the load's sheet.
 fn take_and_let_go<K: Keeper>(
     alloc: Global,
     number: u32,
-    body: &[u8],
+    body: &Body<'_>,
     keeper: &mut K,
 ) -> Result<Bytes, Stop>
-    requires bytes { length body.now ≤ MOST_BYTES }
-    requires lines { line_count body.now ≤ MOST_LINES }
     ensures told { OfTold (told_through (K.seen keeper.old).tables (K.seen keeper.new).tables)
         (λ rows. Gives (load_answer number body.now rows) result (K.seen keeper.old).tables
         (K.seen keeper.new).tables) }
@@ -96,10 +92,13 @@ fn take_and_let_go<K: Keeper>(
     text
 }
 
-/// Takes a body within the limits, and answers the text of the load's sheet: the load stands then.
-fn take<K: Keeper>(alloc: Global, number: u32, body: &[u8], keeper: &mut K) -> Result<Bytes, Stop>
-    requires bytes { length body.now ≤ MOST_BYTES }
-    requires lines { line_count body.now ≤ MOST_LINES }
+/// Takes a body, and answers the text of the load's sheet: the load stands then.
+fn take<K: Keeper>(
+    alloc: Global,
+    number: u32,
+    body: &Body<'_>,
+    keeper: &mut K,
+) -> Result<Bytes, Stop>
     ensures told { OfTold (told_through (K.seen keeper.old).tables (K.seen keeper.new).tables)
         (λ rows. Gives (load_answer number body.now rows) result (K.seen keeper.old).tables
         (K.seen keeper.new).tables) }
@@ -107,8 +106,8 @@ fn take<K: Keeper>(alloc: Global, number: u32, body: &[u8], keeper: &mut K) -> R
     ensures keeper_failed { RisesAt KEEPER_FAILED (status_of result) (K.seen keeper.old).faults
         (K.seen keeper.new).faults }
 {
-    let book = open(alloc, keeper)?;
-    let (_book, posted) = post_uncounted(alloc, book, keeper, number, body)?;
+    let mut book = open(alloc, keeper)?;
+    let posted = post_uncounted(alloc, &mut book, keeper, number, body)?;
     text_of_posted(alloc, number, posted)
 }
 
@@ -118,7 +117,6 @@ fn text_of_posted(alloc: Global, number: u32, posted: Posted) -> Result<Bytes, S
 {
     match posted {
         Posted::Done(sheet) => Ok(Bytes::from_vec(text_of(alloc, &sheet)?)),
-        Posted::Lines(lines) => Err(Stop::TooManyLines(lines)),
         Posted::Conflict { kept, sent } => Err(Stop::Conflict { number, kept, sent }),
         Posted::Full => Err(Stop::LoadsFull),
         Posted::Failed => Err(Stop::KeeperFailed),

@@ -1,9 +1,7 @@
 //! The command `scan`.
-ghost use Rattle.std.specs.Prelude.{◌≡◌, ◌<◌, ◌≤◌, length, true, IfErr, IfOk};
+ghost use Rattle.std.specs.Prelude.{◌≡◌, ◌<◌, true, IfErr, OnOk};
 ghost use Rattle.aq_base.specs.declared.question.Question.TheVariants.{Windows};
 ghost use Rattle.aq_book.specs.Staged.{office_with, Fits};
-ghost use Rattle.aq_rules.specs.Limits.{MOST_BYTES, MOST_LINES};
-ghost use Rattle.aq_rules.specs.Lines.Lines.{line_count};
 ghost use Rattle.aq_rules.specs.Shown.Sheet.{text_of};
 ghost use Rattle.aq_rules.specs.Shown.Sheets.{load_sheet};
 ghost use Rattle.aq_desk.specs.Ask.{ask_printout};
@@ -14,11 +12,12 @@ ghost use Rattle.aq_desk.specs.Stop.{HasCauses, HasRead, IsCutShort, IsMeasured,
 ghost use Rattle.aq_desk.specs.declared.status.TheConstants.{DOOR_FAILED, KEEPER_FAILED, OUTPUT_FAILED};
 
 use crate::ask::text_of_answer;
-use crate::body::read_body;
+use crate::body::{body_of, read_body};
 use crate::stop::Stop;
 use crate::writing::{print_sheet, print_text};
 use aq_base::{Day, Memory, Question, SiteId, Steps};
 use aq_book::{Book, Staged};
+use aq_forms::Body;
 use aq_reports::load_sheet;
 use aq_serve::{Sink, Source};
 use std::alloc::Global;
@@ -44,20 +43,19 @@ pub(crate) fn scan<S: Source, O: Sink>(
     ensures no_door { status_of result ≡ DOOR_FAILED → ⊥ }
     ensures silent { WritesNothing (status_of result) → output.new ≡ output.old }
 {
-    let body = read_body(alloc, input)?;
+    let bytes = read_body(alloc, input)?;
+    let body = body_of(&bytes)?;
     answer(alloc, site, day, &body, output)
 }
 
-/// Answers to a body within the limits.
+/// Answers to a body.
 fn answer<O: Sink>(
     alloc: Global,
     site: SiteId,
     day: Day,
-    body: &[u8],
+    body: &Body<'_>,
     output: &mut O,
 ) -> Result<(), Stop>
-    requires bytes { length body.now ≤ MOST_BYTES }
-    requires lines { line_count body.now ≤ MOST_LINES }
     ensures told { Obeys (scan_answer site day body.now) result (O.seen output.old)
         (O.seen output.new) }
     ensures taken { IsTaken (status_of result) }
@@ -65,23 +63,23 @@ fn answer<O: Sink>(
         (O.seen output.new).faults }
 {
     // A load with this number is not kept, and its digest is not looked at.
-    let book = Book::new(alloc);
+    let mut book = Book::new(alloc);
     let staged = book.stage(alloc, 0, [0; 32], body)?;
-    print_staged(alloc, book, staged, site, day, output)
+    print_staged(alloc, &mut book, staged, site, day, output)
 }
 
 /// Prints the reply to a staged load, and then the day's windows of the book that took it.
 fn print_staged<O: Sink>(
     alloc: Global,
-    book: Book,
+    book: &mut Book,
     staged: Staged,
     site: SiteId,
     day: Day,
     output: &mut O,
 ) -> Result<(), Stop>
-    requires { Fits staged book }
+    requires { Fits staged book.old }
     ensures told { Obeys (after_text (text_of (load_sheet staged.reply))
-        (ask_printout (Windows site day) (office_with staged book))) result
+        (ask_printout (Windows site day) (office_with staged book.old))) result
         (O.seen output.old) (O.seen output.new) }
     ensures taken { IsTaken (status_of result) }
     ensures output_failed { RisesAt OUTPUT_FAILED (status_of result) (O.seen output.old).faults
@@ -106,30 +104,30 @@ fn print_reply<O: Sink>(alloc: Global, staged: &Staged, output: &mut O) -> Resul
 /// Takes a staged load, and prints the day's windows.
 fn print_taken<O: Sink>(
     alloc: Global,
-    book: Book,
+    book: &mut Book,
     staged: Staged,
     site: SiteId,
     day: Day,
     output: &mut O,
 ) -> Result<(), Stop>
-    requires { Fits staged book }
-    ensures told { Obeys (ask_printout (Windows site day) (office_with staged book)) result
+    requires { Fits staged book.old }
+    ensures told { Obeys (ask_printout (Windows site day) (office_with staged book.old)) result
         (O.seen output.old) (O.seen output.new) }
     ensures taken { IsTaken (status_of result) }
     ensures output_failed { RisesAt OUTPUT_FAILED (status_of result) (O.seen output.old).faults
         (O.seen output.new).faults }
 {
-    let book = taken::<Brand>(book, staged, Blank::new(1))?;
-    print_windows(alloc, &book, site, day, output)
+    take_uncounted::<Brand>(book, staged, Blank::new(1))?;
+    print_windows(alloc, book, site, day, output)
 }
 
-/// The book after a staged load, on a counter of its own, which nobody reads.
-fn taken<L: Ledger>(book: Book, staged: Staged, blank: Blank) -> Result<Book, Memory>
+/// Takes a staged load, on a counter of its own, which nobody reads.
+fn take_uncounted<L: Ledger>(book: &mut Book, staged: Staged, blank: Blank) -> Result<(), Memory>
     requires name { blank.name ≡ L.name }
     requires parts { blank.parts ≡ L.parts }
     requires some { 0 < L.parts }
-    requires fits { Fits staged book }
-    ensures { IfOk result (λ after. after ≡ office_with staged book) }
+    requires fits { Fits staged book.old }
+    ensures { OnOk result (book.new ≡ office_with staged book.old) }
 {
     let mut steps = Steps::<L>::new(blank);
     book.take(staged, &mut steps)

@@ -4,7 +4,6 @@ pub mod Asked
 pub mod Assuming
 pub mod Joining
 pub mod Listing
-pub mod LoadlessDays
 pub mod OzoneMaxima
 pub mod PostedLoads
 pub mod Showing

@@ -50,38 +50,31 @@ not_new check decision (inr (inl is)) told new = let e : decision_of checks.Conf
 not_new check decision (inr (inr is)) told new = let e : decision_of checks.Full ≡ New = ap decision_of (sym is) ∙ told ∙ new in absurd (cc)
 
 -- of a body whose digest this is
-module _ (office : Office) (number : ℕ) (digest sent body : List ℕ) (same : digest ≡ sent) (lines : ℕ) (before after : Standing) (answer : Posted) where
+module _ (office : Office) (number : ℕ) (digest sent body : List ℕ) (same : digest ≡ sent) (before after : Standing) (answer : Posted) where
   abbrev Is : List ℕ → Type 0
-  Is d = IsPosted (posted office number d body) lines before after answer
+  Is d = IsPosted (posted office number d body) before after answer
 
   pub is_taken : line_count body ≤ MOST_LINES → New ≡ decide office number digest → TakenBy answer (reply office number body) (load office number digest body) before after → Is sent
-  is_taken h new is = subst Is same (subst (λ p. IsPosted p lines before after answer) (sym (posted-new office number digest body h (sym new))) is)
+  is_taken h new is = subst Is same (subst (λ p. IsPosted p before after answer) (sym (posted-new office number digest body h (sym new))) is)
 
   -- of a load that is not new
   by_found : (found : Option StoredLoad) → (decide_known found digest (nat_le MOST_LOADS (length office.loads)) ≡ New → ⊥) → answer ≡ standing_answer found digest → after ≡ before
-      → IsPosted (posted_beside found office number digest body) lines before after answer
+      → IsPosted (posted_beside found office number digest body) before after answer
   by_found (Some kept) old is still = by_digest (bytes_eq kept.digest digest) is
     where
       by_digest : (b : Bool) → answer ≡ cond b (answers.Done (load_sheet kept.reply)) (answers.Conflict kept.digest digest)
-          → IsPosted (cond b (Repeated kept.reply) (Differing kept.digest digest)) lines before after answer
+          → IsPosted (cond b (Repeated kept.reply) (Differing kept.digest digest)) before after answer
       by_digest true is = (is, still)
       by_digest false is = (is, still)
   by_found None old is still = by_room (nat_le MOST_LOADS (length office.loads)) old
     where
-      by_room : (b : Bool) → (cond b Full New ≡ New → ⊥) → IsPosted (cond b NoRoom (Taken (reply office number body) (load office number digest body))) lines before after answer
+      by_room : (b : Bool) → (cond b Full New ≡ New → ⊥) → IsPosted (cond b NoRoom (Taken (reply office number body) (load office number digest body))) before after answer
       by_room true old = (is, still)
       by_room false old = absurd (old refl)
 
   pub is_standing : line_count body ≤ MOST_LINES → (decide office number digest ≡ New → ⊥) → answer ≡ standing_answer (load_at office number) digest → after ≡ before → Is sent
   is_standing few old is still =
-      subst Is same (subst (λ p. IsPosted p lines before after answer) (sym (posted-few office number digest body few)) (by_found (load_at office number) old is still))
-
--- the office before a post, by another name
-pub posted_over : (o p : Office) → o ≡ p → (number : ℕ) (digest body : List ℕ) (lines : ℕ) (tables : Option (List Row)) (faults : ℕ) (after : Standing) (answer : Posted)
-    → IsPosted (posted o number digest body) lines (record { office = o; tables = tables; faults = faults }) after answer
-    → IsPosted (posted p number digest body) lines (record { office = p; tables = tables; faults = faults }) after answer
-posted_over o p same number digest body lines tables faults after answer is =
-    subst (λ (o : Office). IsPosted (posted o number digest body) lines (record { office = o; tables = tables; faults = faults }) after answer) same is
+      subst Is same (subst (λ p. IsPosted p before after answer) (sym (posted-few office number digest body few)) (by_found (load_at office number) old is still))
 
 -- ---- what stands then
 

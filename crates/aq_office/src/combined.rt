@@ -1,10 +1,8 @@
 //! The design value of sites that are combined.
-ghost use Rattle.std.specs.Prelude.{◌≡◌, IfOk, IsTrue, option_map};
+ghost use Rattle.std.specs.Prelude.{◌≡◌, IfOk, IsTrue};
 ghost use Rattle.aq_base.specs.Calendar.{is_design_year};
 ghost use Rattle.aq_base.specs.declared.question.Question.TheVariants.{Combined};
-ghost use Rattle.aq_rules.specs.Combined.Pair as pairs;
 ghost use Rattle.aq_rules.specs.Questions.Answer.{answer, is_registered};
-ghost use Rattle.aq_verdict.specs.Designs.{design_of};
 ghost use Rattle.aq_office.specs.Answers.{IsShown, seen};
 
 use crate::answers::{Answer, Lack};
@@ -12,12 +10,11 @@ use aq_base::{Memory, SiteId, Standard, Steps};
 use aq_book::Book;
 use aq_combine::pair_value;
 use aq_reports::value_sheet;
-use aq_verdict::DesignValue;
 use std::alloc::Global;
 use std::sync::ledger::Ledger;
 
 /// The design value of a site and the one that is joined to it.
-#[tactic(auto, unfolding(aq_rules::specs::Questions::Answer::answer))]
+#[tactic(auto, unfolding(aq_rules::specs::Questions::Answer::answer), using(crate::proofs::Joining::value_over))]
 pub(crate) fn combined_of<L: Ledger>(
     alloc: Global,
     book: &Book,
@@ -33,7 +30,8 @@ pub(crate) fn combined_of<L: Ledger>(
     if !is_registered(book, site) {
         return Ok(Answer::no_site(site));
     }
-    match value_of_pair(book, standard, site, year, steps) {
+    let value = pair_value(book.shelf(), book.registry(), standard, site, year, steps);
+    match value {
         Some(value) => Answer::of_sheet(alloc, value_sheet(alloc, standard, site, year, &value)?),
         None => Ok(Answer::Lacks(Lack::NoCombination(site))),
     }
@@ -44,18 +42,4 @@ fn is_registered(book: &Book, site: SiteId) -> bool
     ensures { result ≡ is_registered book.now site }
 {
     book.registry().has_site(site)
-}
-
-/// The design value of the site and the one that is joined to it, if one is.
-fn value_of_pair<L: Ledger>(
-    book: &Book,
-    standard: Standard,
-    site: SiteId,
-    year: u16,
-    steps: &mut Steps<L>,
-) -> Option<DesignValue>
-    requires { IsTrue (is_design_year year) }
-    ensures { option_map design_of result ≡ pairs.pair_value standard book.now site year }
-{
-    pair_value(book.shelf(), book.registry(), standard, site, year, steps)
 }

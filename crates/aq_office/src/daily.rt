@@ -1,9 +1,7 @@
 //! The days of a year.
 ghost use Rattle.std.specs.Prelude.{◌≡◌, IfOk, IsTrue};
 ghost use Rattle.aq_base.specs.Calendar.{is_year};
-ghost use Rattle.aq_base.specs.declared.monitor.Pollutant.TheVariants.{Pm10, Pm25};
 ghost use Rattle.aq_base.specs.declared.question.Question.TheVariants as question;
-ghost use Rattle.aq_rules.specs.Listed.Daily.{daily_answer};
 ghost use Rattle.aq_rules.specs.Questions.Answer.{answer};
 ghost use Rattle.aq_office.specs.Answers.{seen};
 
@@ -12,7 +10,6 @@ use crate::days::days_of;
 use aq_base::{Memory, Pollutant, SiteId, Steps};
 use aq_book::Book;
 use aq_daily::{pm10_days, pm25_days};
-use aq_reports::Sheet;
 use std::alloc::Global;
 use std::sync::ledger::Ledger;
 
@@ -35,40 +32,12 @@ pub(crate) fn daily_of<L: Ledger>(
     match pollutant {
         Pollutant::Ozone => days_of(alloc, book, site, year, steps),
         Pollutant::Pm25 => {
-            let sheet = pm25_sheet(alloc, book, site, year, steps)?;
+            let sheet = pm25_days(alloc, book, site, year)?;
             Answer::of_sheet(alloc, sheet)
         }
         Pollutant::Pm10 => {
-            let sheet = pm10_sheet(alloc, book, site, year, steps)?;
+            let sheet = pm10_days(alloc, book, site, year)?;
             Answer::of_sheet(alloc, sheet)
         }
     }
-}
-
-/// The sheet of the PM2.5 days.
-fn pm25_sheet<L: Ledger>(
-    alloc: Global,
-    book: &Book,
-    site: SiteId,
-    year: u16,
-    steps: &mut Steps<L>,
-) -> Result<Sheet, Memory>
-    requires { IsTrue (is_year year) }
-    ensures { IfOk result (λ sheet. sheet ≡ daily_answer book.now site Pm25 year) }
-{
-    pm25_days(alloc, book.shelf(), book.registry(), site, year, steps)
-}
-
-/// The sheet of the PM10 days.
-fn pm10_sheet<L: Ledger>(
-    alloc: Global,
-    book: &Book,
-    site: SiteId,
-    year: u16,
-    steps: &mut Steps<L>,
-) -> Result<Sheet, Memory>
-    requires { IsTrue (is_year year) }
-    ensures { IfOk result (λ sheet. sheet ≡ daily_answer book.now site Pm10 year) }
-{
-    pm10_days(alloc, book.shelf(), book.registry(), site, year, steps)
 }

@@ -1,7 +1,7 @@
 //! The highest days of a year.
 ghost use Rattle.std.specs.Prelude.{◌≡◌, if◌then◌else◌, IfErr, IfOk, IsTrue, None, OnOk, false, is_ok, map, true};
 ghost use Rattle.aq_base.specs.Calendar.{is_year};
-ghost use Rattle.aq_base.specs.declared.monitor.Pollutant.TheVariants.{Ozone, Pm10, Pm25};
+ghost use Rattle.aq_base.specs.declared.monitor.Pollutant.TheVariants.{Ozone};
 ghost use Rattle.aq_base.specs.declared.question.Question.TheVariants as question;
 ghost use Rattle.aq_book.specs.declared.fault.AskFault.TheVariants.{UnknownSite as Unknown};
 ghost use Rattle.aq_rules.specs.Listed.Highest as highest;
@@ -39,58 +39,14 @@ pub(crate) fn highest_of<L: Ledger>(
     match pollutant {
         Pollutant::Ozone => ozone_of(alloc, book, site, year, steps),
         Pollutant::Pm25 => {
-            let sheet = pm25_sheet(alloc, book, site, year, steps)?;
+            let sheet = highest_particles(alloc, book, site, Pollutant::Pm25, year, steps)?;
             Answer::of_sheet(alloc, sheet)
         }
         Pollutant::Pm10 => {
-            let sheet = pm10_sheet(alloc, book, site, year, steps)?;
+            let sheet = highest_particles(alloc, book, site, Pollutant::Pm10, year, steps)?;
             Answer::of_sheet(alloc, sheet)
         }
     }
-}
-
-/// The sheet of a PM2.5 year.
-fn pm25_sheet<L: Ledger>(
-    alloc: Global,
-    book: &Book,
-    site: SiteId,
-    year: u16,
-    steps: &mut Steps<L>,
-) -> Result<Sheet, Memory>
-    requires { IsTrue (is_year year) }
-    ensures { IfOk result (λ sheet. sheet ≡ highest.highest_answer book.now site Pm25 year) }
-{
-    highest_particles(
-        alloc,
-        book.shelf(),
-        book.registry(),
-        site,
-        Pollutant::Pm25,
-        year,
-        steps,
-    )
-}
-
-/// The sheet of a PM10 year.
-fn pm10_sheet<L: Ledger>(
-    alloc: Global,
-    book: &Book,
-    site: SiteId,
-    year: u16,
-    steps: &mut Steps<L>,
-) -> Result<Sheet, Memory>
-    requires { IsTrue (is_year year) }
-    ensures { IfOk result (λ sheet. sheet ≡ highest.highest_answer book.now site Pm10 year) }
-{
-    highest_particles(
-        alloc,
-        book.shelf(),
-        book.registry(),
-        site,
-        Pollutant::Pm10,
-        year,
-        steps,
-    )
 }
 
 /// The ten highest days of an ozone year.

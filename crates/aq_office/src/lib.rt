@@ -5,8 +5,8 @@
 //!
 //! - `answer_to(alloc, book, question)`: the `Answer` to a question: sheets, a text, or what is missing
 //!   (`Lack`): a site, an event, a combination, a site of the area, or a load.
-//! - `post(alloc, book, keeper, number, body, steps)`: a load, posted under a number; it answers the book
-//!   that then stands, and what became of the load, as a `Posted`. `post_uncounted` is the same on a counter
+//! - `post(alloc, book, keeper, number, body, steps)`: a load, posted under a number; it changes the book
+//!   in place, and answers what became of the load, as a `Posted`. `post_uncounted` is the same on a counter
 //!   of its own.
 //!
 //! # What it promises
@@ -21,7 +21,8 @@
 //! # An example
 //!
 //! ```rust
-//! let (book, posted) = post(alloc, Book::new(alloc), &mut keeper, 1, body, &mut steps)?;
+//! let mut book = Book::new(alloc);
+//! let posted = post(alloc, &mut book, &mut keeper, 1, &body, &mut steps)?; // a `Body` of aq_forms
 //! assert!(rt; matches!(posted, Posted::Done(_)));
 //! match answer_to(alloc, &book, &Question::Value(Standard::Ozone2015, site, 2024))? {
 //!     Answer::Sheets(sheets) => print(texts_of(alloc, sheets.as_slice())?),

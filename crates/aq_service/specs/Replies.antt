@@ -7,7 +7,7 @@ use Rattle.aq_serve.specs.Answered.{Answered, refused, reply_of, shown}
 use Rattle.aq_keeper.specs.Standing.{AreOfOffice, Become, Keeps, Standing}
 use Rattle.aq_serve.specs.Service.{Counts}
 use Rattle.aq_office.specs.declared.posting.Posted.{Posted}
-use Rattle.aq_office.specs.declared.posting.Posted.TheVariants.{Done, Lines, Conflict, Full, Failed}
+use Rattle.aq_office.specs.declared.posting.Posted.TheVariants.{Done, Conflict, Full, Failed}
 
 -- bytes that answer, the keeper failing or not, and the office and the tables after them
 pub record AnswersBy (answered : Bool → Answered) (close : Bool) (bytes : List ℕ) (before after : Standing) : Type 0 where
@@ -25,7 +25,6 @@ pub record LosesBy (answered : Bool → Answered) (before after : Standing) : Ty
 -- what a posted load is answered with, over the office that then stands
 abbrev pub to_posted : Posted → ℕ → Office → Answered
 to_posted (Done sheet) number office = shown 200 sheet office
-to_posted (Lines count) number office = refused 413 office
 to_posted (Conflict kept sent) number office = shown 409 (conflict_sheet number kept sent) office
 to_posted Full number office = refused 507 office
 to_posted Failed number office = refused 503 office

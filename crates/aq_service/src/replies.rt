@@ -70,7 +70,6 @@ pub(crate) fn load_reply(
 {
     match posted {
         Posted::Done(sheet) => sheet_reply(alloc, 200, &sheet, close),
-        Posted::Lines(_) => error_reply(alloc, 413, b"", close),
         Posted::Conflict { kept, sent } => conflict_reply(alloc, number, &kept, &sent, close),
         Posted::Full => error_reply(alloc, 507, b"", close),
         Posted::Failed => error_reply(alloc, 503, b"", close),

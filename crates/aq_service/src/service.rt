@@ -12,14 +12,13 @@ ghost use Rattle.aq_service.specs.Replies.{AnswersBy, LosesBy};
 use crate::replies::{load_reply, methods, question_reply};
 use aq_base::Memory;
 use aq_book::Book;
+use aq_forms::Body;
 use aq_http::{Found, Routes, Verb};
 use aq_keeper::Keeper;
 use aq_office::post_uncounted;
-use aq_rules::office::valid_load::an_office_of_nothing_is_valid;
 use aq_serve::{Service, error_reply};
 use std::alloc::Global;
 use std::marker::Model;
-use std::mem;
 
 /// An office, and the routes by which it is asked. Contracts see the valid office.
 #[derive(Drop)]
@@ -75,7 +74,7 @@ impl OfficeService {
         }
     }
 
-    /// Posts a load, and answers it.
+    /// Posts a load, and answers it. One of too many lines is refused.
     fn answer_load<K: Keeper>(
         &mut self,
         alloc: Global,
@@ -95,10 +94,32 @@ impl OfficeService {
             (standing_of self.old (K.seen keeper.old))
             (standing_of self.new (K.seen keeper.new))) }
     {
-        an_office_of_nothing_is_valid();
-        let book = mem::replace(&mut self.book, Book::new(alloc));
-        let (book, posted) = post_uncounted(alloc, book, keeper, number, body)?;
-        self.book = book;
+        match Body::new(body) {
+            Ok(body) => self.answer_body(alloc, keeper, number, &body, close),
+            Err(_) => error_reply(alloc, 413, b"", close),
+        }
+    }
+
+    /// Posts a load whose body is within the limits, and answers it.
+    fn answer_body<K: Keeper>(
+        &mut self,
+        alloc: Global,
+        keeper: &mut K,
+        number: u32,
+        body: &Body<'_>,
+        close: bool,
+    ) -> Result<Vec<u8>, Memory>
+        ensures answered { IfOk result (λ reply. AnswersBy
+            (λ fails. to_load number self.old fails
+            (posted self.old number (sha256 body.now) body.now)) close reply.items
+            (standing_of self.old (K.seen keeper.old))
+            (standing_of self.new (K.seen keeper.new))) }
+        ensures lost { OnErr result (LosesBy (λ fails. to_load number self.old fails
+            (posted self.old number (sha256 body.now) body.now))
+            (standing_of self.old (K.seen keeper.old))
+            (standing_of self.new (K.seen keeper.new))) }
+    {
+        let posted = post_uncounted(alloc, &mut self.book, keeper, number, body)?;
         load_reply(alloc, number, posted, close)
     }
 }

@@ -1,6 +1,6 @@
 -- Loads that are taken one after the other.
 use Rattle.std.proofs.Common.{◌≡◌, ℕ, suc, ◌+◌, ◌-◌, ◌*◌, ◌≤◌, ◌<◌, inl, inr, Bool, true, false, List, [], ◌∷◌, ◌++◌, length, flat_map, Vec, Global, Option, Some, None, refl, sym, ap, subst, ◌∙◌, arith}
-use Rattle.std.specs.Prelude.{◌||◌, ◌==◌, nat_lt, if◌then◌else◌, fold, Result, IfOk}
+use Rattle.std.specs.Prelude.{◌||◌, ◌==◌, nat_lt, if◌then◌else◌, fold, Result, Ok, IfOk}
 use Rattle.std.specs.List.{range_with_len}
 use Rattle.std.proofs.lemmas.Bool.Decides.{nat_tests}
 use Rattle.std.proofs.lemmas.List.{append-nil}
@@ -23,7 +23,7 @@ use Rattle.aq_rules.specs.Shown.Sheet.{Sheet, text_of}
 use Rattle.aq_keeper.specs.Standing.{Standing}
 use Rattle.aq_office.specs.Posting.{IsPosted}
 use Rattle.aq_office.specs.declared.posting.Posted.{Posted}
-use Rattle.aq_office.specs.declared.posting.Posted.TheVariants.{Done, Lines, Conflict, Full, Failed}
+use Rattle.aq_office.specs.declared.posting.Posted.TheVariants.{Done, Conflict, Full, Failed}
 
 -- ---- the load that is taken
 
@@ -48,6 +48,10 @@ module _ (start sites years load : ℕ) (first : 1 ≤ load) (last : load ≤ lo
   pub body_is : (body : List ℕ) → found ≡ Some body → body ≡ generated_load start sites years load
   body_is body some = same-some body (generated_load start sites years load) (sym some ∙ is ∙ generated_is start sites years load first last)
 
+-- a body that is made of a text is the text
+pub made_of : {E : Type 0} (made : Result (List ℕ) E) (text body : List ℕ) → IfOk made (λ b. b ≡ text) → made ≡ Ok body → body ≡ text
+made_of {E} made text body is same = subst (λ (r : Result (List ℕ) E). IfOk r (λ b. b ≡ text)) same is
+
 -- ---- the office that stands behind it
 
 not_risen : (before after : ℕ) → before ≡ 0 → after ≡ 0 → HasRisen before after → ⊥
@@ -60,16 +64,15 @@ not_failed true faults held = refl
 not_failed false faults held = absurd (cc)
 
 -- over a keeper that never fails it is what the load comes to
-pub posted_office : (comes : loads.Posted) (told : Posted) (lines : ℕ) (before after : Standing) → before.faults ≡ 0 → after.faults ≡ 0 → IsPosted comes lines before after told → after.office ≡ office_after comes before.office
-posted_office TooManyLines told lines before after none still is = ap (λ (s : Standing). s.office) is.1
-posted_office (Repeated kept) told lines before after none still is = ap (λ (s : Standing). s.office) is.1
-posted_office (Differing kept sent) told lines before after none still is = ap (λ (s : Standing). s.office) is.1
-posted_office NoRoom told lines before after none still is = ap (λ (s : Standing). s.office) is.1
-posted_office (Taken reply now) (Done sheet) lines before after none still is = is.1
-posted_office (Taken reply now) Failed lines before after none still is = absurd (not_risen before.faults after.faults none still is.2)
-posted_office (Taken reply now) (Lines count) lines before after none still is = absurd is
-posted_office (Taken reply now) (Conflict kept sent) lines before after none still is = absurd is
-posted_office (Taken reply now) Full lines before after none still is = absurd is
+pub posted_office : (comes : loads.Posted) (told : Posted) (before after : Standing) → before.faults ≡ 0 → after.faults ≡ 0 → IsPosted comes before after told → after.office ≡ office_after comes before.office
+posted_office TooManyLines told before after none still is = absurd is
+posted_office (Repeated kept) told before after none still is = ap (λ (s : Standing). s.office) is.1
+posted_office (Differing kept sent) told before after none still is = ap (λ (s : Standing). s.office) is.1
+posted_office NoRoom told before after none still is = ap (λ (s : Standing). s.office) is.1
+posted_office (Taken reply now) (Done sheet) before after none still is = is.1
+posted_office (Taken reply now) Failed before after none still is = absurd (not_risen before.faults after.faults none still is.2)
+posted_office (Taken reply now) (Conflict kept sent) before after none still is = absurd is
+posted_office (Taken reply now) Full before after none still is = absurd is
 
 -- ---- the report of a standard
 

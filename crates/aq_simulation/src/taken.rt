@@ -1,7 +1,7 @@
 //! Generated loads, taken one after the other.
-ghost use Rattle.std.specs.Prelude.{◌≡◌, ◌+◌, ◌-◌, ◌*◌, ◌≤◌, true, length, IfOk};
+ghost use Rattle.std.specs.Prelude.{◌≡◌, ◌+◌, ◌-◌, ◌*◌, ◌≤◌, true, IfOk, OnOk};
 ghost use Rattle.sha2.specs.Sha256.{sha256};
-ghost use Rattle.aq_rules.specs.Limits.{MOST_BYTES, MOST_LINES, MOST_GENERATED_SITES, FEWEST_GENERATED_YEARS, MOST_GENERATED_YEARS};
+ghost use Rattle.aq_rules.specs.Limits.{MOST_LINES, MOST_GENERATED_SITES, FEWEST_GENERATED_YEARS, MOST_GENERATED_YEARS};
 ghost use Rattle.aq_rules.specs.Lines.Lines.{line_count};
 ghost use Rattle.aq_rules.specs.Office.Load.{post};
 ghost use Rattle.aq_rules.specs.Office.Office.{IsOffice};
@@ -9,7 +9,7 @@ ghost use Rattle.aq_rules.specs.Shown.Generator.{generated_lines, generated_load
 
 use aq_base::Memory;
 use aq_book::Book;
-use aq_forms::count_lines;
+use aq_forms::Body;
 use aq_generator::{generate, load_count};
 use aq_keeper::SteadyKeeper;
 use aq_office::post_uncounted;
@@ -41,7 +41,7 @@ pub(crate) fn take_all(alloc: Global, start: u64, sites: u8, years: u8) -> Resul
     let count = load_count(sites, years);
     let mut load = 1;
     while load <= count {
-        taken = take_load(alloc, start, sites, years, load, &mut keeper, taken)?;
+        take_load(alloc, start, sites, years, load, &mut keeper, &mut taken)?;
         load += 1;
     }
     Ok(taken)
@@ -55,25 +55,28 @@ fn take_load(
     years: u8,
     load: u32,
     keeper: &mut SteadyKeeper,
-    taken: Taken,
-) -> Result<Taken, Memory>
+    taken: &mut Taken,
+) -> Result<(), Memory>
     requires some_sites { 1 ≤ sites }
     requires few_sites { sites ≤ MOST_GENERATED_SITES }
     requires some_years { FEWEST_GENERATED_YEARS ≤ years }
     requires few_years { years ≤ MOST_GENERATED_YEARS }
     requires first { 1 ≤ load }
     requires last { load ≤ load_count sites years }
-    requires room { taken.lines ≤ 400 * MOST_LINES }
-    requires valid { IsOffice taken.book }
+    requires room { taken.old.lines ≤ 400 * MOST_LINES }
+    requires valid { IsOffice taken.old.book }
     requires held { keeper.old.is_held ≡ true }
     ensures held { keeper.new.is_held ≡ true }
-    ensures valid { IfOk result (λ after. IsOffice after.book) }
-    ensures book { IfOk result (λ after. after.book ≡ post taken.book load (sha256 (generated_load start sites years load)) (generated_load start sites years load)) }
-    ensures lines { IfOk result (λ after. after.lines ≡ taken.lines + line_count (generated_load start sites years load)) }
-    ensures few_lines { IfOk result (λ after. after.lines ≤ taken.lines + MOST_LINES) }
+    ensures valid { OnOk result (IsOffice taken.new.book) }
+    ensures book { OnOk result (taken.new.book ≡ post taken.old.book load (sha256 (generated_load start sites years load)) (generated_load start sites years load)) }
+    ensures lines { OnOk result (taken.new.lines ≡ taken.old.lines + line_count (generated_load start sites years load)) }
+    ensures few_lines { OnOk result (taken.new.lines ≤ taken.old.lines + MOST_LINES) }
 {
-    let Some(body) = generate(alloc, start, sites, years, load)? else {
-        return Ok(taken);
+    let Some(text) = generate(alloc, start, sites, years, load)? else {
+        return Ok(());
+    };
+    let Ok(body) = Body::new(&text) else {
+        return Ok(());
     };
     take(alloc, load, &body, keeper, taken)
 }
@@ -82,23 +85,20 @@ fn take_load(
 fn take(
     alloc: Global,
     number: u32,
-    body: &[u8],
+    body: &Body<'_>,
     keeper: &mut SteadyKeeper,
-    taken: Taken,
-) -> Result<Taken, Memory>
-    requires bytes { length body.now ≤ MOST_BYTES }
-    requires lines { line_count body.now ≤ MOST_LINES }
-    requires room { taken.lines ≤ 400 * MOST_LINES }
-    requires valid { IsOffice taken.book }
+    taken: &mut Taken,
+) -> Result<(), Memory>
+    requires room { taken.old.lines ≤ 400 * MOST_LINES }
+    requires valid { IsOffice taken.old.book }
     requires held { keeper.old.is_held ≡ true }
     ensures held { keeper.new.is_held ≡ true }
-    ensures valid { IfOk result (λ after. IsOffice after.book) }
-    ensures book { IfOk result (λ after. after.book ≡ post taken.book number (sha256 body.now) body.now) }
-    ensures lines { IfOk result (λ after. after.lines ≡ taken.lines + line_count body.now) }
+    ensures valid { OnOk result (IsOffice taken.new.book) }
+    ensures book { OnOk result (taken.new.book ≡ post taken.old.book number (sha256 body.now) body.now) }
+    ensures lines { OnOk result (taken.new.lines ≡ taken.old.lines + line_count body.now) }
+    ensures few_lines { OnOk result (taken.new.lines ≤ taken.old.lines + MOST_LINES) }
 {
-    let (book, _) = post_uncounted(alloc, taken.book, keeper, number, body)?;
-    Ok(Taken {
-        book,
-        lines: taken.lines + count_lines(body),
-    })
+    post_uncounted(alloc, &mut taken.book, keeper, number, body)?;
+    taken.lines += body.line_count();
+    Ok(())
 }

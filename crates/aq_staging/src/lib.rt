@@ -25,7 +25,7 @@
 //!
 //! ```rust
 //! let identity = LoadIdentity::new(1, digest);
-//! let staged = stage_load(alloc, &registry, &shelf, identity, body)?;
+//! let staged = stage_load(alloc, &registry, &shelf, identity, &body)?;
 //! if staged.reply().refused == 0 {
 //!     let batch = batch_of(staged.changes());
 //!     let Taken { registry: after, shelf, .. } = staged.onto(shelf)?;

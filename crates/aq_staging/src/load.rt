@@ -1,9 +1,8 @@
 //! A load's lines, taken in their order beside the office.
-ghost use Rattle.std.specs.Prelude.{◌≡◌, ◌≤◌, ◌++◌, length, true, IfOk, OnOk};
+ghost use Rattle.std.specs.Prelude.{◌≡◌, ◌++◌, true, IfOk, OnOk};
 ghost use Rattle.aq_staging.specs.Identity.{number_in};
 ghost use Rattle.aq_staging.specs.Refusals.{office_before, office_in, AreNoted};
 ghost use Rattle.aq_staging.specs.Staged.{after_lines, IsStagedOn};
-ghost use Rattle.aq_rules.specs.Limits.{MOST_BYTES};
 ghost use Rattle.aq_rules.specs.Lines.Lines.{body_lines};
 ghost use Rattle.aq_rules.specs.Office.Load.{after, after_all, listed_for, refusal, reply};
 ghost use Rattle.aq_rules.specs.Office.Office.{record_rank, rises};
@@ -15,23 +14,21 @@ use crate::reply::reply_of;
 use crate::staged::Staged;
 use crate::staging::{Refusal, Staging};
 use aq_base::{ListedLine, Memory};
-use aq_forms::{count_lines, lines_of};
+use aq_forms::{Body, lines_of};
 use aq_registry::Registry;
 use aq_shelf::Shelf;
 use std::alloc::Global;
 
-/// What the lines of a body make of an office of these records and observations, which are not changed.
-/// A body has at most 8,388,608 bytes. It costs for each line some searches of the records, of the
-/// observations, and of those that the lines before it changed; a load with a line of the office costs a copy
-/// of the records besides.
+/// What the lines of a body make of an office of these records and observations, which are not changed. It
+/// costs for each line some searches of the records, of the observations, and of those that the lines before
+/// it changed; a load with a line of the office costs a copy of the records besides.
 pub fn stage_load(
     alloc: Global,
     registry: &Registry,
     shelf: &Shelf,
     identity: Option<LoadIdentity>,
-    body: &[u8],
+    body: &Body<'_>,
 ) -> Result<Staged, Memory>
-    requires bytes { length body.now ≤ MOST_BYTES }
     requires order { rises record_rank registry.now ≡ true }
     ensures reply { IfOk result (λ staged. staged.reply ≡ reply (office_of registry.now shelf.now) (number_in identity) body.now) }
     ensures identity { IfOk result (λ staged. staged.identity ≡ identity) }
@@ -41,12 +38,12 @@ pub fn stage_load(
     let mut staging = Staging::new(alloc, registry, shelf);
     let mut refused = Vec::new(alloc);
     let mut taken = 0;
-    for line in lines_of(body) {
+    for line in lines_of(body.text()) {
         take_line(&mut staging, &mut refused, line.number, line.text)?;
         taken += 1;
     }
     let number = number_in(identity);
-    let reply = reply_of(alloc, number, count_lines(body), taken, &refused)?;
+    let reply = reply_of(alloc, number, body.line_count(), taken, &refused)?;
     let left = staging.records.into_copy();
     let changes = staging.observations.into_changes();
     let office_changes = changes_of(alloc, &left, &staging.touched, &changes, registry, shelf)?;

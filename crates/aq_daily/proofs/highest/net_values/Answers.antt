@@ -1,11 +1,22 @@
-use Rattle.std.proofs.Common.{◌≡◌, IfOk, map, subst, sym}
-use Rattle.aq_base.specs.declared.monitor.Pollutant.{Pollutant}
+use Rattle.std.proofs.Common.{◌≡◌, ◌+◌, ◌∙◌, ℕ, Option, map, ap, arith}
+use Rattle.std.specs.Prelude.{ℤ, option_and_then}
+use Rattle.std.specs.List.{range_with_len}
 use Rattle.aq_rules.specs.Ozone.OzoneYear.{days_of}
-use Rattle.aq_rules.specs.Particles.ParticleDay.{net_day}
-use Rattle.aq_series.specs.OfficeView.{office_of}
+use Rattle.aq_rules.specs.Particles.ParticleDay.{net_day, unless_excluded}
+use Rattle.aq_daily.proofs.Walks.{rows-more}
 use Rattle.aq_daily.proofs.highest.net_values.Goals as goal
 
-pub returns-in-Pm25 : goal.returns-in-Pm25
-returns-in-Pm25 g c =
-    subst (λ (p : Pollutant). IfOk c.pm25_values.result (λ values. values ≡ map (net_day (office_of c.args.registry.now c.args.shelf.now) c.args.site p) (days_of c.args.year)))
-    (sym c.in-Pm25.is) c.pm25_values.ensures
+pub loop-place-preserved : goal.loop-place-preserved
+loop-place-preserved g c =
+    let net : ℕ → Option ℤ = net_day (g.S.Years.office c.args.source.now) c.args.site c.args.pollutant in
+    let first = c.year_span-first.result.0 in
+    let at : first + c.loop-place.place ≡ c.new-day.result = omega (arith, c.new-day.ensures, c.number.ensures.value) in
+    rows-more net first c.loop-place.place c.loop-place.values c.push.new.self c.new-day.result c.net_of.result at c.loop-place.invariant c.in_ok-push.ensures.ok
+    (c.net_of.ensures ∙ ap (option_and_then unless_excluded) c.particle_day-cell.ensures)
+
+pub returns : goal.returns
+unfolding days_of
+returns g c =
+    let net : ℕ → Option ℤ = net_day (g.S.Years.office c.args.source.now) c.args.site c.args.pollutant in
+    let all : c.loop-place.place ≡ c.year_span-first.result.1 = omega (arith, c.loop-place-test.false, c.loop-place.auto.place-end) in
+    c.loop-place.invariant ∙ (λ i. map net (range_with_len (c.year_span-first.ensures.first i) ((all ∙ c.year_span-first.ensures.days) i)))

@@ -7,7 +7,6 @@ use Rattle.aq_rules.specs.Office.Office.{Office}
 use Rattle.aq_rules.specs.Office.Schedule.{is_scheduled}
 use Rattle.aq_rules.specs.Particles.ParticleDay.{site_day}
 use Rattle.aq_rules.specs.Particles.Strata.{first_days_among}
-use Rattle.aq_series.specs.OfficeView.{office_of}
 use Rattle.aq_daily.specs.DayRows.{pm10_row_among}
 use Rattle.aq_daily.specs.StrataBegun.{with_day}
 use Rattle.aq_daily.proofs.StrataPlaces.{StandsAt, all-starts, one-more-at-most, place-is, stands-first, stands-next}
@@ -16,7 +15,7 @@ use Rattle.aq_daily.proofs.pm10_sheet.add_days.Goals as goal
 
 pub loop-place-init : goal.loop-place-init
 loop-place-init g c =
-    let asks : ℕ → Bool = is_scheduled c.args.registry.now c.args.site Pm10 in
+    let asks : ℕ → Bool = is_scheduled (g.S.Years.office c.args.source.now).records c.args.site Pm10 in
     let days : List ℕ = range_with_len c.args.first c.args.days in
     let here : c.args.first ≡ c.args.first + 0 = omega arith in
     let all : c.args.days ≡ c.args.days - 0 = omega arith in
@@ -31,15 +30,15 @@ loop-place-init g c =
 
 pub loop-place-preserved : goal.loop-place-preserved
 loop-place-preserved g c =
-    let office : Office = office_of c.args.registry.now c.args.shelf.now in
-    let asks : ℕ → Bool = is_scheduled c.args.registry.now c.args.site Pm10 in
+    let office : Office = g.S.Years.office c.args.source.now in
+    let asks : ℕ → Bool = is_scheduled (g.S.Years.office c.args.source.now).records c.args.site Pm10 in
     let days : List ℕ = range_with_len c.args.first c.args.days in
     let starts : List ℕ = first_days_among asks days in
     let day : ℕ = c.args.first + c.loop-place.place in
     let left : ℕ = c.args.days - (c.loop-place.place + 1) in
     let day-is : c.new-day.result ≡ day = omega (arith, c.new-day.ensures, c.number-in-loop-place.ensures.value, c.from.ensures) in
     let number-is : c.number-in-loop-place-2.result ≡ day = c.number-in-loop-place-2.ensures.value ∙ day-is in
-    let scheduled : c.is_scheduled-scheduled.result ≡ asks day = c.is_scheduled-scheduled.ensures ∙ ap asks day-is in
+    let scheduled : c.is_scheduled-scheduled.result ≡ asks day = c.is_scheduled-scheduled.ensures ∙ (λ i. is_scheduled (c.records.ensures i) c.args.site Pm10 (day-is i)) in
     let begun-is : c.with_day-begun.result ≡ with_day (asks day) day c.loop-place.begun = c.with_day-begun.ensures ∙ (λ i. with_day (scheduled i) (number-is i) c.loop-place.begun) in
     let one-left : c.args.days - c.loop-place.place ≡ suc left = omega (arith, c.loop-place-test.true) in
     let before : StandsAt asks starts day (suc left) c.loop-place.begun = subst (λ (n : ℕ). StandsAt asks starts day n c.loop-place.begun) one-left c.loop-place.invariant.strata in
@@ -55,6 +54,6 @@ loop-place-preserved g c =
             day = day-is i;
             scheduled = scheduled i;
             stratum = place-is asks starts day left c.with_day-begun.result after i;
-            sample = (c.site_day.ensures.value ∙ ap (site_day office c.args.site Pm10) day-is) i;
+            sample = (c.particle_day.ensures ∙ ap (site_day office c.args.site Pm10) day-is) i;
           })));
     }

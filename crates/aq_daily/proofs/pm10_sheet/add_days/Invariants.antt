@@ -3,7 +3,6 @@ use Rattle.std.specs.List.{range_with_len}
 use Rattle.aq_base.specs.declared.monitor.Pollutant.TheVariants.{Pm10}
 use Rattle.aq_rules.specs.Office.Schedule.{is_scheduled}
 use Rattle.aq_rules.specs.Particles.Strata.{first_days_among}
-use Rattle.aq_series.specs.OfficeView.{office_of}
 use Rattle.aq_daily.specs.DayRows.{pm10_row_among}
 use Rattle.aq_daily.proofs.StrataPlaces.{StandsAt}
 use Rattle.aq_daily.proofs.pm10_sheet.add_days.Given as goal
@@ -11,6 +10,6 @@ use Rattle.aq_daily.proofs.pm10_sheet.add_days.Given as goal
 abbrev pub invariant-loop-place : goal.invariant-loop-place
 invariant-loop-place g l = record {
   few : l.begun.strata ≤ l.place;
-  strata : StandsAt (is_scheduled l.registry l.site Pm10) (first_days_among (is_scheduled l.registry l.site Pm10) (range_with_len l.fn.first l.fn.days)) (l.fn.first + l.place) (l.fn.days - l.place) l.begun;
-  so_far : l.rows ≡ l.fn.rows ++ map (pm10_row_among (office_of l.registry l.shelf) l.site (range_with_len l.fn.first l.fn.days)) (range_with_len l.fn.first l.place);
+  strata : StandsAt (is_scheduled (g.S.Years.office l.source).records l.site Pm10) (first_days_among (is_scheduled (g.S.Years.office l.source).records l.site Pm10) (range_with_len l.fn.first l.fn.days)) (l.fn.first + l.place) (l.fn.days - l.place) l.begun;
+  so_far : l.rows ≡ l.fn.rows ++ map (pm10_row_among (g.S.Years.office l.source) l.site (range_with_len l.fn.first l.fn.days)) (range_with_len l.fn.first l.place);
 }

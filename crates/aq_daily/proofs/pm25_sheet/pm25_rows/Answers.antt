@@ -1,11 +1,22 @@
-use Rattle.std.proofs.Common.{◌≡◌, map, ℕ, ap, ◌∙◌, arith}
-use Rattle.aq_series.specs.OfficeView.{office_of}
+use Rattle.std.proofs.Common.{◌≡◌, ◌+◌, ◌∙◌, map, ap, arith}
+use Rattle.std.specs.List.{range_with_len}
+use Rattle.aq_rules.specs.Listed.Daily.{pm25_day_cells}
+use Rattle.aq_rules.specs.Ozone.OzoneYear.{days_of}
 use Rattle.aq_daily.specs.DayRows.{pm25_row}
-use Rattle.aq_daily.proofs.YearDays.{days_before, year-days}
+use Rattle.aq_daily.proofs.Walks.{rows-more}
 use Rattle.aq_daily.proofs.pm25_sheet.pm25_rows.Goals as goal
 
+pub loop-place-preserved : goal.loop-place-preserved
+loop-place-preserved g c =
+    let row = pm25_row (g.S.Years.office c.args.source.now) c.args.site in
+    let first = c.year_span-first.result.0 in
+    let at : first + c.loop-place.place ≡ c.new-day.result = omega (arith, c.new-day.ensures, c.number.ensures.value) in
+    rows-more row first c.loop-place.place c.loop-place.rows c.push.new.self c.new-day.result c.in_ok-pm25_day_cells.field-0 at c.loop-place.invariant c.in_ok-push.ensures.ok
+    (c.in_ok-pm25_day_cells.ensures ∙ ap pm25_day_cells c.pm25_day-row.ensures)
+
 pub returns : goal.returns
+unfolding days_of
 returns g c =
-    let row = pm25_row (office_of c.args.registry.now c.args.shelf.now) c.args.site in
-    let four : c.loop-part.part ≡ 4 = omega (arith, c.loop-part-test.false, c.loop-part.auto.part-end) in
-    c.loop-part.invariant ∙ ap (λ (n : ℕ). map row (days_before c.args.year n)) four ∙ ap (map row) (year-days c.args.year c.requires.year)
+    let row = pm25_row (g.S.Years.office c.args.source.now) c.args.site in
+    let all : c.loop-place.place ≡ c.year_span-first.result.1 = omega (arith, c.loop-place-test.false, c.loop-place.auto.place-end) in
+    c.loop-place.invariant ∙ (λ i. map row (range_with_len (c.year_span-first.ensures.first i) ((all ∙ c.year_span-first.ensures.days) i)))

@@ -1,30 +1,45 @@
-use Rattle.aq_desk.proofs.Outcomes.{is_within-few}
+use Rattle.std.proofs.Common.{◌∙◌}
 use Rattle.aq_desk.proofs.Reading.{read-on, read-stopped}
-use Rattle.aq_desk.proofs.Unread.{read_body_over, read_causes, unread_body, unread_causes, unread_keeper}
+use Rattle.aq_desk.proofs.Unread.{few_lines, read_body_over, read_causes, too_long, unfilled, unread_body, unread_causes, unread_keeper}
 use Rattle.aq_desk.specs.Load.{load_answer}
 use Rattle.aq_desk.proofs.load.load.Goals as goal
 
+pub returns-in_err-bytes-clause-told : goal.returns-in_err-bytes-clause-told
+returns-in_err-bytes-clause-told g c =
+    unread_body (load_answer c.args.number) _ _ _ _ _ c.in_err-bytes.field-0.0 c.from_residual.result c.from_residual.ensures.1 (unfilled _ _ _ c.in_err-bytes.field-0.0 c.in_err-bytes.ensures.fault)
+
 pub returns-in_err-body-clause-told : goal.returns-in_err-body-clause-told
 returns-in_err-body-clause-told g c =
-    unread_body (load_answer c.args.number) _ _ _ _ _ c.in_err-body.field-0.0 c.from_residual.result c.from_residual.ensures.1 c.in_err-body.ensures.fault
+    unread_body (load_answer c.args.number) _ _ _ _ _ c.in_err-body.field-0.0 c.from_residual-in_err-body.result c.from_residual-in_err-body.ensures.1 (too_long _ _ _ c.in_ok-bytes.bytes.items _ c.in_err-body.field-0.0 c.in_ok-bytes.ensures.body c.deref.ensures.value c.in_ok-bytes.ensures.steady c.in_err-body.ensures.fault)
+
+pub returns-in_err-bytes-clause-causes : goal.returns-in_err-bytes-clause-causes
+returns-in_err-bytes-clause-causes g c =
+    unread_causes _ _ _ c.in_err-bytes.field-0.0 c.from_residual.result c.from_residual.ensures.1 (unfilled _ _ _ c.in_err-bytes.field-0.0 c.in_err-bytes.ensures.fault)
 
 pub returns-in_err-body-clause-causes : goal.returns-in_err-body-clause-causes
 returns-in_err-body-clause-causes g c =
-    unread_causes _ _ _ c.in_err-body.field-0.0 c.from_residual.result c.from_residual.ensures.1 c.in_err-body.ensures.fault
+    unread_causes _ _ _ c.in_err-body.field-0.0 c.from_residual-in_err-body.result c.from_residual-in_err-body.ensures.1 (too_long _ _ _ c.in_ok-bytes.bytes.items _ c.in_err-body.field-0.0 c.in_ok-bytes.ensures.body c.deref.ensures.value c.in_ok-bytes.ensures.steady c.in_err-body.ensures.fault)
+
+pub returns-in_err-bytes-clause-keeper_failed : goal.returns-in_err-bytes-clause-keeper_failed
+returns-in_err-bytes-clause-keeper_failed g c = unread_keeper _ c.in_err-bytes.field-0.0 c.from_residual.result c.from_residual.ensures.1
 
 pub returns-in_err-body-clause-keeper_failed : goal.returns-in_err-body-clause-keeper_failed
-returns-in_err-body-clause-keeper_failed g c = unread_keeper _ c.in_err-body.field-0.0 c.from_residual.result c.from_residual.ensures.1
+returns-in_err-body-clause-keeper_failed g c = unread_keeper _ c.in_err-body.field-0.0 c.from_residual-in_err-body.result c.from_residual-in_err-body.ensures.1
 
 pub returns-clause-told : goal.returns-clause-told
 returns-clause-told g c =
-    let within = is_within-few c.in_ok-body.body.items c.in_ok-body.ensures.bytes c.in_ok-body.ensures.lines in
-    read_body_over (load_answer c.args.number) _ c.in_ok-body.body.items c.deref.result.now c.answer.result _ _ _ _ c.in_ok-body.ensures.body c.deref.ensures.value within c.answer.ensures.no_input.1 c.answer.ensures.told
+    let same = c.in_ok-body.ensures.body ∙ c.deref.ensures.value in
+    let within = few_lines c.in_ok-bytes.bytes.items c.deref.result.now c.in_ok-bytes.ensures.bytes c.deref.ensures.value c.in_ok-body.ensures.lines in
+    read_body_over (load_answer c.args.number) _ c.in_ok-bytes.bytes.items c.in_ok-body.body c.answer.result _ _ _ _ c.in_ok-bytes.ensures.body same within c.answer.ensures.no_input.1 c.answer.ensures.told
 
 pub returns-clause-causes : goal.returns-clause-causes
-returns-clause-causes g c = read_causes _ _ _ _ _ c.in_ok-body.ensures.steady c.answer.ensures.no_input.0 c.answer.ensures.output_failed
+returns-clause-causes g c = read_causes _ _ _ _ _ c.in_ok-bytes.ensures.steady c.answer.ensures.no_input.0 c.answer.ensures.output_failed
+
+pub returns-in_err-bytes-clause-read : goal.returns-in_err-bytes-clause-read
+returns-in_err-bytes-clause-read g c = read-stopped c.in_err-bytes.field-0.0 c.from_residual.result _ _ c.from_residual.ensures.1 c.in_err-bytes.ensures.cut
 
 pub returns-in_err-body-clause-read : goal.returns-in_err-body-clause-read
-returns-in_err-body-clause-read g c = read-stopped c.in_err-body.field-0.0 c.from_residual.result _ _ c.from_residual.ensures.1 c.in_err-body.ensures.cut
+returns-in_err-body-clause-read g c = read-on _ _ _ c.in_ok-bytes.ensures.read
 
 pub returns-clause-read : goal.returns-clause-read
-returns-clause-read g c = read-on _ _ _ c.in_ok-body.ensures.read
+returns-clause-read g c = read-on _ _ _ c.in_ok-bytes.ensures.read

@@ -4,4 +4,4 @@ use Rattle.aq_simulation.proofs.taken.take.Goals as goal
 
 pub returns-clause-book : goal.returns-clause-book
 returns-clause-book c =
-    posted_office _ _ _ _ _ (not_failed _ _ c.requires.held) (not_failed _ _ (c.in_ok-book.ensures.held ∙ c.requires.held)) c.in_ok-book.ensures.posted
+    posted_office _ _ _ _ (not_failed _ _ c.requires.held) (not_failed _ _ (c.in_ok-post_uncounted.ensures.held ∙ c.requires.held)) c.in_ok-post_uncounted.ensures.posted

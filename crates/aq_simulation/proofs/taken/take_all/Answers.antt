@@ -15,6 +15,6 @@ loop-load-preserved c =
     let is_there : c.loop-load.load ≤ load_count c.args.sites c.args.years = omega (arith, c.loop-load-test.true, c.load_count-count.ensures) in
     record {
       takes = takes_next c.args.start c.args.sites c.args.years c.loop-load.load c.loop-load.taken.lines _ c.loop-load.taken.book _ is_there c.loop-load.invariant.takes
-          c.in_ok-taken.ensures.valid c.in_ok-taken.ensures.book c.in_ok-taken.ensures.lines c.in_ok-taken.ensures.few_lines;
-      held = c.in_ok-taken.ensures.held;
+          c.in_ok-take_load.ensures.valid c.in_ok-take_load.ensures.book c.in_ok-take_load.ensures.lines c.in_ok-take_load.ensures.few_lines;
+      held = c.in_ok-take_load.ensures.held;
     }

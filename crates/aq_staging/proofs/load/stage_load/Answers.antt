@@ -35,7 +35,7 @@ returns-clause-reply c =
     let taken : c.loop-line.taken ≡ length (body_lines c.args.body.now) =
     omega (arith, ap length c.in-None.ensures.steps.0, c.loop-line.invariant.count)
     in
-    c.in_ok-reply.ensures ∙ reply_for-same c.number_in-number.result _ c.count_lines.result _ c.loop-line.taken _ c.deref.result.now _ c.number_in-number.ensures c.count_lines.ensures taken refused
+    c.in_ok-reply.ensures ∙ reply_for-same c.number_in-number.result _ c.line_count.result _ c.loop-line.taken _ c.deref.result.now _ c.number_in-number.ensures c.line_count.ensures.count taken refused
 
 pub changes_of-requires : goal.changes_of-requires
 changes_of-requires c = record {

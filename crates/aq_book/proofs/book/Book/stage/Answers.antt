@@ -5,8 +5,8 @@ use Rattle.aq_series.specs.OfficeView.{office_of}
 use Rattle.aq_book.proofs.StageLemmas.{office-is, stage-is, valid-loaded}
 use Rattle.aq_book.proofs.book.Book.stage.Goals as goal
 
-pub stage_load-requires-clause-order : goal.stage_load-requires-clause-order
-stage_load-requires-clause-order c = c.self.invariant.office.keys_rise.records
+pub stage_load-requires : goal.stage_load-requires
+stage_load-requires c = record { order = c.self.invariant.office.keys_rise.records }
 
 pub returns-clause-staged : goal.returns-clause-staged
 returns-clause-staged c =
@@ -29,6 +29,6 @@ returns-clause-fits c =
       valid =
           subst IsOffice (sym (returns-clause-office c))
           (valid-loaded c.args.self.now c.args.digest c.args.body.now (c.loads_leave_the_office_valid.ensures.not_kept c.args.self.now c.args.digest c.args.body.now valid) c.args.number
-          (λ some new. c.loads_leave_the_office_valid.ensures.kept c.args.self.now c.args.number c.args.digest c.args.body.now valid some (omega (arith, c.ranges.number.fits)) c.digest_is_32_bytes.ensures.many c.digest_is_32_bytes.ensures.bytes c.requires.lines new)
+          (λ some new. c.loads_leave_the_office_valid.ensures.kept c.args.self.now c.args.number c.args.digest c.args.body.now valid some (omega (arith, c.ranges.number.fits)) c.digest_is_32_bytes.ensures.many c.digest_is_32_bytes.ensures.bytes c.line_count.ensures.few new)
           c.requires.number);
     }

@@ -1,43 +1,38 @@
-use Rattle.std.proofs.Common.{subst, sym, ◌∙◌}
+use Rattle.std.proofs.Common.{◌<◌, List, ℕ, subst}
 use Rattle.sha2.specs.Sha256.{sha256}
-use Rattle.aq_rules.specs.Lines.Lines.{line_count}
+use Rattle.std.specs.Prelude.{IfOk, OnErr}
+use Rattle.aq_rules.specs.Limits.{MOST_LINES}
 use Rattle.aq_rules.specs.Office.Load.{posted}
-use Rattle.aq_rules.specs.Office.Office.{IsOffice, Office}
 use Rattle.aq_keeper.specs.Standing.{Standing, standing_of}
-use Rattle.aq_office.specs.Posting.{LosesLoad}
-use Rattle.aq_office.proofs.PostedLoads.{posted_over}
-use Rattle.aq_service.proofs.Replied.{load_answered, post_lost, reply_lost}
 use Rattle.aq_office.proofs.Taking.{if_ok, on_err}
+use Rattle.aq_serve.specs.Answered.{to_load}
+use Rattle.aq_service.proofs.Replied.{too_many_answered, too_many_lost}
+use Rattle.aq_service.specs.Replies.{AnswersBy, LosesBy}
 use Rattle.aq_service.proofs.service.OfficeService.answer_load.Goals as goal
 
-pub post_uncounted-requires-clause-valid : goal.post_uncounted-requires-clause-valid
-post_uncounted-requires-clause-valid g c = subst IsOffice (sym c.replace-book.ensures.value) c.self.invariant
+pub returns-in-Ok-clause-answered : goal.returns-in-Ok-clause-answered
+returns-in-Ok-clause-answered g c =
+    let before : Standing = standing_of c.args.self.now (g.K.Keeper.seen c.args.keeper.now) in
+    let after : Standing = standing_of c.answer_body.new.self (g.K.Keeper.seen c.answer_body.new.keeper) in
+    subst (λ (b : List ℕ). IfOk c.answer_body.result (λ reply. AnswersBy (λ fails. to_load c.args.number c.args.self.now fails (posted c.args.self.now c.args.number (sha256 b) b)) c.args.close reply.items before after))
+    c.in-Ok.ensures.body c.answer_body.ensures.answered
 
-pub returns-in_err-book-clause-lost : goal.returns-in_err-book-clause-lost
-returns-in_err-book-clause-lost g c =
-    let P = λ (o : Office). LosesLoad c.args.number (sha256 c.args.body.now) c.args.body.now
-    (standing_of o (g.K.Keeper.seen c.args.keeper.now))
-    (standing_of o (g.K.Keeper.seen c.post_uncounted.new.keeper)) in
-    on_err _ c.from_residual.result
-    (post_lost c.args.number (sha256 c.args.body.now) c.args.body.now c.args.self.now c.replace-book.new.dest
-    (g.K.Keeper.seen c.args.keeper.now).tables (g.K.Keeper.seen c.post_uncounted.new.keeper).tables (g.K.Keeper.seen c.args.keeper.now).faults (g.K.Keeper.seen c.post_uncounted.new.keeper).faults
-    (subst P (c.replace-book.ensures.value ∙ c.self.view_is) c.in_err-book.ensures.lost))
+pub returns-in-Ok-clause-lost : goal.returns-in-Ok-clause-lost
+returns-in-Ok-clause-lost g c =
+    let before : Standing = standing_of c.args.self.now (g.K.Keeper.seen c.args.keeper.now) in
+    let after : Standing = standing_of c.answer_body.new.self (g.K.Keeper.seen c.answer_body.new.keeper) in
+    subst (λ (b : List ℕ). OnErr c.answer_body.result (LosesBy (λ fails. to_load c.args.number c.args.self.now fails (posted c.args.self.now c.args.number (sha256 b) b)) before after))
+    c.in-Ok.ensures.body c.answer_body.ensures.lost
 
-pub returns-clause-answered : goal.returns-clause-answered
-returns-clause-answered g c =
-    let after : Standing = standing_of c.in_ok-book.book (g.K.Keeper.seen c.post_uncounted.new.keeper) in
-    let is = posted_over _ _ (c.replace-book.ensures.value ∙ c.self.view_is) c.args.number (sha256 c.args.body.now) c.args.body.now (line_count c.args.body.now)
-    (g.K.Keeper.seen c.args.keeper.now).tables (g.K.Keeper.seen c.args.keeper.now).faults after c.in_ok-book.posted c.in_ok-book.ensures.posted in
-    if_ok c.load_reply.result
-    (λ bytes reply. load_answered c.args.number (line_count c.args.body.now) (standing_of c.args.self.now (g.K.Keeper.seen c.args.keeper.now))
-    (posted c.args.self.now c.args.number (sha256 c.args.body.now) c.args.body.now) c.args.close bytes.items after c.in_ok-book.posted is (reply after.office))
-    c.load_reply.ensures
+pub returns-in-Err-clause-answered : goal.returns-in-Err-clause-answered
+returns-in-Err-clause-answered g c =
+    let many = subst (λ n. MOST_LINES < n) c.in-Err.ensures.too_many.0 c.in-Err.ensures.too_many.1 in
+    if_ok c.error_reply.result
+    (λ bytes reply. too_many_answered c.args.number (sha256 c.args.body.now) c.args.body.now (standing_of c.args.self.now (g.K.Keeper.seen c.args.keeper.now)) many c.args.close bytes.items reply)
+    c.error_reply.ensures
 
-pub returns-clause-lost : goal.returns-clause-lost
-returns-clause-lost g c =
-    let after : Standing = standing_of c.in_ok-book.book (g.K.Keeper.seen c.post_uncounted.new.keeper) in
-    let is = posted_over _ _ (c.replace-book.ensures.value ∙ c.self.view_is) c.args.number (sha256 c.args.body.now) c.args.body.now (line_count c.args.body.now)
-    (g.K.Keeper.seen c.args.keeper.now).tables (g.K.Keeper.seen c.args.keeper.now).faults after c.in_ok-book.posted c.in_ok-book.ensures.posted in
-    on_err _ c.load_reply.result
-    (reply_lost c.args.number (line_count c.args.body.now) (standing_of c.args.self.now (g.K.Keeper.seen c.args.keeper.now))
-    (posted c.args.self.now c.args.number (sha256 c.args.body.now) c.args.body.now) after c.in_ok-book.posted is)
+pub returns-in-Err-clause-lost : goal.returns-in-Err-clause-lost
+returns-in-Err-clause-lost g c =
+    let many = subst (λ n. MOST_LINES < n) c.in-Err.ensures.too_many.0 c.in-Err.ensures.too_many.1 in
+    on_err _ c.error_reply.result
+    (too_many_lost c.args.number (sha256 c.args.body.now) c.args.body.now (standing_of c.args.self.now (g.K.Keeper.seen c.args.keeper.now)) many)

@@ -9,7 +9,7 @@ use Rattle.aq_staging.specs.Staged.{IsStagedOn}
 use Rattle.aq_book.proofs.ReachedLemmas.{changes-are, loadless, none-amiss, pm10-else, pm25-else, reached-by}
 use Rattle.aq_book.proofs.StageLemmas.{changed-of, room-after, taken-office, valid-after}
 use Rattle.aq_book.proofs.TakenCosts.{taken-costs}
-use Rattle.aq_book.proofs.book.Book.take.Goals as goal
+use Rattle.aq_book.proofs.book.Book.taken.Goals as goal
 
 pub onto-requires : goal.onto-requires
 onto-requires g c =
