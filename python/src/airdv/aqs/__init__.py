@@ -1,0 +1,1 @@
+"""From the files and answers of AQS to lines that airdv loads."""
