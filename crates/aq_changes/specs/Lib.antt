@@ -2,4 +2,5 @@
 pub mod Samples
 pub mod Judging
 pub mod Texts
+pub mod Said
 pub mod Answers

@@ -1,20 +1,22 @@
 //! The deletions: what stands at an extract's monitors in its days, and is not in it.
 ghost use Rattle.std.specs.Prelude.{◌≡◌, ◌++◌, flat_map, option_map, OnOk};
 ghost use Rattle.aq_changes.specs.Judging.{span_of};
-ghost use Rattle.aq_changes.specs.Texts.{absent_deletion, deletion_line, dropped_lines, next_monitor, optional_lines};
+ghost use Rattle.aq_changes.specs.Said.{from_hour, unsaid_deletion};
+ghost use Rattle.aq_changes.specs.Texts.{deletion_line, dropped_lines, next_monitor, optional_lines};
 ghost use Rattle.aq_rd.specs.RdReading.{value_of};
 ghost use Rattle.aq_rules.specs.Office.Monitors as monitors;
 
 use crate::days::Days;
+use crate::said::SaidHours;
 use crate::text::add_change;
-use aq_base::{Memory, MonitorId, ObsKey, Steps};
+use aq_base::{Hour, Memory, MonitorId, Steps};
 use aq_rd::RdLine;
 use aq_shelf::Shelf;
 use std::alloc::Global;
 use std::sync::ledger::Ledger;
 
-/// Adds the deletions, in the order of keys. It costs a search of what stands for each monitor of the extract,
-/// and a search of the extract's rows for each observation of these monitors on the days.
+/// Adds the deletions, in the order of keys. It costs two searches for each monitor of the extract, and a step for
+/// each observation that stands or is said at these monitors on the days.
 pub(crate) fn add_deletions<L: Ledger>(
     alloc: Global,
     text: &mut Vec<u8>,
@@ -91,26 +93,27 @@ fn add_dropped<L: Ledger>(
 {
     let from = days.first_hour();
     let hours = days.hour_count();
+    let mut said = SaidHours::new(rows.span(*monitor, from, hours, steps));
     for (hour, _) in shelf.span(*monitor, from, hours, steps) {
-        let key = ObsKey {
-            monitor: *monitor,
-            hour,
-        };
-        let change = absent_deletion(rows, &key, steps);
+        let change = unsaid_deletion(&mut said, monitor, hour);
         add_change(alloc, text, change)?;
     }
     Ok(())
 }
 
-/// The deletion of what stands at a key, if an extract has no row there.
-fn absent_deletion<L: Ledger>(rows: &Shelf, key: &ObsKey, steps: &mut Steps<L>) -> Option<RdLine>
-    ensures { option_map value_of result ≡ absent_deletion rows.now key.now }
+/// The deletion of what stands at an hour of a monitor, if an extract says nothing of it. What it says of hours
+/// before is passed over.
+fn unsaid_deletion(said: &mut SaidHours<'_>, monitor: &MonitorId, hour: Hour) -> Option<RdLine>
+    ensures deletion { option_map value_of result ≡ unsaid_deletion said.new monitor.now hour }
+    ensures later { said.new ≡ from_hour hour said.old }
 {
-    match rows.at(*key, steps) {
-        Some(_) => None,
-        None => Some(RdLine::Delete {
-            monitor: key.monitor,
-            hour: key.hour,
-        }),
+    said.pass_over(hour);
+    if said.starts_at(hour) {
+        None
+    } else {
+        Some(RdLine::Delete {
+            monitor: *monitor,
+            hour,
+        })
     }
 }

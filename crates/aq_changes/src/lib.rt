@@ -30,6 +30,7 @@ mod deletions;
 mod extract;
 mod place;
 mod puts;
+mod said;
 mod sample;
 mod text;
 

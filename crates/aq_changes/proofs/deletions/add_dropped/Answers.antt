@@ -1,13 +1,10 @@
-use Rattle.std.proofs.Common.{◌++◌, ◌∙◌, ap}
-use Rattle.aq_changes.specs.Texts.{line_if_absent, optional_text}
-use Rattle.aq_changes.proofs.ChangeTexts.{all_lines, more_lines}
+use Rattle.std.proofs.Common.{◌+◌, ◌-◌, ◌*◌, ◌++◌, ◌∙◌, ap}
+use Rattle.aq_changes.proofs.SaidLemmas.{all_unsaid, unsaid-absent}
 use Rattle.aq_changes.proofs.deletions.add_dropped.Goals as goal
-
-pub loop-hour-preserved : goal.loop-hour-preserved
-loop-hour-preserved g c =
-    more_lines (line_if_absent c.args.rows.now c.args.monitor.now) (c.in-Some.hour, c.in-Some.field-0-1) c.next.new.self c.loop-hour.hour-iterator c.loop-hour.text.items c.add_change.new.text.items _
-    c.in-Some.ensures.steps (c.in_ok-add_change.ensures ∙ ap (λ o. c.loop-hour.text.items ++ optional_text o) c.absent_deletion-change.ensures) c.loop-hour.invariant
 
 pub returns : goal.returns
 returns g c =
-    all_lines (line_if_absent c.args.rows.now c.args.monitor.now) c.loop-hour.hour-iterator c.loop-hour.text.items _ c.in-None.ensures.steps.0 c.loop-hour.invariant
+    all_unsaid c.args.monitor.now c.loop-hour.said c.loop-hour.hour-iterator c.loop-hour.text.items _ c.in-None.ensures.steps.0 c.loop-hour.invariant
+    ∙ ap (λ l. c.args.text.now.items ++ l)
+    (unsaid-absent c.args.monitor.now c.args.rows.now (24 * c.args.days.now.first) (24 * c.args.days.now.last + 24 - 24 * c.args.days.now.first) c.args.shelf.now
+    c.span-hour-items.ensures.shelf.rising c.span.ensures.shelf.rising)
