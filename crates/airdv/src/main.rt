@@ -43,6 +43,6 @@ fn run_from<S: Holds>(rt: HostRuntime) -> ExitCode {
     let Ok(path) = String::from_str(rt.alloc(), FILE) else {
         return without_memory(rt);
     };
-    let mut keeper: FileKeeper<'_, S> = LateKeeper::new(AtPath::new(&rt, path));
-    run_over(rt, &mut keeper)
+    let keeper: FileKeeper<'_, S> = LateKeeper::new(AtPath::new(&rt, path));
+    run_over(rt, keeper)
 }

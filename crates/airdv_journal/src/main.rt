@@ -37,6 +37,6 @@ const FILE: &str = "airdv.journal";
 
 fn main(rt: HostRuntime) -> ExitCode {
     let file = AtName::<Unknown>::new(&rt, FILE);
-    let mut keeper = JournalKeeper::new(FileDisk::new(rt.alloc(), file));
-    run_over(rt, &mut keeper)
+    let keeper = JournalKeeper::new(FileDisk::new(rt.alloc(), file));
+    run_over(rt, keeper)
 }

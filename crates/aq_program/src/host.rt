@@ -9,8 +9,8 @@ use std::io::ErrorKind;
 use std::process::ExitCode;
 use std::{env, io};
 
-/// Obeys the words of the program over a keeper, with the host's streams and network.
-pub fn run_over<K: Keeper>(rt: HostRuntime, keeper: &mut K) -> ExitCode {
+/// Obeys the words of the program over a keeper, with the host's streams and network. The keeper is closed then.
+pub fn run_over<K: Keeper + Drop>(rt: HostRuntime, mut keeper: K) -> ExitCode {
     let words = words_of(&rt);
     let mut input = Reading::new(rt.reader());
     let mut output = Writing::new(io::writer(&rt));
@@ -19,7 +19,7 @@ pub fn run_over<K: Keeper>(rt: HostRuntime, keeper: &mut K) -> ExitCode {
     obey(
         rt.alloc(),
         words,
-        keeper,
+        &mut keeper,
         &mut door,
         &mut input,
         &mut output,

@@ -21,8 +21,8 @@
 //! ```rust
 //! fn main(rt: HostRuntime) -> ExitCode {
 //!     let file = AtName::<Unknown>::new(&rt, "airdv.journal");
-//!     let mut keeper = JournalKeeper::new(FileDisk::new(rt.alloc(), file));
-//!     run_over(rt, &mut keeper)
+//!     let keeper = JournalKeeper::new(FileDisk::new(rt.alloc(), file));
+//!     run_over(rt, keeper)
 //! }
 //! ```
 #![tactic(auto)]
