@@ -1,4 +1,3 @@
-pub mod Pieces
-pub mod Ranks
-pub mod Scales
+pub mod Names
+pub mod ReadAs
 pub mod Sheets

@@ -1,10 +1,2 @@
-pub mod Kinds
 pub mod Reading
-pub mod Html
-pub mod Numbers
-pub mod Levels
-pub mod Subject
-pub mod Pictures
-pub mod Ranked
-pub mod Year
 pub mod Page

@@ -5,26 +5,20 @@
 //!
 //! - `main`: reads the input, and writes its page; without words. Its statuses are in
 //!   `docs/COMMANDS.md`.
-//! - `page::page_of`: the page of a text, or that it has none. `reading` finds the sheets of a text,
-//!   `kind` says what each is called and what is drawn of it, `subject` what it is about, and `html`,
-//!   `numbers`, `bars`, `day` and `year` write it; `ranked` has the ten highest days of a year.
-//! - In `specs/`: `Kinds`, `Subject`, `Page`, `Pictures` and `Year`, which say what a page is, and the one
-//!   scale of its pictures.
+//! - `page::page_of`: the page of a text, or that it has none. `reading` finds the sheets of a text, as
+//!   sheets in words, and `aq_pages` makes their page.
+//! - In `specs/`: `Reading`, how a text is read as sheets, and `Page`, what its page is.
 //!
 //! # What it promises
 //!
 //! - A text has a page exactly if it is 1 to 99 sheets in a row, in at most 99,999 lines, each with
 //!   the heads and columns of a sheet that a command prints and a word for each column in each row;
 //!   unless memory ran out, that page is made, and of any other text none (`page_of`).
-//! - The page is the definition's: after each title the tables have a row for each line of the sheet and
-//!   a cell for each of its words, escaped, in their order, and nothing else.
-//! - The title of the page and the head of each section say the standard, the site, the parameter and the
-//!   year or day that the heads of a sheet name. A picture in which nothing would be drawn is a sentence.
-//! - Every coordinate of a picture that stands for a number is its place by one scale, `scaled`, from 0
-//!   to the greatest of the numbers drawn and the level; the level and its words are those of aq_base, and
-//!   that of a day of PM10 is the book's.
-//! - The ten days that are marked in a year are the first ten in the book's order of ranked days
-//!   (`days_ranked`), of those that are not set apart.
+//! - The page is that of the sheets, as `aq_pages` defines it: after each title the tables have a row for
+//!   each line of the sheet and a cell for each of its words, escaped, in their order, and nothing else.
+//!   Its door page has the rest.
+//! - A sheet is drawn as the first kind by whose names it can be read
+//!   (`sheets_are_drawn_as_they_are_read`).
 //! - With 0 the whole page of the input is on the output, and with 2 the input has no page, as far as
 //!   the streams tell their bytes; with 2 and 3 nothing is written (`show`).
 //! - That the page is good HTML, and what a browser makes of it, is only tried, by `bin/tries-page`.
@@ -41,25 +35,16 @@ ghost use Rattle.std.specs.Prelude.{◌≡◌, None, IfOk, IfSome};
 ghost use Rattle.airdv_page.specs.Page as pages;
 ghost use Rattle.airdv_page.specs.Page.{Prints};
 
-mod bars;
-mod day;
-mod html;
-mod kind;
-mod level;
-mod numbers;
+mod law;
 mod page;
-mod ranked;
 mod reading;
-mod style;
-mod subject;
-mod year;
 
 use aq_base::Bytes;
+use aq_pages::{FOOT, HEAD};
 use page::page_of;
 use std::alloc::Global;
 use std::io::{self, ErrorKind, Read, Write};
 use std::process::ExitCode;
-use style::{FOOT, HEAD};
 
 /// Why there is no page of an input.
 #[derive(Clone, Copy)]

@@ -1,40 +1,19 @@
-//! A text, read as sheets.
-ghost use Rattle.std.specs.Prelude.{◌≡◌, ◌==◌, ◌≤◌, ◌+◌, length, map, IfOk, IfSome, IsTrue, take_while};
+//! A text, read as sheets in words.
+ghost use Rattle.std.specs.Prelude.{◌≡◌, ◌==◌, ◌≤◌, ◌+◌, ◌++◌, length, map, IfOk, IfSome, IsTrue, OnOk, option_map, take_while};
 ghost use Rattle.std.specs.List.{list_all, slice_split};
+ghost use Rattle.aq_pages.specs.Sheets.{is_word};
 ghost use Rattle.airdv_page.specs.Reading as reading;
-ghost use Rattle.airdv_page.specs.Reading.{are_heads, cut, first_sheet, is_end, is_graphic, is_head, is_row, is_word, lines_in, lines_of, names_in, same_words, with_table, words_of};
+ghost use Rattle.airdv_page.specs.Reading.{are_heads, first_sheet, found, if_true, is_end, is_row, lines_in, sheet_at, sheets_in};
 
-use crate::kind::{Kind, Picture, kinds};
 use aq_base::{Bytes, Items, Memory};
+use aq_pages::{Kind, Line, PageSheet, are_same, is_head, is_word, kinds};
 use std::alloc::{AllocError, Global};
-use std::marker::Model;
 
 /// So many lines a text of sheets has at most, with the empty part behind the last line end.
 pub(crate) const MOST_LINES: usize = 100_000;
 
 /// It has fewer sheets than this.
 pub(crate) const MOST_SHEETS: usize = 100;
-
-/// The words of a line.
-pub type Line = Items<Bytes>;
-
-/// A sheet as its text gives it: a line for each head, the names of the columns, and a line for each row.
-#[derive(Drop)]
-pub struct SheetText<'a> {
-    pub(crate) title: &'static str,
-    pub(crate) picture: Picture,
-    pub(crate) heads: &'a [Line],
-    pub(crate) columns: &'a [Bytes],
-    pub(crate) rows: &'a [Line],
-}
-
-impl<'a> Model for SheetText<'a> {
-    ghost use Rattle.airdv_page.specs.Reading as reading;
-
-    ghost Value = { reading.SheetText };
-
-    ghost view = { λ sheet. record { title = sheet.title.now; picture = sheet.picture; heads = sheet.heads.now; columns = sheet.columns.now; rows = sheet.rows.now } };
-}
 
 /// The parts of a text round a mark.
 fn parts(alloc: Global, text: &[u8], mark: u8) -> Result<Vec<&[u8]>, AllocError>
@@ -80,44 +59,6 @@ pub(crate) fn lines_of(alloc: Global, text: &[u8]) -> Result<Items<Line>, Memory
     lines_from(alloc, &texts)
 }
 
-/// The names that stand in a text, none in an empty one.
-#[tactic(auto, unfolding(crate::specs::Reading::names_in))]
-fn names_in(alloc: Global, text: &[u8]) -> Result<Line, Memory>
-    ensures { IfOk result (λ names. names ≡ reading.names_in text.now) }
-{
-    if text.is_empty() {
-        return Ok(Items::new(alloc));
-    }
-    words_of(alloc, text)
-}
-
-fn is_graphic(byte: u8) -> bool
-    ensures { result ≡ is_graphic byte }
-{
-    32 < byte && byte < 127
-}
-
-fn are_graphic(bytes: &[u8]) -> bool
-    ensures { result ≡ list_all is_graphic bytes.now }
-{
-    for byte in bytes {
-        if !is_graphic(*byte) {
-            return false;
-        }
-    }
-    true
-}
-
-/// Whether a word has printed bytes alone, one at least.
-fn is_word(word: &[u8]) -> bool
-    ensures { result ≡ is_word word.now }
-{
-    match word {
-        [] => false,
-        _ => are_graphic(word),
-    }
-}
-
 fn are_words(words: &[Bytes]) -> bool
     ensures { result ≡ list_all is_word words.now }
 {
@@ -129,16 +70,6 @@ fn are_words(words: &[Bytes]) -> bool
     true
 }
 
-/// Whether a line is a head of this name: its name and one word.
-pub(crate) fn is_head(name: &[u8], line: &[Bytes]) -> bool
-    ensures { result ≡ is_head name.now line.now }
-{
-    match line {
-        [word, value] => word.as_slice() == name && is_word(value.as_slice()),
-        _ => false,
-    }
-}
-
 fn is_row(width: usize, line: &[Bytes]) -> bool
     ensures { result ≡ is_row width line.now }
 {
@@ -146,8 +77,8 @@ fn is_row(width: usize, line: &[Bytes]) -> bool
 }
 
 /// Whether the first lines are heads of these names.
-fn are_heads(names: &[Bytes], lines: &[Line]) -> bool
-    ensures heads { result ≡ are_heads names.now lines.now }
+fn are_heads(names: &[&str], lines: &[Line]) -> bool
+    ensures heads { result ≡ are_heads (map (λ name. name.now) names.now) lines.now }
     ensures within { IsTrue result → length names.now ≤ length lines.now }
 {
     let mut rest = lines;
@@ -155,31 +86,12 @@ fn are_heads(names: &[Bytes], lines: &[Line]) -> bool
         let [line, behind @ ..] = rest else {
             return false;
         };
-        if !is_head(name.as_slice(), line.as_slice()) {
+        if !is_head(name.as_bytes(), line.as_slice()) {
             return false;
         }
         rest = behind;
     }
     true
-}
-
-fn are_same(names: &[Bytes], words: &[Bytes]) -> bool
-    ensures { result ≡ same_words names.now words.now }
-{
-    let mut rest = words;
-    for name in names {
-        let [word, behind @ ..] = rest else {
-            return false;
-        };
-        if name.as_slice() != word.as_slice() {
-            return false;
-        }
-        rest = behind;
-    }
-    match rest {
-        [] => true,
-        _ => false,
-    }
 }
 
 /// The rows at the front of some lines.
@@ -199,19 +111,13 @@ fn rows_of(width: usize, lines: &[Line]) -> &[Line]
 
 /// A sheet with these heads, if the lines behind them begin with the names of its columns.
 #[tactic(auto, unfolding(crate::specs::Reading::with_table))]
-fn with_table<'a>(
-    kind: &Kind,
-    heads: &'a [Line],
-    columns: &[Bytes],
-    lines: &'a [Line],
-) -> Option<SheetText<'a>>
-    ensures sheet { result ≡ reading.with_table kind.now heads.now columns.now lines.now }
+fn with_table<'a>(heads: &'a [Line], columns: &[&str], lines: &'a [Line]) -> Option<PageSheet<'a>>
+    requires { length heads.now + length lines.now ≤ 100000 }
+    ensures sheet { result ≡ reading.with_table heads.now (map (λ name. name.now) columns.now) lines.now }
     ensures within { IfSome result (λ sheet. lines_in sheet ≤ length heads.now + length lines.now) }
 {
     if columns.is_empty() {
-        return Some(SheetText {
-            title: kind.title,
-            picture: kind.picture,
+        return Some(PageSheet {
             heads,
             columns: &[],
             rows: &[],
@@ -223,90 +129,69 @@ fn with_table<'a>(
     if !are_same(columns, names.as_slice()) {
         return None;
     }
-    Some(SheetText {
-        title: kind.title,
-        picture: kind.picture,
+    Some(PageSheet {
         heads,
         columns: names.as_slice(),
         rows: rows_of(columns.len(), rest),
     })
 }
 
-/// A sheet of this kind, whose heads and columns have these names, at the front of the lines.
+/// A sheet whose heads and columns have these names, at the front of the lines.
 #[tactic(auto, unfolding(crate::specs::Reading::cut))]
-fn cut<'a>(
-    kind: &Kind,
-    names: &[Bytes],
-    columns: &[Bytes],
-    lines: &'a [Line],
-) -> Option<SheetText<'a>>
-    ensures sheet { result ≡ reading.cut kind.now names.now columns.now lines.now }
+fn cut<'a>(names: &[&str], columns: &[&str], lines: &'a [Line]) -> Option<PageSheet<'a>>
+    requires { length lines.now ≤ 100000 }
+    ensures sheet { result ≡ reading.cut (map (λ name. name.now) names.now) (map (λ name. name.now) columns.now) lines.now }
     ensures within { IfSome result (λ sheet. lines_in sheet ≤ length lines.now) }
 {
     if !are_heads(names, lines) {
         return None;
     }
     let (heads, behind) = lines.split_at(names.len());
-    with_table(kind, heads, columns, behind)
+    with_table(heads, columns, behind)
 }
 
 /// A sheet of this kind at the front of the lines.
 #[tactic(auto, unfolding(crate::specs::Reading::sheet_as))]
-fn sheet_as<'a>(
-    alloc: Global,
-    kind: &Kind,
-    lines: &'a [Line],
-) -> Result<Option<SheetText<'a>>, Memory>
-    ensures sheet { IfOk result (λ sheet. sheet ≡ reading.sheet_as kind.now lines.now) }
-    ensures within { IfOk result (λ sheet. IfSome sheet (λ sheet. lines_in sheet ≤ length lines.now)) }
+fn sheet_as<'a>(kind: &Kind, lines: &'a [Line]) -> Option<PageSheet<'a>>
+    requires { length lines.now ≤ 100000 }
+    ensures sheet { result ≡ reading.sheet_as kind.now lines.now }
+    ensures within { IfSome result (λ sheet. lines_in sheet ≤ length lines.now) }
 {
-    let names = names_in(alloc, kind.heads.as_bytes())?;
-    let columns = names_in(alloc, kind.columns.as_bytes())?;
-    Ok(cut(kind, names.as_slice(), columns.as_slice(), lines))
+    cut(kind.heads, kind.columns, lines)
 }
 
-fn first_sheet<'a>(
-    alloc: Global,
-    kinds: &[Kind],
-    lines: &'a [Line],
-) -> Result<Option<SheetText<'a>>, Memory>
-    ensures sheet { IfOk result (λ sheet. sheet ≡ first_sheet kinds.now lines.now) }
-    ensures within { IfOk result (λ sheet. IfSome sheet (λ sheet. lines_in sheet ≤ length lines.now)) }
+fn first_sheet<'a>(kinds: &[Kind], lines: &'a [Line]) -> Option<PageSheet<'a>>
+    requires { length lines.now ≤ 100000 }
+    ensures sheet { result ≡ first_sheet kinds.now lines.now }
+    ensures within { IfSome result (λ sheet. lines_in sheet ≤ length lines.now) }
 {
     for kind in kinds {
-        if let Some(sheet) = sheet_as(alloc, kind, lines)? {
-            return Ok(Some(sheet));
+        if let Some(sheet) = sheet_as(kind, lines) {
+            return Some(sheet);
         }
     }
-    Ok(None)
+    None
 }
 
 /// The sheet at the front of the lines, of the first kind that fits.
 #[tactic(auto, unfolding(crate::specs::Reading::sheet_at))]
-pub(crate) fn sheet_at<'a>(
-    alloc: Global,
-    lines: &'a [Line],
-) -> Result<Option<SheetText<'a>>, Memory>
-    ensures sheet { IfOk result (λ sheet. sheet ≡ reading.sheet_at lines.now) }
-    ensures within { IfOk result (λ sheet. IfSome sheet (λ sheet. lines_in sheet ≤ length lines.now)) }
+fn sheet_at(lines: &[Line]) -> Option<PageSheet<'_>>
+    requires { length lines.now ≤ 100000 }
+    ensures sheet { result ≡ sheet_at lines.now }
+    ensures within { IfSome result (λ sheet. lines_in sheet ≤ length lines.now) }
 {
-    first_sheet(alloc, &kinds(), lines)
+    first_sheet(&kinds(), lines)
 }
 
-impl<'a> SheetText<'a> {
-    ghost use Rattle.std.specs.Prelude.{◌≡◌};
-    ghost use Rattle.airdv_page.specs.Reading.{lines_in};
-
-    /// How many lines it has.
-    pub(crate) fn line_count(&self) -> usize
-        ensures { result ≡ lines_in self.now }
-    {
-        self.heads.len() + self.columns.len().min(1) + self.rows.len()
-    }
+/// How many lines a sheet has.
+fn line_count(sheet: &PageSheet<'_>) -> usize
+    ensures { result ≡ lines_in sheet.now }
+{
+    sheet.heads.len() + sheet.columns.len().min(1) + sheet.rows.len()
 }
 
 /// Whether nothing is left but the empty part behind the last line end.
-pub(crate) fn is_end(lines: &[Line]) -> bool
+fn is_end(lines: &[Line]) -> bool
     ensures { result ≡ is_end lines.now }
 {
     match lines {
@@ -316,4 +201,48 @@ pub(crate) fn is_end(lines: &[Line]) -> bool
         },
         _ => false,
     }
+}
+
+/// Adds the sheet at the front of some lines, and answers how many of them it has.
+fn read_next<'a>(
+    lines: &'a [Line],
+    sheets: &mut Vec<PageSheet<'a>>,
+) -> Result<Option<usize>, Memory>
+    requires { length lines.now ≤ 100000 }
+    ensures count { IfOk result (λ count. count ≡ option_map lines_in (sheet_at lines.now)) }
+    ensures within { IfOk result (λ count. IfSome count (λ n. n ≤ length lines.now)) }
+    ensures added { OnOk result (sheets.new.items ≡ sheets.old.items ++ found (sheet_at lines.now)) }
+{
+    match sheet_at(lines) {
+        Some(sheet) => {
+            let count = line_count(&sheet);
+            sheets.push(sheet)?;
+            Ok(Some(count))
+        }
+        None => Ok(None),
+    }
+}
+
+/// Adds each sheet of the lines. Answers whether the lines are sheets, so many at most.
+pub(crate) fn read_sheets<'a>(
+    most: usize,
+    lines: &'a [Line],
+    sheets: &mut Vec<PageSheet<'a>>,
+) -> Result<bool, Memory>
+    requires { length lines.now ≤ 100000 }
+    ensures { IfOk result (λ whole. if_true whole sheets.new.items ≡ option_map (λ more. sheets.old.items ++ more) (sheets_in most lines.now)) }
+{
+    let mut left = most;
+    let mut rest = lines;
+    while left > 0 {
+        if is_end(rest) {
+            return Ok(true);
+        }
+        let Some(count) = read_next(rest, sheets)? else {
+            return Ok(false);
+        };
+        rest = &rest[count..];
+        left -= 1;
+    }
+    Ok(false)
 }

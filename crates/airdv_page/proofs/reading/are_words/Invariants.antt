@@ -1,6 +1,6 @@
 use Rattle.std.proofs.Common.{◌≡◌, drop}
 use Rattle.std.specs.List.{list_all}
-use Rattle.airdv_page.specs.Reading.{is_word}
+use Rattle.aq_pages.specs.Sheets.{is_word}
 use Rattle.airdv_page.proofs.reading.are_words.Given as goal
 
 abbrev pub invariant-loop-word : goal.invariant-loop-word

@@ -1,8 +1,0 @@
-use Rattle.std.proofs.Common.{◌≡◌, ◌++◌, drop, flat_map}
-use Rattle.airdv_page.specs.Html.{cell}
-use Rattle.airdv_page.proofs.html.write_cells.Given as goal
-
-abbrev pub invariant-loop-word : goal.invariant-loop-word
-invariant-loop-word l =
-    l.out.items ++ flat_map (cell l.start l.end) (drop l.word-index l.words)
-    ≡ l.fn.out.items ++ flat_map (cell l.start l.end) l.words

@@ -1,8 +1,0 @@
-use Rattle.std.proofs.Common.{◌≡◌, ◌++◌, drop, false}
-use Rattle.airdv_page.specs.Subject.{subject_from}
-use Rattle.airdv_page.proofs.subject.write_subject.Given as goal
-
-abbrev pub invariant-loop-line : goal.invariant-loop-line
-invariant-loop-line l =
-    l.out.items ++ subject_from l.begun l.start l.end (drop l.line-index l.lines)
-    ≡ l.fn.out.items ++ subject_from false l.start l.end l.lines

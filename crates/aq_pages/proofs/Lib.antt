@@ -1,0 +1,4 @@
+pub mod Names
+pub mod Pieces
+pub mod Ranks
+pub mod Scales

@@ -1,0 +1,10 @@
+pub mod Sheets
+pub mod Kinds
+pub mod Html
+pub mod Numbers
+pub mod Levels
+pub mod Subject
+pub mod Pictures
+pub mod Ranked
+pub mod Year
+pub mod Page
