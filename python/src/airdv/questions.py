@@ -120,6 +120,8 @@ def _area(standard: str) -> Forms:
 
 
 _VALUES = {it: (_value(it),) for it in STANDARDS}
+# No site of PM10 is joined to another one.
+_COMBINED = {it: forms for it, forms in _VALUES.items() if it != "PM10-24H-1987"}
 _DECISIVE = Form({"standard": TEXT, **_SITE_YEAR, "verdict": TEXT}, {"event": INT, "verdict": TEXT})
 LOAD = Form({"load": INT, "lines": INT, "accepted": INT, "refused": INT}, {"line": INT, "rule": INT, "name": TEXT, "count": INT})
 _WINDOWS = Form({"site": TEXT, "day": DAY}, {"hour": TEXT, "average": FIXED, "hours": INT, "full": FIXED, "full_hours": INT})
@@ -166,7 +168,7 @@ TABLE = (
     Question("export SITE PARAMETER YEAR", "/export/{site}/{parameter}/{year}", Plain.CSV),
     Question("whatif STANDARD SITE YEAR LIST", "/whatif/{standard}/{site}/{year}/{list}", _VALUES),
     Question("decisive STANDARD SITE YEAR", "/decisive/{standard}/{site}/{year}", (_DECISIVE,)),
-    Question("combined STANDARD SITE YEAR", "/combined/{standard}/{site}/{year}", _VALUES),
+    Question("combined STANDARD SITE YEAR", "/combined/{standard}/{site}/{year}", _COMBINED),
     Question("area STANDARD AREA YEAR", "/area/{standard}/{area}/{year}", {it: _area(it) for it in STANDARDS}),
     Question("reply NUMBER", "/loads/{number}", (LOAD,)),
     Question("windows SITE DAY", "/ozone/{site}/windows/{day}", (_WINDOWS,)),
