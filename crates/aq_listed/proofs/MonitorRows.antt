@@ -56,7 +56,7 @@ module _ (f : RegisteredMonitor → ListedMonitor) where
       let same : pair_of registered ≡ pair = cc in
       λ i. f (record { id = id; duration = (same i).0; eligible = (same i).1 }) ∷ []
 
-  first_apart : (o : Option RegisteredMonitor) (rest : List RegisteredMonitor) → map f (cons_option o []) ++ map f rest ≡ map f (cons_option o rest)
+  pub first_apart : (o : Option RegisteredMonitor) (rest : List RegisteredMonitor) → map f (cons_option o []) ++ map f rest ≡ map f (cons_option o rest)
   first_apart None rest = refl
   first_apart (Some monitor) rest = refl
 

@@ -1,5 +1,6 @@
 //! What stands in an office, as lists: its sites, the monitors and events of a site, the flags of a year and
-//! how complete its months are; and its records and observations as the lines that make them anew.
+//! how complete its months are; its records and observations as the lines that make them anew; and the last
+//! day with an observation.
 //!
 //! # What it has
 //!
@@ -13,10 +14,13 @@
 //! - `completeness`: how many of each month's due samples each monitor has. `listed_months` has its rows, as
 //!   `ListedMonth` with its `MonthCounts`.
 //! - `records` and `lines`: the records, and the observations of a site, pollutant and year, as text.
+//! - `last_day` and `last_day_at`: the last day with an observation of a registered monitor, of the office, and
+//!   of a site and pollutant. They take no memory.
 //!
 //! # What it promises
 //!
 //! - Each sheet, list of rows and text is the book's, of the office that the registry and the shelf make.
+//! - A last day is the latest of the last days of the book's listed monitors.
 //! - The only refusal is want of memory.
 //!
 //! # An example
@@ -37,6 +41,7 @@ mod event_spans;
 mod flag_list;
 mod flag_marks;
 mod flag_sheet;
+mod last_days;
 mod marks;
 mod moment;
 mod monitor_list;
@@ -61,6 +66,7 @@ pub use event_list::{ListedEvent, ListedEvents, listed_events};
 pub use event_sheet::events;
 pub use flag_list::{ListedFlag, ListedFlags, listed_flags};
 pub use flag_sheet::flags;
+pub use last_days::{last_day, last_day_at};
 pub use monitor_months::{ListedMonth, listed_months};
 pub use monitor_sheet::monitors;
 pub use month_counts::MonthCounts;

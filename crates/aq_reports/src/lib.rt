@@ -4,7 +4,8 @@
 //! # What it has
 //!
 //! - `Sheet`, `Head`, `SheetCell` with the lists `Heads`, `Names`, `Cells`, `Rows`: a sheet and its
-//!   parts. `list` and `names` make one of few items, and of the names of columns.
+//!   parts. `list` and `names` make one of few items, and of the names of columns. `Sheet::heads`,
+//!   `Sheet::columns`, `Sheet::rows`, `Head::name` and `Head::cell` read what a sheet has.
 //! - `load_sheet`, `conflict_sheet`, `error_sheet`, `summary_sheet`: of a reply, a conflict, an error, a
 //!   simulation.
 //! - `windows_sheet`, `days_sheet`: of an ozone day's averages, and of the days of a year.
@@ -12,6 +13,7 @@
 //! - `value_sheet`, `report_sheet`: of a design value, and of the design values of sites.
 //! - `area_sheet`, `area_sites_sheet`: of an area's years, and of its sites with their critical values.
 //! - `text_of`, `json_of`: a sheet as text, and a well-formed one as JSON.
+//! - `write_cell`: a cell as text, behind what is there.
 //! - `texts_of`, `json_of_sheets`: several sheets as text, and well-formed ones as JSON.
 //! - `export_of`: observations as CSV, each with whether it is excluded.
 //! - `site_text`, `digest_text`, `hex_digits`: a site as `SS-CCC-NNNN`, a digest as its digits, and a byte as two.
@@ -68,6 +70,6 @@ pub use report::report_sheet;
 pub use sheet::{Cells, Head, Heads, Names, Rows, Sheet};
 pub use sheets::{json_of_sheets, texts_of};
 pub use single::{conflict_sheet, digest_text, error_sheet, hex_digits, summary_sheet};
-pub use text::{site_text, text_of};
+pub use text::{site_text, text_of, write_cell};
 pub use value::value_sheet;
 pub use windows::windows_sheet;

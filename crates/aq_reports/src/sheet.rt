@@ -30,6 +30,20 @@ impl Head {
         let name = Bytes::from_vec(name.to_vec(alloc)?);
         Ok(Head { name, cell })
     }
+
+    /// Its name.
+    pub fn name(&self) -> &[u8]
+        ensures { result.now ≡ self.now.name }
+    {
+        self.name.as_slice()
+    }
+
+    /// Its value.
+    pub fn cell(&self) -> &SheetCell
+        ensures { result.now ≡ self.now.cell }
+    {
+        &self.cell
+    }
 }
 
 /// The heads of a sheet, in order.
@@ -72,5 +86,26 @@ impl Sheet {
             columns,
             rows,
         }
+    }
+
+    /// Its heads, in order.
+    pub fn heads(&self) -> &[Head]
+        ensures { result.now ≡ self.now.heads }
+    {
+        self.heads.as_slice()
+    }
+
+    /// The names of its columns, in order.
+    pub fn columns(&self) -> &[Bytes]
+        ensures { result.now ≡ self.now.columns }
+    {
+        self.columns.as_slice()
+    }
+
+    /// Its rows, in order.
+    pub fn rows(&self) -> &[Cells]
+        ensures { result.now ≡ self.now.rows }
+    {
+        self.rows.as_slice()
     }
 }

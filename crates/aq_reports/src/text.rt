@@ -83,8 +83,8 @@ fn write_row(out: &mut Vec<u8>, cells: &[SheetCell]) -> Result<(), Memory>
     Ok(())
 }
 
-/// The text of a cell.
-fn write_cell(out: &mut Vec<u8>, cell: &SheetCell) -> Result<(), Memory>
+/// The text of a cell, behind what is there.
+pub fn write_cell(out: &mut Vec<u8>, cell: &SheetCell) -> Result<(), Memory>
     ensures { OnOk result (out.new.items ≡ out.old.items ++ sheets.cell_text cell.now) }
 {
     match &cell.content {
