@@ -1,3 +1,4 @@
+pub mod Escapes
 pub mod Names
 pub mod Pieces
 pub mod Ranks

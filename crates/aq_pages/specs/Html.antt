@@ -1,5 +1,5 @@
 -- A text in HTML, and the rows of a table (own).
-use Rattle.std.specs.Prelude.{ℕ, ◌+◌, ◌==◌, if◌then◌else◌, List, [], ◌∷◌, ◌++◌, codes, flat_map}
+use Rattle.std.specs.Prelude.{ℕ, ◌+◌, ◌==◌, Bool, ◌&&◌, not, if◌then◌else◌, List, [], ◌∷◌, ◌++◌, codes, flat_map}
 use Rattle.aq_base.specs.Decimal.{fixed}
 use Rattle.std.specs.Prelude.{pos}
 
@@ -11,6 +11,10 @@ escaped_byte byte =
     else if byte == 62 then codes "&gt;"
     else if byte == 34 then codes "&quot;"
     else byte ∷ []
+
+-- a byte that stands for itself
+unfoldable pub is_plain : ℕ → Bool
+is_plain byte = ((not (byte == 38) && not (byte == 60)) && not (byte == 62)) && not (byte == 34)
 
 abbrev pub escaped : List ℕ → List ℕ
 escaped text = flat_map escaped_byte text

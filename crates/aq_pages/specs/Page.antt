@@ -123,14 +123,30 @@ picture_of picture heads rows = if is_drawn picture heads rows then drawn_as pic
 unfoldable pub opening : Picture → List Line → List ℕ
 opening picture heads = level_words picture heads ++ heads_table heads
 
-unfoldable pub section_of : List ℕ → Picture → List Line → Line → List Line → List ℕ
-section_of title picture heads columns rows =
+unfoldable pub paragraph : List ℕ → List ℕ
+paragraph words = codes "<p class=\"words\">" ++ (words ++ codes "</p>\n")
+
+-- some words as a paragraph; nothing without words
+unfoldable pub words_line : List ℕ → List ℕ
+words_line [] = []
+words_line (byte ∷ bytes) = paragraph (byte ∷ bytes)
+
+-- what the heads and the columns of a kind mean
+abbrev pub kind_words : SheetKind → List ℕ
+kind_words kind = words_line kind.words
+
+-- the words stand behind the table of the rows
+unfoldable pub rows_and_words : Line → List Line → List ℕ → List ℕ
+rows_and_words columns rows words = rows_table columns rows ++ words_line words
+
+unfoldable pub section_of : List ℕ → Picture → List ℕ → List Line → Line → List Line → List ℕ
+section_of title picture words heads columns rows =
     heading title heads
-    ++ (opening picture heads ++ (picture_of picture heads rows ++ (rows_table columns rows ++ codes "</section>\n")))
+    ++ (opening picture heads ++ (picture_of picture heads rows ++ (rows_and_words columns rows words ++ codes "</section>\n")))
 
 -- the section of a sheet, as one of this kind
 unfoldable pub section_as : SheetKind → PageSheet → List ℕ
-section_as kind sheet = section_of kind.title kind.picture sheet.heads sheet.columns sheet.rows
+section_as kind sheet = section_of kind.title kind.picture kind.words sheet.heads sheet.columns sheet.rows
 
 -- the section of a sheet, by its own kind
 unfoldable pub section : PageSheet → List ℕ

@@ -1,7 +1,8 @@
 //! Texts, rows and the elements of a picture, in HTML. A place in a picture is so far from the left, and
 //! from the top.
 ghost use Rattle.std.specs.Prelude.{◌≡◌, ◌<◌, ◌^◌, ◌++◌, OnOk, flat_map};
-ghost use Rattle.aq_pages.specs.Html.{attribute, cell, circle, escaped, escaped_byte, line, number, rect, row, start_mark, svg_start, text_start};
+ghost use Rattle.std.specs.List.{list_all};
+ghost use Rattle.aq_pages.specs.Html.{attribute, cell, circle, escaped, escaped_byte, is_plain, line, number, rect, row, start_mark, svg_start, text_start};
 
 use aq_base::{Bytes, Memory};
 use aq_num::write_fixed;
@@ -25,14 +26,45 @@ fn write_byte(out: &mut Vec<u8>, byte: u8) -> Result<(), Memory>
     Ok(())
 }
 
-/// Appends a text, escaped.
-pub(crate) fn write_escaped(out: &mut Vec<u8>, text: &[u8]) -> Result<(), Memory>
+/// Whether a byte stands for itself.
+#[tactic(auto, unfolding(crate::specs::Html::is_plain))]
+fn is_plain(byte: u8) -> bool
+    ensures { result ≡ is_plain byte }
+{
+    byte != b'&' && byte != b'<' && byte != b'>' && byte != b'"'
+}
+
+fn are_plain(bytes: &[u8]) -> bool
+    ensures { result ≡ list_all is_plain bytes.now }
+{
+    for byte in bytes {
+        if !is_plain(*byte) {
+            return false;
+        }
+    }
+    true
+}
+
+/// Appends each byte of a text, by its name if it would mean something.
+fn write_bytes(out: &mut Vec<u8>, text: &[u8]) -> Result<(), Memory>
     ensures { OnOk result (out.new.items ≡ out.old.items ++ escaped text.now) }
 {
     for byte in text {
         write_byte(out, *byte)?;
     }
     Ok(())
+}
+
+/// Appends a text, escaped; whole, if each of its bytes stands for itself.
+#[tactic(auto, using(crate::proofs::Escapes::plain_stays))]
+pub fn write_escaped(out: &mut Vec<u8>, text: &[u8]) -> Result<(), Memory>
+    ensures { OnOk result (out.new.items ≡ out.old.items ++ escaped text.now) }
+{
+    if are_plain(text) {
+        out.extend_from_slice(text)?;
+        return Ok(());
+    }
+    write_bytes(out, text)
 }
 
 /// Appends a row: a cell for each word of a line, between these tags.
@@ -52,12 +84,7 @@ pub(crate) fn write_row(
 }
 
 /// Appends a cell: its word, escaped, between these tags.
-pub(crate) fn write_cell(
-    out: &mut Vec<u8>,
-    start: &[u8],
-    end: &[u8],
-    word: &[u8],
-) -> Result<(), Memory>
+pub fn write_cell(out: &mut Vec<u8>, start: &[u8], end: &[u8], word: &[u8]) -> Result<(), Memory>
     ensures { OnOk result (out.new.items ≡ out.old.items ++ cell start.now end.now word.now) }
 {
     out.extend_from_slice(start)?;

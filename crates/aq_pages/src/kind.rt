@@ -4,7 +4,8 @@ ghost use Rattle.aq_pages.specs.Kinds as book;
 ghost use Rattle.aq_pages.specs.Kinds.{has_names, kind_named, names_of, same_words};
 
 use crate::numbers::word_at;
-use crate::sheet::{Line, PageSheet};
+use crate::sheet::Line;
+use crate::words;
 use aq_base::{Bytes, Pollutant};
 use std::marker::Model;
 
@@ -29,13 +30,26 @@ pub enum Picture {
     Nothing,
 }
 
+/// Whether something is drawn of a sheet.
+pub fn has_picture(picture: Picture) -> bool
+    ensures { result ≡ book.has_picture picture }
+{
+    match picture {
+        Picture::Nothing => false,
+        _ => true,
+    }
+}
+
 /// A kind of sheet, told by the names of its heads and of its columns.
 #[derive(Drop)]
 pub struct Kind {
-    pub(crate) title: &'static str,
+    /// What it is called, in HTML.
+    pub title: &'static str,
     pub heads: Names,
     pub columns: Names,
-    pub(crate) picture: Picture,
+    pub picture: Picture,
+    /// What its heads and its columns mean, in plain words and in HTML; empty for a sheet of no kind.
+    pub words: &'static str,
 }
 
 /// Names in their order.
@@ -47,39 +61,11 @@ impl Model for Kind {
 
     ghost Value = { book.SheetKind };
 
-    ghost view = { λ kind. record { title = kind.title.now; heads = map (λ name. name.now) kind.heads.now; columns = map (λ name. name.now) kind.columns.now; picture = kind.picture } };
-}
-
-/// A design value, of whose rows this column is drawn.
-fn value_kind(columns: Names, drawn: usize) -> Kind
-    ensures { result ≡ book.value_kind (map (λ name. name.now) columns.now) drawn }
-{
-    Kind {
-        title: "The design value of a site",
-        heads: &["standard", "site", "year", "value", "test", "verdict"],
-        columns,
-        picture: Picture::Bars {
-            value: drawn,
-            verdict: None,
-        },
-    }
-}
-
-/// The highest days, of ozone or of the particles.
-fn highest_kind(columns: Names) -> Kind
-    ensures { result ≡ book.highest_kind (map (λ name. name.now) columns.now) }
-{
-    Kind {
-        title: "The highest days of a year",
-        heads: &["site", "parameter", "year", "ranked", "decides"],
-        columns,
-        picture: Picture::Highest,
-    }
+    ghost view = { λ kind. record { title = kind.title.now; heads = map (λ name. name.now) kind.heads.now; columns = map (λ name. name.now) kind.columns.now; picture = kind.picture; words = kind.words.now } };
 }
 
 /// All kinds, in the order in which they are tried.
-#[tactic(auto, unfolding(crate::specs::Kinds::kinds))]
-pub fn kinds() -> [Kind; 16]
+pub fn kinds() -> [Kind; 24]
     ensures { result ≡ book.kinds }
 {
     [
@@ -88,25 +74,41 @@ pub fn kinds() -> [Kind; 16]
             heads: &["load", "lines", "accepted", "refused"],
             columns: &["line", "rule", "name", "count"],
             picture: Picture::Counts,
+            words: words::LOAD,
         },
         Kind {
             title: "8-hour ozone averages of a day, in ppm",
             heads: &["site", "day"],
             columns: &["hour", "average", "hours", "full", "full_hours"],
             picture: Picture::Lines,
+            words: words::AVERAGES,
         },
-        value_kind(
-            &["year", "ranked", "fourth", "season_days", "season_valid"],
-            2,
-        ),
-        value_kind(
-            &[
+        Kind {
+            title: "The design value of a site",
+            heads: &["standard", "site", "year", "value", "test", "verdict"],
+            columns: &["year", "ranked", "fourth", "season_days", "season_valid"],
+            picture: Picture::Bars {
+                value: 2,
+                verdict: None,
+            },
+            words: words::OZONE_VALUE,
+        },
+        Kind {
+            title: "The design value of a site",
+            heads: &["standard", "site", "year", "value", "test", "verdict"],
+            columns: &[
                 "year", "mean", "capture1", "capture2", "capture3", "capture4", "valid",
             ],
-            1,
-        ),
-        value_kind(
-            &[
+            picture: Picture::Bars {
+                value: 1,
+                verdict: None,
+            },
+            words: words::ANNUAL_VALUE,
+        },
+        Kind {
+            title: "The design value of a site",
+            heads: &["standard", "site", "year", "value", "test", "verdict"],
+            columns: &[
                 "year",
                 "percentile",
                 "counted",
@@ -116,9 +118,22 @@ pub fn kinds() -> [Kind; 16]
                 "capture4",
                 "valid",
             ],
-            1,
-        ),
-        value_kind(&["year", "estimate", "lower", "exceedances", "complete"], 1),
+            picture: Picture::Bars {
+                value: 1,
+                verdict: None,
+            },
+            words: words::DAILY_VALUE,
+        },
+        Kind {
+            title: "The design value of a site",
+            heads: &["standard", "site", "year", "value", "test", "verdict"],
+            columns: &["year", "estimate", "lower", "exceedances", "complete"],
+            picture: Picture::Bars {
+                value: 1,
+                verdict: None,
+            },
+            words: words::PM10_VALUE,
+        },
         Kind {
             title: "The design values of all sites",
             heads: &["standard", "year"],
@@ -127,6 +142,7 @@ pub fn kinds() -> [Kind; 16]
                 value: 1,
                 verdict: Some(2),
             },
+            words: words::REPORT,
         },
         Kind {
             title: "The history of an area",
@@ -136,6 +152,7 @@ pub fn kinds() -> [Kind; 16]
                 value: 2,
                 verdict: Some(1),
             },
+            words: words::AREA_HISTORY,
         },
         Kind {
             title: "The sites of an area",
@@ -145,12 +162,14 @@ pub fn kinds() -> [Kind; 16]
                 value: 1,
                 verdict: Some(2),
             },
+            words: words::AREA_SITES,
         },
         Kind {
             title: "The events that decide, and the verdict with each turned round",
             heads: &["standard", "site", "year", "verdict"],
             columns: &["event", "verdict"],
             picture: Picture::Squares(1),
+            words: words::DECISIVE,
         },
         Kind {
             title: "The ozone days of a year, in ppm",
@@ -165,12 +184,14 @@ pub fn kinds() -> [Kind; 16]
             ],
             columns: &["day", "averages", "valid", "approved", "maximum"],
             picture: Picture::Days(Pollutant::Ozone),
+            words: words::OZONE_DAYS,
         },
         Kind {
             title: "The PM2.5 days of a year, in &#181;g/m&#179;",
             heads: &["site", "parameter", "year"],
             columns: &["day", "scheduled", "value", "excluded", "credit"],
             picture: Picture::Days(Pollutant::Pm25),
+            words: words::PM25_DAYS,
         },
         Kind {
             title: "The PM10 days of a year, in &#181;g/m&#179;",
@@ -184,20 +205,128 @@ pub fn kinds() -> [Kind; 16]
                 "exceeds",
             ],
             picture: Picture::Days(Pollutant::Pm10),
+            words: words::PM10_DAYS,
         },
-        highest_kind(&["rank", "day", "value", "hour", "hours"]),
-        highest_kind(&["rank", "day", "value"]),
+        Kind {
+            title: "The highest days of a year",
+            heads: &["site", "parameter", "year", "ranked", "decides"],
+            columns: &["rank", "day", "value", "hour", "hours"],
+            picture: Picture::Highest,
+            words: words::HIGHEST_OZONE,
+        },
+        Kind {
+            title: "The highest days of a year",
+            heads: &["site", "parameter", "year", "ranked", "decides"],
+            columns: &["rank", "day", "value"],
+            picture: Picture::Highest,
+            words: words::HIGHEST_PARTICLES,
+        },
         Kind {
             title: "What a simulation took",
             heads: &["loads", "lines", "observations"],
             columns: &[],
             picture: Picture::Nothing,
+            words: words::SIMULATION,
+        },
+        Kind {
+            title: "The sites",
+            heads: &["sites"],
+            columns: &["site", "ozone", "pm25", "pm10"],
+            picture: Picture::Nothing,
+            words: words::SITES,
+        },
+        Kind {
+            title: "The monitors of a site",
+            heads: &["site"],
+            columns: &[
+                "parameter",
+                "poc",
+                "duration",
+                "eligible",
+                "observations",
+                "first",
+                "last",
+            ],
+            picture: Picture::Nothing,
+            words: words::MONITORS,
+        },
+        Kind {
+            title: "The events of a site",
+            heads: &["site"],
+            columns: &[
+                "event",
+                "parameter",
+                "first",
+                "last",
+                "code",
+                "agreed",
+                "flagged",
+            ],
+            picture: Picture::Nothing,
+            words: words::EVENTS,
+        },
+        Kind {
+            title: "The flags of a year",
+            heads: &["site", "parameter", "year"],
+            columns: &["day", "code", "flagged", "covered", "excluded"],
+            picture: Picture::Nothing,
+            words: words::FLAGS,
+        },
+        Kind {
+            title: "The loads",
+            heads: &["loads"],
+            columns: &["load", "lines", "accepted", "refused", "digest"],
+            picture: Picture::Nothing,
+            words: words::LOADS,
+        },
+        Kind {
+            title: "The completeness of a year",
+            heads: &["site", "parameter", "year"],
+            columns: &[
+                "poc", "month", "due", "valued", "null", "missing", "extra", "percent",
+            ],
+            picture: Picture::Nothing,
+            words: words::COMPLETENESS,
+        },
+        Kind {
+            title: "The quarters of a year of PM2.5",
+            heads: &["site", "year", "counted", "rank", "percentile", "mean"],
+            columns: &[
+                "quarter",
+                "scheduled",
+                "creditable",
+                "capture",
+                "counted",
+                "days",
+                "sum",
+                "least",
+                "greatest",
+            ],
+            picture: Picture::Nothing,
+            words: words::PM25_QUARTERS,
+        },
+        Kind {
+            title: "The quarters of a year of PM10",
+            heads: &["site", "year", "estimate"],
+            columns: &[
+                "quarter",
+                "days",
+                "scheduled",
+                "captured",
+                "strata",
+                "samples",
+                "exceedances",
+                "estimate",
+                "lower",
+            ],
+            picture: Picture::Nothing,
+            words: words::PM10_QUARTERS,
         },
     ]
 }
 
 /// The kind of a sheet with other names.
-pub(crate) fn other_kind() -> Kind
+fn other_kind() -> Kind
     ensures { result ≡ book.other_kind }
 {
     Kind {
@@ -205,6 +334,7 @@ pub(crate) fn other_kind() -> Kind
         heads: &[],
         columns: &[],
         picture: Picture::Nothing,
+        words: "",
     }
 }
 
@@ -248,24 +378,47 @@ fn are_named(names: &[&str], heads: &[Line]) -> bool
     }
 }
 
-/// Whether the heads and the columns of a sheet have the names of a kind.
+/// Whether heads and columns have the names of a kind.
 #[tactic(auto, unfolding(crate::specs::Kinds::has_names))]
-fn is_of(sheet: &PageSheet<'_>, kind: &Kind) -> bool
-    ensures { result ≡ has_names (names_of sheet.now.heads) sheet.now.columns kind.now }
+fn is_of(heads: &[Line], columns: &[Bytes], kind: &Kind) -> bool
+    ensures { result ≡ has_names (names_of heads.now) columns.now kind.now }
 {
-    are_named(kind.heads, sheet.heads) && are_same(kind.columns, sheet.columns)
+    are_named(kind.heads, heads) && are_same(kind.columns, columns)
 }
 
-/// The first kind that a sheet is of.
-pub(crate) fn first_of<'k>(kinds: &'k [Kind], sheet: &PageSheet<'_>) -> Option<&'k Kind>
-    ensures { option_map (λ kind. kind.now) result ≡ find (has_names (names_of sheet.now.heads) sheet.now.columns) kinds.now }
+/// The first kind that has the names of these heads and columns.
+fn first_of<'k>(kinds: &'k [Kind], heads: &[Line], columns: &[Bytes]) -> Option<&'k Kind>
+    ensures { option_map (λ kind. kind.now) result ≡ find (has_names (names_of heads.now) columns.now) kinds.now }
 {
     for kind in kinds {
-        if is_of(sheet, kind) {
+        if is_of(heads, columns, kind) {
             return Some(kind);
         }
     }
     None
+}
+
+fn copy_of(kind: &Kind) -> Kind
+    ensures { result ≡ kind.now }
+{
+    Kind {
+        title: kind.title,
+        heads: kind.heads,
+        columns: kind.columns,
+        picture: kind.picture,
+        words: kind.words,
+    }
+}
+
+/// The kind of a sheet with these heads and columns.
+#[tactic(auto, unfolding(crate::specs::Kinds::kind_named))]
+pub fn kind_of(heads: &[Line], columns: &[Bytes]) -> Kind
+    ensures { result ≡ kind_named (names_of heads.now) columns.now }
+{
+    match first_of(&kinds(), heads, columns) {
+        Some(kind) => copy_of(kind),
+        None => other_kind(),
+    }
 }
 
 /// No two kinds have the same names.

@@ -1,12 +1,12 @@
 //! The page of some sheets.
 ghost use Rattle.std.specs.Prelude.{◌≡◌, ◌≤◌, ◌++◌, length, flat_map, IfOk, OnOk};
 ghost use Rattle.aq_pages.specs.Page as pages;
-ghost use Rattle.aq_pages.specs.Page.{behind_first, cells, column_names, columns_and_rows, drawn_as, has_lines, head_value, heads_table, in_its_place, is_drawn, level_by_name, level_by_parameter, level_for, level_line, level_words, opening, picture_of, rows_table, section, section_as, section_of};
+ghost use Rattle.aq_pages.specs.Page.{behind_first, cells, column_names, columns_and_rows, drawn_as, has_lines, head_value, heads_table, in_its_place, is_drawn, level_by_name, level_by_parameter, level_for, level_line, level_words, opening, paragraph, picture_of, rows_and_words, rows_table, section, section_as, section_of, table_end, table_start, words_line};
 
 use crate::bars;
 use crate::day::write_day;
 use crate::html::write_row;
-use crate::kind::{Kind, Picture, first_of, kinds, other_kind};
+use crate::kind::{Kind, Picture, kind_of};
 use crate::level::{Level, day_level, standard_in, words_of, write_level};
 use crate::numbers::{has_number, word_at};
 use crate::ranked::value_place;
@@ -27,13 +27,29 @@ fn write_lines(out: &mut Vec<u8>, lines: &[Line]) -> Result<(), Memory>
     Ok(())
 }
 
+/// Appends the start of a table, and round it what scrolls where it is wider than the page.
+pub fn write_table_start(out: &mut Vec<u8>) -> Result<(), Memory>
+    ensures { OnOk result (out.new.items ≡ out.old.items ++ table_start) }
+{
+    out.extend_from_slice(b"<div class=\"table\"><table>\n")?;
+    Ok(())
+}
+
+/// Appends the end of a table.
+pub fn write_table_end(out: &mut Vec<u8>) -> Result<(), Memory>
+    ensures { OnOk result (out.new.items ≡ out.old.items ++ table_end) }
+{
+    out.extend_from_slice(b"</table></div>\n")?;
+    Ok(())
+}
+
 #[tactic(auto, unfolding(crate::specs::Page::heads_table))]
 fn write_heads(out: &mut Vec<u8>, heads: &[Line]) -> Result<(), Memory>
     ensures { OnOk result (out.new.items ≡ out.old.items ++ heads_table heads.now) }
 {
-    out.extend_from_slice(b"<div class=\"table\"><table>\n")?;
+    write_table_start(out)?;
     write_lines(out, heads)?;
-    out.extend_from_slice(b"</table></div>\n")?;
+    write_table_end(out)?;
     Ok(())
 }
 
@@ -48,8 +64,9 @@ fn write_rows(out: &mut Vec<u8>, columns: &[Bytes], rows: &[Line]) -> Result<(),
     }
 }
 
+/// Appends the row of the names of the columns.
 #[tactic(auto, unfolding(crate::specs::Page::column_names))]
-fn write_column_names(out: &mut Vec<u8>, columns: &[Bytes]) -> Result<(), Memory>
+pub fn write_column_names(out: &mut Vec<u8>, columns: &[Bytes]) -> Result<(), Memory>
     ensures { OnOk result (out.new.items ≡ out.old.items ++ column_names columns.now) }
 {
     write_row(out, b"<th scope=\"col\">", b"</th>", columns)
@@ -59,10 +76,10 @@ fn write_column_names(out: &mut Vec<u8>, columns: &[Bytes]) -> Result<(), Memory
 fn write_columns_and_rows(out: &mut Vec<u8>, columns: &[Bytes], rows: &[Line]) -> Result<(), Memory>
     ensures { OnOk result (out.new.items ≡ out.old.items ++ columns_and_rows columns.now rows.now) }
 {
-    out.extend_from_slice(b"<div class=\"table\"><table>\n")?;
+    write_table_start(out)?;
     write_column_names(out, columns)?;
     write_lines(out, rows)?;
-    out.extend_from_slice(b"</table></div>\n")?;
+    write_table_end(out)?;
     Ok(())
 }
 
@@ -136,7 +153,9 @@ fn write_level_line(out: &mut Vec<u8>, level: Option<Level>) -> Result<(), Memor
     Ok(())
 }
 
-fn write_level_words(out: &mut Vec<u8>, picture: Picture, heads: &[Line]) -> Result<(), Memory>
+/// Appends the standard beside whose level a sheet with this picture and these heads stands, and that level,
+/// in words; nothing if there is none.
+pub fn write_level_words(out: &mut Vec<u8>, picture: Picture, heads: &[Line]) -> Result<(), Memory>
     ensures { OnOk result (out.new.items ≡ out.old.items ++ level_words picture heads.now) }
 {
     write_level_line(out, level_for(picture, heads))
@@ -213,9 +232,9 @@ fn in_its_place(picture: Picture) -> &'static str
     }
 }
 
-/// Appends the picture of a sheet, or the sentence in its place.
+/// Appends the picture of a sheet, or the sentence in its place; nothing if none is drawn of its kind.
 #[tactic(auto, unfolding(crate::specs::Page::picture_of))]
-fn write_picture(
+pub fn write_picture(
     alloc: Global,
     out: &mut Vec<u8>,
     picture: Picture,
@@ -243,25 +262,63 @@ fn write_opening(out: &mut Vec<u8>, picture: Picture, heads: &[Line]) -> Result<
     write_heads(out, heads)
 }
 
-/// Appends a section with this title, picture, heads, columns and rows.
+/// Appends a paragraph of plain words.
+#[tactic(auto, unfolding(crate::specs::Page::paragraph))]
+fn write_paragraph(out: &mut Vec<u8>, words: &[u8]) -> Result<(), Memory>
+    ensures { OnOk result (out.new.items ≡ out.old.items ++ paragraph words.now) }
+{
+    out.extend_from_slice(b"<p class=\"words\">")?;
+    out.extend_from_slice(words)?;
+    out.extend_from_slice(b"</p>\n")?;
+    Ok(())
+}
+
+/// Appends the words of a kind, which are in HTML, as a paragraph; nothing if there are none.
+#[tactic(auto, unfolding(crate::specs::Page::words_line))]
+pub fn write_words(out: &mut Vec<u8>, words: &str) -> Result<(), Memory>
+    ensures { OnOk result (out.new.items ≡ out.old.items ++ words_line words.now) }
+{
+    let words = words.as_bytes();
+    if words.is_empty() {
+        return Ok(());
+    }
+    write_paragraph(out, words)
+}
+
+/// Appends the table of the rows, and behind it what the heads and the columns mean.
+#[tactic(auto, unfolding(crate::specs::Page::rows_and_words))]
+fn write_rows_and_words(
+    out: &mut Vec<u8>,
+    columns: &[Bytes],
+    rows: &[Line],
+    words: &str,
+) -> Result<(), Memory>
+    ensures { OnOk result (out.new.items ≡ out.old.items ++ rows_and_words columns.now rows.now words.now) }
+{
+    write_rows(out, columns, rows)?;
+    write_words(out, words)
+}
+
+/// Appends a section with this title, picture, words, heads, columns and rows.
 #[tactic(auto, unfolding(crate::specs::Page::section_of))]
 fn write_section_of(
     alloc: Global,
     out: &mut Vec<u8>,
     title: &str,
     picture: Picture,
+    words: &str,
     heads: &[Line],
     columns: &[Bytes],
     rows: &[Line],
 ) -> Result<(), Memory>
     requires heads { length heads.now ≤ 100000 }
     requires rows { length rows.now ≤ 100000 }
-    ensures { OnOk result (out.new.items ≡ out.old.items ++ section_of title.now picture heads.now columns.now rows.now) }
+    ensures { OnOk result (out.new.items ≡ out.old.items ++ section_of title.now picture words.now heads.now columns.now rows.now) }
 {
     write_heading(out, title, heads)?;
     write_opening(out, picture, heads)?;
     write_picture(alloc, out, picture, heads, rows)?;
-    write_rows(out, columns, rows)?;
+    write_rows_and_words(out, columns, rows, words)?;
     out.extend_from_slice(b"</section>\n")?;
     Ok(())
 }
@@ -281,6 +338,7 @@ fn write_section_as(
         out,
         kind.title,
         kind.picture,
+        kind.words,
         sheet.heads,
         sheet.columns,
         sheet.rows,
@@ -288,15 +346,12 @@ fn write_section_as(
 }
 
 /// Appends the section of a sheet.
-#[tactic(auto, unfolding(crate::specs::Kinds::kind_named, crate::specs::Page::section))]
+#[tactic(auto, unfolding(crate::specs::Page::section))]
 fn write_section(alloc: Global, out: &mut Vec<u8>, sheet: &PageSheet<'_>) -> Result<(), Memory>
     ensures { OnOk result (out.new.items ≡ out.old.items ++ section sheet.now) }
 {
-    let kinds = kinds();
-    match first_of(&kinds, sheet) {
-        Some(kind) => write_section_as(alloc, out, kind, sheet),
-        None => write_section_as(alloc, out, &other_kind(), sheet),
-    }
+    let kind = kind_of(sheet.heads, sheet.columns);
+    write_section_as(alloc, out, &kind, sheet)
 }
 
 /// Appends a section for each sheet.

@@ -17,6 +17,14 @@ body { margin: 0 auto; max-width: 44rem; padding: 1rem; background: var(--paper)
 h1 { font-size: 1.3rem; margin: 1rem 0 0.5rem; overflow-wrap: anywhere }
 h1 small { display: block; font-size: 1.1rem; font-weight: normal }
 h1 span { display: inline-block; margin-right: 0.4rem }
+h2 { font-size: 1.1rem; margin: 1.25rem 0 0.5rem; overflow-wrap: anywhere }
+a { color: var(--plain) }
+a:focus-visible { outline: 3px solid var(--ink); outline-offset: 2px }
+nav, .links { margin: 0.25rem 0 }
+nav a, .links a { display: inline-block; margin-right: 1rem; padding: 0.7rem 0; overflow-wrap: anywhere }
+td a { display: inline-block; padding: 0.35rem 0 }
+.words { font-size: 0.9rem; overflow-wrap: anywhere }
+.note { border-left: 0.3rem solid var(--incomplete); padding-left: 0.7rem; overflow-wrap: anywhere }
 .table { overflow-x: auto; margin: 0.75rem 0 }
 table { border-collapse: collapse; font-variant-numeric: tabular-nums; font-size: 0.9rem }
 td, th { border-bottom: 1px solid var(--rule); padding: 0.2rem 0.6rem 0.2rem 0; text-align: left; white-space: nowrap }
@@ -39,6 +47,7 @@ line { stroke: var(--ink); stroke-width: 2 }
 .days circle, .ring { fill: var(--paper); stroke: var(--notmet); stroke-width: 2 }
 .dots circle, .dot { fill: var(--ink) }
 .decides { text-anchor: end; font-weight: bold }
+@media print { nav, .links { display: none } a { color: inherit; text-decoration: none } }
 </style>
 ";
 

@@ -5,5 +5,5 @@ use Rattle.aq_pages.proofs.kind.first_of.Given as goal
 
 abbrev pub invariant-loop-kind : goal.invariant-loop-kind
 invariant-loop-kind l =
-    find (has_names (names_of l.sheet.heads) l.sheet.columns) (drop l.kind-index l.kinds)
-    ≡ find (has_names (names_of l.sheet.heads) l.sheet.columns) l.kinds
+    find (has_names (names_of l.heads) l.columns) (drop l.kind-index l.kinds)
+    ≡ find (has_names (names_of l.heads) l.columns) l.kinds

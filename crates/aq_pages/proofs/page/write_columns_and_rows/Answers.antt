@@ -8,4 +8,4 @@ unfolding columns_and_rows
 returns c =
     pieces4 c.args.out.now.items
     table_start (column_names c.args.columns.now) (flat_map cells c.args.rows.now) table_end
-    c.in_ok-extend_from_slice.ensures.items c.in_ok-write_column_names.ensures c.in_ok-write_lines.ensures c.in_ok-extend_from_slice-2.ensures.items
+    c.in_ok-write_table_start.ensures c.in_ok-write_column_names.ensures c.in_ok-write_lines.ensures c.in_ok-write_table_end.ensures

@@ -8,4 +8,4 @@ unfolding heads_table
 returns c =
     pieces3 c.args.out.now.items
     table_start (flat_map cells c.args.heads.now) table_end
-    c.in_ok-extend_from_slice.ensures.items c.in_ok-write_lines.ensures c.in_ok-extend_from_slice-2.ensures.items
+    c.in_ok-write_table_start.ensures c.in_ok-write_lines.ensures c.in_ok-write_table_end.ensures

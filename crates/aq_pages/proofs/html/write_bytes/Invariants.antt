@@ -1,6 +1,6 @@
 use Rattle.std.proofs.Common.{◌≡◌, ◌++◌, drop, flat_map}
 use Rattle.aq_pages.specs.Html.{escaped_byte}
-use Rattle.aq_pages.proofs.html.write_escaped.Given as goal
+use Rattle.aq_pages.proofs.html.write_bytes.Given as goal
 
 abbrev pub invariant-loop-byte : goal.invariant-loop-byte
 invariant-loop-byte l =
