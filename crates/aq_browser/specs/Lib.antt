@@ -1,0 +1,6 @@
+pub mod Paths
+pub mod Titles
+pub mod Links
+pub mod Rows
+pub mod Standing
+pub mod Pages
