@@ -1,5 +1,5 @@
 -- Routes that a router takes, and what it finds.
-use Rattle.std.proofs.Common.{◌≡◌, ℕ, zero, suc, Bool, true, false, cond, List, [], ◌∷◌, refl, sym, ap, ◌∙◌, arith, Option, None}
+use Rattle.std.proofs.Common.{◌≡◌, ℕ, zero, suc, Bool, true, false, cond, List, [], ◌∷◌, refl, sym, ap, ◌∙◌, arith, Option, Some, None}
 use Rattle.std.specs.Str.{IsAscii, IsUtf8, is_utf8}
 use Rattle.std.proofs.lemmas.Str.{IsUtf8-from_ascii, IsUtf8-from_is_utf8, is_utf8-from_IsUtf8}
 use Rattle.matchit.specs.Router.{RouteOf}
@@ -9,8 +9,9 @@ use Rattle.std.specs.List.{list_all}
 use Rattle.std.proofs.lemmas.Bool.{and_parts}
 use Rattle.std.proofs.lemmas.Bool.Decides.{nat_tests}
 use Rattle.matchit.specs.Seek.{first}
+use Rattle.aq_http.specs.declared.routes.Found.TheVariants.{Page}
 use Rattle.aq_http.specs.declared.verb.Verb.{Verb}
-use Rattle.aq_http.specs.Routes.{all_routes, found, found_on, path_of, route_of}
+use Rattle.aq_http.specs.Routes.{all_routes, found, found_on, found_or_page, page_on, page_path, path_of, route_of}
 use Rattle.aq_http.proofs.Walking.{walk, walks}
 
 -- a text that is no UTF-8
@@ -38,17 +39,26 @@ ascii [] h i = omega arith
 ascii (b ∷ bytes) h zero = let small = (and_parts (nat_lt b 128) (list_all (λ c. nat_lt c 128) bytes) h).0 in grind (arith, nat_tests, small)
 ascii (b ∷ bytes) h (suc i) = ascii bytes (and_parts (nat_lt b 128) (list_all (λ c. nat_lt c 128) bytes) h).1 i
 
--- what is found by the route that the rows give
-found_by : (verb : Verb) (target : List ℕ) (route : Option Topic) → list_all (λ b. nat_lt b 128) (path_of target) ≡ true
-    → option_map (λ r. r.value) (first all_routes (path_of target)) ≡ route → found verb target ≡ found_on verb route (path_of target)
-unfolding found
-found_by verb target route plain is =
-    let path = path_of target in
-    let text : is_utf8 path ≡ true = is_utf8-from_IsUtf8 path (IsUtf8-from_ascii path (ascii path plain)) in
-    ap (λ t. found_on verb (routed t (first all_routes path)) path) text ∙ ap (λ r. found_on verb r path) is
+-- the route that the walk finds, for a path whose rows run out long before its end
+route_walked : (path : List ℕ) (route : Option Topic) → list_all (λ b. nat_lt b 128) path ≡ true
+    → option_map (λ r. r.value) (walk 0 all_routes path) ≡ route → route_of path ≡ route
+route_walked path route plain is =
+    ap (λ t. routed t (first all_routes path)) (is_utf8-from_IsUtf8 path (IsUtf8-from_ascii path (ascii path plain)))
+    ∙ ap (λ row. option_map (λ r. r.value) row) (walks 0 all_routes path) ∙ is
 
--- the same by the walk, for a path whose rows run out long before its end
-pub found_walked : (verb : Verb) (target : List ℕ) (route : Option Topic) → list_all (λ b. nat_lt b 128) (path_of target) ≡ true
+-- what is found at a path that no page has
+pub found_walked : (verb : Verb) (target : List ℕ) (route : Option Topic) → page_path (path_of target) ≡ None
+    → list_all (λ b. nat_lt b 128) (path_of target) ≡ true
     → option_map (λ r. r.value) (walk 0 all_routes (path_of target)) ≡ route → found verb target ≡ found_on verb route (path_of target)
-found_walked verb target route plain is =
-    found_by verb target route plain (ap (λ row. option_map (λ r. r.value) row) (walks 0 all_routes (path_of target)) ∙ is)
+unfolding found
+found_walked verb target route no_page plain is =
+    let path = path_of target in
+    ap (λ page. found_or_page verb path page) no_page ∙ ap (λ r. found_on verb r path) (route_walked path route plain is)
+
+-- the page whose question stands at this path
+pub page_walked : (verb : Verb) (target : List ℕ) (path : List ℕ) (route : Option Topic) → page_path (path_of target) ≡ Some path
+    → list_all (λ b. nat_lt b 128) path ≡ true
+    → option_map (λ r. r.value) (walk 0 all_routes path) ≡ route → found verb target ≡ Page (page_on verb route path)
+unfolding found
+page_walked verb target path route is_page plain is =
+    ap (λ page. found_or_page verb (path_of target) page) is_page ∙ ap (λ r. Page (page_on verb r path)) (route_walked path route plain is)

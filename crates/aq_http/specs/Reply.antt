@@ -3,7 +3,7 @@ use Rattle.std.specs.Prelude.{ℕ, Bool, ◌==◌, if◌then◌else◌, List, []
 use Rattle.std.specs.List.{list_any}
 use Rattle.http.specs.StatusCode.{status_text}
 use Rattle.aq_http.specs.declared.media.MediaType.{MediaType}
-use Rattle.aq_http.specs.declared.media.MediaType.TheVariants.{Json, Csv, Plain}
+use Rattle.aq_http.specs.declared.media.MediaType.TheVariants.{Json, Csv, Plain, Html}
 
 -- the statuses of replies
 abbrev pub is_reply_status : ℕ → Bool
@@ -15,6 +15,14 @@ abbrev pub media_name : MediaType → List ℕ
 media_name Json = codes "application/json"
 media_name Csv = codes "text/csv"
 media_name Plain = codes "text/plain"
+media_name Html = codes "text/html; charset=utf-8"
+
+-- the lines of a page's head that say what it may do: no script, nothing from elsewhere, no form, and no frame round it
+abbrev pub guard_lines : MediaType → List ℕ
+guard_lines Html = codes "Content-Security-Policy: default-src 'none'; style-src 'unsafe-inline'; frame-ancestors 'none'; form-action 'none'; base-uri 'none'\r\nX-Content-Type-Options: nosniff\r\n"
+guard_lines Json = []
+guard_lines Csv = []
+guard_lines Plain = []
 
 -- a reply: what its body is written in, the methods that a 405 allows, whether the connection ends after it, and its body
 pub record Reply : Type 0 where
@@ -35,7 +43,8 @@ unfoldable pub reply_text : Reply → List ℕ
 reply_text reply =
     codes "HTTP/1.1 " ++ status_text reply.status
     ++ codes "\r\nContent-Type: " ++ media_name reply.media
-    ++ codes "\r\nContent-Length: " ++ decimal (length reply.body) ++ codes "\r\n"
+    ++ codes "\r\n" ++ guard_lines reply.media
+    ++ codes "Content-Length: " ++ decimal (length reply.body) ++ codes "\r\n"
     ++ allow_line reply.status reply.allow
     ++ close_line reply.close
     ++ codes "\r\n" ++ reply.body

@@ -1,6 +1,6 @@
 -- The routes of the server, and what a request's verb and target ask by them (own).
-use Rattle.std.specs.Prelude.{ℕ, zero, suc, ◌==◌, Bool, true, false, if◌then◌else◌, List, [], ◌∷◌, map, Option, Some, None, option_map, Result, Ok, Err, IsTrue, ◌≡◌, ◌⊎◌}
-use Rattle.std.specs.List.{before_first, after_first}
+use Rattle.std.specs.Prelude.{ℕ, zero, suc, ◌==◌, Bool, true, false, if◌then◌else◌, List, [], ◌∷◌, map, drop, codes, bytes_eq, Option, Some, None, option_map, Result, Ok, Err, IsTrue, ◌≡◌, ◌⊎◌}
+use Rattle.std.specs.List.{before_first, after_first, starts_with}
 use Rattle.std.specs.Option.{ok_or}
 use Rattle.std.specs.Str.{is_utf8}
 use Rattle.matchit.specs.Order.{placed}
@@ -10,13 +10,13 @@ use Rattle.matchit.specs.Rows.{RowsOf}
 use Rattle.matchit.specs.Seek.{first, slash}
 use Rattle.aq_base.specs.declared.question.Question.{Question}
 use Rattle.aq_base.specs.declared.question.Topic.{Topic}
-use Rattle.aq_base.specs.declared.question.Topic.TheVariants.{Reply}
+use Rattle.aq_base.specs.declared.question.Topic.TheVariants.{Export, Lines, Records, Reply}
 use Rattle.aq_rules.specs.Limits.{LAST_LOAD_NUMBER}
 use Rattle.aq_rules.specs.Questions.Asking.{asked_in_path, is_asked, is_load_number}
 use Rattle.aq_rules.specs.Questions.Spelling.{number_to}
-use Rattle.aq_rules.specs.Questions.Table.{Step, Word, Hole, all_topics, pattern_of, row_of}
+use Rattle.aq_rules.specs.Questions.Table.{Step, Word, Hole, all_topics, pattern_of, row_of, topic_of}
 use Rattle.aq_http.specs.declared.routes.Found.{Found}
-use Rattle.aq_http.specs.declared.routes.Found.TheVariants.{Ask as Asks, Load, Status, NotAllowed}
+use Rattle.aq_http.specs.declared.routes.Found.TheVariants.{Ask as Asks, Load, Page, Status, NotAllowed}
 use Rattle.aq_http.specs.declared.verb.Verb.{Verb}
 use Rattle.aq_http.specs.declared.verb.Verb.TheVariants.{Get, Post, Other}
 
@@ -80,6 +80,32 @@ texts_in topic path = texts_from 1 (row_of topic).path path
 unfoldable pub load_number : List ℕ → Result ℕ ℕ
 load_number text = ok_or (number_to LAST_LOAD_NUMBER text) 400
 
+-- ---- which page is asked for
+
+-- the path of the question whose page a path asks for: the page of the sites stands at `/`, and every other at `/page` and the path of its question
+unfoldable pub page_path : List ℕ → Option (List ℕ)
+page_path path =
+    if bytes_eq path (codes "/") then Some (codes "/sites")
+    else (if starts_with (λ a b. a == b) path (codes "/page/") then Some (drop 5 path) else None)
+
+-- the observations to export, the records and the lines have no page
+abbrev pub has_page : Topic → Bool
+has_page Export = false
+has_page Records = false
+has_page Lines = false
+has_page _ = true
+
+-- a page takes GET alone
+abbrev pub page_at : Verb → Topic → List ℕ → Result Question ℕ
+page_at Get topic path = asked_in_path topic (texts_in topic path)
+page_at Post topic path = Err 405
+page_at Other topic path = Err 405
+
+-- a question without a page is not found, whatever the verb and its parts are
+abbrev pub page_on : Verb → Option Topic → List ℕ → Result Question ℕ
+page_on verb None path = Err 404
+page_on verb (Some topic) path = if has_page topic then page_at verb topic path else Err 404
+
 -- ---- what is found
 
 abbrev pub takes_post : Topic → Bool
@@ -103,16 +129,31 @@ abbrev pub found_on : Verb → Option Topic → List ℕ → Found
 found_on verb None path = Status 404
 found_on verb (Some topic) path = found_at verb topic path
 
+-- what a path asks: the page of the path behind it, if it asks for one, and else what stands at its own route
+abbrev pub found_or_page : Verb → List ℕ → Option (List ℕ) → Found
+found_or_page verb path None = found_on verb (route_of path) path
+found_or_page verb path (Some page) = Page (page_on verb (route_of page) page)
+
 -- what a request asks: 404 if no route matches, 405 if the route has another method, 400 if a part is not spelled as it should be, and 404 for a standard or a parameter that there is none of
 unfoldable pub found : Verb → List ℕ → Found
-found verb target = found_on verb (route_of (path_of target)) (path_of target)
+found verb target = found_or_page verb (path_of target) (page_path (path_of target))
 
 abbrev pub IsFoundStatus : ℕ → Type 0
 IsFoundStatus status = (status ≡ 400) ⊎ (status ≡ 404)
+
+-- the statuses with which a page is refused
+abbrev pub IsPageStatus : ℕ → Type 0
+IsPageStatus status = (status ≡ 400) ⊎ (status ≡ 404) ⊎ (status ≡ 405)
+
+-- the question of a page is in its range, and has a page
+abbrev pub IsPage : Result Question ℕ → Type 0
+IsPage (Ok question) = IsTrue (is_asked question) × IsTrue (has_page (topic_of question))
+IsPage (Err status) = IsPageStatus status
 
 -- a question that is asked is in its range
 abbrev pub IsFound : Found → Type 0
 IsFound (Asks question) = IsTrue (is_asked question)
 IsFound (Load number) = IsTrue (is_load_number number)
+IsFound (Page page) = IsPage page
 IsFound (Status status) = IsFoundStatus status
 IsFound (NotAllowed post) = Unit {0}

@@ -1,5 +1,5 @@
 //! What holds of all steps, for whoever reads a connection piece by piece, and what targets ask.
-ghost use Rattle.std.specs.Prelude.{◌≡◌, ◌≢◌, ℕ, true, false, ◌∷◌, [], map, replicate, codes, ◌+◌, ◌<◌, ◌≤◌, List, ◌++◌, length, IsTrue};
+ghost use Rattle.std.specs.Prelude.{◌≡◌, ◌≢◌, ℕ, true, false, ◌∷◌, [], map, replicate, codes, ◌+◌, ◌<◌, ◌≤◌, List, ◌++◌, length, Err, Ok, IsTrue};
 ghost use Rattle.aq_rules.specs.Limits.{MOST_BYTES};
 ghost use Rattle.aq_rules.specs.Ozone.OzoneExamples.{site};
 ghost use Rattle.aq_rules.specs.Questions.QuestionExamples.{entries};
@@ -8,7 +8,7 @@ ghost use Rattle.aq_base.specs.declared.monitor.Pollutant.TheVariants.{Ozone};
 ghost use Rattle.aq_base.specs.declared.question.Question.TheVariants.{Area, Combined, Completeness, Daily, Days, Decisive, Events, Export, Flags, Highest, Lines, Loads, Monitors, Pm10, Pm25, Records, Reply, Report, Reports, Sites, Value, WhatIf, Windows};
 ghost use Rattle.aq_base.specs.declared.standard.Standard.TheVariants.{Ozone2015, Pm10Of1987};
 ghost use Rattle.aq_http.specs.declared.limits.TheConstants.{MOST_HEAD};
-ghost use Rattle.aq_http.specs.declared.routes.Found.TheVariants.{Ask as Asks, Load, NotAllowed, Status};
+ghost use Rattle.aq_http.specs.declared.routes.Found.TheVariants.{Ask as Asks, Load, NotAllowed, Page, Status};
 ghost use Rattle.aq_http.specs.declared.verb.Verb.TheVariants.{Get, Other, Post};
 ghost use Rattle.aq_http.specs.Head.{HeadStep, IsHeadStep, More as MoreOfHead, verb_of};
 ghost use Rattle.aq_http.specs.Routes.{found};
@@ -47,6 +47,10 @@ pub fn steps_are_bounded()
 /// The sites, the loads and the records of the office stand at a path without a part, which takes GET alone.
 /// A question of a series is asked of 1990 to 2059, and the reports of all standards of 1992 to 2059. Any
 /// other year is a bad request (400).
+/// The page of the sites stands at `/`, and the page of any question at `/page` and the question's path. A
+/// page takes GET alone (405). The observations to export, the records and the lines have no page: they are
+/// not found (404), whatever the verb and the parts are. A refusal in place of a page is a page too, of the
+/// same status as at the question's own path.
 pub fn worked_targets()
     ensures head { verb_of (codes "HEAD") ≡ Other }
     ensures get { found Get (codes "/loads/5") ≡ Asks (Reply 5) }
@@ -102,4 +106,16 @@ pub fn worked_targets()
         ≡ Status 400 ∷ Asks (Reports 1992) ∷ Asks (Reports 2059) ∷ Status 400 ∷ [] }
     ensures lists_take_no_post { map (λ path. found Post path) (codes "/sites" ∷ codes "/loads" ∷ codes "/records" ∷ []) ≡ replicate 3 (NotAllowed false) }
     ensures lists_take_no_head { map (λ path. found Other path) (codes "/sites" ∷ codes "/loads" ∷ codes "/records" ∷ []) ≡ replicate 3 (NotAllowed false) }
+    ensures page_of_sites { map (λ path. found Get path) (codes "/" ∷ codes "/page/sites" ∷ codes "/?a" ∷ []) ≡ replicate 3 (Page (Ok Sites)) }
+    ensures page_of_value { found Get (codes "/page/dv/O3-2015/06-037-1103/2024") ≡ Page (Ok (Value Ozone2015 site 2024)) }
+    ensures no_page { map (λ path. found Get path) (codes "/page/export/06-037-1103/44201/2024" ∷ codes "/page/records"
+        ∷ codes "/page/lines/06-037-1103/44201/2024" ∷ []) ≡ replicate 3 (Page (Err 404)) }
+    ensures no_page_first { found Post (codes "/page/records") ∷ found Get (codes "/page/export/6-37-1103/44201/2024") ∷ [] ≡ replicate 2 (Page (Err 404)) }
+    ensures pages_take_get_alone { found Post (codes "/page/sites") ∷ found Other (codes "/page/sites")
+        ∷ found Post (codes "/") ∷ found Post (codes "/page/loads/5") ∷ [] ≡ replicate 4 (Page (Err 405)) }
+    ensures no_such_page { found Get (codes "/page/nothing") ∷ found Get (codes "/page/") ∷ found Post (codes "/page//sites") ∷ []
+        ≡ replicate 3 (Page (Err 404)) }
+    ensures page_alone { found Get (codes "/page") ≡ Status 404 }
+    ensures page_of_no_standard { found Get (codes "/page/dv/O3-2016/06-037-1103/2024") ≡ Page (Err 404) }
+    ensures page_misspelled { found Get (codes "/page/dv/O3-2015/06-037-1103/1991") ≡ Page (Err 400) }
 {}

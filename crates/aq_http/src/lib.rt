@@ -10,8 +10,10 @@
 //!   then waits for `Head::whole` bytes, and takes the request by `Head::request`: so the head is not
 //!   read again for each piece of the body.
 //! - `Verb`: GET, POST, or another.
-//! - `Routes::find(verb, target)`: what is asked, as a `Found`.
-//! - `reply_bytes`: the bytes of a reply; `MediaType`: what its body is written in.
+//! - `Routes::find(verb, target)`: what is asked, as a `Found`: an answer, or its page in HTML
+//!   (`Found::Page`) for the target `/` and those that begin with `/page/`.
+//! - `reply_bytes`: the bytes of a reply; `MediaType`: what its body is written in. The head of a page
+//!   (`MediaType::Html`) says that it has no script, fetches and posts nothing, and stands in no frame.
 //! - `MOST_HEAD`, `MOST_HEADERS`: how much a head may have (`limits_of_a_head_are_these_numbers`).
 //!
 //! # What it promises
@@ -23,7 +25,7 @@
 //! - A refusal and a whole request stay, whatever bytes come after (`steps_stay`); more are wanted only
 //!   of fewer than a head and a body may have together (`steps_are_bounded`).
 //! - What a target asks is the definition's (`Routes::find`), with worked targets of each route
-//!   (`worked_targets`). A question that is found is in its range.
+//!   (`worked_targets`). A question that is found is in its range, and one of a page has a page.
 //! - The bytes of a reply are the definition's (`reply_bytes`).
 //!
 //! # An example

@@ -8,10 +8,10 @@ use http::StatusCode;
 use std::alloc::Global;
 
 /// What stands in front of a body has room in so many bytes.
-const HEAD_ROOM: usize = 160;
+const HEAD_ROOM: usize = 336;
 
 /// The bytes of a reply: its status line, the headers and the body (RFC 9112, sections 4 to 6).
-/// `allow` is written for 405 alone, and `close` says that the connection ends after the reply.
+/// The head of a page has the lines that say what it may do. `allow` is written for 405 alone, and `close` says that the connection ends after the reply.
 #[tactic(auto, unfolding(crate::specs::Reply::reply_text))]
 pub fn reply_bytes(
     alloc: Global,
@@ -31,12 +31,13 @@ pub fn reply_bytes(
     })) }
 {
     let code = StatusCode::from_u16(status).unwrap();
+    let guards = media.guard_lines();
     let media = media.name();
     let length = body.len();
     let mut start = String::with_capacity(alloc, length.saturating_add(HEAD_ROOM))?;
     write!(
         start,
-        "HTTP/1.1 {code}\r\nContent-Type: {media}\r\nContent-Length: {length}\r\n"
+        "HTTP/1.1 {code}\r\nContent-Type: {media}\r\n{guards}Content-Length: {length}\r\n"
     )?;
     let mut out = start.into_bytes();
     write_allow(&mut out, status, allow)?;

@@ -1,10 +1,10 @@
 //! What a request's verb and target ask.
-ghost use Rattle.std.specs.Prelude.{◌≡◌, ◌==◌, map, option_map, IfOk, IfErr, IsTrue, OnOk};
+ghost use Rattle.std.specs.Prelude.{◌≡◌, ◌==◌, map, option_map, IfOk, IfErr, IsTrue, OnOk, Some};
 ghost use Rattle.std.specs.List.{before_first, after_first};
 ghost use Rattle.matchit.specs.Seek.{first};
 ghost use Rattle.aq_rules.specs.Questions.Asking.{asked_in_path, is_asked, is_load_number};
 ghost use Rattle.aq_rules.specs.Questions.Table.{topic_of};
-ghost use Rattle.aq_http.specs.Routes.{AreApart, IsFound, IsFoundStatus, all_routes, found, found_at, load_number, part, route_of, takes_post, texts_in, with_routes};
+ghost use Rattle.aq_http.specs.Routes.{AreApart, IsFound, IsFoundStatus, IsPage, all_routes, found, found_at, found_on, has_page, load_number, page_at, page_on, page_path, part, route_of, takes_post, texts_in, with_routes};
 
 use crate::verb::Verb;
 use aq_base::{LAST_LOAD_NUMBER, Memory, Question, Topic};
@@ -52,6 +52,9 @@ pub enum Found {
     Ask(Question),
     /// The body is the load of this number.
     Load(u32),
+    /// The page of this question, in HTML; or the page of a refusal, whose status is 400, 404, or 405 for
+    /// another method than GET. The path is `/`, or begins with `/page/`.
+    Page(Result<Question, u16>),
     /// The reply has this status, 400 or 404.
     Status(u16),
     /// The route has another method (405): GET, and POST too if `post` is true.
@@ -90,6 +93,28 @@ impl Routes {
         ensures asked { IsFound result }
     {
         let path = before(b'?', target);
+        match page_path(path) {
+            Some(page) => Found::Page(self.find_page(verb, page)),
+            None => self.find_plain(verb, path),
+        }
+    }
+
+    /// The question of the page that stands behind `/page` at this path, or the status that refuses it.
+    fn find_page(&self, verb: Verb, path: &[u8]) -> Result<Question, u16>
+        ensures value { result ≡ page_on verb (route_of path.now) path.now }
+        ensures asked { IsPage result }
+    {
+        match self.route(path) {
+            Some(topic) => page_on(verb, topic, path),
+            None => Err(NOT_FOUND),
+        }
+    }
+
+    /// What is asked at a path that no page has.
+    fn find_plain(&self, verb: Verb, path: &[u8]) -> Found
+        ensures value { result ≡ found_on verb (route_of path.now) path.now }
+        ensures asked { IsFound result }
+    {
         match self.route(path) {
             Some(topic) => found_at(verb, topic, path),
             None => Found::Status(NOT_FOUND),
@@ -128,6 +153,52 @@ fn add_all(router: &mut Router<Topic>, routes: &[(&str, Topic)]) -> Result<(), M
         }
     }
     Ok(())
+}
+
+/// The path of the question whose page a path asks for: that of the sites for `/`, and for any other page
+/// what stands behind `/page`.
+#[tactic(auto, unfolding(crate::specs::Routes::page_path))]
+fn page_path(path: &[u8]) -> Option<&[u8]>
+    ensures { option_map (λ page. page.now) result ≡ page_path path.now }
+{
+    if path == b"/".as_slice() {
+        Some(b"/sites")
+    } else if path.starts_with(b"/page/") {
+        Some(&path[5..])
+    } else {
+        None
+    }
+}
+
+/// The question of a page, or the status that refuses it: 404 for a topic that has no page.
+fn page_on(verb: Verb, topic: Topic, path: &[u8]) -> Result<Question, u16>
+    ensures value { result ≡ page_on verb (Some topic) path.now }
+    ensures asked { IsPage result }
+{
+    if has_page(topic) {
+        page_at(verb, topic, path)
+    } else {
+        Err(NOT_FOUND)
+    }
+}
+
+/// The question of the page of a topic that has one. A page takes GET alone.
+fn page_at(verb: Verb, topic: Topic, path: &[u8]) -> Result<Question, u16>
+    requires { IsTrue (has_page topic) }
+    ensures value { result ≡ page_at verb topic path.now }
+    ensures asked { IsPage result }
+{
+    match verb {
+        Verb::Get => asked(topic, path),
+        Verb::Post | Verb::Other => Err(405),
+    }
+}
+
+/// Whether the questions of a topic have a page. Observations to export, records and lines have none.
+fn has_page(topic: Topic) -> bool
+    ensures { result ≡ has_page topic }
+{
+    !matches!(topic, Topic::Export | Topic::Records | Topic::Lines)
 }
 
 fn found_at(verb: Verb, topic: Topic, path: &[u8]) -> Found

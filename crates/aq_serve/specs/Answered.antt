@@ -1,8 +1,9 @@
 -- What a whole request is answered with over an office: the status and body of the reply, and the office after it (own).
-use Rattle.std.specs.Prelude.{ℕ, ◌==◌, Bool, true, false, if◌then◌else◌, List, [], codes}
+use Rattle.std.specs.Prelude.{ℕ, ◌==◌, Bool, true, false, if◌then◌else◌, List, [], codes, Result, Ok, Err}
 use Rattle.sha2.specs.Sha256.{sha256}
 use Rattle.aq_rules.specs.Office.Office.{Office}
 use Rattle.aq_rules.specs.Office.Load.{Posted, TooManyLines, Repeated, Differing, NoRoom, Taken, posted}
+use Rattle.aq_base.specs.declared.question.Question.{Question}
 use Rattle.aq_base.specs.declared.question.Topic.{Topic}
 use Rattle.aq_base.specs.declared.question.Topic.TheVariants.{Export}
 use Rattle.aq_rules.specs.Questions.Answer.{Answer, OfSheets, OfText, Lacks, answer, json_of_sheets}
@@ -11,10 +12,12 @@ use Rattle.aq_rules.specs.Shown.Json.{json_of}
 use Rattle.aq_rules.specs.Shown.OtherSheets.{conflict_sheet, error_sheet}
 use Rattle.aq_rules.specs.Shown.Sheet.{Sheet}
 use Rattle.aq_rules.specs.Shown.Sheets.{load_sheet}
+use Rattle.aq_browser.specs.Pages.{answer_page, lack_words, missing_page, refusal_page}
+use Rattle.aq_browser.specs.Standing.{context_beside, context_of}
 use Rattle.aq_http.specs.Reply.{reply_text}
 use Rattle.aq_http.specs.Routes.{found}
 use Rattle.aq_http.specs.declared.media.MediaType.{MediaType}
-use Rattle.aq_http.specs.declared.media.MediaType.TheVariants.{Json, Csv, Plain}
+use Rattle.aq_http.specs.declared.media.MediaType.TheVariants.{Json, Csv, Plain, Html}
 use Rattle.aq_http.specs.declared.routes.Found.{Found}
 use Rattle.aq_http.specs.declared.routes.Found.TheVariants as asks
 use Rattle.aq_http.specs.declared.verb.Verb.{Verb}
@@ -67,6 +70,29 @@ to_question office topic (OfSheets sheets) = record { status = 200; media = Json
 to_question office topic (OfText text) = record { status = 200; media = text_media topic; allow = []; body = text; office = office }
 to_question office topic (Lacks what) = refused 404 office
 
+-- the method that a 405 of a page allows
+abbrev pub page_methods : ℕ → List ℕ
+page_methods status = if status == 405 then codes "GET" else []
+
+-- a page, with a status
+abbrev pub shown_page : ℕ → List ℕ → Office → Answered
+shown_page status page office = record { status = status; media = Html; allow = page_methods status; body = page; office = office }
+
+-- the page of an error
+abbrev pub refused_page : ℕ → Office → Answered
+refused_page status office = shown_page status (refusal_page (context_beside office) status) office
+
+-- the page of a question: its sheets, or what is missing; a text has no page
+abbrev pub to_page : Office → Question → Answer → Answered
+to_page office question (OfSheets sheets) = shown_page 200 (answer_page (context_of office question) question sheets) office
+to_page office question (OfText text) = refused_page 404 office
+to_page office question (Lacks what) = shown_page 404 (missing_page (context_of office question) question (lack_words what)) office
+
+-- the page that is asked for, or that of the status with which it is refused
+abbrev pub to_asked_page : Office → Result Question ℕ → Answered
+to_asked_page office (Ok question) = to_page office question (answer office question)
+to_asked_page office (Err status) = refused_page status office
+
 -- a load with this number. If it would be taken and the keeper fails, nothing changes.
 abbrev pub to_load : ℕ → Office → Bool → Posted → Answered
 to_load number office fails TooManyLines = refused 413 office
@@ -80,6 +106,7 @@ to_load number office false (Taken reply now) = shown 200 (load_sheet reply) now
 abbrev pub to_found : Office → Found → List ℕ → Bool → Answered
 to_found office (asks.Ask question) body fails = to_question office (topic_of question) (answer office question)
 to_found office (asks.Load number) body fails = to_load number office fails (posted office number (sha256 body) body)
+to_found office (asks.Page asked) body fails = to_asked_page office asked
 to_found office (asks.Status status) body fails = refused status office
 to_found office (asks.NotAllowed true) body fails = not_allowed (codes "GET, POST") office
 to_found office (asks.NotAllowed false) body fails = not_allowed (codes "GET") office

@@ -1,2 +1,3 @@
 -- Lemmas of the service of an office.
 pub mod Replied
+pub mod Standing

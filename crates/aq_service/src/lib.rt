@@ -1,5 +1,5 @@
 //! The service of an office: the reply to a whole request over a book and its keeper. It is what aq_office
-//! answers, with the codes, heads and bodies of HTTP.
+//! answers, as it stands or as a page of aq_browser, with the codes, heads and bodies of HTTP.
 //!
 //! # What it has
 //!
@@ -7,8 +7,8 @@
 //!
 //! # What it promises
 //!
-//! - The service answers a whole request as the definition says, and keeps the tables those of its
-//!   office (`OfficeService`).
+//! - The service answers a whole request as the definition says, pages too, and keeps the tables those of
+//!   its office (`OfficeService`).
 //!
 //! # An example
 //!
@@ -18,6 +18,7 @@
 //! ```
 #![tactic(auto)]
 
+mod pages;
 mod replies;
 mod service;
 

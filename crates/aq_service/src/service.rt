@@ -6,11 +6,13 @@ ghost use Rattle.aq_rules.specs.Limits.{MOST_BYTES};
 ghost use Rattle.aq_rules.specs.Office.Load.{posted};
 ghost use Rattle.aq_rules.specs.Office.Office.{IsOffice};
 ghost use Rattle.aq_keeper.specs.Standing.{standing_of};
+ghost use Rattle.aq_listed.specs.LastDay.{last_day};
 ghost use Rattle.aq_serve.specs.Answered.{to_found, to_load};
 ghost use Rattle.aq_service.specs.Replies.{AnswersBy, LosesBy};
 
+use crate::pages::{last_of_all, page_reply};
 use crate::replies::{load_reply, methods, question_reply};
-use aq_base::Memory;
+use aq_base::{Day, Memory};
 use aq_book::Book;
 use aq_forms::Body;
 use aq_http::{Found, Routes, Verb};
@@ -20,21 +22,25 @@ use aq_serve::{Service, error_reply};
 use std::alloc::Global;
 use std::marker::Model;
 
-/// An office, and the routes by which it is asked. Contracts see the valid office.
+/// An office, and the routes by which it is asked. Contracts see the valid office. Each page needs the last
+/// day of the office, which is a walk over its monitors: it is kept until a load may change it.
 #[derive(Drop)]
 pub struct OfficeService {
     book: Book,
     routes: Routes,
+    last: Option<Option<Day>>,
 }
 
 impl Model for OfficeService {
+    ghost use Rattle.std.specs.Prelude.{◌≡◌, IfSome};
+    ghost use Rattle.aq_listed.specs.LastDay.{last_day};
     ghost use Rattle.aq_rules.specs.Office.Office.{IsOffice, Office};
 
     ghost Value = { Office };
 
     ghost view = { λ service. service.book };
 
-    ghost invariant = { λ service. IsOffice service.book };
+    ghost invariant = { λ service. IsOffice service.book × IfSome service.last (λ day. day ≡ last_day service.book) };
 }
 
 impl OfficeService {
@@ -44,7 +50,30 @@ impl OfficeService {
         ensures { IfOk result (λ service. service ≡ book) }
     {
         let routes = Routes::new(alloc)?;
-        Ok(OfficeService { book, routes })
+        Ok(OfficeService {
+            book,
+            routes,
+            last: None,
+        })
+    }
+
+    /// Works out the last day of the office, if it is not kept: once between two loads.
+    fn keep_last_day(&mut self)
+        ensures { self.new ≡ self.old }
+    {
+        if self.last.is_none() {
+            self.last = Some(last_of_all(&self.book));
+        }
+    }
+
+    /// The last day of the office with an observation.
+    fn last_day(&self) -> Option<Day>
+        ensures { result ≡ last_day self.now }
+    {
+        match &self.last {
+            Some(day) => *day,
+            None => last_of_all(&self.book),
+        }
     }
 
     /// Answers what was found that a request asks.
@@ -69,6 +98,10 @@ impl OfficeService {
         match found {
             Found::Ask(question) => question_reply(alloc, &self.book, &question, close),
             Found::Load(number) => self.answer_load(alloc, keeper, number, body, close),
+            Found::Page(asked) => {
+                self.keep_last_day();
+                page_reply(alloc, &self.book, self.last_day(), &asked, close)
+            }
             Found::Status(status) => error_reply(alloc, status, b"", close),
             Found::NotAllowed { post } => error_reply(alloc, 405, methods(post), close),
         }
@@ -119,6 +152,7 @@ impl OfficeService {
             (standing_of self.old (K.seen keeper.old))
             (standing_of self.new (K.seen keeper.new))) }
     {
+        self.last = None;
         let posted = post_uncounted(alloc, &mut self.book, keeper, number, body)?;
         load_reply(alloc, number, posted, close)
     }

@@ -19,8 +19,8 @@ returns c =
     let start : c.into_bytes-out.result.items ≡ start_text c.args.status c.args.media (length c.args.body.now) =
     ap (λ v. v.items) c.into_bytes-out.ensures.value
     ∙ c.in_ok-write.ensures.bytes
-    ∙ ap (λ t. t ++ written c.unwrap-code.result c.name-media.result.now (length c.args.body.now)) c.in_ok-start.ensures.bytes
-    ∙ formatted c.args.status c.args.media c.unwrap-code.result c.name-media.result.now (length c.args.body.now) code c.name-media.ensures in
+    ∙ ap (λ t. t ++ written c.unwrap-code.result c.name-media.result.now c.guard_lines-guards.result.now (length c.args.body.now)) c.in_ok-start.ensures.bytes
+    ∙ formatted c.args.status c.args.media c.unwrap-code.result c.name-media.result.now c.guard_lines-guards.result.now (length c.args.body.now) code c.name-media.ensures c.guard_lines-guards.ensures in
     let allowed = c.in_ok-write_allow.ensures in
     let closed = c.in_ok-write_close.ensures ∙ ap (λ t. t ++ close_line c.args.close) allowed in
     let ended = c.in_ok-extend_from_slice.ensures.items ∙ ap (λ t. t ++ codes "\r\n") closed in
