@@ -1,4 +1,4 @@
-//! The program: it hands the keeper of the file `airdv.sqlite` to aq_program, which obeys the words. The
+//! The program: it hands the keeper of the file `airdv.sqlite` to aq_desk, which obeys the words. The
 //! file stands in the working folder, and is made by the first command that opens it. `docs/COMMANDS.md`
 //! has the commands, and `docs/PROVED.md` what is promised of them.
 //!
@@ -9,7 +9,7 @@
 //!
 //! # What it promises
 //!
-//! - All that is proved is proved of `obey` in aq_program, over any keeper. The keeper of the file tells
+//! - All that is proved is proved of `obey` in aq_desk, over any keeper. The keeper of the file tells
 //!   its tables from its first call on, over any contents of an office or of nobody, under one premise:
 //!   what is read is what honest files held (`HasCleanDisk` of the kit). So what is said of told tables
 //!   is said over the file. The type that `main` names says nothing of what the file holds (`Unknown`).
@@ -27,7 +27,7 @@
 //! ```
 #![tactic(auto)]
 
-use aq_program::{run_over, without_memory};
+use aq_desk::program::{run_over, without_memory};
 use aq_sqlite::{AtPath, FileKeeper, Holds, LateKeeper, Unknown};
 use std::process::ExitCode;
 

@@ -1,4 +1,4 @@
-//! The program over a journal: it hands the keeper of the file `airdv.journal` to aq_program, which
+//! The program over a journal: it hands the keeper of the file `airdv.journal` to aq_desk, which
 //! obeys the words. Its commands are those of `airdv`; its file is a plain one of which `docs/USING.md`
 //! defines every byte.
 //!
@@ -27,9 +27,9 @@
 //! ```
 #![tactic(auto)]
 
+use aq_desk::program::run_over;
 use aq_file::{AtName, FileDisk, Unknown};
 use aq_journal::JournalKeeper;
-use aq_program::run_over;
 use std::process::ExitCode;
 
 /// The file of the journal, in the working folder. It is made at the keeper's first call.

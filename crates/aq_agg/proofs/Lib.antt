@@ -4,3 +4,4 @@ pub mod Greatest
 pub mod Ranked
 pub mod Strata
 pub mod Sums
+pub mod ItemsOfDays

@@ -13,10 +13,10 @@ use Rattle.aq_rules.specs.Particles.ParticleDay.{site_day}
 use Rattle.aq_ozone_cells.specs.FilledDays.{AreKept}
 use Rattle.aq_ozone_cells.specs.KeptDays.{held_at, hour_at}
 use Rattle.aq_ozone_cells.specs.OzoneCells.{held_day, is_day_of, Cells}
-use Rattle.aq_particle_days.specs.KeptDays.{cell_at, Days}
-use Rattle.aq_pm10_cells.specs.Pm10Cells.{Pm10Kept}
-use Rattle.aq_pm10_cells.specs.Pm10Levels as pm10
-use Rattle.aq_pm25_cells.specs.Pm25Levels as pm25
+use Rattle.aq_particle_cells.specs.Days.KeptDays.{cell_at, Days}
+use Rattle.aq_particle_cells.specs.Pm10.Pm10Cells.{Pm10Kept}
+use Rattle.aq_particle_cells.specs.Pm10.Pm10Levels as pm10
+use Rattle.aq_particle_cells.specs.Pm25.Pm25Levels as pm25
 
 pub hours-kept : (office : Office) (cells : Cells) (site : Site) → AreKept office cells → (hour : ℕ) → hour ≤ LAST_HOUR → hour_at cells site hour ≡ site_hour office site hour
 unfolding AreKept

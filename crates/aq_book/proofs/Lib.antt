@@ -4,9 +4,9 @@ pub mod Loadless
 pub mod LoadlessAnswers
 pub mod LoadsCost
 pub mod MigrationLemmas
+pub mod OfficeLoads
 pub mod OpenedFronts
 pub mod OzoneLemmas
-pub mod ReachedLemmas
 pub mod ReportLemmas
 pub mod RisingSites
 pub mod ShownLemmas

@@ -34,7 +34,7 @@ use Rattle.aq_registry.specs.Registry.{office_with}
 use Rattle.aq_series.specs.DayCells.{monitor_at, pocs_after}
 use Rattle.aq_series.specs.OfficeView.{office_of}
 use Rattle.aq_series.proofs.SitePocs.{pocs-end, pocs-next, same_rank, some_poc}
-use Rattle.aq_book.proofs.RisingSites.{Above, above-first, rises-behind}
+use Rattle.aq_series.proofs.SiteWalk.{Above, above-first, rises-behind}
 
 abbrev Entry : Type 0
 Entry = ObsKey × Observation

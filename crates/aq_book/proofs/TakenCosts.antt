@@ -11,12 +11,13 @@ use Rattle.aq_series.specs.OfficeView.{office_of}
 use Rattle.aq_staging.specs.Changes.{with_changes}
 use Rattle.aq_staging.specs.Staged.{AreChangesOf, StagedLoad}
 use Rattle.aq_staging.specs.declared.identity.LoadIdentity.{LoadIdentity}
-use Rattle.aq_book.specs.Reached.{IsChange}
+use Rattle.aq_cells.specs.Reached.{IsChange}
 use Rattle.aq_book.specs.Staged.{kept_under, office_with, Fits}
 use Rattle.aq_book.specs.View.{standing, IsBook}
-use Rattle.aq_book.specs.declared.cells.Cells.{Cells}
+use Rattle.aq_cells.specs.declared.cells.Cells.{Cells}
 use Rattle.aq_book.proofs.LoadsCost.{bare-costs}
-use Rattle.aq_book.proofs.ReachedLemmas.{changes-are, loadless}
+use Rattle.aq_cells.proofs.ReachedLemmas.{changes-are}
+use Rattle.aq_book.proofs.OfficeLoads.{loadless}
 use Rattle.aq_book.proofs.StageLemmas.{taken-office, valid-after}
 
 pub taken-costs : (staged : StagedLoad) (office : Office) (old : List OfficeRecord) (rows : List (ObsKey × Observation)) (loads : List StoredLoad) (view : standing old rows loads ≡ office)

@@ -3,5 +3,4 @@ pub mod View
 pub mod Checks
 pub mod Questions
 pub mod Staged
-pub mod Reached
 pub mod Migrating

@@ -6,9 +6,9 @@ use Rattle.aq_base.specs.declared.office.OfficeRecord.{OfficeRecord}
 use Rattle.aq_rules.specs.Office.Office.{IsOffice, Office, StoredLoad}
 use Rattle.aq_series.specs.OfficeView.{office_of}
 use Rattle.aq_ozone_cells.specs.FilledDays as ozone_cells
-use Rattle.aq_pm10_cells.specs.Pm10Levels as pm10_cells
-use Rattle.aq_pm25_cells.specs.Pm25Levels as pm25_cells
-use Rattle.aq_book.specs.declared.cells.Cells.{Cells}
+use Rattle.aq_particle_cells.specs.Pm10.Pm10Levels as pm10_cells
+use Rattle.aq_particle_cells.specs.Pm25.Pm25Levels as pm25_cells
+use Rattle.aq_cells.specs.declared.cells.Cells.{Cells}
 
 -- the office of these records, observations and loads
 abbrev pub standing : List OfficeRecord → List (ObsKey × Observation) → List StoredLoad → Office

@@ -9,14 +9,13 @@ ghost use Rattle.aq_rules.specs.Office.Load.{New, decide, load, reply};
 ghost use Rattle.aq_rules.specs.Office.Office.{load_at, nothing};
 
 use crate::batch::{RowChanges, batch_of};
-use crate::cells::Cells;
 use crate::check::LoadCheck;
-use crate::reached::bring_up;
 use aq_base::{LoadReply, Memory, Steps};
+use aq_cells::{Cells, bring_up};
 use aq_forms::Body;
 use aq_ozone_cells::OzoneCells;
-use aq_pm10_cells::Pm10Cells;
-use aq_pm25_cells::Pm25Cells;
+use aq_particle_cells::pm10::Pm10Cells;
+use aq_particle_cells::pm25::Pm25Cells;
 use aq_registry::Registry;
 use aq_rows::{Loads, digest_is_32_bytes};
 use aq_rules::kept::reach::what_reads_a_changed_row_is_in_reach;
@@ -189,8 +188,8 @@ impl Book {
         ensures steps { steps.new ≤ steps.old + cost self (office_with staged self) }
     {
         aq_ozone_cells::cells_out_of_reach_are_those_of_the_office_after_it();
-        aq_pm25_cells::cells_out_of_reach_are_those_of_the_office_after_it();
-        aq_pm10_cells::cells_out_of_reach_are_those_of_the_office_after_it();
+        aq_particle_cells::pm25::cells_out_of_reach_are_those_of_the_office_after_it();
+        aq_particle_cells::pm10::cells_out_of_reach_are_those_of_the_office_after_it();
         what_reads_a_changed_row_is_in_reach();
         let taken = staged.onto(self.shelf)?;
         let loads = with_load(self.loads, taken.identity, taken.reply)?;

@@ -69,7 +69,7 @@ impl Book {
         requires last { year ≤ LAST_YEAR }
         ensures { result ≡ pm25_summary self.now site year }
     {
-        aq_pm25_cells::kept_numbers_are_those_of_the_office();
+        aq_particle_cells::pm25::kept_numbers_are_those_of_the_office();
         self.cells.pm25.year(&self.registry, site, year)
     }
 
@@ -79,7 +79,7 @@ impl Book {
         requires last { year ≤ LAST_YEAR }
         ensures { result ≡ pm10_year self.now site year }
     {
-        aq_pm10_cells::kept_numbers_are_those_of_the_office();
+        aq_particle_cells::pm10::kept_numbers_are_those_of_the_office();
         self.cells.pm10.year(&self.registry, site, year)
     }
 }

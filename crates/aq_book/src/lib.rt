@@ -53,7 +53,6 @@
 
 mod batch;
 mod book;
-mod cells;
 mod check;
 mod design;
 mod export;
@@ -63,7 +62,6 @@ mod opening;
 mod ozone;
 mod particle_days;
 mod question;
-mod reached;
 mod report;
 mod version_1;
 

@@ -4,12 +4,12 @@ ghost use Rattle.aq_rules.specs.Kept.Rows as kept;
 ghost use Rattle.aq_rows.specs.Opening.{IsOpenFault};
 ghost use Rattle.aq_series.specs.OfficeView.{office_of};
 ghost use Rattle.aq_ozone_cells.specs.FilledDays as ozone_cells;
-ghost use Rattle.aq_pm10_cells.specs.Pm10Levels as pm10_cells;
-ghost use Rattle.aq_pm25_cells.specs.Pm25Levels as pm25_cells;
+ghost use Rattle.aq_particle_cells.specs.Pm10.Pm10Levels as pm10_cells;
+ghost use Rattle.aq_particle_cells.specs.Pm25.Pm25Levels as pm25_cells;
 
 use crate::book::Book;
-use crate::cells::{Cells, filled};
 use aq_base::{Memory, Steps};
+use aq_cells::{Cells, filled};
 use aq_keeper::{Row, Rows};
 use aq_registry::Registry;
 use aq_rows::{OpenFault, Opened, open};

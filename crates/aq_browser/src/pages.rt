@@ -12,7 +12,7 @@ use crate::sections::write_sections;
 use crate::titles::write_title;
 use aq_base::{Memory, Question};
 use aq_pages::{FOOT, HEAD};
-use aq_reports::Sheet;
+use aq_sheets::Sheet;
 use std::alloc::Global;
 
 /// Appends the name of a page in a browser; its body begins behind it.

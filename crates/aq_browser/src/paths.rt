@@ -8,7 +8,7 @@ use aq_base::{Area, Assumed, Memory, Pollutant, Question, SiteId, Standard};
 use aq_cal::{day_text, last_digits};
 use aq_num::write_fixed;
 use aq_rd::parameter_name;
-use aq_reports::site_text;
+use aq_sheets::site_text;
 use std::alloc::Global;
 
 /// Appends a whole number, in digits.

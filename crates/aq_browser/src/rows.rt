@@ -7,7 +7,7 @@ ghost use Rattle.aq_browser.specs.Rows.{before_day, before_report, behind_report
 use crate::paths::year_text;
 use aq_base::{Memory, Pollutant, Question, SiteId};
 use aq_pages::write_escaped;
-use aq_reports::{Cells, Head, Sheet, SheetCell, site_text, write_cell as write_cell_text};
+use aq_sheets::{Cells, Head, Sheet, SheetCell, site_text, write_cell as write_cell_text};
 use std::alloc::Global;
 
 /// Appends the text of a cell, escaped.

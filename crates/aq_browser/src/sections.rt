@@ -9,7 +9,7 @@ use aq_base::{Memory, Question};
 use aq_pages::{
     Kind, Line, Picture, has_picture, kind_of, write_level_words, write_picture, write_words,
 };
-use aq_reports::{Cells, Sheet};
+use aq_sheets::{Cells, Sheet};
 use std::alloc::Global;
 
 /// Appends the picture of these heads and rows; nothing if there are too many of them.

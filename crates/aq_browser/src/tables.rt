@@ -6,7 +6,7 @@ ghost use Rattle.aq_rules.specs.Shown.Sheet.{cell_text};
 
 use aq_base::{Bytes, Items, Memory};
 use aq_pages::{Line, write_cell, write_column_names, write_table_end, write_table_start};
-use aq_reports::{Cells, Head, SheetCell, write_cell as write_cell_text};
+use aq_sheets::{Cells, Head, SheetCell, write_cell as write_cell_text};
 use std::alloc::Global;
 
 // ---- the tables

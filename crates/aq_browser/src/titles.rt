@@ -6,7 +6,7 @@ ghost use Rattle.aq_browser.specs.Paths.{area_text, digits};
 use crate::paths::{write_area, write_digits, write_list, year_text};
 use aq_base::{Area, Assumed, Day, Memory, Pollutant, Question, SiteId, Standard, Topic};
 use aq_cal::day_text;
-use aq_reports::site_text;
+use aq_sheets::site_text;
 use std::alloc::Global;
 
 /// Appends what is asked for where events are assumed to be concurred in or not.

@@ -2,7 +2,7 @@
 //! The names are those of `aq_trials::answer`, `command` and `without_memory`.
 use aq_base::Memory;
 use aq_desk::end_without_memory;
-use aq_serve::MemorySink;
+use aq_outside::MemorySink;
 use aq_trials::{Trouble, answer, spelling_of};
 use aq_words::read_words;
 use std::alloc::Global;

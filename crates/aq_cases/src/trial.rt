@@ -9,7 +9,7 @@ use crate::taking::TakingKeeper;
 use aq_base::Memory;
 use aq_journal::{JournalKeeper, MemoryDisk};
 use aq_keeper::{Keeper, MemoryKeeper, Row, are_in_order};
-use aq_serve::{MemoryDoor, MemorySink, MemorySource};
+use aq_outside::{MemoryDoor, MemorySink, MemorySource};
 use aq_trials::{
     Case, Extent, Failing, Given, Place, Run, Subject, Trouble, Wanted, difference, new_keeper,
     read_rows, rows_text,

@@ -8,6 +8,7 @@ pub mod ParticleSteps
 pub mod Pm10Quarters
 pub mod Pm25Quarters
 pub mod QuarterDays
+pub mod ReachedLemmas
 pub mod SettlingCosts
 pub mod SiteSteps
 pub mod UnreadRows

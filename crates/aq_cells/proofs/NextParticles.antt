@@ -10,11 +10,11 @@ use Rattle.aq_dirty.specs.Spans.{holds}
 use Rattle.aq_dirty.specs.declared.cell_name.CellName.{CellName}
 use Rattle.aq_dirty.specs.declared.cell_name.CellName.TheVariants.{Hour, Window, OzoneDay, OzoneYear, PmDay, Stratum, Quarter, PmYear}
 use Rattle.aq_dirty.specs.declared.spans.Span.{Span}
-use Rattle.aq_pm10_cells.specs.Pm10Cells.{Pm10Kept}
-use Rattle.aq_pm10_cells.specs.Pm10Levels as pm10_cells
-use Rattle.aq_pm10_cells.specs.Pm10Levels.{AreBelow, AreValuesOf, IsCellOf}
-use Rattle.aq_pm25_cells.specs.Pm25Levels as pm25_cells
-use Rattle.aq_particle_days.specs.KeptDays.{Days}
+use Rattle.aq_particle_cells.specs.Pm10.Pm10Cells.{Pm10Kept}
+use Rattle.aq_particle_cells.specs.Pm10.Pm10Levels as pm10_cells
+use Rattle.aq_particle_cells.specs.Pm10.Pm10Levels.{AreBelow, AreValuesOf, IsCellOf}
+use Rattle.aq_particle_cells.specs.Pm25.Pm25Levels as pm25_cells
+use Rattle.aq_particle_cells.specs.Days.KeptDays.{Days}
 use Rattle.aq_rules.proofs.CellsOnce.{cell-same}
 use Rattle.aq_rules.specs.Kept.Cells.{CellName as Cell, PmDayCell, StratumCell, is_same_cell}
 use Rattle.aq_rules.specs.Office.Office.{Office}

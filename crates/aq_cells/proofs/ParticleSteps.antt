@@ -6,12 +6,12 @@ use Rattle.std.proofs.lemmas.Bool.{false≢true}
 use Rattle.std.proofs.lemmas.List.Sums.{sum_by-cons}
 use Rattle.aq_base.specs.declared.monitor.Pollutant.TheVariants.{Ozone, Pm25, Pm10}
 use Rattle.aq_dirty.specs.Particles.{holds_particle, particle_cells_of, MarkedParticles}
-use Rattle.aq_pm10_cells.specs.Bound as pm10_bound
-use Rattle.aq_pm10_cells.specs.Pm10Cells.{Pm10Kept}
-use Rattle.aq_pm10_cells.specs.Pm10Levels as pm10_cells
-use Rattle.aq_pm25_cells.specs.Bound as pm25_bound
-use Rattle.aq_pm25_cells.specs.Pm25Levels as pm25_cells
-use Rattle.aq_particle_days.specs.KeptDays.{Days}
+use Rattle.aq_particle_cells.specs.Pm10.Bound as pm10_bound
+use Rattle.aq_particle_cells.specs.Pm10.Pm10Cells.{Pm10Kept}
+use Rattle.aq_particle_cells.specs.Pm10.Pm10Levels as pm10_cells
+use Rattle.aq_particle_cells.specs.Pm25.Bound as pm25_bound
+use Rattle.aq_particle_cells.specs.Pm25.Pm25Levels as pm25_cells
+use Rattle.aq_particle_cells.specs.Days.KeptDays.{Days}
 use Rattle.aq_registry.specs.Registry.{office_with}
 use Rattle.aq_rules.proofs.CellsOnce.{cell-same, member-once}
 use Rattle.aq_rules.specs.Kept.Cells.{CellName as Cell, HourCell, WindowCell, OzoneDayCell, OzoneYearCell, PmDayCell, StratumCell, QuarterCell, PmYearCell, is_same_cell}

@@ -5,9 +5,9 @@ use Rattle.aq_base.specs.Site.{Site}
 use Rattle.aq_base.specs.declared.monitor.Pollutant.TheVariants.{Pm10}
 use Rattle.aq_rules.specs.Kept.Cells.{QuarterCell}
 use Rattle.aq_rules.specs.Office.Office.{IsOffice, Office}
-use Rattle.aq_particle_days.specs.KeptDays.{cell_at}
-use Rattle.aq_pm10_cells.specs.Pm10Cells.{scheduled_sample, Pm10Kept}
-use Rattle.aq_pm10_cells.specs.Pm10Levels.{AreKept, IsCellOf}
+use Rattle.aq_particle_cells.specs.Days.KeptDays.{cell_at}
+use Rattle.aq_particle_cells.specs.Pm10.Pm10Cells.{scheduled_sample, Pm10Kept}
+use Rattle.aq_particle_cells.specs.Pm10.Pm10Levels.{AreKept, IsCellOf}
 use Rattle.aq_cells.specs.Allowed.{allowed, ReadsNoSchedule}
 use Rattle.aq_cells.proofs.QuarterDays.{few-unread, pm10-scheduled}
 

@@ -1,9 +1,7 @@
 -- A quarter of PM2.5 that reads no changed schedule and no changed make-up: its days count in the new office as they are kept.
-use Rattle.std.proofs.Common.{◌≡◌, ℕ, zero, suc, ◌+◌, ◌-◌, ◌<◌, ◌≤◌, Bool, true, not, cond, ◌&&◌, ◌||◌, refl, ap, sym, ◌∙◌, arith}
-use Rattle.std.specs.Prelude.{◌==◌, nat_le, Option, Some, None, option_and_then}
-use Rattle.std.specs.List.{list_any, range_with_len}
+use Rattle.std.proofs.Common.{◌≡◌, ℕ, ◌+◌, ◌-◌, ◌<◌, ◌≤◌, Bool, true, not, cond, ◌&&◌, ◌||◌, refl, ap, sym, ◌∙◌, arith}
+use Rattle.std.specs.Prelude.{◌==◌, Option, Some, None, option_and_then}
 use Rattle.std.specs.Option.{option_or}
-use Rattle.std.proofs.lemmas.Bool.{and_parts, eqb-true, leb-true}
 use Rattle.aq_base.specs.Calendar.{is_year, quarter_of, quarter_year}
 use Rattle.aq_base.specs.Site.{Site}
 use Rattle.aq_base.specs.declared.day.TheConstants.{LAST_DAY}
@@ -14,52 +12,21 @@ use Rattle.aq_rules.proofs.CellsOnce.{cell-itself}
 use Rattle.aq_rules.proofs.Unreached.{is_new_in}
 use Rattle.aq_rules.specs.Kept.Cells.{QuarterCell}
 use Rattle.aq_rules.specs.Kept.Reach.{ChangedRecord, cells_reading, is_of_schedule, reads}
-use Rattle.aq_rules.specs.Lines.OfficeForms.{is_makeup}
-use Rattle.aq_rules.specs.Office.Office.{IsOffice, Office, is_day, is_site}
+use Rattle.aq_rules.specs.Office.Office.{IsOffice, Office}
 use Rattle.aq_rules.specs.Office.Questions.{makeup_of, record_of}
 use Rattle.aq_rules.specs.Office.Schedule.{is_scheduled}
 use Rattle.aq_rules.specs.Ozone.SiteHour.{Cell}
-use Rattle.aq_reach.proofs.DaysOfQuarters.{in-quarter, quarter_of-is_year}
+use Rattle.aq_dirty.proofs.OutOfReachLemmas.DaysOfQuarters.{in-quarter, quarter_of-is_year}
 use Rattle.aq_registry.proofs.QuestionLemmas.{makeup_found}
-use Rattle.aq_registry.specs.Registry.{makeup_in, office_with}
-use Rattle.aq_pm25.proofs.Makeups.{makeup-record}
-use Rattle.aq_pm25.specs.QuarterDays.{is_makeup_day}
-use Rattle.aq_particle_days.specs.KeptDays.{cell_at, Days}
-use Rattle.aq_pm25_cells.specs.Pm25Cells.{sample_from, IsCountedBy}
-use Rattle.aq_pm25_cells.specs.Pm25Levels.{AreKept, IsCellOf}
+use Rattle.aq_registry.specs.Registry.{makeup_in}
+use Rattle.aq_particles.specs.Pm25.QuarterDays.{is_makeup_day}
+use Rattle.aq_particle_cells.specs.Days.KeptDays.{cell_at, Days}
+use Rattle.aq_particle_cells.specs.Pm25.Pm25Cells.{sample_from, IsCountedBy}
+use Rattle.aq_particle_cells.specs.Pm25.Pm25Levels.{AreKept, IsCellOf}
 use Rattle.aq_cells.specs.Allowed.{allowed, ReadsNoSchedule}
 use Rattle.aq_cells.proofs.QuarterDays.{few-unread, pm25-scheduled}
 use Rattle.aq_cells.proofs.UnreadRows.{kind-alike}
-
--- ---- a make-up lies in the quarter of its missed day
-
--- the records of a valid office without its observations
-without-rows : (office : Office) → IsOffice office → IsOffice (office_with office.records)
-without-rows office valid = record {
-  keys_rise = record { records = valid.keys_rise.records; observations = refl; loads = refl };
-  records_fit = valid.records_fit;
-  records_alone = valid.records_alone;
-  few_sites = valid.few_sites;
-  observations_fit = refl;
-  few_observations = omega arith;
-  loads_fit = refl;
-  few_loads = omega arith;
-}
-
-made-in : (office : Office) (site : Site) (missed makeup : ℕ) → IsOffice office → makeup_of office.records site missed ≡ Some makeup
-    → (makeup ≤ LAST_DAY) × (quarter_of makeup ≡ quarter_of missed)
-made-in office site missed makeup valid is =
-    let stands = makeup-record office.records site (quarter_of missed) missed makeup (without-rows office valid) is in
-    let days = and_parts (is_site site && is_day missed) (is_day makeup && is_makeup missed makeup) stands in
-    let day = and_parts (is_day makeup) (is_makeup missed makeup) days.1 in
-    let after = and_parts _ (nat_le makeup (missed + 7)) day.1 in
-    let there = and_parts _ (quarter_of makeup == quarter_of missed) after.0 in
-    (leb-true makeup LAST_DAY day.0, eqb-true (quarter_of makeup) (quarter_of missed) there.1)
-
-any-same : (p q : ℕ → Bool) (a n : ℕ) → ((k : ℕ) → a ≤ k → k < a + n → p k ≡ q k) → list_any p (range_with_len a n) ≡ list_any q (range_with_len a n)
-any-same p q a zero same = refl
-any-same p q a (suc n) same =
-    λ i. same a (omega arith) (omega arith) i || any-same p q (a + 1) n (λ k low high. same k (omega (arith, low)) (omega (arith, high))) i
+use Rattle.aq_particle_cells.proofs.Pm25Lemmas.Pm25Office.{any-same, made-in}
 
 -- ---- the samples of its days
 

@@ -15,7 +15,7 @@ use Rattle.aq_rules.specs.Kept.Reach.{changed_rows, is_of_schedule, quarter_cell
 use Rattle.aq_rules.specs.Office.Office.{IsOffice, Office}
 use Rattle.aq_rules.specs.Office.Schedule.{is_scheduled}
 use Rattle.aq_cells.specs.Allowed.{allowed, ReadsNoSchedule}
-use Rattle.aq_reach.proofs.Schedules.{scheduled-same}
+use Rattle.aq_dirty.proofs.OutOfReachLemmas.Schedules.{scheduled-same}
 use Rattle.aq_cells.proofs.UnreadRows.{kind-alike}
 
 -- so does any for which fewer steps are allowed

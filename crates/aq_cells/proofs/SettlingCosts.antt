@@ -6,10 +6,10 @@ use Rattle.aq_dirty.specs.Particles.{MarkedParticles}
 use Rattle.aq_ozone_cells.specs.Bound as ozone_bound
 use Rattle.aq_ozone_cells.specs.FilledDays as ozone_cells
 use Rattle.aq_ozone_cells.specs.OzoneCells.{Cells}
-use Rattle.aq_particle_days.specs.KeptDays.{Days}
-use Rattle.aq_pm10_cells.specs.Pm10Cells.{Pm10Kept}
-use Rattle.aq_pm10_cells.specs.Pm10Levels as pm10_cells
-use Rattle.aq_pm25_cells.specs.Pm25Levels as pm25_cells
+use Rattle.aq_particle_cells.specs.Days.KeptDays.{Days}
+use Rattle.aq_particle_cells.specs.Pm10.Pm10Cells.{Pm10Kept}
+use Rattle.aq_particle_cells.specs.Pm10.Pm10Levels as pm10_cells
+use Rattle.aq_particle_cells.specs.Pm25.Pm25Levels as pm25_cells
 use Rattle.aq_rules.specs.Kept.Cells.{CellName}
 use Rattle.aq_rules.specs.Kept.Reach.{cost, day_steps}
 use Rattle.aq_rules.specs.Office.Office.{IsOffice, Office}

@@ -7,10 +7,10 @@ use Rattle.aq_dirty.specs.Particles.{particle_cells_of, MarkedParticles}
 use Rattle.aq_rules.specs.Kept.Cells.{CellName, PmDayCell, QuarterCell, StratumCell}
 use Rattle.aq_rules.specs.Kept.Reach.{day_steps, each_once}
 use Rattle.aq_rules.specs.Office.Office.{Office}
-use Rattle.aq_particle_days.specs.KeptDays.{Days}
-use Rattle.aq_pm10_cells.specs.Pm10Cells.{Pm10Kept}
-use Rattle.aq_pm10_cells.specs.Pm10Levels as pm10_cells
-use Rattle.aq_pm25_cells.specs.Pm25Levels as pm25_cells
+use Rattle.aq_particle_cells.specs.Days.KeptDays.{Days}
+use Rattle.aq_particle_cells.specs.Pm10.Pm10Cells.{Pm10Kept}
+use Rattle.aq_particle_cells.specs.Pm10.Pm10Levels as pm10_cells
+use Rattle.aq_particle_cells.specs.Pm25.Pm25Levels as pm25_cells
 
 -- so many steps are enough for each cell: what the book of rules allows for a day, 16 for a stratum, and fewer than 800 for a quarter only if its days count as they should already
 pub record AreEnough (office : Office) (pm25 : Days) (pm10 : Pm10Kept) (steps : CellName → ℕ) : Type 0 where

@@ -12,10 +12,10 @@ ghost use Rattle.aq_dirty.specs.Particles.{MarkedParticles};
 ghost use Rattle.aq_ozone_cells.specs.Bound as ozone_bound;
 ghost use Rattle.aq_ozone_cells.specs.FilledDays as ozone_cells;
 ghost use Rattle.aq_ozone_cells.specs.OzoneCells.{Cells};
-ghost use Rattle.aq_particle_days.specs.KeptDays.{Days};
-ghost use Rattle.aq_pm10_cells.specs.Pm10Cells.{Pm10Kept};
-ghost use Rattle.aq_pm10_cells.specs.Pm10Levels as pm10_cells;
-ghost use Rattle.aq_pm25_cells.specs.Pm25Levels as pm25_cells;
+ghost use Rattle.aq_particle_cells.specs.Days.KeptDays.{Days};
+ghost use Rattle.aq_particle_cells.specs.Pm10.Pm10Cells.{Pm10Kept};
+ghost use Rattle.aq_particle_cells.specs.Pm10.Pm10Levels as pm10_cells;
+ghost use Rattle.aq_particle_cells.specs.Pm25.Pm25Levels as pm25_cells;
 ghost use Rattle.aq_rules.specs.Kept.Cells.{CellName};
 ghost use Rattle.aq_rules.specs.Kept.Reach.{ChangedLoad, ChangedObservation, changed_rows, cost};
 ghost use Rattle.aq_rules.specs.Office.Office.{IsOffice, Office};
@@ -24,7 +24,7 @@ ghost use Rattle.aq_rules.specs.Office.Office.{IsOffice, Office};
 /// no others, then to bring them up to date makes at most the steps that the change costs. Fewer than 732 for an
 /// ozone year, or than 800 for a quarter, are only allowed where no changed row says which of its days count;
 /// its days then count as the office after the change has it.
-pub fn settling_what_waits_costs_what_the_change_costs()
+pub(crate) fn settling_what_waits_costs_what_the_change_costs()
     ensures { (old new : Office) (cells : Cells) (days : Days) (kept : Pm10Kept)
         (ozone : Marked) (particles : MarkedParticles) (start end : ℕ)
         → IsOffice old

@@ -1,20 +1,21 @@
-//! The cells that wait after a change: those of PM2.5 and PM10 are brought up to date here, those of ozone in
-//! aq_ozone_cells, and all together cost no more than the change does.
+//! All cells that are kept of an office, of ozone and of particles: filled, and those that a load reaches marked
+//! and brought up to date, which costs no more than the change does.
 //!
 //! # What it has
 //!
-//! - [`settle`]: brings the cells that wait in a `DirtyParticles` of aq_dirty up to date with the office.
-//! - [`settling_what_waits_costs_what_the_change_costs`]: a law alone, over the cells of ozone too.
-//! - [`loads_of_ozone_hours_cost_no_more_than_this`]: a law on what the change costs, in numbers.
+//! - [`Cells`]: the cells of ozone, of PM2.5 and of PM10; [`filled`]: those of an office, made from its records
+//!   and observations.
+//! - [`bring_up`]: brings the cells that the changes of a load reach up to date with the office after it.
+//! - [`loads_of_ozone_hours_cost_no_more_than_this`]: a law on what a change costs, in numbers.
 //!
 //! # What it promises
 //!
-//! - If all cells that do not wait are the office's, then all are, once those that wait are settled (`settle`):
-//!   days before strata, these before quarters, and these before years.
-//! - It makes at most the steps that are enough for each cell that waits: what the book of rules allows for a
-//!   day, 16 for a stratum, and 800 for a quarter, but none if its days count as they should already.
-//! - If the sets hold the cells in reach of a change, and the cells are those of the office before it, the
-//!   steps that the book allows are enough, and all of them together are at most what the change costs.
+//! - The cells that are filled are the office's (`filled`).
+//! - If all cells that no change reaches are those of the office after a load, then all are, once those that it
+//!   reaches are brought up to date (`bring_up`, clauses `ozone`, `pm25` and `pm10`). What is marked is exactly
+//!   what is in reach.
+//! - If all cells were those of the office before, it makes at most the steps that the change costs (clause
+//!   `steps`).
 //! - A load that changes its own row alone costs 16 steps, one that changes an ozone hour too at most 108, and
 //!   one that changes the hours of an ozone day at most 1,488, whatever else the office holds.
 //! - After want of memory the cells may only be dropped.
@@ -22,16 +23,17 @@
 //! # An example
 //!
 //! ```rust
-//! waiting.mark(&registry, &change)?; // of a row that has changed in the shelf or the registry
-//! settle(&mut pm25, &mut pm10, &mut waiting, &shelf, &registry, &mut steps)?;
-//! let year = pm25.year(&registry, site, 2024);
+//! let mut cells = filled(alloc, &shelf, &before, &mut steps)?;
+//! bring_up(alloc, &mut cells, &changes, &before, &after, &shelf, &mut steps)?; // the changes of a load
+//! let year = cells.pm25.year(&after, site, 2024);
 //! ```
 #![tactic(auto)]
 
+mod cells;
 mod laws;
+mod reached;
 mod settling;
 
-pub use laws::{
-    loads_of_ozone_hours_cost_no_more_than_this, settling_what_waits_costs_what_the_change_costs,
-};
-pub use settling::settle;
+pub use cells::{Cells, filled};
+pub use laws::loads_of_ozone_hours_cost_no_more_than_this;
+pub use reached::bring_up;

@@ -2,8 +2,8 @@
 ghost use Rattle.std.specs.Prelude.{◌≡◌, ◌≤◌, ◌+◌, ℕ, false, OnOk};
 ghost use Rattle.aq_dirty.specs.Marked.{named};
 ghost use Rattle.aq_dirty.specs.Particles.{holds_particle};
-ghost use Rattle.aq_pm10_cells.specs.Pm10Levels as pm10_cells;
-ghost use Rattle.aq_pm25_cells.specs.Pm25Levels as pm25_cells;
+ghost use Rattle.aq_particle_cells.specs.Pm10.Pm10Levels as pm10_cells;
+ghost use Rattle.aq_particle_cells.specs.Pm25.Pm25Levels as pm25_cells;
 ghost use Rattle.aq_registry.specs.Registry.{office_with};
 ghost use Rattle.aq_rules.specs.Kept.Cells.{CellName as Cell};
 ghost use Rattle.aq_rules.specs.Office.Office.{IsOffice};
@@ -12,8 +12,8 @@ ghost use Rattle.aq_cells.specs.Bound.{steps_for, AreEnough};
 
 use aq_base::{Memory, Pollutant, SiteId, Steps};
 use aq_dirty::{CellName, DirtyParticles, the_particle_cells_held_are_a_list};
-use aq_pm10_cells::Pm10Cells;
-use aq_pm25_cells::Pm25Cells;
+use aq_particle_cells::pm10::Pm10Cells;
+use aq_particle_cells::pm25::Pm25Cells;
 use aq_registry::Registry;
 use aq_rules::kept::reach::a_cell_less_is_its_steps_less;
 use aq_shelf::Shelf;
@@ -23,7 +23,7 @@ use std::sync::ledger::Ledger;
 /// others are: days before strata, these before quarters, and these before years. At most the steps that the
 /// book of rules allows for each: 16 and three look-ups for each sample for a day, 16 for a stratum, and 800
 /// for a quarter, but none if its days count as they should already.
-pub fn settle<L: Ledger>(
+pub(crate) fn settle<L: Ledger>(
     pm25: &mut Pm25Cells,
     pm10: &mut Pm10Cells,
     waiting: &mut DirtyParticles,
@@ -75,8 +75,8 @@ fn bring_up<L: Ledger>(
         → AreEnough (office_of registry.now shelf.now) pm25.old pm10.old enough
         → steps.new ≤ steps.old + enough (named cell.now) }
 {
-    aq_pm25_cells::bring_up(pm25, cell, shelf, registry, steps)?;
-    aq_pm10_cells::bring_up(pm10, cell, shelf, registry, steps)?;
+    aq_particle_cells::pm25::bring_up(pm25, cell, shelf, registry, steps)?;
+    aq_particle_cells::pm10::bring_up(pm10, cell, shelf, registry, steps)?;
     Ok(())
 }
 

@@ -1,1 +1,3 @@
--- Nothing of its own: the contracts speak the words of the book of rules.
+-- What the contracts say of assumed concurrences and of combined sites; design values are said in the book's words.
+pub mod WhatIf
+pub mod Combined

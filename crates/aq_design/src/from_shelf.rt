@@ -28,10 +28,10 @@ impl<'a> Years for FromShelf<'a> {
     }
 
     fn pm25<L: Ledger>(&self, site: SiteId, year: u16, steps: &mut Steps<L>) -> PmYear {
-        aq_pm25::year(self.shelf, self.registry, site, year, steps)
+        aq_particles::pm25::year(self.shelf, self.registry, site, year, steps)
     }
 
     fn pm10<L: Ledger>(&self, site: SiteId, year: u16, steps: &mut Steps<L>) -> Pm10Year {
-        aq_pm10::year(self.shelf, self.registry, site, year, steps)
+        aq_particles::pm10::year(self.shelf, self.registry, site, year, steps)
     }
 }

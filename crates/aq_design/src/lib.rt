@@ -1,5 +1,6 @@
 //! Design values of a site (40 CFR Part 50, Appendices U, N and K), over any source of what is kept of
-//! its years: a shelf and a registry, or whatever else knows the years of an office. It takes no memory.
+//! its years: a shelf and a registry, or whatever else knows the years of an office. Also those under assumed
+//! concurrences, and those of combined sites.
 //!
 //! # What it has
 //!
@@ -9,7 +10,9 @@
 //!   a step.
 //! - [`FromShelf`]: a shelf and a registry as such a source; each year is computed at the call.
 //! - [`design_value`]: the design value of a standard for a site and the three years that end with a
-//!   year, as a `DesignValue` of aq_verdict. The year is 1992 to 2059.
+//!   year, as a `DesignValue` of aq_verdict. The year is 1992 to 2059. It takes no memory.
+//! - `what_if`: the design value under concurrences that are assumed, and the events that decide a verdict.
+//! - `combined`: a site and the one that is joined to it, read as one.
 //!
 //! # What it promises
 //!
@@ -31,9 +34,11 @@
 //! ```
 #![tactic(auto)]
 
+pub mod combined;
 mod from_shelf;
 mod particle_days;
 mod value;
+pub mod what_if;
 mod years;
 
 pub use from_shelf::FromShelf;

@@ -20,7 +20,7 @@ use Rattle.aq_desk.proofs.Unread.{stopped_by}
 use Rattle.aq_desk.specs.Ask.{IsUnanswered, answered, ask_outcome, ask_printout, lacking}
 use Rattle.aq_desk.specs.Command.{Keeps, Outcome, Printout, leaving, printed}
 use Rattle.aq_desk.specs.Office.{HasOpened, IsOpened, IsUnopened}
-use Rattle.aq_serve.specs.Outside.{OfTold, SinkView}
+use Rattle.aq_outside.specs.Outside.{OfTold, SinkView}
 use Rattle.aq_desk.specs.Stop.{Gives, IsTaken, IsUnprinted, Obeys, ending_at, status_of}
 use Rattle.aq_desk.specs.declared.stop.Stop.{Stop}
 use Rattle.aq_desk.specs.declared.stop.Stop.TheVariants as stops

@@ -11,8 +11,8 @@ use Rattle.aq_desk.proofs.Tables.{keeps_same, of_any, of_told, with_tables}
 use Rattle.aq_desk.proofs.Unread.{stays_at}
 use Rattle.aq_desk.specs.Command.{Follows, IsStatus, IsWhole, Outcome, Printout, RisesAt, Tells, leaving, message_for}
 use Rattle.aq_desk.specs.Ending.{no_command}
-use Rattle.aq_serve.specs.Door.{DoorView}
-use Rattle.aq_serve.specs.Outside.{IsAll, OfTold, SinkView, SourceView}
+use Rattle.aq_outside.specs.Door.{DoorView}
+use Rattle.aq_outside.specs.Outside.{IsAll, OfTold, SinkView, SourceView}
 use Rattle.aq_desk.specs.Run.{Acts, IsRun, KeeperRises, Runs, Surroundings, around_in, hosting_in, outcome_of, reads_input}
 use Rattle.aq_desk.specs.Serve.{Around, HasServed, Hosting, serve_outcome}
 use Rattle.aq_desk.specs.Simulate.{simulate_outcome}

@@ -6,8 +6,8 @@ use Rattle.aq_base.specs.declared.observation.ObsKey.{ObsKey}
 use Rattle.aq_base.specs.declared.observation.Observation.{Observation}
 use Rattle.aq_base.specs.declared.office.OfficeRecord.{OfficeRecord}
 use Rattle.aq_book.proofs.Loadless.{with_loads}
-use Rattle.aq_changes.specs.Answers.{answer_in}
-use Rattle.aq_changes.specs.declared.answer.ChangesAnswer as answers
+use Rattle.aq_staging.specs.Extracts.Answers.{answer_in}
+use Rattle.aq_staging.specs.declared.extracts.answer.ChangesAnswer as answers
 use Rattle.aq_rules.specs.Extracts.Changes.{ChangesAnswer, DaySpan, Extract, Refused, Sample, Says, answer_for, changes_answer, change_values, extract_after, extract_of, extract_rule, judged_sample, sample_of}
 use Rattle.aq_rules.specs.Lines.Lines.{NumberedLine, body_lines}
 use Rattle.aq_rules.specs.Lines.Reading.{line_value}

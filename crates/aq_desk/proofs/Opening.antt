@@ -20,7 +20,7 @@ use Rattle.aq_desk.proofs.Unread.{stopped_by}
 use Rattle.aq_desk.specs.Command.{AtMostOpened, Outcome, RisesAt, leaving, opened_rows, unwritten}
 use Rattle.aq_desk.specs.Ending.{damaged}
 use Rattle.aq_desk.specs.Office.{HasOpened, IsOpened, IsUnopened, OnlyMigrates, over_damage, over_office}
-use Rattle.aq_serve.specs.Outside.{IsAll, OfTold}
+use Rattle.aq_outside.specs.Outside.{IsAll, OfTold}
 use Rattle.aq_desk.specs.Stop.{Gives, IsUnprinted, ending_at, status_of, stop_of_book}
 use Rattle.aq_desk.specs.declared.stop.Stop.{Stop}
 use Rattle.aq_desk.specs.declared.stop.Stop.TheVariants.{KeeperFailed, Damaged, Memory}

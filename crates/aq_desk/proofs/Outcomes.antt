@@ -22,7 +22,7 @@ use Rattle.aq_desk.specs.Ending.{Ending, too_many_bytes, too_many_lines}
 use Rattle.aq_desk.specs.Scan.{scan_answer, scan_outcome}
 use Rattle.aq_desk.specs.Stop.{IsCutShort, Obeys, ending_at, ending_of, status_of}
 use Rattle.aq_desk.specs.Writing.{WritesFront}
-use Rattle.aq_serve.specs.Outside.{SinkView}
+use Rattle.aq_outside.specs.Outside.{SinkView}
 use Rattle.aq_desk.specs.declared.stop.Stop.{Stop}
 use Rattle.aq_desk.specs.declared.stop.Stop.TheVariants.{InputFailed, Memory}
 

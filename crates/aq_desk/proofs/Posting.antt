@@ -24,7 +24,7 @@ use Rattle.aq_desk.specs.Command.{AtMostOpened, BecomeRows, Outcome, RisesAt, le
 use Rattle.aq_desk.specs.Command as commands
 use Rattle.aq_desk.specs.Load.{IsTextOf, IsTextOfSheet, load_answer, posted_outcome}
 use Rattle.aq_desk.specs.Office.{HasOpened, IsOpened, IsUnopened}
-use Rattle.aq_serve.specs.Outside.{IsAll, OfTold}
+use Rattle.aq_outside.specs.Outside.{IsAll, OfTold}
 use Rattle.aq_desk.specs.Stop.{Gives, IsUnprinted, ending_at, status_of}
 use Rattle.aq_desk.specs.declared.stop.Stop.{Stop}
 use Rattle.aq_desk.specs.declared.stop.Stop.TheVariants as stops

@@ -6,7 +6,7 @@ use Rattle.aq_rules.specs.Kept.Rows.{Row}
 use Rattle.aq_desk.proofs.Tables.{print_performs, stop_performs}
 use Rattle.aq_desk.proofs.Unread.{stays_at, stopped_by}
 use Rattle.aq_desk.specs.Command.{Outcome, RisesAt, WritesNothing, printed}
-use Rattle.aq_serve.specs.Outside.{OfTold, SinkView}
+use Rattle.aq_outside.specs.Outside.{OfTold, SinkView}
 use Rattle.aq_desk.specs.Stop.{Gives, IsCutShort, IsUnprinted, Obeys, Performs, ending_at, status_of}
 use Rattle.aq_desk.specs.declared.stop.Stop.{Stop}
 use Rattle.aq_desk.specs.declared.stop.Stop.TheVariants.{OutputFailed}

@@ -4,7 +4,7 @@ use Rattle.std.specs.Prelude.{Result, Ok, Err, IsErrAnd, IfErr, IfSome}
 use Rattle.std.specs.Option.{option_map}
 use Rattle.std.proofs.lemmas.List.{length-append, length-take}
 use Rattle.aq_rules.specs.Limits.{MOST_BYTES}
-use Rattle.aq_serve.specs.Outside.{IsAll, Moves}
+use Rattle.aq_outside.specs.Outside.{IsAll, Moves}
 use Rattle.aq_desk.specs.Body.{IsBodyFault, TakesFew}
 use Rattle.aq_desk.specs.Stop.{HasRead, ending_at, status_of, stop_of}
 use Rattle.aq_desk.specs.declared.body.BodyFault.{BodyFault}

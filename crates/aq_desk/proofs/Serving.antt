@@ -7,7 +7,7 @@ use Rattle.aq_keeper.specs.Told.{Stays, told_through}
 use Rattle.aq_rules.specs.Kept.Migration.{opening_damage}
 use Rattle.aq_rules.specs.Kept.Rows.{Place, Row, rows_of}
 use Rattle.aq_rules.specs.Office.Office.{Office}
-use Rattle.aq_serve.specs.Door.{DoorView}
+use Rattle.aq_outside.specs.Door.{DoorView}
 use Rattle.aq_keeper.specs.Standing.{AreOfOffice, Become, Standing}
 use Rattle.aq_serve.specs.Serving.{Serves, World, office_left}
 use Rattle.aq_serve.specs.Session.{office_behind}
@@ -19,7 +19,7 @@ use Rattle.aq_desk.proofs.Unread.{stays_at_from, stopped_by}
 use Rattle.aq_desk.specs.Command.{AtMostOpened, IsWhole, Outcome, RisesAt, leaving, opened_rows, unwritten}
 use Rattle.aq_desk.specs.Ending.{damaged, done}
 use Rattle.aq_desk.specs.Office.{HasOpened, IsOpened, IsUnopened}
-use Rattle.aq_serve.specs.Outside.{IsAll, OfTold}
+use Rattle.aq_outside.specs.Outside.{IsAll, OfTold}
 use Rattle.aq_desk.specs.Run.{KeeperRises}
 use Rattle.aq_desk.specs.Serve.{Around, CannotListen, HasAttended, HasListened, HasServed, IsServed, IsUnserved, Hosting, holding, serve_outcome, serving, status_served, stop_served}
 use Rattle.aq_desk.specs.Stop.{EndsAs, ending_of, status_of}

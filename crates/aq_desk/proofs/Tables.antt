@@ -10,7 +10,7 @@ use Rattle.aq_desk.proofs.Outcomes.{nothing_written}
 use Rattle.aq_desk.proofs.Fronts.{behind_nothing}
 use Rattle.aq_desk.specs.Command.{AtMostOpened, BecomeRows, IsKept, IsWhole, Keeps, Outcome, Printout, leaving, opened_rows, printed, printout_of, unwritten}
 use Rattle.aq_desk.specs.Ending.{done}
-use Rattle.aq_serve.specs.Outside.{IsAll, OfTold, SinkView}
+use Rattle.aq_outside.specs.Outside.{IsAll, OfTold, SinkView}
 use Rattle.aq_desk.specs.Stop.{Gives, IsUnprinted, Obeys, Performs, ending_at, status_of}
 use Rattle.aq_desk.specs.declared.stop.Stop.{Stop}
 use Rattle.aq_desk.specs.declared.stop.Stop.TheVariants.{OutputFailed}

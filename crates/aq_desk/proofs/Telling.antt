@@ -18,7 +18,7 @@ use Rattle.aq_base.specs.Faults.{HasRisen}
 use Rattle.aq_desk.specs.Stop.{ending_at}
 use Rattle.aq_desk.specs.declared.stop.Stop.{Stop}
 use Rattle.aq_desk.specs.Writing.{Writes}
-use Rattle.aq_serve.specs.Outside.{SinkView}
+use Rattle.aq_outside.specs.Outside.{SinkView}
 
 module _ {A E : Type 0} where
   -- the first part of a text was cut short, and so the text was

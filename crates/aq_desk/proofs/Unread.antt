@@ -12,7 +12,7 @@ use Rattle.aq_desk.proofs.Tables.{keeps_before, keeps_same, of_any, of_told}
 use Rattle.aq_desk.specs.Body.{HasTooManyBytes, IsBodyFault, IsLinesFault, IsTooLong, excess, is_within}
 use Rattle.aq_desk.specs.Command.{Keeps, Outcome, Printout, RisesAt, leaving, printout_of, unwritten}
 use Rattle.aq_desk.specs.Ending.{too_many_lines}
-use Rattle.aq_serve.specs.Outside.{IsAll, OfTold, SinkView, SourceView}
+use Rattle.aq_outside.specs.Outside.{IsAll, OfTold, SinkView, SourceView}
 use Rattle.aq_desk.specs.Scan.{scan_answer, scan_outcome}
 use Rattle.aq_desk.specs.Stop.{HasCauses, IsMeasured, Obeys, Performs, ending_at, status_of, stop_of}
 use Rattle.aq_desk.specs.declared.body.BodyFault.{BodyFault}

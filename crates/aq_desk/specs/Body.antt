@@ -4,7 +4,7 @@ use Rattle.std.specs.Option.{option_map}
 use Rattle.aq_rules.specs.Limits.{MOST_BYTES, MOST_LINES}
 use Rattle.aq_rules.specs.Lines.Lines.{line_count}
 use Rattle.aq_desk.specs.Ending.{Ending, too_many_bytes, too_many_lines}
-use Rattle.aq_serve.specs.Outside.{OfTold}
+use Rattle.aq_outside.specs.Outside.{OfTold}
 use Rattle.aq_base.specs.Faults.{HasRisen}
 use Rattle.aq_desk.specs.declared.body.BodyFault.{BodyFault}
 use Rattle.aq_desk.specs.declared.body.BodyFault.TheVariants.{InputFailed, Memory, TooManyBytes, TooManyLines}

@@ -7,7 +7,7 @@ use Rattle.aq_rules.specs.Kept.Rows.{Row}
 use Rattle.aq_desk.specs.Ending.{Ending, done, input_failed, output_failed, keeper_failed, door_failed, no_memory}
 use Rattle.aq_base.specs.Faults.{HasRisen}
 use Rattle.aq_desk.specs.Writing.{WritesFront}
-use Rattle.aq_serve.specs.Outside.{SinkView}
+use Rattle.aq_outside.specs.Outside.{SinkView}
 use Rattle.aq_desk.specs.declared.status.TheConstants.{DONE, NO_COMMAND, INPUT_FAILED, OUTPUT_FAILED, KEEPER_FAILED, DAMAGED, NO_MEMORY, DOOR_FAILED, CONFLICT, TOO_LARGE, LOADS_FULL, NO_SITE, NO_EVENT, NO_COMBINATION, NO_SITE_IN_AREA, NO_LOAD, LINE_REFUSED}
 
 -- how a command ends, and what it writes on the output

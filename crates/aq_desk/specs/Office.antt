@@ -8,7 +8,7 @@ use Rattle.aq_rules.specs.Office.Office.{IsOffice, Office}
 use Rattle.aq_base.specs.Faults.{HasRisen}
 use Rattle.aq_desk.specs.Command.{AtMostOpened, Outcome, leaving, opened_rows, unwritten}
 use Rattle.aq_desk.specs.Ending.{damaged}
-use Rattle.aq_serve.specs.Outside.{OfTold}
+use Rattle.aq_outside.specs.Outside.{OfTold}
 use Rattle.aq_desk.specs.declared.stop.Stop.{Stop}
 use Rattle.aq_desk.specs.declared.stop.Stop.TheVariants.{KeeperFailed, Damaged, Memory}
 

@@ -13,8 +13,8 @@ use Rattle.aq_desk.specs.Draft.{draft_outcome}
 use Rattle.aq_desk.specs.Ending.{no_command}
 use Rattle.aq_desk.specs.Load.{load_outcome}
 use Rattle.aq_desk.specs.Office.{OnlyMigrates}
-use Rattle.aq_serve.specs.Door.{DoorView}
-use Rattle.aq_serve.specs.Outside.{IsAll, SinkView, SourceView}
+use Rattle.aq_outside.specs.Door.{DoorView}
+use Rattle.aq_outside.specs.Outside.{IsAll, SinkView, SourceView}
 use Rattle.aq_desk.specs.Scan.{scan_outcome}
 use Rattle.aq_desk.specs.Serve.{Around, HasServed, Hosting, around_of, serve_outcome}
 use Rattle.aq_desk.specs.Simulate.{simulate_outcome}

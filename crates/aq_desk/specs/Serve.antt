@@ -6,7 +6,7 @@ use Rattle.aq_keeper.specs.Told.{KeeperView, Stays}
 use Rattle.aq_rules.specs.Kept.Migration.{opening_damage}
 use Rattle.aq_rules.specs.Kept.Rows.{Row, office_in, rows_of}
 use Rattle.aq_rules.specs.Office.Office.{Office}
-use Rattle.aq_serve.specs.Door.{DoorView}
+use Rattle.aq_outside.specs.Door.{DoorView}
 use Rattle.aq_keeper.specs.Standing.{AreOfOffice, Standing}
 use Rattle.aq_serve.specs.Serving.{Serves}
 use Rattle.aq_serve.specs.declared.ending.ServeFault.{ServeFault}

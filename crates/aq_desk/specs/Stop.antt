@@ -9,7 +9,7 @@ use Rattle.aq_desk.specs.Body.{is_within}
 use Rattle.aq_desk.specs.Command.{IsWhole, Keeps, Outcome, Printout, ReadsWhole, RisesAt, printout_of}
 use Rattle.aq_desk.specs.Ending.{Ending, done, input_failed, output_failed, keeper_failed, damaged, no_memory, door_failed, conflict, line_refused, too_many_bytes, too_many_lines, loads_full}
 use Rattle.aq_desk.specs.Writing.{WritesFront}
-use Rattle.aq_serve.specs.Outside.{IsAll, SinkView, SourceView}
+use Rattle.aq_outside.specs.Outside.{IsAll, SinkView, SourceView}
 use Rattle.aq_rows.specs.declared.opening.OpenFault.{OpenFault}
 use Rattle.aq_rows.specs.declared.opening.OpenFault.TheVariants as opening
 use Rattle.aq_keeper.specs.declared.keeper.KeeperFault.{KeeperFault}

@@ -1,8 +1,8 @@
 -- A text as it is written to a sink.
 use Rattle.std.specs.Prelude.{◌≡◌, ℕ, ◌<◌, ◌≤◌, List, ◌++◌, length, take, Option, Result, OnOk, OnErr}
 use Rattle.std.specs.Option.{option_map}
-use Rattle.aq_serve.specs.Door.{HasCause}
-use Rattle.aq_serve.specs.Outside.{SinkView}
+use Rattle.aq_outside.specs.Door.{HasCause}
+use Rattle.aq_outside.specs.Outside.{SinkView}
 
 -- a front of the text, all of it among them, went after what was written
 pub record WritesFront (before after : Option (List ℕ)) (text : List ℕ) : Type 0 where

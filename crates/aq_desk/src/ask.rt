@@ -5,7 +5,7 @@ ghost use Rattle.aq_rules.specs.Questions.Asking.{is_asked};
 ghost use Rattle.aq_desk.specs.Ask.{IsUnanswered, ask_outcome, ask_printout};
 ghost use Rattle.aq_desk.specs.Command.{RisesAt, WritesNothing, printed};
 ghost use Rattle.aq_desk.specs.Office.{OnlyMigrates};
-ghost use Rattle.aq_serve.specs.Outside.{OfTold};
+ghost use Rattle.aq_outside.specs.Outside.{OfTold};
 ghost use Rattle.aq_desk.specs.Stop.{Performs, status_of};
 ghost use Rattle.aq_desk.specs.declared.status.TheConstants.{DOOR_FAILED, INPUT_FAILED, KEEPER_FAILED, OUTPUT_FAILED, TOO_LARGE};
 
@@ -15,8 +15,8 @@ use aq_base::{Bytes, Question};
 use aq_book::Book;
 use aq_keeper::Keeper;
 use aq_office::{Answer, answer_to};
-use aq_reports::texts_of;
-use aq_serve::Sink;
+use aq_outside::Sink;
+use aq_sheets::texts_of;
 use std::alloc::Global;
 
 /// Prints the answer to a question over the office of the tables, which are let go before.

@@ -5,7 +5,7 @@ ghost use Rattle.aq_desk.specs.Ask.{IsUnanswered, ask_outcome};
 ghost use Rattle.aq_desk.specs.Asked.{IsAskable, asked_printout};
 ghost use Rattle.aq_desk.specs.Command.{RisesAt, WritesNothing, printed};
 ghost use Rattle.aq_desk.specs.Office.{OnlyMigrates};
-ghost use Rattle.aq_serve.specs.Outside.{OfTold};
+ghost use Rattle.aq_outside.specs.Outside.{OfTold};
 ghost use Rattle.aq_desk.specs.Stop.{Gives, IsUnprinted, Performs, status_of};
 ghost use Rattle.aq_desk.specs.declared.status.TheConstants.{DOOR_FAILED, INPUT_FAILED, KEEPER_FAILED, OUTPUT_FAILED, TOO_LARGE};
 
@@ -18,7 +18,7 @@ use aq_base::{Bytes, Question};
 use aq_book::Book;
 use aq_forms::Body;
 use aq_keeper::Keeper;
-use aq_serve::Sink;
+use aq_outside::Sink;
 use aq_words::Draft;
 use std::alloc::Global;
 

@@ -4,11 +4,11 @@ ghost use Rattle.aq_rules.specs.Limits.{MOST_LINES};
 ghost use Rattle.aq_rules.specs.Lines.Lines.{line_count};
 ghost use Rattle.aq_desk.specs.Body.{Extends, HasTooManyBytes, IsBodyFault, IsLinesFault, TakesFew};
 ghost use Rattle.aq_desk.specs.Stop.{HasRead, ending_at, stop_of};
-ghost use Rattle.aq_serve.specs.Outside.{IsAll};
+ghost use Rattle.aq_outside.specs.Outside.{IsAll};
 
 use aq_base::{Failed, MOST_BYTES};
 use aq_forms::Body;
-use aq_serve::Source;
+use aq_outside::Source;
 use std::alloc::{AllocError, Global};
 
 const PIECE: usize = 65_536;

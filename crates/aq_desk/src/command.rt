@@ -22,7 +22,7 @@ use crate::status::{DONE, NO_COMMAND};
 use crate::stop::Stop;
 use crate::writing::write_all;
 use aq_keeper::Keeper;
-use aq_serve::{Door, Sink, Source};
+use aq_outside::{Door, Sink, Source};
 use aq_words::{Command, read_words};
 use std::alloc::Global;
 

@@ -9,7 +9,7 @@ use crate::status::{NO_COMBINATION, NO_EVENT, NO_LOAD, NO_SITE, NO_SITE_IN_AREA}
 use crate::writing::write_all;
 use aq_base::Failed;
 use aq_office::Lack;
-use aq_serve::Sink;
+use aq_outside::Sink;
 
 /// The exit status of a question that lacks this.
 pub(crate) fn status_of_lack(what: &Lack) -> u8

@@ -9,6 +9,7 @@
 //! - `perform`: does a command without the errors stream; `Stop`: what stops one, with its status.
 //! - `Command`, `Draft`, `read_words`, `post`, `Posted`: handed on from aq_words and aq_office.
 //! - `end_without_memory`: ends a program that had no memory for its words.
+//! - `program`: what the programs share, `run` over their words and the host's streams and network.
 //! - In `specs/`, what each command is: `Run`, and a module for each.
 //!
 //! # What it promises
@@ -57,6 +58,7 @@ mod lack;
 mod load;
 mod messages;
 mod office;
+pub mod program;
 mod scan;
 mod serve;
 mod simulate;

@@ -3,7 +3,7 @@ ghost use Rattle.std.specs.Prelude.{◌≡◌, ◌⊎◌, true, false, IfErr};
 ghost use Rattle.aq_keeper.specs.Told.{told_through};
 ghost use Rattle.aq_desk.specs.Command.{RisesAt, WritesNothing};
 ghost use Rattle.aq_desk.specs.Load.{IsTextOf, load_answer, load_outcome};
-ghost use Rattle.aq_serve.specs.Outside.{OfTold};
+ghost use Rattle.aq_outside.specs.Outside.{OfTold};
 ghost use Rattle.aq_desk.specs.Stop.{Gives, HasCauses, HasRead, IsMeasured, IsUnprinted, Performs, status_of};
 ghost use Rattle.aq_desk.specs.declared.status.TheConstants.{DOOR_FAILED, INPUT_FAILED, KEEPER_FAILED, OUTPUT_FAILED, TOO_LARGE};
 
@@ -15,8 +15,8 @@ use aq_base::Bytes;
 use aq_forms::Body;
 use aq_keeper::Keeper;
 use aq_office::{Posted, post_uncounted};
-use aq_reports::text_of;
-use aq_serve::{Sink, Source};
+use aq_outside::{Sink, Source};
+use aq_sheets::text_of;
 use std::alloc::Global;
 
 /// Takes the input as a numbered load over the office of the tables, and prints its sheet. Before that the

@@ -10,8 +10,9 @@ ghost use Rattle.aq_desk.specs.Writing.{Writes};
 use crate::writing::write_all;
 use aq_base::{Failed, Rule, SiteId};
 use aq_book::Place;
-use aq_reports::{hex_digits, site_text};
-use aq_serve::Sink;
+use aq_outside::Sink;
+use aq_reports::hex_digits;
+use aq_sheets::site_text;
 
 /// Writes the place of the first damaged row, by its table's number and its index there.
 pub(crate) fn write_damaged<E: Sink>(table: u8, index: u64, errors: &mut E) -> Result<(), Failed>

@@ -2,7 +2,7 @@
 ghost use Rattle.std.specs.Prelude.{◌≡◌, ◌⊎◌, false};
 ghost use Rattle.aq_base.specs.Faults.{HasRisen};
 ghost use Rattle.aq_keeper.specs.Told.{told_through};
-ghost use Rattle.aq_serve.specs.Outside.{OfTold};
+ghost use Rattle.aq_outside.specs.Outside.{OfTold};
 ghost use Rattle.aq_desk.specs.Serve.{HasAttended, HasServed, around_of, serve_outcome};
 ghost use Rattle.aq_desk.specs.Stop.{EndsAs, status_of};
 
@@ -10,8 +10,9 @@ use crate::office::open;
 use crate::stop::Stop;
 use aq_base::Failed;
 use aq_keeper::Keeper;
-use aq_serve::{Door, ServeFault};
-use aq_service::OfficeService;
+use aq_office::service::OfficeService;
+use aq_outside::Door;
+use aq_serve::ServeFault;
 use std::alloc::Global;
 
 /// Serves connections over the office of the tables.

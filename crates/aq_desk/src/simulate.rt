@@ -8,7 +8,7 @@ ghost use Rattle.aq_desk.specs.declared.status.TheConstants.{OUTPUT_FAILED};
 
 use crate::stop::Stop;
 use crate::writing::print_text;
-use aq_serve::Sink;
+use aq_outside::Sink;
 use aq_simulation::simulation;
 use std::alloc::Global;
 

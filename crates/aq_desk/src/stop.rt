@@ -15,7 +15,7 @@ use aq_base::{Failed, Rule};
 use aq_book::{OpenFault, Place};
 use aq_keeper::KeeperFault;
 use aq_office::Lack;
-use aq_serve::Sink;
+use aq_outside::Sink;
 
 /// What stops a command before it has done all.
 #[derive(Clone, Copy, Debug, PartialEq, Eq)]

@@ -9,8 +9,8 @@ ghost use Rattle.aq_desk.specs.declared.status.TheConstants.{OUTPUT_FAILED};
 
 use crate::stop::Stop;
 use aq_base::Failed;
-use aq_reports::{Sheet, text_of};
-use aq_serve::Sink;
+use aq_outside::Sink;
+use aq_sheets::{Sheet, text_of};
 use std::alloc::Global;
 
 /// Writes all bytes of a text. After `Failed` a front of them was written.

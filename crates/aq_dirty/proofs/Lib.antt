@@ -17,3 +17,4 @@ pub mod StratumSpans
 pub mod ParticleRows
 pub mod ParticleMarks
 pub mod ParticleMembers
+pub mod OutOfReachLemmas

@@ -3,3 +3,4 @@ pub mod Marked
 pub mod Reach
 pub mod ParticleReach
 pub mod Particles
+pub mod OutOfReach

@@ -13,6 +13,7 @@
 //! - `Dirty::first_hours`, `settle_hours`: the same for the first hours, as an `HourSpan`.
 //! - `DirtyParticles`: the same for the cells of particles, one at a time.
 //! - `stratum_first`: the first day of the stratum that holds a day.
+//! - `out_of_reach`: laws on what a change does not reach.
 //!
 //! # What it promises
 //!
@@ -24,6 +25,7 @@
 //! - Settling the next cell, or the first hours, drops those cells alone, and takes no memory.
 //! - The cells that are held are those of a list (`the_cells_held_are_a_list`,
 //!   `the_particle_cells_held_are_a_list`).
+//! - What is out of reach of a change is as before (`out_of_reach`).
 //!
 //! # An example
 //!
@@ -41,6 +43,7 @@ mod cell_name;
 mod change;
 mod dirty;
 mod marking;
+pub mod out_of_reach;
 mod particle_marking;
 mod particle_reach;
 mod particles;

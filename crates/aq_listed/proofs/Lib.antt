@@ -22,6 +22,5 @@ pub mod MonthDays
 pub mod MonthRows
 pub mod Places
 pub mod RegisteredMonitors
-pub mod SiteWalk
 pub mod StandingLemmas
 pub mod Walks

@@ -8,7 +8,7 @@ use Rattle.aq_registry.specs.Registry.{office_with}
 use Rattle.aq_rules.specs.Office.Office.{IsOffice, sites_of}
 use Rattle.aq_rules.specs.Office.Questions.{next_site}
 use Rattle.aq_rules.specs.Shown.OtherSheets.{rising_sites}
-use Rattle.aq_listed.proofs.SiteWalk.{few-rising, sites-all, sites-end, sites-none, sites_above}
+use Rattle.aq_series.proofs.SiteWalk.{few-rising, sites-all, sites-end, sites-none, sites_above}
 
 -- the records are an office's once a site was found
 abbrev pub AreChecked : List OfficeRecord → Option Site → Type 0

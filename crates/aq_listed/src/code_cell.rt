@@ -5,7 +5,7 @@ ghost use Rattle.aq_rules.specs.Shown.Sheet.SheetCell.{Text};
 
 use aq_base::{Code, Memory};
 use aq_rd::write_code;
-use aq_reports::SheetCell;
+use aq_sheets::SheetCell;
 use std::alloc::Global;
 
 /// A code as it is written.

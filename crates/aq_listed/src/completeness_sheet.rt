@@ -11,7 +11,7 @@ use crate::month_counts::MonthCounts;
 use aq_base::{Memory, Pollutant, SiteId, Steps};
 use aq_rd::parameter_name;
 use aq_registry::Registry;
-use aq_reports::{Cells, Head, Heads, Rows, Sheet, SheetCell, list, names, site_text};
+use aq_sheets::{Cells, Head, Heads, Rows, Sheet, SheetCell, list, names, site_text};
 use aq_shelf::Shelf;
 use std::alloc::Global;
 use std::sync::ledger::Ledger;

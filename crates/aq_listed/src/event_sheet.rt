@@ -10,7 +10,7 @@ use crate::moment::moment_text;
 use aq_base::{Hour, Memory, SiteId, Steps};
 use aq_rd::parameter_name;
 use aq_registry::Registry;
-use aq_reports::{Cells, Head, Rows, Sheet, SheetCell, list, names, site_text};
+use aq_sheets::{Cells, Head, Rows, Sheet, SheetCell, list, names, site_text};
 use aq_shelf::Shelf;
 use std::alloc::Global;
 use std::sync::ledger::Ledger;

@@ -7,7 +7,7 @@ ghost use Rattle.aq_rules.specs.Listed.Sites as listed;
 use crate::site_list::{ListedSite, listed_sites};
 use aq_base::Memory;
 use aq_registry::Registry;
-use aq_reports::{Cells, Head, Rows, Sheet, SheetCell, list, names, site_text};
+use aq_sheets::{Cells, Head, Rows, Sheet, SheetCell, list, names, site_text};
 use std::alloc::Global;
 
 /// The registered sites in rising order, and how many monitors of each pollutant each of them has,

@@ -8,7 +8,7 @@ ghost use Rattle.aq_rules.specs.Office.Office.{is_site};
 use crate::designs::number_of;
 use crate::made_up::{Hours, LAST, fill_between, put, schedule, three_years};
 use aq_base::{Day, Memory, OfficeLine, OfficeRecord, Pollutant, SiteId, Standard, Steps};
-use aq_combine::pair_value;
+use aq_design::combined::pair_value;
 use aq_design::{FromShelf, design_value};
 use aq_registry::Registry;
 use aq_shelf::Shelf;

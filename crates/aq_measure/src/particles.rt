@@ -4,7 +4,7 @@ ghost use Rattle.std.specs.Prelude.{◌≡◌, ◌<◌, ◌≤◌};
 use crate::designs::number_of;
 use crate::made_up::{LAST, MOST_MONITORS, fill, schedule};
 use aq_base::{Memory, Pollutant, SiteId, Standard, Steps, Verdict};
-use aq_pm25::year;
+use aq_particles::pm25::year;
 use aq_registry::Registry;
 use aq_shelf::Shelf;
 use aq_verdict::{PmYear, annual, daily};

@@ -30,8 +30,8 @@ use Rattle.aq_rules.specs.Standards.{pollutant_of}
 use Rattle.aq_rules.specs.WhatIf.Assumed.{assume, decisive, decisive_if, events_at, turned_round, unknown_event, what_if}
 use Rattle.aq_verdict.specs.declared.design_value.DesignValue.{DesignValue}
 use Rattle.aq_verdict.specs.Designs.{design_of}
-use Rattle.aq_whatif.specs.Refusals.{IsFaultOf}
-use Rattle.aq_whatif.specs.declared.fault.WhatIfFault.{WhatIfFault}
+use Rattle.aq_design.specs.WhatIf.Refusals.{IsFaultOf}
+use Rattle.aq_design.specs.declared.what_if.fault.WhatIfFault.{WhatIfFault}
 
 -- the office without its loads
 abbrev pub loadless : Office → Office

@@ -8,3 +8,4 @@ pub mod OzoneMaxima
 pub mod PostedLoads
 pub mod Showing
 pub mod Taking
+pub mod ServiceLemmas

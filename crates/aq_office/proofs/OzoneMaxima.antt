@@ -11,9 +11,9 @@ use Rattle.aq_rules.specs.Listed.Highest.{MaximumAt, RankedDay, TEN, days_ranked
 use Rattle.aq_rules.specs.Office.Office.{Office}
 use Rattle.aq_rules.specs.Ozone.OzoneDay.{OzoneDay, ozone_day}
 use Rattle.aq_rules.specs.Ozone.OzoneYear.{days_of, ozone_days, ranked_maximum}
-use Rattle.aq_daily.specs.Ranked.{IsHighest}
-use Rattle.aq_daily.specs.declared.ranked.Highest.{Highest}
-use Rattle.aq_daily.proofs.YearDays.{as-many}
+use Rattle.aq_reports.specs.Daily.Ranked.{IsHighest}
+use Rattle.aq_reports.specs.declared.daily.ranked.Highest.{Highest}
+use Rattle.aq_reports.proofs.DailyLemmas.YearDays.{as-many}
 
 module _ (office : Office) (site : Site) (year : ℕ) where
   -- what is ranked of the days

@@ -7,8 +7,8 @@ use Rattle.aq_office.specs.declared.answers.Lack.{Lack}
 use Rattle.aq_office.specs.declared.answers.Lack.TheVariants.{NoSite, NoEvent, NoCombination, NoSiteInArea, NoLoad}
 use Rattle.aq_rules.specs.Questions.Answer as questions
 use Rattle.aq_rules.specs.Shown.WellFormed.{IsWellFormed}
-use Rattle.aq_whatif.specs.declared.fault.WhatIfFault.{WhatIfFault}
-use Rattle.aq_whatif.specs.declared.fault.WhatIfFault.TheVariants.{UnknownSite, UnknownEvent, Memory}
+use Rattle.aq_design.specs.declared.what_if.fault.WhatIfFault.{WhatIfFault}
+use Rattle.aq_design.specs.declared.what_if.fault.WhatIfFault.TheVariants.{UnknownSite, UnknownEvent, Memory}
 
 -- what is not there, as the book has it
 abbrev pub lack_of : Lack → questions.Lack

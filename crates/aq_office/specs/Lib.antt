@@ -2,3 +2,4 @@
 pub mod Answers
 pub mod Posting
 pub mod Shown
+pub mod Service

@@ -22,8 +22,8 @@ use crate::sheets::{export_of, pm10_of, pm25_of, reply_of, report_of, value_of, 
 use crate::what_if::{decisive_of, what_if_of};
 use aq_base::{Items, Memory, Question, SiteId, Steps};
 use aq_book::Book;
-use aq_reports::{Sheet, list};
 use aq_rules::shown::well_formed::{answers_are_well_formed, sheets_of_lists_are_well_formed};
+use aq_sheets::{Sheet, list};
 use std::alloc::Global;
 use std::marker::Brand;
 use std::sync::ledger::{Blank, Ledger};

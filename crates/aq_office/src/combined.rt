@@ -8,7 +8,7 @@ ghost use Rattle.aq_office.specs.Answers.{IsShown, seen};
 use crate::answers::{Answer, Lack};
 use aq_base::{Memory, SiteId, Standard, Steps};
 use aq_book::Book;
-use aq_combine::pair_value;
+use aq_design::combined::pair_value;
 use aq_reports::value_sheet;
 use std::alloc::Global;
 use std::sync::ledger::Ledger;

@@ -9,7 +9,7 @@ use crate::answers::Answer;
 use crate::days::days_of;
 use aq_base::{Memory, Pollutant, SiteId, Steps};
 use aq_book::Book;
-use aq_daily::{pm10_days, pm25_days};
+use aq_reports::daily::{pm10_days, pm25_days};
 use std::alloc::Global;
 use std::sync::ledger::Ledger;
 

@@ -13,7 +13,8 @@ use crate::answers::Answer;
 use aq_base::{Day, Items, Memory, SiteId, Steps};
 use aq_book::{AskFault, Book};
 use aq_cal::year_span;
-use aq_reports::{Sheet, days_sheet};
+use aq_reports::days_sheet;
+use aq_sheets::Sheet;
 use std::alloc::Global;
 use std::sync::ledger::Ledger;
 

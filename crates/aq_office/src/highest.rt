@@ -13,10 +13,10 @@ use crate::answers::Answer;
 use aq_base::{Items, Memory, Pollutant, SiteId, Steps};
 use aq_book::{AskFault, Book, OzoneDays, UnknownSite};
 use aq_cal::year_span;
-use aq_daily::{
+use aq_reports::daily::{
     RankedDay, RankedMaximum, first_at, highest_ozone_sheet, highest_particles, ten_highest,
 };
-use aq_reports::Sheet;
+use aq_sheets::Sheet;
 use std::alloc::Global;
 use std::sync::ledger::Ledger;
 

@@ -8,6 +8,7 @@
 //! - `post(alloc, book, keeper, number, body, steps)`: a load, posted under a number; it changes the book
 //!   in place, and answers what became of the load, as a `Posted`. `post_uncounted` is the same on a counter
 //!   of its own.
+//! - `service`: the replies to requests of HTTP.
 //!
 //! # What it promises
 //!
@@ -42,6 +43,7 @@ mod lists;
 mod loads;
 mod posting;
 mod reports;
+pub mod service;
 mod sheets;
 mod what_if;
 

@@ -16,7 +16,7 @@ use crate::answers::Answer;
 use aq_base::{Memory, Pollutant, SiteId, Steps};
 use aq_book::Book;
 use aq_listed::{completeness, events, flags, lines, monitors, records, sites};
-use aq_reports::Sheet;
+use aq_sheets::Sheet;
 use std::alloc::Global;
 use std::sync::ledger::Ledger;
 

@@ -10,8 +10,9 @@ ghost use Rattle.aq_office.specs.Answers.{seen};
 use crate::answers::Answer;
 use aq_base::{Items, Memory};
 use aq_book::Book;
-use aq_reports::{Cells, Head, Sheet, SheetCell, digest_text, list, names};
+use aq_reports::digest_text;
 use aq_rows::{KeptLoad, Loads};
+use aq_sheets::{Cells, Head, Sheet, SheetCell, list, names};
 use std::alloc::Global;
 
 /// The loads that were taken, by number.

@@ -10,7 +10,7 @@ use crate::answers::Answer;
 use crate::sheets::report_sheet_of;
 use aq_base::{Items, Memory, Standard, Steps};
 use aq_book::Book;
-use aq_reports::Sheet;
+use aq_sheets::Sheet;
 use std::alloc::Global;
 use std::sync::ledger::Ledger;
 

@@ -9,10 +9,8 @@ ghost use Rattle.aq_office.specs.Answers.{IsShown, seen};
 use crate::answers::{Answer, Lack};
 use aq_base::{Day, Memory, Pollutant, SiteId, Standard, Steps};
 use aq_book::{AskFault, Book, UnknownSite};
-use aq_reports::{
-    Sheet, export_of as export_text, load_sheet, pm10_sheet, pm25_sheet, report_sheet, value_sheet,
-    windows_sheet,
-};
+use aq_reports::{load_sheet, pm10_sheet, pm25_sheet, report_sheet, value_sheet, windows_sheet};
+use aq_sheets::{Sheet, export_of as export_text};
 use std::alloc::Global;
 use std::sync::ledger::Ledger;
 

@@ -6,15 +6,15 @@ ghost use Rattle.aq_rules.specs.Questions.Answer.{answer, is_registered};
 ghost use Rattle.aq_rules.specs.Shown.AreaSheets.{decisive_row};
 ghost use Rattle.aq_rules.specs.WhatIf.Assumed as assuming;
 ghost use Rattle.aq_verdict.specs.Designs.{design_of};
-ghost use Rattle.aq_whatif.specs.Refusals.{IsFaultOf};
+ghost use Rattle.aq_design.specs.WhatIf.Refusals.{IsFaultOf};
 ghost use Rattle.aq_office.specs.Answers.{IsRefusal, IsShown, seen};
 
 use crate::answers::{Answer, Lack};
 use aq_base::{Assumed, DecisiveEvent, Memory, SiteId, Standard, Steps, Verdict};
 use aq_book::{Book, UnknownSite};
+use aq_design::what_if::{DecisiveEvents, WhatIfFault, decisive, what_if};
 use aq_reports::{decisive_sheet, value_sheet};
 use aq_verdict::DesignValue;
-use aq_whatif::{DecisiveEvents, WhatIfFault, decisive, what_if};
 use std::alloc::Global;
 use std::sync::ledger::Ledger;
 

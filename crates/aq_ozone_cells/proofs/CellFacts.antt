@@ -20,7 +20,7 @@ use Rattle.aq_ozone_cells.specs.declared.kept_days.KeptAverage.{KeptAverage}
 use Rattle.aq_ozone_cells.specs.declared.kept_days.KeptHour.{KeptHour}
 use Rattle.aq_ozone_cells.specs.declared.ranked_maxima.RankedMaxima.{RankedMaxima}
 use Rattle.aq_ozone_cells.specs.declared.year_tallies.YearTallies.{YearTallies}
-use Rattle.aq_ozone_cells.proofs.DayExchange.{few_items, no_items}
+use Rattle.aq_agg.proofs.ItemsOfDays.{few_items, no_items}
 use Rattle.aq_ozone.proofs.RangeLemmas.{Ozones}
 use Rattle.aq_ozone_cells.proofs.YearExchange.{days_few}
 

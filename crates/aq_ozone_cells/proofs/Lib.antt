@@ -1,6 +1,5 @@
 pub mod CellFacts
 pub mod CellSteps
-pub mod DayExchange
 pub mod FilledLemmas
 pub mod FillLemmas
 pub mod Unobserved

@@ -14,7 +14,7 @@ use Rattle.aq_ozone_cells.specs.OzoneCells.{counts, day_from, day_of_averages, i
 use Rattle.aq_ozone_cells.specs.YearTallies.{maximum_of}
 use Rattle.aq_ozone_cells.specs.declared.kept_days.HeldDay.{HeldDay}
 use Rattle.aq_ozone_cells.specs.declared.kept_days.KeptAverage.{KeptAverage}
-use Rattle.aq_ozone_cells.proofs.DayExchange.{cut}
+use Rattle.aq_agg.proofs.ItemsOfDays.{cut}
 use Rattle.aq_ozone_cells.proofs.SiteNumbers.{never}
 use Rattle.aq_ozone.proofs.YearLemmas.{count_more}
 

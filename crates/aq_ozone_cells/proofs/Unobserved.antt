@@ -24,7 +24,7 @@ use Rattle.aq_ozone_cells.specs.FilledDays.{AreKept, IsDayOf, IsEmptyDay}
 use Rattle.aq_ozone_cells.specs.Filling.{hours_from, lies_at, observes, AreFilling}
 use Rattle.aq_ozone_cells.specs.KeptDays.{averages_of, no_day}
 use Rattle.aq_ozone_cells.specs.OzoneCells.{counts, held_day, Cells}
-use Rattle.aq_ozone_cells.proofs.DayExchange.{no_items}
+use Rattle.aq_agg.proofs.ItemsOfDays.{no_items}
 use Rattle.aq_ozone_cells.proofs.LevelLemmas.{hours-same}
 use Rattle.aq_ozone_cells.proofs.SiteNumbers.{never}
 

@@ -6,8 +6,8 @@ use Rattle.aq_base.specs.Site.{Site}
 use Rattle.aq_base.specs.declared.day.TheConstants.{LAST_DAY}
 use Rattle.aq_rules.proofs.CellsOnce.{member}
 use Rattle.aq_rules.proofs.UnreachedHour.{hour-out_of_reach}
-use Rattle.aq_reach.proofs.Windows.{day-out_of_reach, window-out_of_reach}
-use Rattle.aq_reach.proofs.Years.{approved-out_of_reach, season-out_of_reach}
+use Rattle.aq_dirty.proofs.OutOfReachLemmas.Windows.{day-out_of_reach, window-out_of_reach}
+use Rattle.aq_dirty.proofs.OutOfReachLemmas.Years.{approved-out_of_reach, season-out_of_reach}
 use Rattle.aq_rules.specs.Kept.Cells.{CellName as Cell, HourCell, WindowCell, OzoneDayCell, OzoneYearCell}
 use Rattle.aq_rules.specs.Kept.Reach.{reach}
 use Rattle.aq_rules.specs.Office.Office.{IsOffice, Office}

@@ -24,7 +24,7 @@ use Rattle.aq_ozone_cells.specs.SiteKeys.{key_cmp, site_key}
 use Rattle.aq_ozone_cells.specs.YearTallies.{count_of, maximum_of, AreBags, Exchanges, HasDay, IsCountOf, OthersStay}
 use Rattle.aq_ozone_cells.specs.declared.kept_days.HeldDay.{HeldDay}
 use Rattle.aq_ozone_cells.specs.declared.year_tallies.YearTallies.{YearTallies}
-use Rattle.aq_ozone_cells.proofs.DayExchange.{changed, same_items, Changed}
+use Rattle.aq_agg.proofs.ItemsOfDays.{changed, same_items, Changed}
 use Rattle.aq_ozone_cells.proofs.SiteNumbers.{itself, never}
 
 any_order : (site : Site) (year : ℕ) (a b c d : List ℤ) (tallies : YearTallies) → IsPermutation a b → IsPermutation c d

@@ -1,6 +1,3 @@
-pub mod CellView
 pub mod Formed
-pub mod JsonView
-pub mod PartView
 pub mod Rows
-pub mod Written
+pub mod Daily

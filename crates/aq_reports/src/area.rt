@@ -4,13 +4,12 @@ ghost use Rattle.aq_rules.specs.Shown.AreaSheets as sheets;
 ghost use Rattle.aq_rules.specs.Shown.WellFormed.{IsWellFormed, is_cell};
 ghost use Rattle.aq_reports.specs.Formed.{are_heads, are_rows, is_row_of};
 
-use crate::cell::SheetCell;
-use crate::lists::{add_count, add_head, add_text, list, names};
 use crate::report::report_heads;
-use crate::sheet::{Cells, Heads, Rows, Sheet};
-use crate::text::site_text;
 use crate::value::{design_cell, verdict_name};
 use aq_base::{Memory, SiteId, Standard, Verdict};
+use aq_sheets::{
+    Cells, Heads, Rows, Sheet, SheetCell, add_count, add_head, add_text, list, names, site_text,
+};
 use std::alloc::Global;
 
 /// The sheet of an area for the three years that end with the year: its verdict, the site that governs

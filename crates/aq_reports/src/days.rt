@@ -6,13 +6,12 @@ ghost use Rattle.aq_base.specs.Calendar.{days_in_year};
 ghost use Rattle.aq_base.specs.declared.day.TheConstants.{FIRST_YEAR, LAST_DAY, LAST_YEAR};
 ghost use Rattle.aq_rules.specs.Shown.Sheets as sheets;
 
-use crate::cell::SheetCell;
-use crate::lists::{add_count, add_head, add_text, list, names};
-use crate::sheet::{Cells, Heads, Rows, Sheet};
-use crate::text::site_text;
 use aq_base::{Day, Memory, SiteId};
 use aq_cal::{day_text, year_span};
 use aq_ozone::OzoneDay;
+use aq_sheets::{
+    Cells, Heads, Rows, Sheet, SheetCell, add_count, add_head, add_text, list, names, site_text,
+};
 use aq_verdict::OzoneYear;
 use std::alloc::Global;
 

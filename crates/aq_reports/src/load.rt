@@ -5,10 +5,8 @@ ghost use Rattle.aq_rules.specs.Shown.Sheet.{count_cell};
 ghost use Rattle.aq_rules.specs.Shown.Sheet.SheetCell.{Text};
 ghost use Rattle.aq_rules.specs.Shown.Sheets as sheets;
 
-use crate::cell::SheetCell;
-use crate::lists::{list, names};
-use crate::sheet::{Cells, Head, Rows, Sheet};
 use aq_base::{ListedLine, LoadReply, Memory, RestRule, Rule};
+use aq_sheets::{Cells, Head, Rows, Sheet, SheetCell, list, names};
 use std::alloc::Global;
 
 /// The sheet of a reply: the listed lines in order, and then the further refused lines by their rules.

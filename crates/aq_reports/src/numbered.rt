@@ -4,8 +4,8 @@ ghost use Rattle.std.specs.List.{enumerate_from};
 ghost use Rattle.aq_rules.specs.Shown.Sheet.{SheetCell};
 ghost use Rattle.aq_reports.specs.Formed.{are_rows, is_row_of};
 
-use crate::sheet::{Cells, Rows};
 use aq_base::Memory;
+use aq_sheets::{Cells, Rows};
 use std::alloc::Global;
 
 /// What a table shows in a row of its own, beside a number.

@@ -3,12 +3,11 @@ ghost use Rattle.std.specs.Prelude.{◌≡◌, IfOk};
 ghost use Rattle.aq_rules.specs.Kept.SummaryVerdicts.{kept_counted};
 ghost use Rattle.aq_rules.specs.Shown.ParticleSheets as particle_sheets;
 
-use crate::cell::SheetCell;
-use crate::lists::{add_count, add_head, add_text, list, names};
 use crate::numbered::{NumberedRow, numbered_rows};
-use crate::sheet::{Cells, Heads, Sheet};
-use crate::text::site_text;
 use aq_base::{Memory, SiteId};
+use aq_sheets::{
+    Cells, Heads, Sheet, SheetCell, add_count, add_head, add_text, list, names, site_text,
+};
 use aq_verdict::{
     Pm10Quarter, Pm10Year, PmQuarter, PmYear, annual_mean, capture, counted_in, percentile_of,
     quarter_estimate, quarter_lower, rank_of, year_estimate,

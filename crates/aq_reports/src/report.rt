@@ -4,12 +4,11 @@ ghost use Rattle.aq_rules.specs.Shown.OtherSheets as other_sheets;
 ghost use Rattle.aq_reports.specs.Formed.{are_heads};
 ghost use Rattle.aq_reports.specs.Rows.{judged_in};
 
-use crate::cell::SheetCell;
-use crate::lists::{add_count, add_text, list, names};
-use crate::sheet::{Cells, Heads, Rows, Sheet};
-use crate::text::site_text;
 use crate::value::{design_cell, verdict_name};
 use aq_base::{Memory, SiteId, Standard};
+use aq_sheets::{
+    Cells, Heads, Rows, Sheet, SheetCell, add_count, add_text, list, names, site_text,
+};
 use aq_verdict::DesignValue;
 use std::alloc::Global;
 

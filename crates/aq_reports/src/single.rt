@@ -5,9 +5,8 @@ ghost use Rattle.aq_rules.specs.Shown.OtherSheets as other_sheets;
 ghost use Rattle.aq_rules.specs.Shown.Sheet.{head_of};
 ghost use Rattle.aq_rules.specs.Shown.Sheet.SheetCell.{Text};
 
-use crate::lists::{add_count, add_text};
-use crate::sheet::{Heads, Names, Rows, Sheet};
 use aq_base::Memory;
+use aq_sheets::{Heads, Names, Rows, Sheet, add_count, add_text};
 use std::alloc::Global;
 
 /// The sheet of a load whose number is kept with another digest: the number, the digest that is kept

@@ -6,14 +6,13 @@ ghost use Rattle.aq_rules.specs.Shown.WellFormed.{IsWellFormed, is_cell};
 ghost use Rattle.aq_verdict.specs.Designs.{design_of};
 ghost use Rattle.aq_reports.specs.Formed.{are_heads};
 
-use crate::cell::SheetCell;
-use crate::lists::{add_count, add_head, add_text, list, names};
 use crate::numbered::{NumberedRow, numbered_rows};
-use crate::sheet::{Cells, Heads, Sheet};
-use crate::text::site_text;
 use crate::value_pm10::pm10_value_sheet;
 use crate::value_pm25::{annual_value_sheet, daily_value_sheet};
 use aq_base::{Memory, SiteId, Standard, Verdict};
+use aq_sheets::{
+    Cells, Heads, Sheet, SheetCell, add_count, add_head, add_text, list, names, site_text,
+};
 use aq_verdict::{DesignValue, OzoneDv, OzoneYear};
 use std::alloc::Global;
 

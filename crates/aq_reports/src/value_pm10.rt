@@ -3,12 +3,10 @@ ghost use Rattle.std.specs.Prelude.{◌≡◌, IfOk};
 ghost use Rattle.aq_rules.specs.Shown.ParticleSheets as particle_sheets;
 ghost use Rattle.aq_rules.specs.Shown.WellFormed.{IsWellFormed};
 
-use crate::cell::SheetCell;
-use crate::lists::{list, names};
 use crate::numbered::{NumberedRow, numbered_rows};
-use crate::sheet::{Cells, Sheet};
 use crate::value::{oldest_year, value_heads};
 use aq_base::{Memory, SiteId, Standard};
+use aq_sheets::{Cells, Sheet, SheetCell, list, names};
 use aq_verdict::{Pm10Dv, Pm10Year, exceedances_in, is_complete_year, year_estimate, year_lower};
 use std::alloc::Global;
 

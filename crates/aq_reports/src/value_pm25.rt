@@ -8,11 +8,9 @@ ghost use Rattle.aq_rules.specs.Shown.Sheet.{count_cell};
 ghost use Rattle.aq_rules.specs.Shown.WellFormed.{IsWellFormed, is_cell};
 ghost use Rattle.aq_reports.specs.Formed.{are_rows, is_row_of};
 
-use crate::cell::SheetCell;
-use crate::lists::{list, names};
-use crate::sheet::{Cells, Rows, Sheet};
 use crate::value::{oldest_year, value_heads};
 use aq_base::{Memory, SiteId, Standard};
+use aq_sheets::{Cells, Rows, Sheet, SheetCell, list, names};
 use aq_verdict::{
     AnnualDv, DailyDv, PmQuarter, PmYear, annual_mean, capture, counted_in, percentile_of,
 };

@@ -4,13 +4,10 @@ ghost use Rattle.std.specs.List.{enumerate_from};
 ghost use Rattle.aq_base.specs.Text.{hour_text};
 ghost use Rattle.aq_rules.specs.Shown.Sheets as sheets;
 
-use crate::cell::SheetCell;
-use crate::lists::{list, names};
-use crate::sheet::{Cells, Head, Rows, Sheet};
-use crate::text::site_text;
 use aq_base::{Day, Memory, SiteId};
 use aq_cal::{day_text, last_digits};
 use aq_ozone::{DayWindows, WindowRow};
+use aq_sheets::{Cells, Head, Rows, Sheet, SheetCell, list, names, site_text};
 use std::alloc::Global;
 
 /// The hour of the day at which the first average starts.

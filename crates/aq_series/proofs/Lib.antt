@@ -13,3 +13,4 @@ pub mod SiteDay
 pub mod DaySpans
 pub mod SiteSpans
 pub mod NoCodes
+pub mod SiteWalk

@@ -8,7 +8,7 @@ use Rattle.aq_http.specs.Reply.{reply_text}
 use Rattle.aq_http.specs.declared.media.MediaType.TheVariants.{Json}
 use Rattle.aq_http.specs.Step.{IsStep, Request, Step, More, Refuse, Whole as WholeStep}
 use Rattle.aq_serve.specs.Answered.{answered, error_body, refused}
-use Rattle.aq_serve.specs.Door.{DoorView, Exchange, IsDry, IsSameDoor}
+use Rattle.aq_outside.specs.Door.{DoorView, Exchange, IsDry, IsSameDoor}
 use Rattle.aq_keeper.specs.Standing.{Become, Standing}
 use Rattle.aq_serve.specs.Service.{Answers, Counts, Loses}
 use Rattle.aq_serve.specs.Session.{GoesOn, IsTurn, Turn, ends_behind, turn_of}

@@ -7,7 +7,7 @@ use Rattle.aq_http.specs.Head.{Head, HeadStep, IsHeadStep}
 use Rattle.aq_http.specs.Head as head
 use Rattle.aq_http.specs.declared.head.HeadStep.{HeadStep as ReadHead}
 use Rattle.aq_http.specs.Step.{IsStep, Step, More, Refuse, Whole, request_in}
-use Rattle.aq_serve.specs.Door.{DoorView, IsDry}
+use Rattle.aq_outside.specs.Door.{DoorView, IsDry}
 use Rattle.aq_serve.specs.Talking.{Fetches, FetchesPiece, FetchedSo, IsPiece, IsRequestBy, Took}
 use Rattle.aq_serve.specs.declared.fetch.FetchFault.{FetchFault}
 use Rattle.aq_serve.specs.declared.fetch.FetchFault.TheVariants as fault

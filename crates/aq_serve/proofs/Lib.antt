@@ -3,7 +3,6 @@ pub mod Counts
 pub mod Errors
 pub mod Fetching
 pub mod Refusals
-pub mod Rooms
 pub mod Turns
 pub mod Visiting
 pub mod Wires

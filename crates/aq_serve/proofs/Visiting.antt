@@ -4,7 +4,7 @@ use Rattle.std.proofs.lemmas.List.{append-nil}
 use Rattle.aq_base.specs.Faults.{HasRisen}
 use Rattle.aq_base.specs.declared.refusal.Memory.{Memory}
 use Rattle.aq_rules.specs.Office.Office.{Office}
-use Rattle.aq_serve.specs.Door.{Both, DoorView, Ends, Exchange, HasSameTransfers, IsAccepted, IsAcceptedNow, IsDry, IsFinished, IsIdle, IsSameDoor, Nobody, Passes, TakesNext, Wire}
+use Rattle.aq_outside.specs.Door.{Both, DoorView, Ends, Exchange, HasSameTransfers, IsAccepted, IsAcceptedNow, IsDry, IsFinished, IsIdle, IsSameDoor, Nobody, Passes, TakesNext, Wire}
 use Rattle.aq_keeper.specs.Standing.{AreOfOffice, Keeps, Standing}
 use Rattle.aq_serve.specs.Service.{Counts}
 use Rattle.aq_serve.specs.Session.{IsFront, IsSession, Turn, office_behind}

@@ -2,7 +2,7 @@
 use Rattle.std.proofs.Common.{◌≡◌, ℕ, ◌+◌, ◌-◌, ◌≤◌, List, [], ◌++◌, length, take, drop, refl, sym, ap, ◌∙◌, subst, append_assoc, arith, Option, Some, None}
 use Rattle.std.proofs.lemmas.List.{append-nil, drop-append-le, length-drop, take_all}
 use Rattle.std.proofs.Math.Seq.{take-add}
-use Rattle.aq_serve.specs.Door.{DoorView, Exchange, IsDry, IsSameDoor, Passes, Wire}
+use Rattle.aq_outside.specs.Door.{DoorView, Exchange, IsDry, IsSameDoor, Passes, Wire}
 use Rattle.aq_serve.specs.Talking.{Gets, Took}
 
 -- nothing passes

@@ -1,8 +1,4 @@
-pub mod Door
 pub mod Endings
-pub mod Memories
-pub mod Outside
-pub mod MemoryStreams
 pub mod Answered
 pub mod Service
 pub mod Session

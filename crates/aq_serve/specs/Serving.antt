@@ -2,7 +2,7 @@
 use Rattle.std.specs.Prelude.{◌≡◌, ℕ, ◌+◌, ◌-◌, ◌^◌, ◌<◌, ◌≤◌, ◌⊎◌, Bool, true, false, List, [], ◌∷◌, ◌++◌, length, map, IfSome, Option, Result, Ok, Err}
 use Rattle.aq_base.specs.Faults.{HasRisen}
 use Rattle.aq_rules.specs.Office.Office.{Office}
-use Rattle.aq_serve.specs.Door.{Both, DoorView, EndedLine, Wire}
+use Rattle.aq_outside.specs.Door.{Both, DoorView, EndedLine, Wire}
 use Rattle.aq_keeper.specs.Standing.{AreOfOffice, Become, Keeps, Standing}
 use Rattle.aq_serve.specs.Service.{Counts}
 use Rattle.aq_serve.specs.Session.{IsCut, IsFront, IsSession, Turn, failed_commits, office_behind, replies}

@@ -9,7 +9,7 @@ use Rattle.aq_http.specs.Places.{HeadPlaces}
 use Rattle.aq_http.specs.declared.head.HeadStep.{HeadStep as ReadHead}
 use Rattle.aq_http.specs.declared.head.HeadStep.TheVariants as read
 use Rattle.aq_http.specs.Step.{IsStep, More, Refuse}
-use Rattle.aq_serve.specs.Door.{Both, DoorView, Exchange, IsDry, IsSameDoor}
+use Rattle.aq_outside.specs.Door.{Both, DoorView, Exchange, IsDry, IsSameDoor}
 use Rattle.aq_keeper.specs.Standing.{AreOfOffice, Become, Keeps, Standing}
 use Rattle.aq_serve.specs.Session.{AreTurns, IsCut, IsTurn, Turn, failed_commits, office_behind, replies}
 use Rattle.aq_serve.specs.Serving.{HavePassed, IsPaid, IsVisit, Rises, Serves, Visit, World, faults_in}

@@ -2,13 +2,13 @@
 ghost use Rattle.std.specs.Prelude.{◌≡◌, ◌<◌, true, [], length};
 ghost use Rattle.aq_serve.specs.Talking.{Talks};
 
-use crate::door::Door;
 use crate::ending::End;
 use crate::limits::PIECE;
 use crate::service::Service;
 use crate::turn::take_turn;
 use crate::unanswered::Unanswered;
 use aq_base::Memory;
+use aq_outside::Door;
 use std::alloc::Global;
 
 /// Serves request after request, until the connection has ended.

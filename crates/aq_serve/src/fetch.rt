@@ -3,10 +3,10 @@ ghost use Rattle.std.specs.Prelude.{◌≡◌, ◌<◌, true, length};
 ghost use Rattle.aq_http.specs.Head.{head_in, IsHeadStep, Whole as WholeHead};
 ghost use Rattle.aq_serve.specs.Talking.{Fetches, FetchesPiece, IsHeadBy, IsRequestBy};
 
-use crate::door::Door;
 use crate::unanswered::Unanswered;
 use aq_base::{Failed, Memory};
 use aq_http::{Head, HeadStep, read_head, steps_are_bounded, steps_stay};
+use aq_outside::Door;
 use std::alloc::Global;
 
 /// Why a request was not read.

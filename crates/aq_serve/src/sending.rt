@@ -5,9 +5,9 @@ ghost use Rattle.aq_http.specs.declared.media.MediaType.TheVariants.{Json};
 ghost use Rattle.aq_serve.specs.Answered.{error_body, error_name};
 ghost use Rattle.aq_serve.specs.Talking.{Sends};
 
-use crate::door::Door;
 use aq_base::{Failed, Memory};
 use aq_http::{MediaType, reply_bytes};
+use aq_outside::Door;
 use std::alloc::Global;
 
 /// Writes all bytes of a reply on the accepted connection. After `Failed` a part of them was written.

@@ -5,10 +5,10 @@ ghost use Rattle.aq_serve.specs.Serving.{Serves};
 ghost use Rattle.aq_serve.specs.Talking.{ServesNext};
 
 use crate::connection::converse;
-use crate::door::Door;
 use crate::ending::ServeFault;
 use crate::service::Service;
 use aq_base::{Failed, Memory};
+use aq_outside::Door;
 use std::alloc::Global;
 
 /// Serves the next connection, and answers false if there is none.

@@ -6,7 +6,6 @@ ghost use Rattle.aq_keeper.specs.Standing.{Standing};
 ghost use Rattle.aq_serve.specs.Talking.{IsWholeRequest, Replies, RepliesNot, SentBy, TakesTurn};
 ghost use Rattle.aq_serve.specs.declared.limits.TheConstants.{MOST_REQUESTS};
 
-use crate::door::Door;
 use crate::ending::End;
 use crate::fetch::{FetchFault, fetch};
 use crate::limits::MOST_REQUESTS;
@@ -15,6 +14,7 @@ use crate::service::Service;
 use crate::unanswered::Unanswered;
 use aq_base::{Failed, Memory};
 use aq_http::{Head, HeadStep, steps_are_bounded, steps_stay};
+use aq_outside::Door;
 use std::alloc::Global;
 
 /// A reply, how many bytes the request has, and whether the connection ends after it.

@@ -6,6 +6,7 @@
 //! - `simulation(alloc, start, sites, years)`: the text that is shown: how many loads were taken, how
 //!   many lines they had and how many observations stand, and the report of each standard for the last
 //!   year. There are 1 to 32 sites and 3 to 10 years.
+//! - `generator`: the loads that are generated.
 //!
 //! # What it promises
 //!
@@ -22,6 +23,7 @@
 //! ```
 #![tactic(auto)]
 
+pub mod generator;
 mod reports;
 mod taken;
 mod text;

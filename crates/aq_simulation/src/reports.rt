@@ -9,7 +9,8 @@ use crate::taken::Taken;
 use aq_base::{Memory, Question, Standard};
 use aq_book::Book;
 use aq_office::{Answer, answer_to};
-use aq_reports::{summary_sheet, text_of, texts_of};
+use aq_reports::summary_sheet;
+use aq_sheets::{text_of, texts_of};
 use std::alloc::Global;
 
 /// The text of the summary.

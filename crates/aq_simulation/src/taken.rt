@@ -7,10 +7,10 @@ ghost use Rattle.aq_rules.specs.Office.Load.{post};
 ghost use Rattle.aq_rules.specs.Office.Office.{IsOffice};
 ghost use Rattle.aq_rules.specs.Shown.Generator.{generated_lines, generated_load, generated_office, load_count};
 
+use crate::generator::{generate, load_count};
 use aq_base::Memory;
 use aq_book::Book;
 use aq_forms::Body;
-use aq_generator::{generate, load_count};
 use aq_keeper::SteadyKeeper;
 use aq_office::post_uncounted;
 use aq_rules::office::valid_load::an_office_of_nothing_is_valid;

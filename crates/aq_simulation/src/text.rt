@@ -4,10 +4,10 @@ ghost use Rattle.sha2.specs.Sha256.{sha256};
 ghost use Rattle.aq_rules.specs.Limits.{MOST_GENERATED_SITES, FEWEST_GENERATED_YEARS, MOST_GENERATED_YEARS};
 ghost use Rattle.aq_rules.specs.Shown.Generator.{simulation};
 
+use crate::generator::{FIRST_GENERATED_YEAR, load_count};
 use crate::reports::{add_reports, summary_text};
 use crate::taken::take_all;
 use aq_base::Memory;
-use aq_generator::{FIRST_GENERATED_YEAR, load_count};
 use std::alloc::Global;
 
 /// The summary of an office of 1 to `MOST_GENERATED_SITES` sites and `FEWEST_GENERATED_YEARS` to

@@ -5,3 +5,4 @@ pub mod StageLemmas
 pub mod EitherLemmas
 pub mod BatchLemmas
 pub mod TouchLemmas
+pub mod ExtractsLemmas

@@ -10,3 +10,4 @@ pub mod Counts
 pub mod Touched
 pub mod Keys
 pub mod Batch
+pub mod Extracts

@@ -10,6 +10,7 @@
 //! - `Staged::reply`, `identity`: the reply to the load, and under what it is kept.
 //! - `Staged::changes`: what the load changes, as `OfficeChanges`, a list of `OfficeChange`; it is made once.
 //! - `Staged::onto(shelf)`: what stands after the load, as a `Taken`; `registry_after`: the records then.
+//! - `extracts`: the lines of a load that makes what stands that of an extract from AQS.
 //!
 //! # What it promises
 //!
@@ -37,6 +38,7 @@
 mod batch;
 mod change;
 mod changes;
+pub mod extracts;
 mod identity;
 mod keys;
 mod late_copy;

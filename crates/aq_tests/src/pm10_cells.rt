@@ -9,7 +9,7 @@ use aq_base::{
     Pollutant, Quals, SiteId, Steps,
 };
 use aq_cal::quarter_of;
-use aq_pm10_cells::{Pm10Cells, filled, kept_numbers_are_those_of_the_office};
+use aq_particle_cells::pm10::{Pm10Cells, filled, kept_numbers_are_those_of_the_office};
 use aq_registry::Registry;
 use aq_series::Cell;
 use aq_shelf::Shelf;

@@ -12,14 +12,15 @@ use aq_base::{
 };
 use aq_cal::{quarter_of, quarter_span, write_day, year_span};
 use aq_forms::{count_lines, lines_of, print_key, print_office, read_office};
-use aq_generator::generate;
 use aq_http::{Request, Routes, Step, Verb, next_request};
 use aq_keeper::{RowChange, RowKey, do_keys_rise};
 use aq_num::{read_decimal, round_half_up, trunc_div, write_fixed};
-use aq_pm25::rank_of;
+use aq_particles::pm25::rank_of;
 use aq_rd::{has_office_tag, print_rd, read_rd, site_word, tag_of};
 use aq_registry::Registry;
-use aq_reports::{error_sheet, text_of};
+use aq_reports::error_sheet;
+use aq_sheets::text_of;
+use aq_simulation::generator::generate;
 use std::alloc::Global;
 
 /// What a function answers.

@@ -1,7 +1,7 @@
 use Rattle.std.proofs.Common.{arith}
 use Rattle.aq_dirty.specs.Marked.{named}
-use Rattle.aq_pm10_cells.proofs.Pm10Settled as pm10_cells
-use Rattle.aq_pm25_cells.proofs.Pm25Settled as pm25_cells
+use Rattle.aq_particle_cells.proofs.Pm10Lemmas.Pm10Settled as pm10_cells
+use Rattle.aq_particle_cells.proofs.Pm25Lemmas.Pm25Settled as pm25_cells
 use Rattle.aq_rules.specs.Kept.Cells.{CellName as Cell}
 use Rattle.aq_series.specs.OfficeView.{office_of}
 use Rattle.aq_cells.proofs.NextParticles.{below-next, pm10-next, pm25-next}

@@ -1,7 +1,7 @@
 use Rattle.std.proofs.Common.{◌≡◌, ◌+◌, ◌≤◌, ℕ, false}
 use Rattle.aq_dirty.specs.Particles.{holds_particle}
-use Rattle.aq_pm10_cells.specs.Pm10Levels as pm10_cells
-use Rattle.aq_pm25_cells.specs.Pm25Levels as pm25_cells
+use Rattle.aq_particle_cells.specs.Pm10.Pm10Levels as pm10_cells
+use Rattle.aq_particle_cells.specs.Pm25.Pm25Levels as pm25_cells
 use Rattle.aq_rules.specs.Kept.Cells.{CellName as Cell}
 use Rattle.aq_series.specs.OfficeView.{office_of}
 use Rattle.aq_cells.specs.Bound.{steps_for, AreEnough}

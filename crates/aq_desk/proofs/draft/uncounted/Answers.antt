@@ -1,6 +1,6 @@
 use Rattle.std.proofs.Common.{◌≡◌, ℕ, List, subst}
 use Rattle.std.specs.Prelude.{IfOk}
-use Rattle.aq_changes.specs.Answers.{answer_in}
+use Rattle.aq_staging.specs.Extracts.Answers.{answer_in}
 use Rattle.aq_rules.specs.Extracts.Changes.{changes_answer}
 use Rattle.aq_desk.proofs.Drafting.{over_book}
 use Rattle.aq_desk.proofs.draft.uncounted.Goals as goal

@@ -5,7 +5,7 @@ use Rattle.aq_series.specs.OfficeView.{office_of}
 use Rattle.aq_listed.specs.LastDay.{last_day, later, latest}
 use Rattle.aq_listed.proofs.LatestDays.{later-none, later_site}
 use Rattle.aq_listed.proofs.ListedSites.{none_left}
-use Rattle.aq_listed.proofs.SiteWalk.{sites-all, sites-next, sites_above}
+use Rattle.aq_series.proofs.SiteWalk.{sites-all, sites-next, sites_above}
 use Rattle.aq_listed.proofs.last_days.last_day.Goals as goal
 
 pub loop-site-init : goal.loop-site-init

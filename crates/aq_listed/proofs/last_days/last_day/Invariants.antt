@@ -5,7 +5,7 @@ use Rattle.aq_rules.specs.Shown.OtherSheets.{rising_sites}
 use Rattle.aq_series.specs.OfficeView.{office_of}
 use Rattle.aq_listed.specs.LastDay.{later, latest}
 use Rattle.aq_listed.proofs.ListedSites.{AreChecked}
-use Rattle.aq_listed.proofs.SiteWalk.{sites_above}
+use Rattle.aq_series.proofs.SiteWalk.{sites_above}
 use Rattle.aq_listed.proofs.last_days.last_day.Given as goal
 
 abbrev pub invariant-loop-site : goal.invariant-loop-site

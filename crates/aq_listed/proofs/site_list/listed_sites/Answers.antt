@@ -7,7 +7,7 @@ use Rattle.aq_rules.specs.Office.Office.{sites_of}
 use Rattle.aq_rules.specs.Shown.OtherSheets.{rising_sites}
 use Rattle.aq_listed.proofs.ListedSites.{few_in_all, none_left}
 use Rattle.aq_listed.proofs.ListRows.{one_more}
-use Rattle.aq_listed.proofs.SiteWalk.{sites-all, sites-next, sites_above}
+use Rattle.aq_series.proofs.SiteWalk.{sites-all, sites-next, sites_above}
 use Rattle.aq_listed.proofs.site_list.listed_sites.Goals as goal
 
 pub loop-site-init : goal.loop-site-init

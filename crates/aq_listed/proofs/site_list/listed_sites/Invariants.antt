@@ -4,7 +4,7 @@ use Rattle.aq_rules.specs.Listed.Sites.{listed_site}
 use Rattle.aq_rules.specs.Office.Office.{sites_of}
 use Rattle.aq_rules.specs.Shown.OtherSheets.{rising_sites}
 use Rattle.aq_listed.proofs.ListedSites.{AreChecked}
-use Rattle.aq_listed.proofs.SiteWalk.{sites_above}
+use Rattle.aq_series.proofs.SiteWalk.{sites_above}
 use Rattle.aq_listed.proofs.site_list.listed_sites.Given as goal
 
 abbrev pub invariant-loop-site : goal.invariant-loop-site

@@ -2,8 +2,8 @@ use Rattle.std.proofs.Common.{◌≡◌, map, ap, ◌∙◌}
 use Rattle.aq_base.specs.declared.monitor.Pollutant.TheVariants.{Ozone}
 use Rattle.aq_rules.specs.Listed.Highest.{ranked_value, with_start}
 use Rattle.aq_rules.specs.Ozone.OzoneYear.{days_of}
-use Rattle.aq_daily.specs.Ranked.{ranked_from}
-use Rattle.aq_daily.proofs.HighestDays.{highest-ozone-is}
+use Rattle.aq_reports.specs.Daily.Ranked.{ranked_from}
+use Rattle.aq_reports.proofs.DailyLemmas.HighestDays.{highest-ozone-is}
 use Rattle.aq_office.proofs.OzoneMaxima.{maxima-are, maxima-within, ten-rows}
 use Rattle.aq_office.proofs.highest.ozone_sheet.Goals as goal
 

@@ -2,8 +2,8 @@ use Rattle.std.proofs.Common.{◌≡◌, Option, w32, ap, ◌∙◌, rules}
 use Rattle.std.specs.Prelude.{FitsSigned, ℤ}
 use Rattle.std.proofs.lemmas.Int.{to_z-of_z}
 use Rattle.aq_rules.specs.Listed.Highest.{MaximumAt, RankedDay, first_at, with_start}
-use Rattle.aq_daily.specs.Maxima.{first_among}
-use Rattle.aq_daily.proofs.HighestDays.{start-among}
+use Rattle.aq_reports.specs.Daily.Maxima.{first_among}
+use Rattle.aq_reports.proofs.DailyLemmas.HighestDays.{start-among}
 use Rattle.aq_office.proofs.highest.row_of.Goals as goal
 
 pub returns-clause-row : goal.returns-clause-row

@@ -1,5 +1,5 @@
 use Rattle.std.proofs.Common.{◌≡◌, ◌-◌, ◌≤◌, [], length, take}
-use Rattle.aq_serve.specs.Door.{Exchange, IsSameDoor}
+use Rattle.aq_outside.specs.Door.{Exchange, IsSameDoor}
 use Rattle.aq_serve.proofs.sending.write_all.Given as goal
 
 abbrev pub invariant-loop-count : goal.invariant-loop-count

@@ -1,5 +1,5 @@
 use Rattle.std.proofs.Common.{subst, sym, ◌∙◌}
-use Rattle.aq_serve.specs.Door.{IsAccepted}
+use Rattle.aq_outside.specs.Door.{IsAccepted}
 use Rattle.aq_serve.proofs.Visiting.{door_failed, nobody_served, round_of, talked_so, visit_lost, visited}
 use Rattle.aq_serve.proofs.serving.serve_next.Goals as goal
 

@@ -1,7 +1,7 @@
 use Rattle.std.proofs.Common.{sym, subst}
 use Rattle.aq_rules.specs.Office.Office.{IsOffice}
 use Rattle.aq_book.specs.View.{standing}
-use Rattle.aq_book.proofs.ReachedLemmas.{none-kept, none-kept-pm10, none-kept-pm25}
+use Rattle.aq_cells.proofs.ReachedLemmas.{none-kept, none-kept-pm10, none-kept-pm25}
 use Rattle.aq_book.proofs.book.Book.new.Goals as goal
 
 pub invariant_of-result : goal.invariant_of-result

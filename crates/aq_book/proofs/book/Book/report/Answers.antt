@@ -8,7 +8,8 @@ use Rattle.aq_rules.specs.Standards.{pollutant_of}
 use Rattle.aq_verdict.specs.declared.design_value.DesignValue.{DesignValue}
 use Rattle.aq_book.specs.Questions.{valued, valued_in}
 use Rattle.aq_book.proofs.ReportLemmas.{valued-more}
-use Rattle.aq_book.proofs.RisingSites.{few_with, sites-next, sites_above, with_all, with_monitor, with_next, with_none}
+use Rattle.aq_book.proofs.RisingSites.{few_with, with_all, with_monitor, with_next, with_none}
+use Rattle.aq_series.proofs.SiteWalk.{sites-next, sites_above}
 use Rattle.aq_book.proofs.book.Book.report.Goals as goal
 use Rattle.aq_book.proofs.book.Book.report.Goals.{then-measures+in_ok-push, else-measures}
 

@@ -2,7 +2,8 @@ use Rattle.std.proofs.Common.{◌≡◌, ◌≤◌, ◌++◌, length, map}
 use Rattle.aq_rules.specs.Shown.OtherSheets.{sites_with}
 use Rattle.aq_rules.specs.Standards.{pollutant_of}
 use Rattle.aq_book.specs.Questions.{valued, valued_in}
-use Rattle.aq_book.proofs.RisingSites.{sites_above, with_monitor}
+use Rattle.aq_book.proofs.RisingSites.{with_monitor}
+use Rattle.aq_series.proofs.SiteWalk.{sites_above}
 use Rattle.aq_book.proofs.book.Book.report.Given as goal
 
 abbrev pub invariant-loop-site : goal.invariant-loop-site

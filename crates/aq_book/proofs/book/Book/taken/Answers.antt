@@ -3,10 +3,11 @@ use Rattle.aq_base.specs.declared.office.OfficeRecord.{OfficeRecord}
 use Rattle.aq_rules.specs.Office.Office.{Office}
 use Rattle.aq_series.specs.OfficeView.{office_of}
 use Rattle.aq_ozone_cells.specs.FilledDays as ozone_cells
-use Rattle.aq_pm10_cells.specs.Pm10Levels as pm10_cells
-use Rattle.aq_pm25_cells.specs.Pm25Levels as pm25_cells
+use Rattle.aq_particle_cells.specs.Pm10.Pm10Levels as pm10_cells
+use Rattle.aq_particle_cells.specs.Pm25.Pm25Levels as pm25_cells
 use Rattle.aq_staging.specs.Staged.{IsStagedOn}
-use Rattle.aq_book.proofs.ReachedLemmas.{changes-are, loadless, none-amiss, pm10-else, pm25-else, reached-by}
+use Rattle.aq_cells.proofs.ReachedLemmas.{changes-are, none-amiss, pm10-else, pm25-else, reached-by}
+use Rattle.aq_book.proofs.OfficeLoads.{loadless}
 use Rattle.aq_book.proofs.StageLemmas.{changed-of, room-after, taken-office, valid-after}
 use Rattle.aq_book.proofs.TakenCosts.{taken-costs}
 use Rattle.aq_book.proofs.book.Book.taken.Goals as goal

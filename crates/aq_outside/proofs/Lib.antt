@@ -1,0 +1,2 @@
+-- Lemmas on the room of connections in memory.
+pub mod Rooms

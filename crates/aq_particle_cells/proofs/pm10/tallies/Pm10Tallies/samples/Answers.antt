@@ -1,0 +1,9 @@
+use Rattle.std.proofs.Common.{◌∙◌, ap}
+use Rattle.aq_particle_cells.specs.Days.SiteTimes.{site_time}
+use Rattle.aq_particle_cells.proofs.DaysLemmas.BagLemmas.{bag-here}
+use Rattle.aq_particle_cells.proofs.pm10.tallies.Pm10Tallies.samples.Goals as goal
+use Rattle.aq_particle_cells.specs.Days.Tallied.{AreSumsOf}
+
+pub returns : goal.returns
+returns c bag has =
+    c.answer.ensures bag (bag-here AreSumsOf c.args.site c.args.quarter c.new.result (c.new.ensures ∙ ap (site_time c.args.site) c.number.ensures.value) bag c.args.self.now.samples has)

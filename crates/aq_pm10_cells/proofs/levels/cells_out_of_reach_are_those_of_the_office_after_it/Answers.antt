@@ -1,5 +1,0 @@
-use Rattle.aq_pm10_cells.proofs.Pm10Office.{unreached}
-use Rattle.aq_pm10_cells.proofs.levels.cells_out_of_reach_are_those_of_the_office_after_it.Goals as goal
-
-pub returns : goal.returns
-returns c old new kept cell valid after all out = unreached old new valid after kept all cell out

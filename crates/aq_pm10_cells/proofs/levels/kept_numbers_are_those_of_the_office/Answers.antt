@@ -1,5 +1,0 @@
-use Rattle.aq_pm10_cells.proofs.Pm10Office.{are-counted, year-is}
-use Rattle.aq_pm10_cells.proofs.levels.kept_numbers_are_those_of_the_office.Goals as goal
-
-pub returns : goal.returns
-returns c = record { counted = are-counted; year = year-is }

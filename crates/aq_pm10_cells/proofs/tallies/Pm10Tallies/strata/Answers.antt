@@ -1,9 +1,0 @@
-use Rattle.std.proofs.Common.{◌∙◌, ap}
-use Rattle.aq_particle_days.specs.SiteTimes.{site_time}
-use Rattle.aq_pm10_cells.specs.StrataTotals.{AreTotalsOf}
-use Rattle.aq_particle_days.proofs.BagLemmas.{bag-here}
-use Rattle.aq_pm10_cells.proofs.tallies.Pm10Tallies.strata.Goals as goal
-
-pub returns : goal.returns
-returns c bag has =
-    c.answer.ensures bag (bag-here AreTotalsOf c.args.site c.args.quarter c.new.result (c.new.ensures ∙ ap (site_time c.args.site) c.number.ensures.value) bag c.args.self.now.strata has)

@@ -1,5 +1,0 @@
-use Rattle.aq_pm25_cells.proofs.Pm25Office.{unreached}
-use Rattle.aq_pm25_cells.proofs.levels.cells_out_of_reach_are_those_of_the_office_after_it.Goals as goal
-
-pub returns : goal.returns
-returns c old new days cell valid after kept out = unreached old new valid after days kept cell out

@@ -1,5 +1,0 @@
-use Rattle.aq_reach.proofs.OutsideEvents.{as-before}
-use Rattle.aq_reach.proofs.concurrences.years_outside_an_event_are_as_before.Goals as goal
-
-pub returns : goal.returns
-returns c office entry site pollutant first last code valid numbered stands = as-before office entry site pollutant first last code valid numbered stands

@@ -1,5 +1,0 @@
-use Rattle.aq_reach.proofs.Windows.{window-out_of_reach}
-use Rattle.aq_reach.proofs.ozone.averages_out_of_reach_are_as_before.Goals as goal
-
-pub returns : goal.returns
-returns c a b site start valid after out = window-out_of_reach a b site start valid after out

@@ -1,5 +1,0 @@
-use Rattle.aq_reach.proofs.Windows.{day-out_of_reach}
-use Rattle.aq_reach.proofs.ozone.ozone_days_out_of_reach_are_as_before.Goals as goal
-
-pub returns : goal.returns
-returns c a b site day valid after out = day-out_of_reach a b site day valid after out

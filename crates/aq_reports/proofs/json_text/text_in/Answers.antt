@@ -1,5 +1,0 @@
-use Rattle.aq_reports.proofs.Words.{word-text}
-use Rattle.aq_reports.proofs.json_text.text_in.Goals as goal
-
-pub unreachable-requires : goal.unreachable-requires
-unreachable-requires c = c.in-Err.ensures.cases.0 (word-text c.args.word.now c.requires)

@@ -1,5 +1,0 @@
-use Rattle.aq_service.proofs.Standing.{last_over}
-use Rattle.aq_service.proofs.pages.last_counted.Goals as goal
-
-pub returns : goal.returns
-returns g c = last_over c.args.book.now c.registry.result.now c.shelf.result.now c.registry.ensures c.shelf.ensures c.last_day.result c.last_day.ensures

@@ -1,4 +1,0 @@
-use Rattle.aq_service.proofs.pages.last_of_all.Given as goal
-
-abbrev pub ghosts-last_counted : goal.ghosts-last_counted
-ghosts-last_counted a = record { name = a.blank.name; parts = a.blank.parts }
