@@ -1,6 +1,5 @@
 -- The page of an answer, and the small pages of what is no answer (own).
-use Rattle.std.specs.Prelude.{ℕ, Bool, true, false, ◌==◌, ◌&&◌, nat_le, if◌then◌else◌, Option, Some, None, List, [], ◌∷◌, ◌++◌, codes, flat_map, length, map}
-use Rattle.aq_base.specs.Site.{Site}
+use Rattle.std.specs.Prelude.{ℕ, Bool, true, false, ◌==◌, ◌&&◌, nat_le, if◌then◌else◌, Option, None, List, [], ◌∷◌, ◌++◌, codes, flat_map, length, map}
 use Rattle.aq_base.specs.Text.{site_text}
 use Rattle.aq_base.specs.declared.question.Question.{Question}
 use Rattle.aq_rules.specs.Questions.Answer.{Lack, NoSite, NoEvent, NoCombination, NoSiteInArea, NoLoad}

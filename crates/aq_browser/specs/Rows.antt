@@ -1,5 +1,5 @@
 -- The links to what the rows of a sheet name (own).
-use Rattle.std.specs.Prelude.{ℕ, Option, Some, None, List, [], ◌∷◌, ◌++◌, codes, flat_map, slice_get}
+use Rattle.std.specs.Prelude.{ℕ, Option, Some, None, List, [], ◌++◌, codes, flat_map, slice_get}
 use Rattle.std.specs.Option.{option_map_or}
 use Rattle.aq_base.specs.Site.{Site}
 use Rattle.aq_base.specs.Text.{site_text}
@@ -35,6 +35,19 @@ labelled_text text = labelled (escaped text)
 unfoldable pub text_link : List ℕ → List ℕ → List ℕ → List ℕ
 text_link before behind text =
     codes "<a href=\"/page" ++ (before ++ (escaped text ++ (behind ++ labelled_text text)))
+
+-- the same in its pieces: what stands before a word in the target, the word, what stands behind it there, and the word once more
+unfoldable pub target_start : List ℕ → List ℕ
+target_start before = codes "<a href=\"/page" ++ before
+
+unfoldable pub target_end : List ℕ → List ℕ
+target_end behind = behind ++ codes "\">"
+
+unfoldable pub word_link : List ℕ → List ℕ → List ℕ → List ℕ
+word_link start end word = start ++ (word ++ (end ++ (word ++ codes "</a>\n")))
+
+abbrev pub row_word : List ℕ → ℕ → List ℕ → List SheetCell → List ℕ
+row_word start place end cells = word_link start end (escaped (text_at place cells))
 
 -- the link of a row, by the text in so many'th place
 abbrev pub row_link : List ℕ → ℕ → List ℕ → List SheetCell → List ℕ

@@ -1,5 +1,5 @@
 -- What stands in the office beside an answer: how many loads and observations, and the last days of them (own).
-use Rattle.std.specs.Prelude.{ℕ, Option, Some, None, length, option_map}
+use Rattle.std.specs.Prelude.{ℕ, Option, None, length, option_map}
 use Rattle.aq_base.specs.Site.{Site}
 use Rattle.aq_base.specs.Standard.{pollutant_of}
 use Rattle.aq_base.specs.declared.monitor.Pollutant.{Pollutant}

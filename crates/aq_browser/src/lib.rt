@@ -31,8 +31,10 @@
 //! ```
 #![tactic(auto)]
 
+mod cells;
 mod context;
 mod links;
+mod numbers;
 mod pages;
 mod paths;
 mod rows;

@@ -15,6 +15,13 @@ use aq_pages::{FOOT, HEAD};
 use aq_sheets::Sheet;
 use std::alloc::Global;
 
+/// The room of a title, of a page without its rows, and of a cell, which most of them do not fill.
+const TITLE_ROOM: usize = 128;
+
+const PAGE_ROOM: usize = 8192;
+
+const CELL_ROOM: usize = 48;
+
 /// Appends the name of a page in a browser; its body begins behind it.
 #[tactic(auto, unfolding(crate::specs::Pages::page_name))]
 fn write_page_name(out: &mut Vec<u8>, words: &[u8]) -> Result<(), Memory>
@@ -52,13 +59,18 @@ fn write_page_start(
     write_page_head(out, words)
 }
 
-/// The page of a question up to its head.
-fn start_of(alloc: Global, context: &Context, question: &Question) -> Result<Vec<u8>, Memory>
+/// The page of a question up to its head, with so much room for all of it.
+fn start_of(
+    alloc: Global,
+    context: &Context,
+    question: &Question,
+    room: usize,
+) -> Result<Vec<u8>, Memory>
     ensures { IfOk result (λ out. out.items ≡ page_start (title context.now.joined question.now) (report_year (year_asked question.now) context.now.last_day)) }
 {
-    let mut words = Vec::new(alloc);
+    let mut words = Vec::with_capacity(alloc, TITLE_ROOM)?;
     write_title(alloc, &mut words, context.joined, question)?;
-    let mut out = Vec::new(alloc);
+    let mut out = Vec::with_capacity(alloc, room)?;
     write_page_start(
         alloc,
         &mut out,
@@ -97,6 +109,17 @@ fn write_shown_sheets(
     write_made_from(out, context.loads, context.observations)
 }
 
+/// The room that a page of these sheets takes at most, as far as their numbers of cells say so.
+fn room_for(sheets: &[Sheet]) -> usize {
+    let mut room = PAGE_ROOM;
+    for sheet in sheets {
+        let columns = sheet.columns().len().saturating_add(1);
+        let cells = sheet.rows().len().saturating_mul(columns);
+        room = room.saturating_add(cells.saturating_mul(CELL_ROOM));
+    }
+    room
+}
+
 /// The page of the answer of a question.
 #[tactic(auto, unfolding(crate::specs::Pages::answer_page, crate::specs::Pages::question_page, crate::specs::Pages::page))]
 pub fn answer_page(
@@ -107,7 +130,7 @@ pub fn answer_page(
 ) -> Result<Vec<u8>, Memory>
     ensures { IfOk result (λ page. page.items ≡ pages.answer_page context.now question.now sheets.now) }
 {
-    let mut out = start_of(alloc, context, question)?;
+    let mut out = start_of(alloc, context, question, room_for(sheets))?;
     write_shown_sheets(alloc, &mut out, context, question, sheets)?;
     out.extend_from_slice(FOOT)?;
     Ok(out)
@@ -139,7 +162,7 @@ pub fn missing_page(
 ) -> Result<Vec<u8>, Memory>
     ensures { IfOk result (λ page. page.items ≡ pages.missing_page context.now question.now message.now) }
 {
-    let mut out = start_of(alloc, context, question)?;
+    let mut out = start_of(alloc, context, question, PAGE_ROOM)?;
     write_message(&mut out, context.loads, context.observations, message)?;
     out.extend_from_slice(FOOT)?;
     Ok(out)

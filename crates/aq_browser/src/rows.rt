@@ -1,29 +1,22 @@
 //! The links to what the rows of a sheet name.
-ghost use Rattle.std.specs.Prelude.{◌≡◌, ◌++◌, OnOk, flat_map};
+ghost use Rattle.std.specs.Prelude.{◌≡◌, ◌++◌, IfOk, OnOk, flat_map};
 ghost use Rattle.aq_pages.specs.Html.{escaped};
-ghost use Rattle.aq_rules.specs.Shown.Sheet.{cell_text};
-ghost use Rattle.aq_browser.specs.Rows.{before_day, before_report, behind_report, day_links, first_word, first_word_in, highest_links, labelled_text, links_along, report_links, row_link, row_links, text_at, text_link};
+ghost use Rattle.aq_browser.specs.Rows.{before_day, before_report, behind_report, day_links, first_word, first_word_in, highest_links, links_along, report_links, row_link, row_links, row_word, target_end, target_start, text_at, word_link};
 
+use crate::cells::write_word;
 use crate::paths::year_text;
 use aq_base::{Memory, Pollutant, Question, SiteId};
-use aq_pages::write_escaped;
 use aq_sheets::{Cells, Head, Sheet, SheetCell, site_text, write_cell as write_cell_text};
 use std::alloc::Global;
-
-/// Appends the text of a cell, escaped.
-fn write_word(alloc: Global, out: &mut Vec<u8>, cell: &SheetCell) -> Result<(), Memory>
-    ensures { OnOk result (out.new.items ≡ out.old.items ++ escaped (cell_text cell.now)) }
-{
-    let mut text = Vec::new(alloc);
-    write_cell_text(&mut text, cell)?;
-    write_escaped(out, &text)
-}
 
 fn write_first_of(alloc: Global, out: &mut Vec<u8>, heads: &[Head]) -> Result<(), Memory>
     ensures { OnOk result (out.new.items ≡ out.old.items ++ first_word_in heads.now) }
 {
     match heads.first() {
-        Some(head) => write_word(alloc, out, head.cell()),
+        Some(head) => {
+            let mut room = Vec::new(alloc);
+            write_word(out, &mut room, head.cell())
+        }
         None => Ok(()),
     }
 }
@@ -40,7 +33,11 @@ pub(crate) fn write_first_word(
 }
 
 /// Appends the text of the cell in this place, counted from 0; nothing if there is none.
-fn write_text_at(out: &mut Vec<u8>, place: usize, cells: &[SheetCell]) -> Result<(), Memory>
+pub(crate) fn write_text_at(
+    out: &mut Vec<u8>,
+    place: usize,
+    cells: &[SheetCell],
+) -> Result<(), Memory>
     ensures { OnOk result (out.new.items ≡ out.old.items ++ text_at place cells.now) }
 {
     match cells.get(place) {
@@ -49,51 +46,105 @@ fn write_text_at(out: &mut Vec<u8>, place: usize, cells: &[SheetCell]) -> Result
     }
 }
 
-/// Appends the end of a link's target, with a text as its words.
-#[tactic(auto, unfolding(crate::specs::Rows::labelled_text, crate::specs::Links::labelled))]
-fn write_labelled_text(out: &mut Vec<u8>, text: &[u8]) -> Result<(), Memory>
-    ensures { OnOk result (out.new.items ≡ out.old.items ++ labelled_text text.now) }
+/// Appends the text of the cell in this place, counted from 0, escaped; nothing if there is none. `room` is for
+/// the text, if it has to be escaped.
+fn write_word_at(
+    out: &mut Vec<u8>,
+    room: &mut Vec<u8>,
+    place: usize,
+    cells: &[SheetCell],
+) -> Result<(), Memory>
+    ensures { OnOk result (out.new.items ≡ out.old.items ++ escaped (text_at place cells.now)) }
 {
-    out.extend_from_slice(b"\">")?;
-    write_escaped(out, text)?;
+    match cells.get(place) {
+        Some(cell) => write_word(out, room, cell),
+        None => Ok(()),
+    }
+}
+
+/// Appends a link: a word in its target, between what stands before and behind it there, and then as its words.
+#[tactic(auto, unfolding(crate::specs::Rows::word_link))]
+fn write_word_link(
+    out: &mut Vec<u8>,
+    before: &[u8],
+    behind: &[u8],
+    word: &[u8],
+) -> Result<(), Memory>
+    ensures { OnOk result (out.new.items ≡ out.old.items ++ word_link before.now behind.now word.now) }
+{
+    out.extend_from_slice(before)?;
+    out.extend_from_slice(word)?;
+    out.extend_from_slice(behind)?;
+    out.extend_from_slice(word)?;
     out.extend_from_slice(b"</a>\n")?;
     Ok(())
 }
 
-/// Appends a link to a page, whose path has a text between what stands before and behind it.
-#[tactic(auto, unfolding(crate::specs::Rows::text_link))]
-fn write_text_link(
+/// Appends the link of a row, by the text in this place. `word` is for that text, and `room` too, if it has to be
+/// escaped.
+fn write_row_word(
     out: &mut Vec<u8>,
-    before: &[u8],
-    behind: &[u8],
-    text: &[u8],
-) -> Result<(), Memory>
-    ensures { OnOk result (out.new.items ≡ out.old.items ++ text_link before.now behind.now text.now) }
-{
-    out.extend_from_slice(b"<a href=\"/page")?;
-    out.extend_from_slice(before)?;
-    write_escaped(out, text)?;
-    out.extend_from_slice(behind)?;
-    write_labelled_text(out, text)?;
-    Ok(())
-}
-
-/// Appends the link of a row, by the text in this place. `room` is for that text.
-fn write_row_link(
-    out: &mut Vec<u8>,
+    word: &mut Vec<u8>,
     room: &mut Vec<u8>,
     before: &[u8],
     place: usize,
     behind: &[u8],
     cells: &[SheetCell],
 ) -> Result<(), Memory>
-    ensures { OnOk result (out.new.items ≡ out.old.items ++ row_link before.now place behind.now cells.now) }
+    ensures { OnOk result (out.new.items ≡ out.old.items ++ row_word before.now place behind.now cells.now) }
 {
-    room.clear();
-    write_text_at(room, place, cells)?;
-    write_text_link(out, before, behind, room)
+    word.clear();
+    write_word_at(word, room, place, cells)?;
+    write_word_link(out, before, behind, word)
 }
 
+fn write_each_row_word(
+    alloc: Global,
+    out: &mut Vec<u8>,
+    before: &[u8],
+    place: usize,
+    behind: &[u8],
+    rows: &[Cells],
+) -> Result<(), Memory>
+    ensures { OnOk result (out.new.items ≡ out.old.items ++ flat_map (row_word before.now place behind.now) rows.now) }
+{
+    let mut word = Vec::new(alloc);
+    let mut room = Vec::new(alloc);
+    for row in rows {
+        write_row_word(
+            out,
+            &mut word,
+            &mut room,
+            before,
+            place,
+            behind,
+            row.as_slice(),
+        )?;
+    }
+    Ok(())
+}
+
+/// What stands before the text in the target of each link, and behind it.
+#[tactic(auto, unfolding(crate::specs::Rows::target_start))]
+fn target_start(alloc: Global, before: &[u8]) -> Result<Vec<u8>, Memory>
+    ensures { IfOk result (λ start. start.items ≡ target_start before.now) }
+{
+    let mut start = b"<a href=\"/page".to_vec(alloc)?;
+    start.extend_from_slice(before)?;
+    Ok(start)
+}
+
+#[tactic(auto, unfolding(crate::specs::Rows::target_end))]
+fn target_end(alloc: Global, behind: &[u8]) -> Result<Vec<u8>, Memory>
+    ensures { IfOk result (λ end. end.items ≡ target_end behind.now) }
+{
+    let mut end = behind.to_vec(alloc)?;
+    end.extend_from_slice(b"\">")?;
+    Ok(end)
+}
+
+/// Appends a link for each row, by the text in this place. What is the same in all of them is put together once.
+#[tactic(auto, using(crate::proofs::Targets::same_links))]
 fn write_each_row_link(
     alloc: Global,
     out: &mut Vec<u8>,
@@ -104,11 +155,9 @@ fn write_each_row_link(
 ) -> Result<(), Memory>
     ensures { OnOk result (out.new.items ≡ out.old.items ++ flat_map (row_link before.now place behind.now) rows.now) }
 {
-    let mut room = Vec::new(alloc);
-    for row in rows {
-        write_row_link(out, &mut room, before, place, behind, row.as_slice())?;
-    }
-    Ok(())
+    let start = target_start(alloc, before)?;
+    let end = target_end(alloc, behind)?;
+    write_each_row_word(alloc, out, &start, place, &end, rows)
 }
 
 /// Appends a link for each row, as a paragraph.

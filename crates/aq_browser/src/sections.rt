@@ -2,12 +2,14 @@
 ghost use Rattle.std.specs.Prelude.{◌≡◌, ◌++◌, OnOk, flat_map};
 ghost use Rattle.aq_browser.specs.Pages.{are_several, heads_and_picture, lines_of_rows, own_head, picture_in, picture_of_lines, rows_and_links, section, section_by, section_head, section_of, section_with};
 
+use crate::numbers::is_bare;
 use crate::rows::{write_first_word, write_row_links};
 use crate::tables::{lines_of_heads, lines_of_rows, write_heads_table, write_rows_table};
 use crate::titles::write_dotted;
 use aq_base::{Memory, Question};
 use aq_pages::{
-    Kind, Line, Picture, has_picture, kind_of, write_level_words, write_picture, write_words,
+    Kind, Line, Picture, has_picture, in_its_place, kind_of, write_level_words, write_picture,
+    write_words,
 };
 use aq_sheets::{Cells, Sheet};
 use std::alloc::Global;
@@ -30,7 +32,7 @@ fn write_picture_of_lines(
     }
 }
 
-fn write_picture_of_rows(
+fn write_picture_of_words(
     alloc: Global,
     out: &mut Vec<u8>,
     picture: Picture,
@@ -43,7 +45,25 @@ fn write_picture_of_rows(
     write_picture_of_lines(alloc, out, picture, heads, rows.as_slice())
 }
 
-/// Appends the picture of a sheet, if there is one of its kind. Only then its rows are put into words.
+/// Appends the picture of these heads and rows, or the sentence in its place. Only for a picture the rows are put
+/// into words.
+fn write_picture_of_rows(
+    alloc: Global,
+    out: &mut Vec<u8>,
+    picture: Picture,
+    heads: &[Line],
+    rows: &[Cells],
+) -> Result<(), Memory>
+    ensures { OnOk result (out.new.items ≡ out.old.items ++ picture_of_lines picture heads.now (lines_of_rows rows.now)) }
+{
+    if is_bare(alloc, picture, heads, rows)? {
+        out.extend_from_slice(in_its_place(picture).as_bytes())?;
+        return Ok(());
+    }
+    write_picture_of_words(alloc, out, picture, heads, rows)
+}
+
+/// Appends the picture of a sheet, if there is one of its kind.
 #[tactic(auto, unfolding(crate::specs::Pages::picture_in))]
 fn write_picture_in(
     alloc: Global,

@@ -4,6 +4,7 @@ ghost use Rattle.aq_browser.specs.Pages as pages;
 ghost use Rattle.aq_browser.specs.Pages.{cells_row, columns_and_rows, head_row, heads_table, rows_table, sheet_cell, table_cell};
 ghost use Rattle.aq_rules.specs.Shown.Sheet.{cell_text};
 
+use crate::cells::write_word;
 use aq_base::{Bytes, Items, Memory};
 use aq_pages::{Line, write_cell, write_column_names, write_table_end, write_table_start};
 use aq_sheets::{Cells, Head, SheetCell, write_cell as write_cell_text};
@@ -17,13 +18,14 @@ fn write_table_cell(out: &mut Vec<u8>, word: &[u8]) -> Result<(), Memory>
     write_cell(out, b"<td>", b"</td>", word)
 }
 
-/// Appends a cell of a table. `room` is for its text.
+/// Appends a cell of a table. `room` is for its text, if that has to be escaped.
 fn write_sheet_cell(out: &mut Vec<u8>, room: &mut Vec<u8>, cell: &SheetCell) -> Result<(), Memory>
     ensures { OnOk result (out.new.items ≡ out.old.items ++ sheet_cell cell.now) }
 {
-    room.clear();
-    write_cell_text(room, cell)?;
-    write_table_cell(out, room)
+    out.extend_from_slice(b"<td>")?;
+    write_word(out, room, cell)?;
+    out.extend_from_slice(b"</td>")?;
+    Ok(())
 }
 
 /// Appends the row of a head. `room` is for the text of its cell.

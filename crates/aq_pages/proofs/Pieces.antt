@@ -2,7 +2,7 @@
 use Rattle.std.proofs.Common.{◌≡◌, ℕ, List, ◌++◌, ap, ◌∙◌, append_assoc}
 
 -- one piece, and then more
-also : (out piece more : List ℕ) {one all : List ℕ} → one ≡ out ++ piece → all ≡ one ++ more → all ≡ out ++ (piece ++ more)
+pub also : (out piece more : List ℕ) {one all : List ℕ} → one ≡ out ++ piece → all ≡ one ++ more → all ≡ out ++ (piece ++ more)
 also out piece more first then_ = then_ ∙ (ap (λ text. text ++ more) first ∙ append_assoc out piece more)
 
 pub pieces3 :

@@ -34,15 +34,16 @@ fn is_plain(byte: u8) -> bool
     byte != b'&' && byte != b'<' && byte != b'>' && byte != b'"'
 }
 
-fn are_plain(bytes: &[u8]) -> bool
+/// Whether all bytes of a text stand for themselves. All are tested in any case, so that many are tested at once.
+#[inline(never)]
+pub fn are_plain(bytes: &[u8]) -> bool
     ensures { result ≡ list_all is_plain bytes.now }
 {
+    let mut are_plain = true;
     for byte in bytes {
-        if !is_plain(*byte) {
-            return false;
-        }
+        are_plain &= is_plain(*byte);
     }
-    true
+    are_plain
 }
 
 /// Appends each byte of a text, by its name if it would mean something.

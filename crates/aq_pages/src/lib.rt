@@ -59,13 +59,14 @@ mod subject;
 mod words;
 mod year;
 
-pub use html::{write_cell, write_escaped};
+pub use html::{are_plain, write_cell, write_escaped};
 pub use kind::{
     Kind, Names, Picture, are_same, each_kind_is_found_by_its_names, has_picture, kind_of, kinds,
 };
+pub use numbers::is_number;
 pub use page::{
-    page_of_sheets, write_column_names, write_level_words, write_picture, write_table_end,
-    write_table_start, write_words,
+    drawn_places, in_its_place, page_of_sheets, write_column_names, write_level_words,
+    write_picture, write_table_end, write_table_start, write_words,
 };
 pub use sheet::{Line, PageSheet, is_head, is_word};
 pub use style::{FOOT, HEAD};

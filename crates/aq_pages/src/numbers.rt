@@ -1,5 +1,5 @@
 //! The numbers of a sheet, and the scale by which they are drawn.
-ghost use Rattle.std.specs.Prelude.{◌≡◌, ◌≤◌, ◌<◌, ◌^◌, IfSome};
+ghost use Rattle.std.specs.Prelude.{◌≡◌, ◌≤◌, ◌<◌, ◌^◌, IfSome, is_some};
 ghost use Rattle.aq_pages.specs.Numbers.{greatest, has_number, number_at, number_in, scaled, word_at};
 
 use crate::sheet::Line;
@@ -16,6 +16,13 @@ fn number_in(word: &[u8]) -> Option<u32>
         Ok(number) => Some(if number < 0 { 0 } else { number.unsigned_abs() }),
         Err(_) => None,
     }
+}
+
+/// Whether a word says a number.
+pub fn is_number(word: &[u8]) -> bool
+    ensures { result ≡ is_some (number_in word.now) }
+{
+    number_in(word).is_some()
 }
 
 /// A word of a line by its place from 0, empty if the line has none.

@@ -1,7 +1,9 @@
 //! The page of some sheets.
-ghost use Rattle.std.specs.Prelude.{◌≡◌, ◌≤◌, ◌++◌, length, flat_map, IfOk, OnOk};
+ghost use Rattle.std.specs.Prelude.{◌≡◌, ◌≤◌, ◌++◌, List, false, length, flat_map, IfOk, IfSome, OnOk};
+ghost use Rattle.aq_pages.specs.Numbers.{has_number};
 ghost use Rattle.aq_pages.specs.Page as pages;
 ghost use Rattle.aq_pages.specs.Page.{behind_first, cells, column_names, columns_and_rows, drawn_as, has_lines, head_value, heads_table, in_its_place, is_drawn, level_by_name, level_by_parameter, level_for, level_line, level_words, opening, paragraph, picture_of, rows_and_words, rows_table, section, section_as, section_of, table_end, table_start, words_line};
+ghost use Rattle.aq_pages.specs.Sheets.{Line};
 
 use crate::bars;
 use crate::day::write_day;
@@ -216,9 +218,24 @@ fn is_drawn(picture: Picture, heads: &[Line], rows: &[Line]) -> bool
     }
 }
 
+/// The two places of a row, counted from 0, whose numbers are drawn: nothing is drawn if no row has a number at
+/// either. There are none where the numbers of the rows do not decide that.
+#[tactic(auto, unfolding(crate::specs::Page::is_drawn))]
+pub fn drawn_places(picture: Picture) -> Option<(usize, usize)>
+    ensures { IfSome result (λ places. (heads rows : List Line) → has_number places.0 rows ≡ false → has_number places.1 rows ≡ false → is_drawn picture heads rows ≡ false) }
+{
+    match picture {
+        Picture::Bars { value, .. } => Some((value, value)),
+        Picture::Lines => Some((1, 3)),
+        Picture::Days(pollutant) => Some((value_place(pollutant), value_place(pollutant))),
+        Picture::Highest => Some((2, 2)),
+        Picture::Counts | Picture::Squares(_) | Picture::Nothing => None,
+    }
+}
+
 /// The sentence in place of a picture in which nothing would be drawn.
 #[tactic(auto, unfolding(crate::specs::Page::in_its_place))]
-fn in_its_place(picture: Picture) -> &'static str
+pub fn in_its_place(picture: Picture) -> &'static str
     ensures { result.now ≡ in_its_place picture }
 {
     match picture {

@@ -10,6 +10,7 @@ ghost use Rattle.aq_listed.specs.LastDay.{last_day};
 ghost use Rattle.aq_serve.specs.Answered.{to_found, to_load};
 ghost use Rattle.aq_office.specs.Service.Replies.{AnswersBy, LosesBy};
 
+use crate::post_uncounted;
 use crate::service::pages::{last_of_all, page_reply};
 use crate::service::replies::{load_reply, methods, question_reply};
 use aq_base::{Day, Memory};
@@ -17,7 +18,6 @@ use aq_book::Book;
 use aq_forms::Body;
 use aq_http::{Found, Routes, Verb};
 use aq_keeper::Keeper;
-use crate::post_uncounted;
 use aq_serve::{Service, error_reply};
 use std::alloc::Global;
 use std::marker::Model;

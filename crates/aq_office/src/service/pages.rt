@@ -12,13 +12,13 @@ ghost use Rattle.aq_rules.specs.Questions.Answer.{Lacks, OfSheets, answer};
 ghost use Rattle.aq_rules.specs.Questions.Asking.{is_asked};
 ghost use Rattle.aq_serve.specs.Answered.{page_methods, refused_page, reply_of, to_asked_page, to_page};
 
+use crate::{Answer, Lack, answer_to};
 use aq_base::{Day, Memory, Pollutant, Question, SiteId, Steps};
 use aq_book::Book;
 use aq_browser::{Context, answer_page, missing_page, refusal_page};
 use aq_http::{MediaType, reply_bytes};
 use aq_listed::{last_day, last_day_at};
 use aq_num::write_fixed;
-use crate::{Answer, Lack, answer_to};
 use aq_sheets::{Sheet, site_text};
 use std::alloc::Global;
 use std::marker::Brand;

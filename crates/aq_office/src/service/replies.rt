@@ -13,10 +13,10 @@ ghost use Rattle.aq_rules.specs.Shown.WellFormed.{IsWellFormed};
 ghost use Rattle.aq_serve.specs.Answered.{reply_of, text_media, to_question};
 ghost use Rattle.aq_office.specs.Service.Replies.{methods, to_posted};
 
+use crate::{Answer, Posted, answer_to};
 use aq_base::{Memory, Question, Topic};
 use aq_book::Book;
 use aq_http::{MediaType, reply_bytes};
-use crate::{Answer, Posted, answer_to};
 use aq_reports::conflict_sheet;
 use aq_rows::digest_is_32_bytes;
 use aq_rules::shown::well_formed::other_sheets_are_well_formed;

@@ -1,7 +1,7 @@
 use Rattle.std.specs.Prelude.{codes}
 use Rattle.aq_base.specs.declared.question.Question.TheVariants.{Daily, Highest}
 use Rattle.aq_browser.specs.Links.{day_links, question_link, year_link}
-use Rattle.aq_browser.proofs.Pieces.{pieces3}
+use Rattle.aq_pages.proofs.Pieces.{pieces3}
 use Rattle.aq_browser.proofs.links.write_day_links.Goals as goal
 
 pub returns : goal.returns

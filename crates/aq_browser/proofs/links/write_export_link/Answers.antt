@@ -2,7 +2,7 @@ use Rattle.std.specs.Prelude.{codes}
 use Rattle.aq_base.specs.declared.question.Question.TheVariants.{Export}
 use Rattle.aq_browser.specs.Paths.{path_of}
 use Rattle.aq_browser.specs.Links.{export_link, labelled}
-use Rattle.aq_browser.proofs.Pieces.{pieces3}
+use Rattle.aq_pages.proofs.Pieces.{pieces3}
 use Rattle.aq_browser.proofs.links.write_export_link.Goals as goal
 
 pub returns : goal.returns

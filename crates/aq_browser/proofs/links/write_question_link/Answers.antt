@@ -1,7 +1,7 @@
 use Rattle.std.specs.Prelude.{codes}
 use Rattle.aq_browser.specs.Paths.{path_of}
 use Rattle.aq_browser.specs.Links.{labelled, question_link}
-use Rattle.aq_browser.proofs.Pieces.{pieces3}
+use Rattle.aq_pages.proofs.Pieces.{pieces3}
 use Rattle.aq_browser.proofs.links.write_question_link.Goals as goal
 
 pub returns : goal.returns

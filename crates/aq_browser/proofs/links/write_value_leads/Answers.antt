@@ -2,7 +2,7 @@ use Rattle.std.proofs.Common.{ap, ◌∙◌, ◌++◌}
 use Rattle.std.specs.Prelude.{codes}
 use Rattle.aq_base.specs.declared.question.Question.TheVariants.{Decisive}
 use Rattle.aq_browser.specs.Links.{highest_links, question_link, value_leads}
-use Rattle.aq_browser.proofs.Pieces.{pieces3}
+use Rattle.aq_pages.proofs.Pieces.{pieces3}
 use Rattle.aq_browser.proofs.links.write_value_leads.Goals as goal
 
 pub returns : goal.returns

@@ -2,7 +2,7 @@ use Rattle.std.proofs.Common.{ap, ◌∙◌, ◌++◌}
 use Rattle.std.specs.Prelude.{codes}
 use Rattle.aq_base.specs.declared.question.Question.TheVariants.{Days}
 use Rattle.aq_browser.specs.Links.{day_after, day_before, question_link, window_leads}
-use Rattle.aq_browser.proofs.Pieces.{pieces3}
+use Rattle.aq_pages.proofs.Pieces.{pieces3}
 use Rattle.aq_browser.proofs.links.write_window_leads.Goals as goal
 
 pub returns : goal.returns

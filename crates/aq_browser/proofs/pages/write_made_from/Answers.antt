@@ -1,7 +1,7 @@
 use Rattle.std.specs.Prelude.{codes}
 use Rattle.aq_browser.specs.Pages.{made_from}
 use Rattle.aq_browser.specs.Paths.{digits}
-use Rattle.aq_browser.proofs.Pieces.{pieces5}
+use Rattle.aq_pages.proofs.Pieces.{pieces5}
 use Rattle.aq_browser.proofs.pages.write_made_from.Goals as goal
 
 pub returns : goal.returns

@@ -1,6 +1,6 @@
 use Rattle.std.specs.Prelude.{codes}
 use Rattle.aq_browser.specs.Pages.{page_name}
-use Rattle.aq_browser.proofs.Pieces.{pieces3}
+use Rattle.aq_pages.proofs.Pieces.{pieces3}
 use Rattle.aq_browser.proofs.pages.write_page_name.Goals as goal
 
 pub returns : goal.returns

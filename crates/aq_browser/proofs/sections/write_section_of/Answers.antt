@@ -1,6 +1,6 @@
 use Rattle.std.specs.Prelude.{codes}
 use Rattle.aq_browser.specs.Pages.{heads_and_picture, rows_and_links, section_head, section_of}
-use Rattle.aq_browser.proofs.Pieces.{pieces5}
+use Rattle.aq_pages.proofs.Pieces.{pieces5}
 use Rattle.aq_browser.proofs.sections.write_section_of.Goals as goal
 
 pub returns : goal.returns
