@@ -1,9 +1,14 @@
 //! Calls of single functions, that no run shows as directly: `NAME ARGUMENTS => ANSWER`, a line for each.
-//! The names are those of `aq_trials::answer`, `command` and `without_memory`.
+//! The names are those of `aq_trials::answer`, and of what stands on rooms that it does without: `command`,
+//! `error`, `generated`, `rank` and `without_memory`.
+use crate::generated::generated;
 use aq_base::Memory;
 use aq_desk::end_without_memory;
 use aq_outside::MemorySink;
-use aq_trials::{Trouble, answer, spelling_of};
+use aq_particles::pm25::rank_of;
+use aq_reports::error_sheet;
+use aq_sheets::text_of;
+use aq_trials::{NOT_SO, Trouble, answer, spelling_of};
 use aq_words::read_words;
 use std::alloc::Global;
 
@@ -26,6 +31,9 @@ fn try_call(alloc: Global, line: &str) -> Result<Option<String>, Memory> {
     };
     let found = match name {
         "command" => command(alloc, arguments),
+        "error" => error(alloc, arguments),
+        "generated" => generated(alloc, arguments),
+        "rank" => rank(alloc, arguments),
         "without_memory" => without_memory(alloc),
         _ => answer(alloc, name, arguments),
     };
@@ -65,4 +73,25 @@ fn without_memory(alloc: Global) -> Result<String, Trouble> {
     let status = end_without_memory(&mut errors);
     let told = spelling_of(alloc, errors.written())?;
     Ok(format!(in alloc; "{status} {told}")?)
+}
+
+/// `COUNTED`: the rank of the percentile.
+fn rank(alloc: Global, arguments: &str) -> Result<String, Trouble> {
+    let Ok(counted) = arguments.parse::<u16>() else {
+        return Err(NOT_SO);
+    };
+    if counted < 1 || counted > 366 {
+        return Err(NOT_SO);
+    }
+    Ok(format!(in alloc; "{}", rank_of(counted))?)
+}
+
+/// `NAME`: the sheet of an error, of two of the names.
+fn error(alloc: Global, arguments: &str) -> Result<String, Trouble> {
+    let sheet = match arguments {
+        "NotFound" => error_sheet(alloc, "NotFound")?,
+        "Forbidden" => error_sheet(alloc, "Forbidden")?,
+        _ => return Err(NOT_SO),
+    };
+    Ok(spelling_of(alloc, &text_of(alloc, &sheet)?)?)
 }

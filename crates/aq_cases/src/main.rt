@@ -30,12 +30,14 @@
 
 mod asked;
 mod calls;
+mod generated;
 mod lent;
 mod taking;
 mod trial;
 
 use aq_base::Memory;
 use aq_trials::{Case, Tally, read_cases, try_batches, try_databases};
+use generated::expanded;
 use std::alloc::Global;
 use std::io::ErrorKind;
 use std::process::ExitCode;
@@ -85,6 +87,7 @@ fn try_file(rt: &HostRuntime, name: &str, tally: &mut Tally) -> io::Result<()> {
     if name.ends_with(".databases") {
         return try_databases(rt, text.as_str(), tally);
     }
+    let text = known(expanded(rt.alloc(), text.as_str()))?;
     let cases = known(read_cases(rt.alloc(), text.as_str()))?;
     for case in cases {
         try_one(rt, case, tally)?;

@@ -1,27 +1,24 @@
 //! Functions that a case may call, by their names, and their answers as text. Each takes words with spaces
 //! between them; bytes are spelled as in a block.
-ghost use Rattle.std.specs.Int.{IsInRange};
-ghost use Rattle.std.specs.Prelude.{◌≤◌, IfOk};
+ghost use Rattle.std.specs.Prelude.{◌≤◌, IfSome, length};
+ghost use Rattle.aq_rules.specs.Limits.{MOST_BYTES};
 
-use crate::dates::{day_in, day_name, hour_in};
+use crate::dates::{day_in, first_hour};
 use crate::spelling::{spelling_of, write_line};
 use crate::trouble::Trouble;
 use aq_base::{
-    Area, Assumed, AssumedList, FEWEST_GENERATED_YEARS, FIRST_YEAR, LAST_YEAR, MOST_BYTES,
-    MOST_GENERATED_SITES, MOST_GENERATED_YEARS, Memory, OfficeLine, Rule, SiteList,
+    Area, Assumed, AssumedList, Day, FIRST_YEAR, Hour, LAST_YEAR, MOST_BYTES, Memory, OfficeKey,
+    OfficeLine, Quarter, Rule, SiteId, SiteList,
 };
 use aq_cal::{quarter_of, quarter_span, write_day, year_span};
 use aq_forms::{count_lines, lines_of, print_key, print_office, read_office};
-use aq_http::{Request, Routes, Step, Verb, next_request};
+use aq_http::{Found, Request, Routes, Step, Verb, next_request};
 use aq_keeper::{RowChange, RowKey, do_keys_rise};
 use aq_num::{read_decimal, round_half_up, trunc_div, write_fixed};
-use aq_particles::pm25::rank_of;
 use aq_rd::{has_office_tag, print_rd, read_rd, site_word, tag_of};
 use aq_registry::Registry;
-use aq_reports::error_sheet;
-use aq_sheets::text_of;
-use aq_simulation::generator::generate;
 use std::alloc::Global;
+use std::fmt::Display;
 
 /// What a function answers.
 pub fn answer(alloc: Global, name: &str, arguments: &str) -> Result<String, Trouble> {
@@ -31,7 +28,6 @@ pub fn answer(alloc: Global, name: &str, arguments: &str) -> Result<String, Trou
         "line" => line(alloc, arguments),
         "key" => key(alloc, arguments),
         "body" => body(alloc, arguments),
-        "generated" => generated(alloc, arguments),
         "decimal" => decimal(alloc, arguments),
         "fixed" => fixed(alloc, arguments),
         _ => number_answer(alloc, name, arguments),
@@ -43,7 +39,6 @@ fn number_answer(alloc: Global, name: &str, arguments: &str) -> Result<String, T
     match name {
         "truncated" => truncated(alloc, arguments),
         "half_up" => half_up(alloc, arguments),
-        "rank" => rank(alloc, arguments),
         "day" => day(alloc, arguments),
         "quarter" => quarter(alloc, arguments),
         "year" => year(alloc, arguments),
@@ -52,7 +47,6 @@ fn number_answer(alloc: Global, name: &str, arguments: &str) -> Result<String, T
         "sites" => sites(alloc, arguments),
         "holds" => holds(alloc, arguments),
         "covers" => covers(alloc, arguments),
-        "error" => error(alloc, arguments),
         _ => Err(Trouble::Wrong("there is no such call")),
     }
 }
@@ -62,6 +56,11 @@ pub const NOT_SO: Trouble = Trouble::Wrong("it is not called so");
 
 fn text(alloc: Global, text: &str) -> Result<String, Trouble> {
     Ok(String::from_str(alloc, text)?)
+}
+
+/// A value as it is printed.
+fn said<T: Display>(alloc: Global, value: &T) -> Result<String, Trouble> {
+    Ok(format!(in alloc; "{value}")?)
 }
 
 /// Bytes as a case spells them.
@@ -82,16 +81,20 @@ fn spelled(alloc: Global, spelling: &str) -> Result<Vec<u8>, Trouble> {
 
 /// `VERB TARGET`: what a request asks.
 fn route(alloc: Global, arguments: &str) -> Result<String, Trouble> {
-    let Some((verb, target)) = arguments.split_once(' ') else {
-        return Err(NOT_SO);
-    };
-    let verb = match verb {
+    let (verb, target) = cut(arguments);
+    let routes = Routes::new(alloc)?;
+    found_text(alloc, &routes.find(verb_of(verb), target.as_bytes()))
+}
+
+fn verb_of(word: &str) -> Verb {
+    match word {
         "GET" => Verb::Get,
         "POST" => Verb::Post,
         _ => Verb::Other,
-    };
-    let routes = Routes::new(alloc)?;
-    let found = routes.find(verb, target.as_bytes());
+    }
+}
+
+fn found_text(alloc: Global, found: &Found) -> Result<String, Trouble> {
     Ok(format!(in alloc; "{found:?}")?)
 }
 
@@ -102,27 +105,20 @@ fn request(alloc: Global, arguments: &str) -> Result<String, Trouble> {
     match next_request(&bytes) {
         Step::More => text(alloc, "more"),
         Step::Refuse(status) => Ok(format!(in alloc; "refuse {status}")?),
-        Step::Whole(request) => {
-            let Request {
-                used,
-                verb,
-                target,
-                body,
-                close,
-            } = request;
-            let (target, body) = (target.len(), body.len());
-            let end = if close { " close" } else { "" };
-            Ok(format!(in alloc; "whole {used} {verb:?} {target} {body}{end}")?)
-        }
+        Step::Whole(request) => request_text(alloc, &request),
     }
+}
+
+fn request_text(alloc: Global, request: &Request<'_>) -> Result<String, Trouble> {
+    let (used, verb) = (request.used, request.verb);
+    let (target, body) = (request.target.len(), request.body.len());
+    let end = if request.close { " close" } else { "" };
+    Ok(format!(in alloc; "whole {used} {verb:?} {target} {body}{end}")?)
 }
 
 /// The canonical line of a line's value, or the name of the first reading rule that it breaks.
 fn line(alloc: Global, arguments: &str) -> Result<String, Trouble> {
     let bytes = spelled(alloc, arguments)?;
-    if let Err(rule) = tag_of(&bytes) {
-        return text(alloc, rule.name());
-    }
     match read_any(alloc, &bytes)? {
         Ok(canonical) => shown(alloc, &canonical),
         Err(rule) => text(alloc, rule.name()),
@@ -130,7 +126,10 @@ fn line(alloc: Global, arguments: &str) -> Result<String, Trouble> {
 }
 
 #[tactic(auto, using(aq_forms::specs::OfficeTags::no_rd_tag))]
-fn read_any(alloc: Global, line: &[u8]) -> Result<Result<Vec<u8>, Rule>, Trouble> {
+fn read_any(alloc: Global, line: &[u8]) -> Result<Result<Vec<u8>, Rule>, Memory> {
+    if let Err(rule) = tag_of(line) {
+        return Ok(Err(rule));
+    }
     if has_office_tag(line) {
         match read_office(line) {
             Ok(read) => Ok(Ok(print_office(alloc, &read)?)),
@@ -152,9 +151,13 @@ fn key(alloc: Global, arguments: &str) -> Result<String, Trouble> {
         return Err(NOT_SO);
     }
     match read_office(line) {
-        Ok(OfficeLine::Drop(key)) => shown(alloc, &print_key(alloc, &key)?),
+        Ok(OfficeLine::Drop(key)) => key_text(alloc, &key),
         _ => Err(NOT_SO),
     }
+}
+
+fn key_text(alloc: Global, key: &OfficeKey) -> Result<String, Trouble> {
+    shown(alloc, &print_key(alloc, key)?)
 }
 
 /// How many lines a body has, and those that are not skipped, each with its number.
@@ -163,12 +166,22 @@ fn body(alloc: Global, arguments: &str) -> Result<String, Trouble> {
     if bytes.len() > MOST_BYTES {
         return Err(NOT_SO);
     }
-    let mut all = format!(in alloc; "{}", count_lines(&bytes))?;
-    for line in lines_of(&bytes) {
-        let text = shown(alloc, line.text)?;
-        all.push_str(format!(in alloc; " {}:{text}|", line.number)?.as_str())?;
+    body_text(alloc, &bytes)
+}
+
+fn body_text(alloc: Global, body: &[u8]) -> Result<String, Trouble>
+    requires few { length body.now ≤ MOST_BYTES }
+{
+    let mut all = said(alloc, &count_lines(body))?;
+    for line in lines_of(body) {
+        add_line(alloc, &mut all, line.number, line.text)?;
     }
     Ok(all)
+}
+
+fn add_line(alloc: Global, all: &mut String, number: u32, text: &[u8]) -> Result<(), Memory> {
+    let text = spelling_of(alloc, text)?;
+    Ok(all.push_str(format!(in alloc; " {number}:{text}|")?.as_str())?)
 }
 
 /// The first word of a text and what stands after it; no text if there is no space.
@@ -179,80 +192,23 @@ pub fn cut(text: &str) -> (&str, &str) {
     }
 }
 
-/// A number of 0 or more.
-fn count(word: &str) -> Result<u64, Trouble> {
-    match word.parse() {
-        Ok(number) => Ok(number),
-        Err(_) => Err(NOT_SO),
-    }
-}
-
-/// A number from the least to the most.
-fn count_within(word: &str, least: u8, most: u8) -> Result<u8, Trouble>
-    ensures { IfOk result (IsInRange least most) }
-{
-    let number = count(word)?;
-    if number < u64::from(least) || number > u64::from(most) {
-        return Err(NOT_SO);
-    }
-    Ok(number as u8)
-}
-
-/// A number with or without a sign.
-fn number(word: &str) -> Result<i64, Trouble> {
-    match word.parse() {
-        Ok(number) => Ok(number),
-        Err(_) => Err(NOT_SO),
+/// `A B`, two numbers with or without a sign.
+fn two_numbers(words: &str) -> Option<(i64, i64)> {
+    let (a, b) = cut(words);
+    match (a.parse(), b.parse()) {
+        (Ok(a), Ok(b)) => Some((a, b)),
+        _ => None,
     }
 }
 
 /// How many places a number has: 0 to 6.
-fn places(word: &str) -> Result<u8, Trouble>
-    ensures { IfOk result (λ places. places ≤ 6) }
+fn places(word: &str) -> Option<u8>
+    ensures { IfSome result (λ places. places ≤ 6) }
 {
-    let places = count(word)?;
-    if places > 6 {
-        return Err(NOT_SO);
+    match word.parse() {
+        Ok(places) if places <= 6 => Some(places),
+        _ => None,
     }
-    Ok(places as u8)
-}
-
-/// `START SITES YEARS LOAD LINE`: a line of a generated load, by its number from 0, or `none`.
-fn generated(alloc: Global, arguments: &str) -> Result<String, Trouble> {
-    let Some((load, place)) = arguments.rsplit_once(' ') else {
-        return Err(NOT_SO);
-    };
-    let place = count(place)?;
-    match generated_load(alloc, load)? {
-        Some(body) => line_at(alloc, &body, place),
-        None => text(alloc, "none"),
-    }
-}
-
-/// `START SITES YEARS LOAD`: a generated load, if there is one of that number.
-pub(crate) fn generated_load(alloc: Global, arguments: &str) -> Result<Option<Vec<u8>>, Trouble> {
-    let (start, rest) = cut(arguments);
-    let (sites, rest) = cut(rest);
-    let (years, load) = cut(rest);
-    let (start, load) = (count(start)?, count(load)?);
-    let sites = count_within(sites, 1, MOST_GENERATED_SITES)?;
-    let years = count_within(years, FEWEST_GENERATED_YEARS, MOST_GENERATED_YEARS)?;
-    if load > 1_000 {
-        return Err(NOT_SO);
-    }
-    Ok(generate(alloc, start, sites, years, load as u32)?)
-}
-
-/// A line of a text by its number.
-fn line_at(alloc: Global, body: &[u8], place: u64) -> Result<String, Trouble> {
-    let mut number = 0u64;
-    for line in body.split(|byte| *byte == b'\n') {
-        if number == place {
-            return shown(alloc, line);
-        }
-        number = number.saturating_add(1);
-    }
-    Err(NOT_SO)
 }
 
 /// `TEXT PLACES`: the number that a decimal text is cut to.
@@ -260,66 +216,76 @@ fn decimal(alloc: Global, arguments: &str) -> Result<String, Trouble> {
     let Some((digits, word)) = arguments.rsplit_once(' ') else {
         return Err(NOT_SO);
     };
-    match read_decimal(digits.as_bytes(), places(word)?) {
-        Ok(number) => Ok(format!(in alloc; "{number}")?),
-        Err(fault) => Ok(format!(in alloc; "{fault}")?),
+    let Some(places) = places(word) else {
+        return Err(NOT_SO);
+    };
+    match read_decimal(digits.as_bytes(), places) {
+        Ok(number) => said(alloc, &number),
+        Err(fault) => said(alloc, &fault),
     }
 }
 
 /// `VALUE PLACES`: the value in units of the last place, as it is written.
 fn fixed(alloc: Global, arguments: &str) -> Result<String, Trouble> {
     let (value, word) = cut(arguments);
+    match (value.parse(), places(word)) {
+        (Ok(value), Some(places)) => fixed_text(alloc, value, places),
+        _ => Err(NOT_SO),
+    }
+}
+
+fn fixed_text(alloc: Global, value: i64, places: u8) -> Result<String, Trouble>
+    requires { places ≤ 6 }
+{
     let mut out = Vec::new(alloc);
-    write_fixed(&mut out, number(value)?, places(word)?)?;
+    write_fixed(&mut out, value, places)?;
     shown(alloc, &out)
 }
 
 /// `A B`: the quotient, cut toward zero.
 fn truncated(alloc: Global, arguments: &str) -> Result<String, Trouble> {
-    let (a, b) = cut(arguments);
-    let (a, b) = (number(a)?, number(b)?);
-    if b <= 0 {
-        return Err(NOT_SO);
+    match two_numbers(arguments) {
+        Some((a, b)) if b > 0 => said(alloc, &trunc_div(a, b)),
+        _ => Err(NOT_SO),
     }
-    Ok(format!(in alloc; "{}", trunc_div(a, b))?)
 }
 
 /// `A B`: the quotient, halves rounded up.
 fn half_up(alloc: Global, arguments: &str) -> Result<String, Trouble> {
-    let (a, b) = cut(arguments);
-    let (a, b) = (i128::from(number(a)?), i128::from(number(b)?));
-    if b <= 0 {
-        return Err(NOT_SO);
+    match two_numbers(arguments) {
+        Some((a, b)) if b > 0 => said(alloc, &round_half_up(i128::from(a), i128::from(b))),
+        _ => Err(NOT_SO),
     }
-    Ok(format!(in alloc; "{}", round_half_up(a, b))?)
-}
-
-/// `COUNTED`: the rank of the percentile.
-fn rank(alloc: Global, arguments: &str) -> Result<String, Trouble> {
-    let counted = count(arguments)?;
-    if counted < 1 || counted > 366 {
-        return Err(NOT_SO);
-    }
-    Ok(format!(in alloc; "{}", rank_of(counted as u16))?)
 }
 
 /// `YYYY-MM-DD`: the day's number, and how it is written, or `none`.
 fn day(alloc: Global, arguments: &str) -> Result<String, Trouble> {
-    let Some(day) = day_in(arguments) else {
-        return text(alloc, "none");
-    };
+    match day_in(arguments) {
+        Some(day) => day_text(alloc, day),
+        None => text(alloc, "none"),
+    }
+}
+
+fn day_text(alloc: Global, day: Day) -> Result<String, Trouble> {
+    let name = day_name(alloc, day)?;
+    Ok(format!(in alloc; "{} {name}", day.number())?)
+}
+
+fn day_name(alloc: Global, day: Day) -> Result<String, Trouble> {
     let mut written = Vec::new(alloc);
     write_day(&mut written, day)?;
-    let written = shown(alloc, &written)?;
-    Ok(format!(in alloc; "{} {written}", day.number())?)
+    shown(alloc, &written)
 }
 
 /// `YYYY-MM-DD`: the number of the day's quarter, its first day, and how many days it has.
 fn quarter(alloc: Global, arguments: &str) -> Result<String, Trouble> {
-    let Some(day) = day_in(arguments) else {
-        return Err(NOT_SO);
-    };
-    let quarter = quarter_of(day);
+    match day_in(arguments) {
+        Some(day) => quarter_text(alloc, quarter_of(day)),
+        None => Err(NOT_SO),
+    }
+}
+
+fn quarter_text(alloc: Global, quarter: Quarter) -> Result<String, Trouble> {
     let (first, days) = quarter_span(quarter);
     let first = day_name(alloc, first)?;
     Ok(format!(in alloc; "{} {first} {days}", quarter.number())?)
@@ -327,25 +293,37 @@ fn quarter(alloc: Global, arguments: &str) -> Result<String, Trouble> {
 
 /// `YYYY`: the number of the year's first day, and how many days it has.
 fn year(alloc: Global, arguments: &str) -> Result<String, Trouble> {
-    let Ok(year) = arguments.parse() else {
-        return Err(NOT_SO);
-    };
-    if year < FIRST_YEAR || year > LAST_YEAR {
-        return Err(NOT_SO);
+    match arguments.parse() {
+        Ok(year) if FIRST_YEAR <= year && year <= LAST_YEAR => {
+            let (first, days) = year_span(year);
+            Ok(format!(in alloc; "{} {days}", first.number())?)
+        }
+        _ => Err(NOT_SO),
     }
-    let (first, days) = year_span(year);
-    Ok(format!(in alloc; "{} {days}", first.number())?)
 }
 
-/// `A B`: whether the keys of the loads with these numbers rise.
+/// `NUMBER..`: whether the keys of the loads with these numbers rise.
 fn keys_rise(alloc: Global, arguments: &str) -> Result<String, Trouble> {
-    let (a, b) = cut(arguments);
-    let batch = [
-        RowChange::drop(RowKey::load(number(a)?)),
-        RowChange::drop(RowKey::load(number(b)?)),
-    ];
-    let rise = do_keys_rise(&batch);
-    Ok(format!(in alloc; "{rise}")?)
+    let mut batch = Vec::new(alloc);
+    add_drops(arguments, &mut batch)?;
+    text(
+        alloc,
+        if do_keys_rise(&batch) {
+            "true"
+        } else {
+            "false"
+        },
+    )
+}
+
+fn add_drops(numbers: &str, batch: &mut Vec<RowChange>) -> Result<(), Trouble> {
+    for word in numbers.split(' ') {
+        match word.parse() {
+            Ok(number) => batch.push(RowChange::drop(RowKey::load(number)))?,
+            Err(_) => return Err(NOT_SO),
+        }
+    }
+    Ok(())
 }
 
 /// Puts a word after those that are there, with a space between them.
@@ -353,8 +331,7 @@ pub fn add_word(words: &mut String, word: &str) -> Result<(), Memory> {
     if !words.is_empty() {
         words.push_str(" ")?;
     }
-    words.push_str(word)?;
-    Ok(())
+    Ok(words.push_str(word)?)
 }
 
 /// `NUMBER..`: the entries of a list of assumed concurrences to which each is added, a number without
@@ -362,24 +339,37 @@ pub fn add_word(words: &mut String, word: &str) -> Result<(), Memory> {
 fn assumed(alloc: Global, arguments: &str) -> Result<String, Trouble> {
     let mut list = AssumedList::new();
     for word in arguments.split(' ') {
-        let (digits, agreed) = match word.strip_prefix("-") {
-            Some(digits) => (digits, false),
-            None => (word, true),
-        };
-        let Ok(number) = digits.parse() else {
+        let Some(entry) = assumed_in(word) else {
             return Err(NOT_SO);
         };
-        let _ = list.add(Assumed { number, agreed });
+        let _ = list.add(entry);
     }
+    assumed_text(alloc, list.as_slice())
+}
+
+fn assumed_in(word: &str) -> Option<Assumed> {
+    let (digits, agreed) = match word.strip_prefix("-") {
+        Some(digits) => (digits, false),
+        None => (word, true),
+    };
+    match digits.parse() {
+        Ok(number) => Some(Assumed { number, agreed }),
+        Err(_) => None,
+    }
+}
+
+fn assumed_text(alloc: Global, list: &[Assumed]) -> Result<String, Trouble> {
     let mut all = String::new(alloc);
-    for entry in list.as_slice() {
-        let sign = if entry.agreed { "" } else { "-" };
-        add_word(
-            &mut all,
-            format!(in alloc; "{sign}{}", entry.number)?.as_str(),
-        )?;
+    for entry in list {
+        add_assumed(alloc, &mut all, *entry)?;
     }
     Ok(all)
+}
+
+fn add_assumed(alloc: Global, all: &mut String, entry: Assumed) -> Result<(), Memory> {
+    let sign = if entry.agreed { "" } else { "-" };
+    let word = format!(in alloc; "{sign}{}", entry.number)?;
+    add_word(all, word.as_str())
 }
 
 /// The list of the sites of these words, each added in turn. What is not taken is put after `refused`.
@@ -406,22 +396,33 @@ fn site_list(words: &str, refused: &mut String) -> Result<Option<SiteList>, Memo
 /// to have taken.
 fn sites(alloc: Global, arguments: &str) -> Result<String, Trouble> {
     let mut refused = String::new(alloc);
-    let Some(list) = site_list(arguments, &mut refused)? else {
-        return Err(NOT_SO);
-    };
+    match site_list(arguments, &mut refused)? {
+        Some(list) => sites_text(alloc, list.as_slice(), refused.as_str()),
+        None => Err(NOT_SO),
+    }
+}
+
+fn sites_text(alloc: Global, list: &[SiteId], refused: &str) -> Result<String, Trouble> {
     let mut all = String::new(alloc);
-    for site in list.as_slice() {
-        let (state, county, number) = (site.state(), site.county(), site.site());
-        add_word(
-            &mut all,
-            format!(in alloc; "{state:02}-{county:03}-{number:04}")?.as_str(),
-        )?;
+    for site in list {
+        add_site(alloc, &mut all, *site)?;
     }
-    if !refused.is_empty() {
-        add_word(&mut all, "not")?;
-        add_word(&mut all, refused.as_str())?;
-    }
+    add_refused(&mut all, refused)?;
     Ok(all)
+}
+
+fn add_site(alloc: Global, all: &mut String, site: SiteId) -> Result<(), Memory> {
+    let (state, county, number) = (site.state(), site.county(), site.site());
+    let word = format!(in alloc; "{state:02}-{county:03}-{number:04}")?;
+    add_word(all, word.as_str())
+}
+
+fn add_refused(all: &mut String, refused: &str) -> Result<(), Memory> {
+    if refused.is_empty() {
+        return Ok(());
+    }
+    add_word(all, "not")?;
+    add_word(all, refused)
 }
 
 /// `SITE county SITE` or `SITE in SITE..`: whether the area, the county of the second site or the list of
@@ -429,16 +430,29 @@ fn sites(alloc: Global, arguments: &str) -> Result<String, Trouble> {
 fn holds(alloc: Global, arguments: &str) -> Result<String, Trouble> {
     let (word, rest) = cut(arguments);
     let (kind, rest) = cut(rest);
-    let mut refused = String::new(alloc);
-    let area = match kind {
-        "county" => county_of(rest),
-        "in" => site_list(rest, &mut refused)?.map(Area::Sites),
-        _ => None,
-    };
-    let (Some(area), Some(site)) = (area, site_word(word.as_bytes())) else {
+    let Some(site) = site_word(word.as_bytes()) else {
         return Err(NOT_SO);
     };
-    Ok(format!(in alloc; "{}", area.holds(site))?)
+    match area_of(alloc, kind, rest)? {
+        Some(area) => said(alloc, &area.holds(site)),
+        None => Err(NOT_SO),
+    }
+}
+
+fn area_of(alloc: Global, kind: &str, words: &str) -> Result<Option<Area>, Memory> {
+    match kind {
+        "county" => Ok(county_of(words)),
+        "in" => sites_of(alloc, words),
+        _ => Ok(None),
+    }
+}
+
+fn sites_of(alloc: Global, words: &str) -> Result<Option<Area>, Memory> {
+    let mut refused = String::new(alloc);
+    match site_list(words, &mut refused)? {
+        Some(list) => Ok(Some(Area::Sites(list))),
+        None => Ok(None),
+    }
 }
 
 /// The county of the site of a word.
@@ -456,20 +470,36 @@ fn covers(alloc: Global, arguments: &str) -> Result<String, Trouble> {
     let (number, rest) = cut(arguments);
     let (day, rest) = cut(rest);
     let (time, lines) = cut(rest);
-    let (Some(day), Ok(number)) = (day_in(day), number.parse()) else {
-        return Err(NOT_SO);
-    };
-    let Some(hour) = hour_in(day, time) else {
-        return Err(NOT_SO);
-    };
+    match (number.parse(), first_hour(day, time)) {
+        (Ok(number), Some(hour)) => covered_text(alloc, number, hour, lines),
+        _ => Err(NOT_SO),
+    }
+}
+
+fn covered_text(alloc: Global, number: u32, hour: Hour, lines: &str) -> Result<String, Trouble> {
     let mut registry = Registry::new(alloc);
+    let word = covered(&mut registry, number, hour, lines);
+    drop(registry);
+    match word {
+        Ok(word) => text(alloc, word),
+        Err(trouble) => Err(trouble),
+    }
+}
+
+fn covered(
+    registry: &mut Registry,
+    number: u32,
+    hour: Hour,
+    lines: &str,
+) -> Result<&'static str, Trouble> {
     for line in lines.split(' ') {
-        apply_line(&mut registry, line.as_bytes())?;
+        apply_line(registry, line.as_bytes())?;
     }
-    match registry.covers(number, hour) {
-        Some(covers) => Ok(format!(in alloc; "{covers}")?),
-        None => text(alloc, "none"),
-    }
+    Ok(match registry.covers(number, hour) {
+        Some(true) => "true",
+        Some(false) => "false",
+        None => "none",
+    })
 }
 
 /// Applies a line of the agency's own forms.
@@ -485,14 +515,4 @@ fn apply_line(registry: &mut Registry, line: &[u8]) -> Result<(), Trouble> {
         Ok(_) => Ok(()),
         Err(_) => Err(NOT_SO),
     }
-}
-
-/// `NAME`: the sheet of an error, of two of the names.
-fn error(alloc: Global, arguments: &str) -> Result<String, Trouble> {
-    let sheet = match arguments {
-        "NotFound" => error_sheet(alloc, "NotFound")?,
-        "Forbidden" => error_sheet(alloc, "Forbidden")?,
-        _ => return Err(NOT_SO),
-    };
-    shown(alloc, &text_of(alloc, &sheet)?)
 }

@@ -8,36 +8,42 @@
 //!   `wrong` the last statement is refused, and the tables are then prepared.
 mod database;
 mod file;
+mod job;
 mod step;
 mod stops;
 
 use crate::tally::Tally;
 pub use database::new_keeper;
-use database::{is_refused, is_wrong, keeps, leaves};
+use database::{Stoppable, Stops, ends, keeps};
 use file::{excludes, leaves_what_is_no_database};
+use job::End;
 use std::alloc::Global;
 use std::io::{self, ErrorKind};
 
 /// Tries the cases of a text over both keepers.
 pub fn try_batches(rt: &HostRuntime, text: &str, tally: &mut Tally) -> io::Result<()> {
+    try_batches_over::<Stoppable>(rt, text, tally)
+}
+
+fn try_batches_over<D: Stops>(rt: &HostRuntime, text: &str, tally: &mut Tally) -> io::Result<()> {
     for case in text.trim_end().split("\n\n") {
-        let (name, rest) = cut_at(case, "\nsql")?;
-        let (sql, steps) = cut_at(rest, "\n")?;
-        let is_kept = keeps(rt.alloc(), sql, steps)?;
-        tell(rt, name, is_kept, tally)?;
-        let is_kept = excludes(rt, sql, steps)?;
-        tell(rt, "and over a file", is_kept, tally)?;
+        try_batch::<D>(rt, case, tally)?;
     }
     Ok(())
 }
 
+fn try_batch<D: Stops>(rt: &HostRuntime, case: &str, tally: &mut Tally) -> io::Result<()> {
+    let (name, rest) = cut_at(case, "\nsql")?;
+    let (sql, steps) = cut_at(rest, "\n")?;
+    let is_kept = keeps::<D>(rt.alloc(), sql, steps)?;
+    tell(rt, name, is_kept, tally)?;
+    let is_kept = excludes::<D>(rt, sql, steps)?;
+    tell(rt, "and over a file", is_kept, tally)
+}
+
 /// Tries the databases of a text, and a file that is none.
 pub fn try_databases(rt: &HostRuntime, text: &str, tally: &mut Tally) -> io::Result<()> {
-    for line in text.lines() {
-        let (name, rest) = cut_at(line, " ")?;
-        let is_well = becomes(rt.alloc(), rest)?;
-        tell(rt, name, is_well, tally)?;
-    }
+    try_databases_over::<Stoppable>(rt, text, tally)?;
     let is_left = leaves_what_is_no_database(rt)?;
     tell(
         rt,
@@ -47,18 +53,36 @@ pub fn try_databases(rt: &HostRuntime, text: &str, tally: &mut Tally) -> io::Res
     )
 }
 
+fn try_databases_over<D: Stops>(rt: &HostRuntime, text: &str, tally: &mut Tally) -> io::Result<()> {
+    for line in text.lines() {
+        let (name, rest) = cut_at(line, " ")?;
+        let is_well = becomes::<D>(rt.alloc(), rest)?;
+        tell(rt, name, is_well, tally)?;
+    }
+    Ok(())
+}
+
 /// Whether a database becomes what its line says.
-fn becomes(alloc: Global, line: &str) -> io::Result<bool> {
+fn becomes<D: Stops>(alloc: Global, line: &str) -> io::Result<bool> {
+    let (sql, end) = end_of(line)?;
+    Ok(ends::<D>(alloc, sql, end))
+}
+
+/// The statements of a line, and what becomes of their database.
+fn end_of(line: &str) -> io::Result<(&str, End<'_>)> {
     let (word, rest) = cut_at(line, " ")?;
     match word {
-        "refused" => is_refused(alloc, rest),
-        "wrong" => is_wrong(alloc, rest),
+        "refused" => Ok((rest, End::Refused)),
+        "wrong" => match rest.rsplit_once("; ") {
+            Some((front, last)) => Ok((front, End::Wrong(last))),
+            None => Err(wrong()),
+        },
         _ => {
             let (views, sql) = cut_at(rest, " ")?;
-            let (Ok(tables), Ok(views)) = (word.parse(), views.parse()) else {
-                return Err(wrong());
-            };
-            leaves(alloc, sql, tables, views)
+            match (word.parse(), views.parse()) {
+                (Ok(tables), Ok(views)) => Ok((sql, End::Leaves(tables, views))),
+                _ => Err(wrong()),
+            }
         }
     }
 }

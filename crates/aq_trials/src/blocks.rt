@@ -1,10 +1,19 @@
 //! The lines of a block, as bytes: a line stands for itself, or for many by an expansion.
-use crate::answers::generated_load;
-use crate::dates::{date_text, day_after, day_in, day_name, hour_after, hour_in};
+use crate::dates::{day_after, day_in, first_hour, hour_after};
 use crate::spelling::write_line;
 use crate::trouble::Trouble;
-use aq_base::Day;
+use aq_base::{Day, Hour, Memory};
+use aq_cal::{civil_of, write_day};
 use std::alloc::Global;
+
+/// Over what an expansion goes.
+#[derive(Clone, Copy)]
+enum Times {
+    Numbers,
+    /// Days from one on, so many after one another.
+    Days(Day, u32),
+    Hours(Hour),
+}
 
 /// What the fields of an expansion's line stand for.
 #[derive(Clone, Copy)]
@@ -19,111 +28,120 @@ pub fn write_block_line(alloc: Global, line: &str, out: &mut Vec<u8>) -> Result<
     let Some(expansion) = line.strip_prefix('@') else {
         return write_line(line.as_bytes(), out);
     };
-    let (name, rest) = cut(expansion)?;
+    let (name, rest) = cut(expansion);
     match name {
-        "repeat" => write_repeated(alloc, rest, out),
+        "repeat" => write_repeated(rest, out),
         "count" => write_counted(alloc, rest, out),
         "days" => write_days(alloc, rest, out),
         "hours" => write_hours(alloc, rest, out),
-        "generated" => write_generated(alloc, rest, out),
         _ => Err(Trouble::Wrong("no such expansion")),
     }
 }
 
 /// `@repeat COUNT LINE`
-fn write_repeated(alloc: Global, rest: &str, out: &mut Vec<u8>) -> Result<(), Trouble> {
-    let (count, line) = cut_number(rest)?;
-    let mut once = Vec::new(alloc);
-    write_line(line.as_bytes(), &mut once)?;
+fn write_repeated(rest: &str, out: &mut Vec<u8>) -> Result<(), Trouble> {
+    let Some((count, line)) = cut_number(rest) else {
+        return Err(NO_NUMBER);
+    };
     for _ in 0..count {
-        out.extend_from_slice(&once)?;
+        write_line(line.as_bytes(), out)?;
     }
     Ok(())
 }
 
 /// `@count FIRST LAST LINE`
 fn write_counted(alloc: Global, rest: &str, out: &mut Vec<u8>) -> Result<(), Trouble> {
-    let (first, rest) = cut_number(rest)?;
-    let (last, line) = cut_number(rest)?;
-    for number in first..=last {
-        let fields = Fields { number, time: None };
-        write_filled(alloc, line, &fields, out)?;
-    }
-    Ok(())
+    let Some((first, rest)) = cut_number(rest) else {
+        return Err(NO_NUMBER);
+    };
+    let Some((last, line)) = cut_number(rest) else {
+        return Err(NO_NUMBER);
+    };
+    write_lines(
+        alloc,
+        first,
+        last.saturating_add(1),
+        Times::Numbers,
+        line,
+        out,
+    )
 }
 
 /// `@days DAY COUNT STEP LINE`
 fn write_days(alloc: Global, rest: &str, out: &mut Vec<u8>) -> Result<(), Trouble> {
-    let (day, rest) = cut(rest)?;
+    let (day, rest) = cut(rest);
     let Some(first) = day_in(day) else {
         return Err(NO_DAY);
     };
-    let (count, rest) = cut_number(rest)?;
-    let (step, line) = cut_number(rest)?;
-    for number in 0..count {
-        let Some(day) = day_after(first, number.saturating_mul(step)) else {
-            return Err(LATE);
-        };
-        let fields = Fields {
-            number,
-            time: Some((day, 0)),
-        };
-        write_filled(alloc, line, &fields, out)?;
-    }
-    Ok(())
+    let Some((count, rest)) = cut_number(rest) else {
+        return Err(NO_NUMBER);
+    };
+    let Some((step, line)) = cut_number(rest) else {
+        return Err(NO_NUMBER);
+    };
+    write_lines(alloc, 0, count, Times::Days(first, step), line, out)
 }
 
 /// `@hours DAY TIME COUNT LINE`
 fn write_hours(alloc: Global, rest: &str, out: &mut Vec<u8>) -> Result<(), Trouble> {
-    let (day, rest) = cut(rest)?;
-    let (time, rest) = cut(rest)?;
-    let Some(day) = day_in(day) else {
+    let (day, rest) = cut(rest);
+    let (time, rest) = cut(rest);
+    let Some(first) = first_hour(day, time) else {
         return Err(NO_DAY);
     };
-    let Some(first) = hour_in(day, time) else {
-        return Err(Trouble::Wrong("no time HH:00"));
+    let Some((count, line)) = cut_number(rest) else {
+        return Err(NO_NUMBER);
     };
-    let (count, line) = cut_number(rest)?;
-    for number in 0..count {
-        let Some(time) = hour_after(first, number) else {
-            return Err(LATE);
-        };
-        let fields = Fields {
-            number,
-            time: Some(time),
+    write_lines(alloc, 0, count, Times::Hours(first), line, out)
+}
+
+const NO_DAY: Trouble = Trouble::Wrong("no day YYYY-MM-DD, or no time HH:00");
+
+const NO_NUMBER: Trouble = Trouble::Wrong("no number");
+
+const NO_FIELD: Trouble = Trouble::Wrong("no such field");
+
+/// The first word and what stands after it.
+fn cut(text: &str) -> (&str, &str) {
+    match text.split_once(' ') {
+        Some(parts) => parts,
+        None => (text, ""),
+    }
+}
+
+fn cut_number(text: &str) -> Option<(u32, &str)> {
+    let (word, rest) = text.split_once(' ')?;
+    match word.parse() {
+        Ok(number) => Some((number, rest)),
+        Err(_) => None,
+    }
+}
+
+/// Appends a line for each number from the first to the one before the last.
+fn write_lines(
+    alloc: Global,
+    first: u32,
+    last: u32,
+    times: Times,
+    line: &str,
+    out: &mut Vec<u8>,
+) -> Result<(), Trouble> {
+    for number in first..last {
+        let Some(fields) = fields_of(&times, number) else {
+            return Err(Trouble::Wrong("a day after the last one"));
         };
         write_filled(alloc, line, &fields, out)?;
     }
     Ok(())
 }
 
-/// `@generated START SITES YEARS LOAD`
-fn write_generated(alloc: Global, rest: &str, out: &mut Vec<u8>) -> Result<(), Trouble> {
-    let Some(load) = generated_load(alloc, rest)? else {
-        return Err(Trouble::Wrong("no such load"));
+fn fields_of(times: &Times, number: u32) -> Option<Fields> {
+    let time = match times {
+        Times::Numbers => None,
+        Times::Days(first, step) => Some((day_after(*first, number.saturating_mul(*step))?, 0)),
+        Times::Hours(first) => Some(hour_after(*first, number)?),
     };
-    out.extend_from_slice(&load)?;
-    Ok(())
-}
-
-const NO_DAY: Trouble = Trouble::Wrong("no day YYYY-MM-DD");
-
-const LATE: Trouble = Trouble::Wrong("a day after the last one");
-
-/// The first word and what stands after it.
-fn cut(text: &str) -> Result<(&str, &str), Trouble> {
-    match text.split_once(' ') {
-        Some(parts) => Ok(parts),
-        None => Err(Trouble::Wrong("a word is missing")),
-    }
-}
-
-fn cut_number(text: &str) -> Result<(u32, &str), Trouble> {
-    let (word, rest) = cut(text)?;
-    match word.parse() {
-        Ok(number) => Ok((number, rest)),
-        Err(_) => Err(Trouble::Wrong("no number")),
-    }
+    Some(Fields { number, time })
 }
 
 /// Appends a line whose fields are filled in.
@@ -134,14 +152,20 @@ fn write_filled(
     out: &mut Vec<u8>,
 ) -> Result<(), Trouble> {
     let mut filled = Vec::new(alloc);
-    for (place, part) in line.split('{').enumerate() {
-        if place == 0 {
-            filled.extend_from_slice(part.as_bytes())?;
-        } else {
-            write_field(alloc, part, fields, &mut filled)?;
-        }
-    }
+    fill(alloc, line, fields, &mut filled)?;
     write_line(&filled, out)
+}
+
+/// Appends the text of a line whose fields are filled in.
+fn fill(alloc: Global, line: &str, fields: &Fields, out: &mut Vec<u8>) -> Result<(), Trouble> {
+    let mut parts = line.split('{');
+    if let Some(front) = parts.next() {
+        out.extend_from_slice(front.as_bytes())?;
+    }
+    for part in parts {
+        write_field(alloc, part, fields, out)?;
+    }
+    Ok(())
 }
 
 /// Appends a field, and what stands after it. The brace before it is cut off.
@@ -152,46 +176,83 @@ fn write_field(
     out: &mut Vec<u8>,
 ) -> Result<(), Trouble> {
     let Some((name, rest)) = part.split_once('}') else {
-        return Err(Trouble::Wrong("a field has no end"));
+        return Err(NO_FIELD);
     };
-    let text = field_text(alloc, name, fields)?;
-    out.extend_from_slice(text.as_bytes())?;
-    out.extend_from_slice(rest.as_bytes())?;
-    Ok(())
+    write_value(alloc, name, fields, out)?;
+    Ok(out.extend_from_slice(rest.as_bytes())?)
 }
 
-fn field_text(alloc: Global, name: &str, fields: &Fields) -> Result<String, Trouble> {
-    let number = fields.number;
-    let text = match name {
-        "n" => format!(in alloc; "{number}")?,
-        "n:02" => format!(in alloc; "{number:02}")?,
-        "n:04" => format!(in alloc; "{number:04}")?,
-        _ => match name.strip_prefix("n+") {
-            Some(more) => greater_text(alloc, number, more)?,
-            None => time_text(alloc, name, &fields.time)?,
+fn write_value(
+    alloc: Global,
+    name: &str,
+    fields: &Fields,
+    out: &mut Vec<u8>,
+) -> Result<(), Trouble> {
+    if let Some(format) = name.strip_prefix("n") {
+        return write_count(alloc, format, fields.number, out);
+    }
+    match fields.time {
+        Some((day, hour)) => write_time(alloc, name, day, hour, out),
+        None => Err(NO_FIELD),
+    }
+}
+
+/// The number, with so many digits, or greater by another one.
+fn write_count(alloc: Global, format: &str, number: u32, out: &mut Vec<u8>) -> Result<(), Trouble> {
+    match format {
+        "" => Ok(write_number(alloc, number, 1, out)?),
+        ":02" => Ok(write_number(alloc, number, 2, out)?),
+        ":04" => Ok(write_number(alloc, number, 4, out)?),
+        _ => match more_in(format) {
+            Some(more) => Ok(write_number(alloc, number.saturating_add(more), 1, out)?),
+            None => Err(NO_FIELD),
         },
-    };
-    Ok(text)
+    }
 }
 
-/// A number that is greater by another one.
-fn greater_text(alloc: Global, number: u32, more: &str) -> Result<String, Trouble> {
-    let Ok(more) = more.parse::<u32>() else {
-        return Err(Trouble::Wrong("no number"));
-    };
-    let greater = number.saturating_add(more);
-    Ok(format!(in alloc; "{greater}")?)
+fn more_in(format: &str) -> Option<u32> {
+    format.strip_prefix("+")?.parse().ok()
 }
 
-fn time_text(alloc: Global, name: &str, time: &Option<(Day, u32)>) -> Result<String, Trouble> {
-    let Some((day, hour)) = time else {
-        return Err(Trouble::Wrong("no such field"));
-    };
-    let text = match name {
-        "date" => date_text(alloc, *day)?,
-        "day" => day_name(alloc, *day)?,
-        "time" => format!(in alloc; "{hour:02}:00")?,
-        _ => return Err(Trouble::Wrong("no such field")),
-    };
-    Ok(text)
+fn write_time(
+    alloc: Global,
+    name: &str,
+    day: Day,
+    hour: u32,
+    out: &mut Vec<u8>,
+) -> Result<(), Trouble> {
+    match name {
+        "date" => Ok(write_date(alloc, day, out)?),
+        "day" => Ok(write_day(out, day)?),
+        "time" => Ok(write_hour(alloc, hour, out)?),
+        _ => Err(NO_FIELD),
+    }
+}
+
+/// A day as `YYYYMMDD`.
+fn write_date(alloc: Global, day: Day, out: &mut Vec<u8>) -> Result<(), Memory> {
+    let date = civil_of(day);
+    write_number(alloc, u32::from(date.year), 4, out)?;
+    write_number(alloc, u32::from(date.month), 2, out)?;
+    write_number(alloc, u32::from(date.day), 2, out)
+}
+
+/// An hour as `HH:00`.
+fn write_hour(alloc: Global, hour: u32, out: &mut Vec<u8>) -> Result<(), Memory> {
+    write_number(alloc, hour, 2, out)?;
+    Ok(out.extend_from_slice(b":00")?)
+}
+
+/// A number with so many digits at least.
+fn write_number(
+    alloc: Global,
+    number: u32,
+    digits: usize,
+    out: &mut Vec<u8>,
+) -> Result<(), Memory> {
+    let text = format!(in alloc; "{number}")?;
+    for _ in text.len()..digits {
+        out.push(b'0')?;
+    }
+    Ok(out.extend_from_slice(text.as_bytes())?)
 }

@@ -12,96 +12,100 @@ pub fn difference(
     wanted: &[u8],
     found: &[u8],
 ) -> Result<Option<String>, Memory> {
-    match extent {
-        Extent::Whole | Extent::Again => {
-            if wanted == found {
-                return Ok(None);
-            }
-            first_other_line(alloc, wanted, found)
-        }
-        Extent::Start => {
-            if found.starts_with(wanted) {
-                return Ok(None);
-            }
-            first_other_line(alloc, wanted, found)
-        }
-        Extent::End => {
-            if found.ends_with(wanted) {
-                return Ok(None);
-            }
-            told(alloc, "does not end so", wanted, found)
-        }
-        Extent::Lines => missing_line(alloc, wanted, found),
-        Extent::Absent => present_line(alloc, wanted, found),
-        Extent::Parts => missing_part(alloc, wanted, found),
+    match first_fault(extent, wanted, found) {
+        Some(fault) => Ok(Some(told(alloc, &fault)?)),
+        None => Ok(None),
     }
 }
+
+/// What is wrong with a line that is wanted, by its number, and where.
+#[derive(Clone, Copy)]
+struct Fault<'a> {
+    why: &'static str,
+    number: u32,
+    wanted: &'a [u8],
+    found: &'a [u8],
+}
+
+fn first_fault<'a>(extent: Extent, wanted: &'a [u8], found: &'a [u8]) -> Option<Fault<'a>> {
+    let is_so = match extent {
+        Extent::Whole | Extent::Again => wanted == found,
+        Extent::Start => found.starts_with(wanted),
+        Extent::End => found.ends_with(wanted),
+        _ => return first_line(extent, wanted, found),
+    };
+    if is_so {
+        return None;
+    }
+    Some(first_other(wanted, found))
+}
+
+/// In place of a line behind the last one.
+const NO_LINE: &[u8] = b"(no line)";
 
 /// The first line at which two texts differ.
-fn first_other_line(alloc: Global, wanted: &[u8], found: &[u8]) -> Result<Option<String>, Memory> {
+fn first_other<'a>(wanted: &'a [u8], found: &'a [u8]) -> Fault<'a> {
+    let mut number = 1u32;
+    let mut others = found.split(|byte| *byte == b'\n');
+    for line in wanted.split(|byte| *byte == b'\n') {
+        let other = others.next().unwrap_or(NO_LINE);
+        if line != other {
+            return is_not(number, line, other);
+        }
+        number = number.saturating_add(1);
+    }
+    is_not(number, NO_LINE, others.next().unwrap_or(NO_LINE))
+}
+
+fn is_not<'a>(number: u32, wanted: &'a [u8], found: &'a [u8]) -> Fault<'a> {
+    Fault {
+        why: "is another one",
+        number,
+        wanted,
+        found,
+    }
+}
+
+/// The first of some lines that a text lacks, has, or has no part of.
+fn first_line<'a>(extent: Extent, wanted: &'a [u8], found: &'a [u8]) -> Option<Fault<'a>> {
     let mut number = 0u32;
-    let mut rest = found.split(|byte| *byte == b'\n');
     for line in wanted.split(|byte| *byte == b'\n') {
         number = number.saturating_add(1);
-        match rest.next() {
-            None => {
-                let line = shown(alloc, line)?;
-                return Ok(Some(format!(in alloc; "ends before line {number}, wanted `{line}`")?));
-            }
-            Some(other) if other != line => {
-                let (line, other) = (shown(alloc, line)?, shown(alloc, other)?);
-                return Ok(Some(format!(in alloc; "line {number} is `{other}`, wanted `{line}`")?));
-            }
-            Some(_) => {}
+        if let Some(why) = fault_of(extent, line, found) {
+            return Some(Fault {
+                why,
+                number,
+                wanted: line,
+                found,
+            });
         }
     }
-    match rest.next() {
-        None => Ok(None),
-        Some(other) => {
-            let other = shown(alloc, other)?;
-            Ok(Some(format!(in alloc; "goes on after line {number} with `{other}`")?))
-        }
-    }
+    None
 }
 
-/// The first of some lines that a text lacks.
-fn missing_line(alloc: Global, wanted: &[u8], found: &[u8]) -> Result<Option<String>, Memory> {
-    for line in wanted.split(|byte| *byte == b'\n') {
-        if !line.is_empty() && !has_line(found, line) {
-            return told(alloc, "has no such line", line, found);
-        }
+fn fault_of(extent: Extent, line: &[u8], found: &[u8]) -> Option<&'static str> {
+    match extent {
+        Extent::Lines if !line.is_empty() && !has_line(found, line) => Some("is not there"),
+        Extent::Absent if !line.is_empty() && has_line(found, line) => Some("is there"),
+        Extent::Parts if memmem::find(found, line).is_none() => Some("is no part"),
+        _ => None,
     }
-    Ok(None)
-}
-
-/// The first of some lines that a text has.
-fn present_line(alloc: Global, lines: &[u8], found: &[u8]) -> Result<Option<String>, Memory> {
-    for line in lines.split(|byte| *byte == b'\n') {
-        if !line.is_empty() && has_line(found, line) {
-            return told(alloc, "has such a line", line, found);
-        }
-    }
-    Ok(None)
-}
-
-/// The first of some lines that is no part of a text.
-fn missing_part(alloc: Global, wanted: &[u8], found: &[u8]) -> Result<Option<String>, Memory> {
-    for line in wanted.split(|byte| *byte == b'\n') {
-        if memmem::find(found, line).is_none() {
-            return told(alloc, "has no such part", line, found);
-        }
-    }
-    Ok(None)
 }
 
 fn has_line(text: &[u8], line: &[u8]) -> bool {
-    text.split(|byte| *byte == b'\n').any(|part| part == line)
+    for part in text.split(|byte| *byte == b'\n') {
+        if part == line {
+            return true;
+        }
+    }
+    false
 }
 
 /// What is wrong with a text, and the text.
-fn told(alloc: Global, what: &str, wanted: &[u8], found: &[u8]) -> Result<Option<String>, Memory> {
-    let (wanted, found) = (shown(alloc, wanted)?, shown(alloc, found)?);
-    Ok(Some(format!(in alloc; "{what}: `{wanted}`; it is `{found}`")?))
+fn told(alloc: Global, fault: &Fault<'_>) -> Result<String, Memory> {
+    let (why, number) = (fault.why, fault.number);
+    let (wanted, found) = (shown(alloc, fault.wanted)?, shown(alloc, fault.found)?);
+    Ok(format!(in alloc; "line {number} {why}: `{wanted}`; it is `{found}`")?)
 }
 
 /// The first bytes of a text, for a message.

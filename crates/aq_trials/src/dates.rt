@@ -1,17 +1,17 @@
 //! Dates and times of the expansions.
 use aq_base::{Day, Hour, LAST_DAY, LAST_HOUR};
-use aq_cal::{civil_of, hour_of};
+use aq_cal::hour_of;
 use aq_rd::{day_word, time_in};
-use std::alloc::{AllocError, Global};
 
 /// The day of `YYYY-MM-DD`.
 pub fn day_in(text: &str) -> Option<Day> {
     day_word(text.as_bytes())
 }
 
-/// The hour of `HH:00` on a day.
-pub fn hour_in(day: Day, text: &str) -> Option<Hour> {
-    let hour = time_in(text.as_bytes())?;
+/// The hour of `YYYY-MM-DD` and `HH:00`.
+pub fn first_hour(day: &str, time: &str) -> Option<Hour> {
+    let day = day_in(day)?;
+    let hour = time_in(time.as_bytes())?;
     Some(hour_of(day, hour))
 }
 
@@ -31,18 +31,4 @@ pub fn hour_after(hour: Hour, hours: u32) -> Option<(Day, u32)> {
         return None;
     }
     Some((Day::new((number / 24) as u16), number % 24))
-}
-
-/// A day as `YYYYMMDD`.
-pub fn date_text(alloc: Global, day: Day) -> Result<String, AllocError> {
-    let date = civil_of(day);
-    let (year, month, day) = (date.year, date.month, date.day);
-    format!(in alloc; "{year:04}{month:02}{day:02}")
-}
-
-/// A day as `YYYY-MM-DD`.
-pub fn day_name(alloc: Global, day: Day) -> Result<String, AllocError> {
-    let date = civil_of(day);
-    let (year, month, day) = (date.year, date.month, date.day);
-    format!(in alloc; "{year:04}-{month:02}-{day:02}")
 }

@@ -50,7 +50,8 @@
 //! - `@days DAY COUNT STEP LINE`, for so many days from `YYYY-MM-DD` on, each so many after the one before,
 //!   where `{date}` is `YYYYMMDD`, `{day}` is `YYYY-MM-DD`, and `{n}` counts from 0.
 //! - `@hours DAY TIME COUNT LINE`, for so many hours from `HH:00` of a day on, where `{time}` is `HH:00`.
-//! - `@generated START SITES YEARS LOAD`, for all lines of the generated load of that number.
+//! - `@generated START SITES YEARS LOAD`, for all lines of the generated load of that number. `aq_cases` puts its
+//!   spelling there before the text is read.
 use crate::blocks::write_block_line;
 use crate::case::{Case, Extent, Failing, Given, Place, Room, Run, Subject, Wanted};
 use crate::trouble::Trouble;
@@ -75,93 +76,107 @@ enum Block {
     Wanted,
 }
 
-/// What was read so far.
-#[derive(Drop)]
-struct Reader {
-    alloc: Global,
-    cases: Vec<Case>,
-    block: Block,
-}
+const UNKNOWN: Trouble = Trouble::Wrong("no such words");
+
+const NO_NUMBER: Trouble = Trouble::Wrong("no number");
+
+const NO_CASE: Trouble = Trouble::Wrong("it stands before the first case");
+
+const NO_RUN: Trouble = Trouble::Wrong("it stands before the first run");
 
 /// The cases of a text, in order. The case that has what cannot be read says so.
 pub fn read_cases(alloc: Global, text: &str) -> Result<Vec<Case>, Memory> {
-    let mut reader = Reader {
-        alloc,
-        cases: Vec::new(alloc),
-        block: Block::None,
-    };
+    let mut cases = Vec::new(alloc);
+    add_cases(alloc, text, &mut cases)?;
+    Ok(cases)
+}
+
+fn add_cases(alloc: Global, text: &str, cases: &mut Vec<Case>) -> Result<(), Memory> {
+    let mut block = Block::None;
     let mut number = 0usize;
     for line in text.lines() {
         number = number.saturating_add(1);
-        match reader.take_line(line) {
-            Ok(()) => {}
+        match take_line(alloc, cases, block, line) {
+            Ok(next) => block = next,
             Err(Trouble::Memory) => return Err(Memory),
-            Err(Trouble::Wrong(why)) => reader.note(number, why)?,
+            Err(Trouble::Wrong(why)) => note(alloc, cases, number, why)?,
         }
     }
-    Ok(reader.cases)
+    Ok(())
 }
 
-impl Reader {
-    /// Notes what is wrong with the case that is read, unless something was before.
-    fn note(&mut self, number: usize, why: &'static str) -> Result<(), Memory> {
-        if self.cases.is_empty() {
-            self.cases
-                .push(new_case(self.alloc, "before_the_first_case")?)?;
-        }
-        if let Some(case) = self.cases.last_mut() {
-            if case.wrong.is_none() {
-                case.wrong = Some((number, why));
-            }
-        }
-        Ok(())
+/// Notes what is wrong with the case that is read, unless something was before.
+fn note(
+    alloc: Global,
+    cases: &mut Vec<Case>,
+    number: usize,
+    why: &'static str,
+) -> Result<(), Memory> {
+    if cases.is_empty() {
+        cases.push(new_case(alloc, "before_the_first_case")?)?;
     }
+    note_in(cases.last_mut(), number, why);
+    Ok(())
+}
 
-    fn take_line(&mut self, line: &str) -> Result<(), Trouble> {
-        if line.is_empty() || line.starts_with('#') {
-            return Ok(());
-        }
-        if let Some(content) = line.strip_prefix("  ") {
-            return self.take_content(content);
-        }
-        self.block = Block::None;
-        let (word, rest) = match line.split_once(' ') {
-            Some(parts) => parts,
-            None => (line, ""),
-        };
-        if word == "case" {
-            self.cases.push(new_case(self.alloc, rest)?)?;
-            return Ok(());
-        }
-        match self.cases.last_mut() {
-            Some(case) => {
-                self.block = open_in_case(self.alloc, case, word, rest)?;
-                Ok(())
-            }
-            None => Err(Trouble::Wrong("it stands before the first case")),
+fn note_in(case: Option<&mut Case>, number: usize, why: &'static str) {
+    if let Some(case) = case {
+        if case.wrong.is_none() {
+            case.wrong = Some((number, why));
         }
     }
+}
 
-    /// Adds what a line stands for to the block.
-    fn take_content(&mut self, line: &str) -> Result<(), Trouble> {
-        let alloc = self.alloc;
-        let Some(case) = self.cases.last_mut() else {
-            return Err(Trouble::Wrong("it stands before the first case"));
-        };
-        match self.block {
-            Block::None => Err(Trouble::Wrong("it belongs to no block")),
-            Block::Rows => write_block_line(alloc, line, &mut case.rows),
-            Block::Calls => {
-                case.calls.push_str(line)?;
-                case.calls.push_str("\n")?;
-                Ok(())
-            }
-            Block::Input | Block::Connection | Block::Wanted => match case.runs.last_mut() {
-                Some(run) => take_in_run(alloc, run, self.block, line),
-                None => Err(Trouble::Wrong("it stands before the first run")),
-            },
-        }
+/// Takes a line that stands in a block, or behind it, and answers which block the next one stands in.
+fn take_line(
+    alloc: Global,
+    cases: &mut Vec<Case>,
+    block: Block,
+    line: &str,
+) -> Result<Block, Trouble> {
+    if line.is_empty() || line.starts_with('#') {
+        return Ok(block);
     }
+    let (word, rest) = match line.split_once(' ') {
+        Some(parts) => parts,
+        None => (line, ""),
+    };
+    if word == "case" {
+        return add_case(alloc, cases, rest);
+    }
+    let Some(case) = cases.last_mut() else {
+        return Err(NO_CASE);
+    };
+    match line.strip_prefix("  ") {
+        Some(content) => {
+            take_content(alloc, case, block, content)?;
+            Ok(block)
+        }
+        None => open_in_case(alloc, case, word, rest),
+    }
+}
+
+fn add_case(alloc: Global, cases: &mut Vec<Case>, name: &str) -> Result<Block, Trouble> {
+    cases.push(new_case(alloc, name)?)?;
+    Ok(Block::None)
+}
+
+/// Adds what a line stands for to a block of a case.
+fn take_content(alloc: Global, case: &mut Case, block: Block, line: &str) -> Result<(), Trouble> {
+    match block {
+        Block::None => Err(Trouble::Wrong("it belongs to no block")),
+        Block::Rows => write_block_line(alloc, line, &mut case.rows),
+        Block::Calls => Ok(add_call(&mut case.calls, line)?),
+        _ => match case.runs.last_mut() {
+            Some(run) => take_in_run(alloc, run, block, line),
+            None => Err(NO_RUN),
+        },
+    }
+}
+
+fn add_call(calls: &mut String, line: &str) -> Result<(), Memory> {
+    calls.push_str(line)?;
+    Ok(calls.push_str("\n")?)
 }
 
 /// Adds what a line stands for to a block of a run.
@@ -194,53 +209,46 @@ fn new_case(alloc: Global, name: &str) -> Result<Case, Memory> {
 /// Takes a line that is no content, and answers the block that it opens.
 fn open_in_case(alloc: Global, case: &mut Case, word: &str, rest: &str) -> Result<Block, Trouble> {
     match word {
-        "run" => {
-            let words = words_of(alloc, rest)?;
-            case.runs.push(new_run(alloc, words))?;
-            Ok(Block::None)
-        }
+        "run" => add_run(alloc, &mut case.runs, rest),
         "rows" if rest.is_empty() => Ok(Block::Rows),
         "calls" if rest.is_empty() => Ok(Block::Calls),
-        "keeper" => {
-            set_keeper(alloc, case, rest)?;
-            Ok(Block::None)
-        }
-        "input" if rest == "again" => {
-            repeat_input(alloc, &mut case.runs)?;
-            Ok(Block::Input)
-        }
+        "keeper" => set_keeper(case, rest),
+        "input" if rest == "again" => repeat_input(alloc, &mut case.runs),
         _ => match case.runs.last_mut() {
             Some(run) => open_in_run(alloc, run, word, rest),
-            None => Err(Trouble::Wrong("no such word before the first run")),
+            None => Err(NO_RUN),
         },
     }
 }
 
+fn add_run(alloc: Global, runs: &mut Vec<Run>, words: &str) -> Result<Block, Trouble> {
+    let mut run = new_run(alloc);
+    add_words(alloc, words, &mut run.words)?;
+    runs.push(run)?;
+    Ok(Block::None)
+}
+
 /// Sets which keeper a case has, or at which calls it fails.
-fn set_keeper(alloc: Global, case: &mut Case, words: &str) -> Result<(), Trouble> {
+fn set_keeper(case: &mut Case, words: &str) -> Result<Block, Trouble> {
     match words {
         "in a database" => case.place = Place::Database,
         "in a journal" => case.place = Place::Journal,
         "takes every batch" => case.place = Place::Nowhere,
-        _ => {
-            let Some(numbers) = words.strip_prefix("fails at ") else {
-                return Err(UNKNOWN);
-            };
-            case.failing_keeper = numbers_of(alloc, numbers)?;
-        }
+        _ => match words.strip_prefix("fails at ") {
+            Some(numbers) => set_numbers(numbers, &mut case.failing_keeper)?,
+            None => return Err(UNKNOWN),
+        },
     }
-    Ok(())
+    Ok(Block::None)
 }
 
-const UNKNOWN: Trouble = Trouble::Wrong("no such words");
-
 /// Gives the last run the input of the run before it.
-fn repeat_input(alloc: Global, runs: &mut Vec<Run>) -> Result<(), Trouble> {
+fn repeat_input(alloc: Global, runs: &mut Vec<Run>) -> Result<Block, Trouble> {
     let input = input_before(alloc, runs.as_slice())?;
     if let Some(run) = runs.last_mut() {
         run.given.input = input;
     }
-    Ok(())
+    Ok(Block::Input)
 }
 
 /// The input of the last run but one.
@@ -251,9 +259,9 @@ fn input_before(alloc: Global, runs: &[Run]) -> Result<Vec<u8>, Trouble> {
     }
 }
 
-fn new_run(alloc: Global, words: Vec<String>) -> Run {
+fn new_run(alloc: Global) -> Run {
     Run {
-        words,
+        words: Vec::new(alloc),
         given: Given {
             input: Vec::new(alloc),
             connections: Vec::new(alloc),
@@ -271,70 +279,86 @@ fn new_run(alloc: Global, words: Vec<String>) -> Run {
     }
 }
 
-fn words_of(alloc: Global, text: &str) -> Result<Vec<String>, Memory> {
-    let mut words = Vec::new(alloc);
+fn add_words(alloc: Global, text: &str, words: &mut Vec<String>) -> Result<(), Memory> {
     if text.is_empty() {
-        return Ok(words);
+        return Ok(());
     }
     for word in text.split(' ') {
         words.push(String::from_str(alloc, word)?)?;
     }
-    Ok(words)
+    Ok(())
 }
 
-fn numbers_of(alloc: Global, text: &str) -> Result<Vec<u64>, Trouble> {
-    let mut numbers = Vec::new(alloc);
+/// Has a list be the numbers of a text.
+fn set_numbers(text: &str, numbers: &mut Vec<u64>) -> Result<(), Trouble> {
+    numbers.clear();
     for word in text.split(' ') {
         match word.parse() {
             Ok(number) => numbers.push(number)?,
-            Err(_) => return Err(Trouble::Wrong("no number")),
+            Err(_) => return Err(NO_NUMBER),
         }
     }
-    Ok(numbers)
+    Ok(())
 }
 
 /// Takes a line of a run that is no content, and answers the block that it opens.
 fn open_in_run(alloc: Global, run: &mut Run, word: &str, rest: &str) -> Result<Block, Trouble> {
     if let Some(numbers) = rest.strip_prefix("fails at ") {
-        set_failing(&mut run.given.failing, word, numbers_of(alloc, numbers)?)?;
-        return Ok(Block::None);
+        return set_failing(failing_at(&mut run.given.failing, word), numbers);
     }
     if let Some(number) = rest.strip_prefix("has room for ") {
-        set_room(&mut run.given.room, word, number)?;
-        return Ok(Block::None);
+        return set_room(&mut run.given.room, word, number);
     }
+    open_block(alloc, run, word, rest)
+}
+
+fn open_block(alloc: Global, run: &mut Run, word: &str, rest: &str) -> Result<Block, Trouble> {
     match word {
         "input" if rest.is_empty() => Ok(Block::Input),
-        "connection" if rest.is_empty() => {
-            run.given.connections.push(Vec::new(alloc))?;
-            Ok(Block::Connection)
-        }
-        "status" => {
-            let Ok(status) = rest.parse() else {
-                return Err(Trouble::Wrong("no status"));
-            };
-            run.status = Some(status);
-            Ok(Block::None)
-        }
+        "connection" if rest.is_empty() => add_connection(alloc, &mut run.given.connections),
+        "status" => set_status(run, rest),
         _ => open_wanted(alloc, run, word, rest),
     }
 }
 
-fn set_failing(failing: &mut Failing, word: &str, numbers: Vec<u64>) -> Result<(), Trouble> {
-    match word {
-        "input" => failing.input = numbers,
-        "output" => failing.output = numbers,
-        "errors" => failing.errors = numbers,
-        "door" => failing.accepts = numbers,
-        "transfer" => failing.transfers = numbers,
-        _ => return Err(UNKNOWN),
-    }
-    Ok(())
+fn add_connection(alloc: Global, connections: &mut Vec<Vec<u8>>) -> Result<Block, Trouble> {
+    connections.push(Vec::new(alloc))?;
+    Ok(Block::Connection)
 }
 
-fn set_room(room: &mut Room, word: &str, number: &str) -> Result<(), Trouble> {
+fn set_status(run: &mut Run, word: &str) -> Result<Block, Trouble> {
+    match word.parse() {
+        Ok(status) => {
+            run.status = Some(status);
+            Ok(Block::None)
+        }
+        Err(_) => Err(NO_NUMBER),
+    }
+}
+
+/// The numbers of the calls that fail of what a word names.
+fn failing_at<'a>(failing: &'a mut Failing, word: &str) -> Option<&'a mut Vec<u64>> {
+    match word {
+        "input" => Some(&mut failing.input),
+        "output" => Some(&mut failing.output),
+        "errors" => Some(&mut failing.errors),
+        "door" => Some(&mut failing.accepts),
+        "transfer" => Some(&mut failing.transfers),
+        _ => None,
+    }
+}
+
+fn set_failing(failing: Option<&mut Vec<u64>>, numbers: &str) -> Result<Block, Trouble> {
+    let Some(failing) = failing else {
+        return Err(UNKNOWN);
+    };
+    set_numbers(numbers, failing)?;
+    Ok(Block::None)
+}
+
+fn set_room(room: &mut Room, word: &str, number: &str) -> Result<Block, Trouble> {
     let Ok(number) = number.parse() else {
-        return Err(Trouble::Wrong("no number"));
+        return Err(NO_NUMBER);
     };
     match word {
         "output" => room.output = number,
@@ -342,31 +366,16 @@ fn set_room(room: &mut Room, word: &str, number: &str) -> Result<(), Trouble> {
         "connection" => room.connection = number,
         _ => return Err(UNKNOWN),
     }
-    Ok(())
+    Ok(Block::None)
 }
 
 /// Opens a block of what is wanted.
 fn open_wanted(alloc: Global, run: &mut Run, word: &str, rest: &str) -> Result<Block, Trouble> {
-    let subject = match word {
-        "output" => Subject::Output,
-        "errors" => Subject::Errors,
-        "tables" => Subject::Tables,
-        "asked" if rest.is_empty() => Subject::Asked,
-        "replies" => match run.given.connections.len().checked_sub(1) {
-            Some(last) => Subject::Replies(last),
-            None => return Err(Trouble::Wrong("there is no connection above")),
-        },
-        _ => return Err(UNKNOWN),
+    let Some(subject) = subject_of(word, run.given.connections.len()) else {
+        return Err(UNKNOWN);
     };
-    let extent = match rest {
-        "" => Extent::Whole,
-        "again" if subject == Subject::Output => Extent::Again,
-        "starts" => Extent::Start,
-        "ends" => Extent::End,
-        "has" => Extent::Lines,
-        "lacks" => Extent::Absent,
-        "contains" => Extent::Parts,
-        _ => return Err(UNKNOWN),
+    let Some(extent) = extent_of(subject, rest) else {
+        return Err(UNKNOWN);
     };
     run.wanted.push(Wanted {
         subject,
@@ -374,4 +383,30 @@ fn open_wanted(alloc: Global, run: &mut Run, word: &str, rest: &str) -> Result<B
         text: Vec::new(alloc),
     })?;
     Ok(Block::Wanted)
+}
+
+/// What a word names behind so many connections.
+fn subject_of(word: &str, connections: usize) -> Option<Subject> {
+    match word {
+        "output" => Some(Subject::Output),
+        "errors" => Some(Subject::Errors),
+        "tables" => Some(Subject::Tables),
+        "asked" => Some(Subject::Asked),
+        "replies" => Some(Subject::Replies(connections.checked_sub(1)?)),
+        _ => None,
+    }
+}
+
+fn extent_of(subject: Subject, word: &str) -> Option<Extent> {
+    match word {
+        "" => Some(Extent::Whole),
+        "again" if subject == Subject::Output => Some(Extent::Again),
+        _ if subject == Subject::Asked => None,
+        "starts" => Some(Extent::Start),
+        "ends" => Some(Extent::End),
+        "has" => Some(Extent::Lines),
+        "lacks" => Some(Extent::Absent),
+        "contains" => Some(Extent::Parts),
+        _ => None,
+    }
 }

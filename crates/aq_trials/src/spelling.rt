@@ -1,7 +1,7 @@
 //! How bytes that a line cannot hold are spelled.
 use crate::trouble::Trouble;
 use aq_base::Memory;
-use std::alloc::Global;
+use std::alloc::{AllocError, Global};
 
 /// What stands before the next byte.
 #[derive(Clone, Copy)]
@@ -14,6 +14,8 @@ enum Before {
     HexDigit(u8),
 }
 
+const NO_ESCAPE: Trouble = Trouble::Wrong("no such escape");
+
 /// Appends the bytes of a line, and LF unless a backslash ends it. `\r`, `\n`, `\t` and `\\` are CR, LF, a
 /// tab and a backslash, and `\x0a` is the byte of two hex digits.
 pub fn write_line(line: &[u8], out: &mut Vec<u8>) -> Result<(), Trouble> {
@@ -22,52 +24,56 @@ pub fn write_line(line: &[u8], out: &mut Vec<u8>) -> Result<(), Trouble> {
         before = write_byte(before, *byte, out)?;
     }
     match before {
-        Before::Nothing => {
-            out.push(b'\n')?;
-            Ok(())
-        }
+        Before::Nothing => Ok(out.push(b'\n')?),
         Before::Escape => Ok(()),
-        _ => Err(Trouble::Wrong("two hex digits follow \\x")),
+        _ => Err(NO_ESCAPE),
     }
 }
 
 /// Appends what a byte says after what stands before it.
 fn write_byte(before: Before, byte: u8, out: &mut Vec<u8>) -> Result<Before, Trouble> {
+    match read_byte(before, byte) {
+        Some((before, None)) => Ok(before),
+        Some((before, Some(said))) => {
+            out.push(said)?;
+            Ok(before)
+        }
+        None => Err(NO_ESCAPE),
+    }
+}
+
+/// What stands before the next byte, and the byte that is said.
+fn read_byte(before: Before, byte: u8) -> Option<(Before, Option<u8>)> {
     match before {
-        Before::Nothing => {
-            if byte == b'\\' {
-                return Ok(Before::Escape);
-            }
-            out.push(byte)?;
-            Ok(Before::Nothing)
-        }
-        Before::Escape => {
-            let spelled = match byte {
-                b'r' => b'\r',
-                b'n' => b'\n',
-                b't' => b'\t',
-                b'\\' => b'\\',
-                b'x' => return Ok(Before::Hex),
-                _ => return Err(Trouble::Wrong("no such escape")),
-            };
-            out.push(spelled)?;
-            Ok(Before::Nothing)
-        }
-        Before::Hex => Ok(Before::HexDigit(hex_digit(byte)?)),
+        Before::Nothing if byte == b'\\' => Some((Before::Escape, None)),
+        Before::Nothing => Some((Before::Nothing, Some(byte))),
+        Before::Escape if byte == b'x' => Some((Before::Hex, None)),
+        Before::Escape => Some((Before::Nothing, Some(escaped(byte)?))),
+        Before::Hex => Some((Before::HexDigit(hex_digit(byte)?), None)),
         Before::HexDigit(first) => {
             let second = hex_digit(byte)?;
-            out.push(first.wrapping_mul(16) | second)?;
-            Ok(Before::Nothing)
+            Some((Before::Nothing, Some(first.wrapping_mul(16) | second)))
         }
     }
 }
 
-/// The number of a hex digit.
-fn hex_digit(byte: u8) -> Result<u8, Trouble> {
+/// The byte that a letter says after a backslash.
+fn escaped(byte: u8) -> Option<u8> {
     match byte {
-        b'0'..=b'9' => Ok(byte - b'0'),
-        b'a'..=b'f' => Ok(byte - b'a' + 10),
-        _ => Err(Trouble::Wrong("no hex digit")),
+        b'r' => Some(b'\r'),
+        b'n' => Some(b'\n'),
+        b't' => Some(b'\t'),
+        b'\\' => Some(b'\\'),
+        _ => None,
+    }
+}
+
+/// The number of a hex digit.
+fn hex_digit(byte: u8) -> Option<u8> {
+    match byte {
+        b'0'..=b'9' => Some(byte - b'0'),
+        b'a'..=b'f' => Some(byte - b'a' + 10),
+        _ => None,
     }
 }
 
@@ -75,14 +81,33 @@ fn hex_digit(byte: u8) -> Result<u8, Trouble> {
 pub fn spelling_of(alloc: Global, bytes: &[u8]) -> Result<String, Memory> {
     let mut text = String::new(alloc);
     for byte in bytes {
-        match *byte {
-            b'\r' => text.push_str("\\r")?,
-            b'\n' => text.push_str("\\n")?,
-            b'\t' => text.push_str("\\t")?,
-            b'\\' => text.push_str("\\\\")?,
-            b' '..=b'~' => text.push(char::from(*byte))?,
-            other => text.push_str(format!(in alloc; "\\x{other:02x}")?.as_str())?,
-        }
+        add_spelled(&mut text, *byte)?;
     }
     Ok(text)
+}
+
+fn add_spelled(text: &mut String, byte: u8) -> Result<(), AllocError> {
+    match byte {
+        b'\r' => text.push_str("\\r"),
+        b'\n' => text.push_str("\\n"),
+        b'\t' => text.push_str("\\t"),
+        b'\\' => text.push_str("\\\\"),
+        b' '..=b'~' => text.push(char::from(byte)),
+        _ => add_hex(text, byte),
+    }
+}
+
+fn add_hex(text: &mut String, byte: u8) -> Result<(), AllocError> {
+    text.push_str("\\x")?;
+    text.push(digit_of(byte / 16))?;
+    text.push(digit_of(byte % 16))
+}
+
+/// The hex digit of a number below 16.
+fn digit_of(number: u8) -> char {
+    if number < 10 {
+        char::from(number.wrapping_add(b'0'))
+    } else {
+        char::from(number.wrapping_add(b'a' - 10))
+    }
 }

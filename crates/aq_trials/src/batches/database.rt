@@ -1,114 +1,90 @@
 //! The keeper over a database on a disk in memory.
-use crate::batches::step::take_steps;
+use crate::batches::job::{Answer, End, Job, prepared, work};
 use crate::batches::stops::{are_done_or_not, are_prepared_or_not};
 use crate::batches::wrong;
-use aq_keeper::KeeperFault;
 use aq_sqlite::SqliteKeeper;
-use aq_tables::prepare as prepare_tables;
-use sqlite::{Alter, Connection, FileStore, Files, Options};
-use sqlite_disk::{Disk, Fuse, Memory};
+use sqlite::{Connection, FileStore, Files, Options};
+use sqlite_disk::{Crash, Disk, Fuse, Memory};
 use std::alloc::Global;
 use std::io;
+
+/// The bytes of a database's log and of its file.
+#[derive(Drop)]
+pub struct Images {
+    pub log: Vec<u8>,
+    pub db: Vec<u8>,
+}
+
+impl Images {
+    /// Those of a database in which nothing stands.
+    pub fn new(alloc: Global) -> Images {
+        Images {
+            log: Vec::new(alloc),
+            db: Vec::new(alloc),
+        }
+    }
+}
+
+/// So many calls of the log and of the file are passed on.
+#[derive(Clone, Copy)]
+pub struct Calls {
+    pub log: u64,
+    pub db: u64,
+}
+
+pub const ALL: Calls = Calls {
+    log: u64::MAX,
+    db: u64::MAX,
+};
+
+/// A disk that holds bytes and passes so many calls on. What is done with one is generic over it, and what is
+/// done with a connection over its store. A function that calls such a one for the store of a disk takes long to
+/// check, so there are few.
+pub trait Stops: Crash + Drop {
+    fn holding(alloc: Global, bytes: &[u8], calls: u64) -> io::Result<Self>;
+
+    fn bytes(&self) -> &[u8];
+}
 
 /// A disk in memory, which can be stopped.
 pub type Stoppable = Fuse<Memory>;
 
 pub type Store = FileStore<Stoppable>;
 
-/// Whether a database in which these statements were run takes these steps. Wherever it is stopped while it
-/// is prepared, it tells the same rows; and what the steps leave of a batch is done or not wherever that is
-/// stopped.
-pub fn keeps(alloc: Global, sql: &str, steps: &str) -> io::Result<bool> {
-    let Some(files) = closed(made(alloc, sql)?) else {
-        return Err(wrong());
-    };
-    if !are_prepared_or_not(alloc, &files)? {
-        return Ok(false);
+impl Stops for Stoppable {
+    fn holding(alloc: Global, bytes: &[u8], calls: u64) -> io::Result<Self> {
+        let mut disk = Memory::new(alloc);
+        disk.write_at(0, bytes)?;
+        disk.sync()?;
+        Ok(Fuse::new(disk, calls))
     }
-    let Some(mut keeper) = open(alloc, files) else {
-        return Ok(false);
-    };
-    if !prepare(alloc, &mut keeper) {
-        return Ok(false);
-    }
-    let Some(step) = take_steps(alloc, &mut keeper, steps)? else {
-        return Ok(false);
-    };
-    if step.batch.is_empty() {
-        return Ok(true);
-    }
-    are_done_or_not(alloc, keeper, &step)
-}
 
-/// Whether a database in which these statements were run is refused, twice, so that nothing was made. The
-/// second time its keeper is asked, which has none with an open transaction.
-pub fn is_refused(alloc: Global, sql: &str) -> io::Result<bool> {
-    Ok(is_of_others(alloc, made(alloc, sql)?))
-}
-
-fn is_of_others<S: Alter + Drop>(alloc: Global, mut connection: Connection<S>) -> bool {
-    let before = stands(&connection);
-    if prepare_tables(&mut connection, alloc).is_ok() || stands(&connection) != before {
-        return false;
-    }
-    let Some(mut keeper) = adopted(connection) else {
-        return true;
-    };
-    let again = keeper.prepare(alloc) == Err(KeeperFault::Failed);
-    again && stands(&keeper.into_connection()) == before
-}
-
-/// Whether the last of these statements is refused, and the database is then prepared.
-pub fn is_wrong(alloc: Global, sql: &str) -> io::Result<bool> {
-    let Some((front, last)) = sql.rsplit_once("; ") else {
-        return Err(wrong());
-    };
-    let mut connection = made(alloc, front)?;
-    let is_refused = run(&mut connection, last).is_err();
-    Ok(is_refused && prepare_tables(&mut connection, alloc).is_ok())
-}
-
-/// Whether a database in which these statements were run is prepared, twice, and so many tables and views then
-/// stand.
-pub fn leaves(alloc: Global, sql: &str, tables: usize, views: usize) -> io::Result<bool> {
-    let mut connection = made(alloc, sql)?;
-    let first = prepare_tables(&mut connection, alloc).is_ok();
-    let again = prepare_tables(&mut connection, alloc).is_ok();
-    Ok(first && again && stands(&connection) == (tables, views))
-}
-
-/// How many tables and views stand.
-fn stands<S: Alter>(connection: &Connection<S>) -> (usize, usize) {
-    let schema = connection.schema();
-    (schema.tables.len(), schema.views.len())
-}
-
-/// The files of a database in which nothing stands.
-fn no_files(alloc: Global) -> Files<Stoppable> {
-    Files {
-        log: Fuse::new(Memory::new(alloc), u64::MAX),
-        db: Fuse::new(Memory::new(alloc), u64::MAX),
+    fn bytes(&self) -> &[u8] {
+        self.inner().bytes()
     }
 }
 
-/// A keeper over a database in which nothing stands, if it can be opened.
-pub fn new_keeper(alloc: Global) -> Option<SqliteKeeper<Store>> {
-    open(alloc, no_files(alloc))
+fn files_of<D: Stops>(alloc: Global, images: &Images, calls: Calls) -> io::Result<Files<D>> {
+    let log = D::holding(alloc, images.log.as_slice(), calls.log)?;
+    let db = D::holding(alloc, images.db.as_slice(), calls.db)?;
+    Ok(Files { log, db })
 }
 
-/// A database in which these statements were run.
-pub fn made(alloc: Global, sql: &str) -> io::Result<Connection<Store>> {
-    let Some(mut connection) = opened(alloc, no_files(alloc)) else {
-        return Err(wrong());
-    };
-    run(&mut connection, sql)?;
-    Ok(connection)
+fn images_of<D: Stops>(alloc: Global, files: &Files<D>) -> io::Result<Images> {
+    let log = files.log.bytes().to_vec(alloc)?;
+    let db = files.db.bytes().to_vec(alloc)?;
+    Ok(Images { log, db })
 }
 
-fn run<S: Alter>(connection: &mut Connection<S>, sql: &str) -> io::Result<()> {
-    match connection.execute_batch(sql) {
-        Ok(()) => Ok(()),
-        Err(_) => Err(wrong()),
+/// A connection over files with these bytes, if they can be opened.
+pub fn connected<D: Stops>(
+    alloc: Global,
+    images: &Images,
+    calls: Calls,
+) -> Option<Connection<FileStore<D>>> {
+    match files_of(alloc, images, calls) {
+        Ok(files) => opened(alloc, files),
+        Err(_) => None,
     }
 }
 
@@ -119,41 +95,97 @@ fn opened<D: Disk + Drop>(alloc: Global, files: Files<D>) -> Option<Connection<F
     Connection::open_files(alloc, files, Options::new(1)).ok()
 }
 
-/// The files of a database that is closed, if that is not refused.
-pub fn closed<D: Disk + Drop>(connection: Connection<FileStore<D>>) -> Option<Files<D>> {
+/// The connection over files with these bytes, once a job was done with it; nothing if they cannot be opened, or
+/// if the job needs it no more.
+fn worked<D: Stops>(
+    alloc: Global,
+    images: &Images,
+    calls: Calls,
+    job: &Job<'_>,
+    answer: &mut Answer,
+) -> Option<Connection<FileStore<D>>> {
+    work(alloc, connected(alloc, images, calls)?, job, answer)
+}
+
+/// The files of a database with which a job was done, once it is closed.
+pub fn closed_after<D: Stops>(
+    alloc: Global,
+    images: &Images,
+    job: &Job<'_>,
+    answer: &mut Answer,
+) -> Option<Images> {
+    let connection = worked::<D>(alloc, images, ALL, job, answer)?;
+    images_of(alloc, &closed(connection)?).ok()
+}
+
+fn closed<D: Disk + Drop>(connection: Connection<FileStore<D>>) -> Option<Files<D>> {
     connection.close_files().ok()
 }
 
-/// A keeper of these files, whose tables are not prepared, if they can be opened.
-pub fn unprepared<D: Disk + Drop>(
+/// What a stop leaves of the files of a database with which a job was done.
+pub fn crashed_after<D: Stops>(
     alloc: Global,
-    files: Files<D>,
-) -> Option<SqliteKeeper<FileStore<D>>> {
-    adopted(opened(alloc, files)?)
+    images: &Images,
+    calls: Calls,
+    job: &Job<'_>,
+    answer: &mut Answer,
+) -> Option<Images> {
+    let connection = worked::<D>(alloc, images, calls, job, answer)?;
+    images_of(alloc, &crashed(connection)).ok()
 }
 
-/// The keeper of a connection without an open transaction.
-fn adopted<S: Alter + Drop>(connection: Connection<S>) -> Option<SqliteKeeper<S>> {
-    if !connection.is_autocommit() {
-        return None;
+fn crashed<D: Crash + Drop>(connection: Connection<FileStore<D>>) -> Files<D> {
+    let mut files = connection.into_store().close();
+    files.log.crash();
+    files.db.crash();
+    files
+}
+
+/// What a job answers that needs no files after it.
+pub fn answered<D: Stops>(alloc: Global, images: &Images, job: &Job<'_>) -> Answer {
+    let mut answer = Answer::new(alloc);
+    let _ = worked::<D>(alloc, images, ALL, job, &mut answer);
+    answer
+}
+
+/// Whether a database in which these statements were run takes these steps. Wherever it is stopped while it
+/// is prepared, it tells the same rows; and what the steps leave of a batch is done or not wherever that is
+/// stopped.
+pub fn keeps<D: Stops>(alloc: Global, sql: &str, steps: &str) -> io::Result<bool> {
+    let images = images_with::<D>(alloc, sql)?;
+    if !are_prepared_or_not::<D>(alloc, &images) {
+        return Ok(false);
     }
-    Some(SqliteKeeper::adopt(connection))
+    takes::<D>(alloc, &images, steps)
 }
 
-/// A keeper whose tables are prepared, if that is not refused.
-fn prepared<S: Alter + Drop>(alloc: Global, connection: Connection<S>) -> Option<SqliteKeeper<S>> {
-    let mut keeper = adopted(connection)?;
-    if !prepare(alloc, &mut keeper) {
-        return None;
+/// The files of a database in which these statements were run.
+pub fn images_with<D: Stops>(alloc: Global, sql: &str) -> io::Result<Images> {
+    let mut answer = Answer::new(alloc);
+    match closed_after::<D>(alloc, &Images::new(alloc), &Job::Runs(sql), &mut answer) {
+        Some(images) => Ok(images),
+        None => Err(wrong()),
     }
-    Some(keeper)
 }
 
-fn prepare<S: Alter + Drop>(alloc: Global, keeper: &mut SqliteKeeper<S>) -> bool {
-    keeper.prepare(alloc).is_ok()
+fn takes<D: Stops>(alloc: Global, images: &Images, steps: &str) -> io::Result<bool> {
+    let mut answer = Answer::new(alloc);
+    match closed_after::<D>(alloc, images, &Job::Takes(steps), &mut answer) {
+        Some(images) => are_done_or_not::<D>(alloc, &images, &answer),
+        None => Ok(false),
+    }
 }
 
-/// A keeper of these files whose tables are prepared, if that is not refused or stopped.
-pub fn open<D: Disk + Drop>(alloc: Global, files: Files<D>) -> Option<SqliteKeeper<FileStore<D>>> {
-    prepared(alloc, opened(alloc, files)?)
+/// Whether a database in which these statements were run ends so.
+pub fn ends<D: Stops>(alloc: Global, sql: &str, end: End<'_>) -> bool {
+    answered::<D>(alloc, &Images::new(alloc), &Job::Ends(sql, end)).is_well
+}
+
+/// A keeper over a database in which nothing stands, if it can be opened.
+pub fn new_keeper(alloc: Global) -> Option<SqliteKeeper<Store>> {
+    keeper_over::<Stoppable>(alloc)
+}
+
+fn keeper_over<D: Stops>(alloc: Global) -> Option<SqliteKeeper<FileStore<D>>> {
+    prepared(alloc, connected(alloc, &Images::new(alloc), ALL)?)
 }

@@ -26,54 +26,72 @@ impl Step {
     }
 }
 
-/// Takes the steps of some lines. Answers whether all is as they say, and what they leave of a step.
+/// Takes the steps of some lines. Answers whether all is as they say, and leaves what they say behind the last
+/// one.
 pub fn take_steps<K: Keeper>(
     alloc: Global,
     keeper: &mut K,
     lines: &str,
-) -> io::Result<Option<Step>> {
-    let mut step = Step::new(alloc);
+    step: &mut Step,
+) -> io::Result<bool> {
     for line in lines.lines() {
-        match line {
-            "taken" => {
-                if !is_taken(alloc, keeper, &step)? {
-                    return Ok(None);
-                }
-                step = Step::new(alloc);
-            }
-            "refused" => {
-                if !is_refused(alloc, keeper, &step)? {
-                    return Ok(None);
-                }
-                step = Step::new(alloc);
-            }
-            _ => add_lines(alloc, &mut step, line)?,
+        if !take_line(alloc, keeper, line, step)? {
+            return Ok(false);
         }
     }
-    Ok(Some(step))
+    Ok(true)
+}
+
+fn take_line<K: Keeper>(
+    alloc: Global,
+    keeper: &mut K,
+    line: &str,
+    step: &mut Step,
+) -> io::Result<bool> {
+    let is_well = match line {
+        "taken" => is_taken(alloc, keeper, step)?,
+        "refused" => is_refused(alloc, keeper, step)?,
+        _ => {
+            add_lines(alloc, step, line)?;
+            return Ok(true);
+        }
+    };
+    step.batch.clear();
+    step.rows.clear();
+    Ok(is_well)
 }
 
 fn add_lines(alloc: Global, step: &mut Step, line: &str) -> io::Result<()> {
     let Some(rest) = line.strip_prefix("each ") else {
         return add(alloc, step, line);
     };
-    let (count, line) = cut_at(rest, " ")?;
-    let Ok(count) = count.parse::<u16>() else {
+    let Some((word, line)) = rest.split_once(' ') else {
         return Err(wrong());
     };
+    match word.parse() {
+        Ok(count) => add_each(alloc, step, count, line),
+        Err(_) => Err(wrong()),
+    }
+}
+
+fn add_each(alloc: Global, step: &mut Step, count: u16, line: &str) -> io::Result<()> {
     for number in 0..count {
-        let number = format!(in alloc; "{number}")?;
-        let line = line.replace(alloc, "#", number.as_str())?;
-        add(alloc, step, line.as_str())?;
+        add_numbered(alloc, step, number, line)?;
     }
     Ok(())
+}
+
+fn add_numbered(alloc: Global, step: &mut Step, number: u16, line: &str) -> io::Result<()> {
+    let number = format!(in alloc; "{number}")?;
+    let line = line.replace(alloc, "#", number.as_str())?;
+    add(alloc, step, line.as_str())
 }
 
 fn add(alloc: Global, step: &mut Step, line: &str) -> io::Result<()> {
     let (word, rest) = cut_at(line, " ")?;
     match word {
         "put" => step.batch.push(RowChange::put(read_row(alloc, rest)?))?,
-        "drop" => step.batch.push(RowChange::drop(read_key(rest)?))?,
+        "drop" => step.batch.push(RowChange::drop(read_key(alloc, rest)?))?,
         "row" => step.rows.push(read_row(alloc, rest)?)?,
         _ => return Err(wrong()),
     }
@@ -81,24 +99,29 @@ fn add(alloc: Global, step: &mut Step, line: &str) -> io::Result<()> {
 }
 
 fn is_taken<K: Keeper>(alloc: Global, keeper: &mut K, step: &Step) -> io::Result<bool> {
-    Ok(commit(alloc, keeper, &step.batch)?.is_ok() && reads(alloc, keeper, &step.rows)?)
+    if commit(alloc, keeper, &step.batch).is_err() {
+        return Ok(false);
+    }
+    reads(alloc, keeper, &step.rows)
 }
 
 fn is_refused<K: Keeper>(alloc: Global, keeper: &mut K, step: &Step) -> io::Result<bool> {
-    let answer = commit(alloc, keeper, &step.batch)?;
-    Ok(answer == Err(KeeperFault::Failed) && reads(alloc, keeper, &step.rows)?)
+    if commit(alloc, keeper, &step.batch) != Err(KeeperFault::Failed) {
+        return Ok(false);
+    }
+    reads(alloc, keeper, &step.rows)
 }
 
-/// Commits a batch, of which the keys have to rise.
+/// Commits a batch. One whose keys do not rise is neither taken nor refused: it is told as want of memory.
 pub fn commit<K: Keeper>(
     alloc: Global,
     keeper: &mut K,
     batch: &[RowChange],
-) -> io::Result<Result<(), KeeperFault>> {
+) -> Result<(), KeeperFault> {
     if !do_keys_rise(batch) {
-        return Err(wrong());
+        return Err(KeeperFault::Memory);
     }
-    Ok(keeper.commit(alloc, batch))
+    keeper.commit(alloc, batch)
 }
 
 /// Whether a keeper reads these rows, in this order, with all their fields.
@@ -122,8 +145,8 @@ pub fn text_of(alloc: Global, rows: &[Row]) -> io::Result<String> {
 }
 
 /// Whether a keeper fails at both calls.
-pub fn fails<K: Keeper>(alloc: Global, keeper: &mut K) -> io::Result<bool> {
+pub fn fails<K: Keeper>(alloc: Global, keeper: &mut K) -> bool {
     let cannot_read = matches!(keeper.read_all(alloc), Err(KeeperFault::Failed));
-    let answer = commit(alloc, keeper, &[])?;
-    Ok(cannot_read && answer == Err(KeeperFault::Failed))
+    let answer = commit(alloc, keeper, &[]);
+    cannot_read && answer == Err(KeeperFault::Failed)
 }

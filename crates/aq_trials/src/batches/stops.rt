@@ -1,183 +1,120 @@
 //! A commit, and a preparation, that a stop of the machine cuts short.
-use crate::batches::database::{Stoppable, Store, closed, open, unprepared};
-use crate::batches::step::{Step, commit, text_of, text_read};
-use crate::batches::wrong;
-use aq_keeper::RowChange;
-use aq_sqlite::SqliteKeeper;
-use sqlite::{Alter, Connection, FileStore, Files};
-use sqlite_disk::{Crash, Disk, Fuse, Memory};
+use crate::batches::database::{Calls, Images, Stops, answered, crashed_after};
+use crate::batches::job::{Answer, Job};
+use crate::batches::step::text_of;
 use std::alloc::Global;
 use std::io;
 
-/// A batch, with the rows that stand before it and after it.
-#[derive(Drop)]
-struct Batch<'a> {
-    changes: &'a [RowChange],
-    before: String,
-    after: String,
+/// What is stopped, with the rows that stand before it and after it.
+#[derive(Clone, Copy)]
+struct Task<'a> {
+    job: Job<'a>,
+    before: &'a str,
+    after: &'a str,
 }
 
-/// Whether a batch that is stopped at any call of the log or of the file is done or not. The log is written
-/// alone, and the file when it is closed.
-pub fn are_done_or_not(
+/// How a task came out that was stopped at a call.
+#[derive(Clone, Copy)]
+enum Outcome {
+    /// The calls do not suffice to begin.
+    Unopened,
+    Stopped,
+    Done,
+    Wrong,
+}
+
+/// Whether the batch that some steps leave is done or not, if it is stopped at any call of the log or of the file.
+/// The log is written alone, and the file when it is closed.
+pub fn are_done_or_not<D: Stops>(
     alloc: Global,
-    mut keeper: SqliteKeeper<Store>,
-    step: &Step,
+    images: &Images,
+    taken: &Answer,
 ) -> io::Result<bool> {
-    let batch = Batch {
-        changes: step.batch.as_slice(),
-        before: text_read(alloc, &mut keeper)?,
-        after: text_of(alloc, &step.rows)?,
+    if !taken.is_well || taken.step.batch.is_empty() {
+        return Ok(taken.is_well);
+    }
+    let after = text_of(alloc, &taken.step.rows)?;
+    let task = Task {
+        job: Job::Commits(taken.step.batch.as_slice()),
+        before: taken.rows.as_str(),
+        after: after.as_str(),
     };
-    let Some(files) = closed(keeper.into_connection()) else {
-        return Err(wrong());
-    };
-    Ok(stop_each(alloc, &files, true, &batch)? && stop_each(alloc, &files, false, &batch)?)
+    // A commit is stopped at one call of the log at least.
+    Ok(
+        stop_each::<D>(alloc, images, true, &task, false)
+            && stop_each::<D>(alloc, images, false, &task, true),
+    )
 }
 
 /// Whether a database that is stopped at any call of the log or of the file while it is prepared tells the
 /// rows that it tells when it is not stopped.
-pub fn are_prepared_or_not(alloc: Global, files: &Files<Stoppable>) -> io::Result<bool> {
-    let Some(keeper) = open(alloc, copy(alloc, files, true, u64::MAX)?) else {
-        return Err(wrong());
+pub fn are_prepared_or_not<D: Stops>(alloc: Global, images: &Images) -> bool {
+    let told = answered::<D>(alloc, images, &Job::Tells);
+    let task = Task {
+        job: Job::Prepares,
+        before: told.rows.as_str(),
+        after: told.rows.as_str(),
     };
-    let rows = text_found(alloc, keeper)?;
-    Ok(
-        prepare_each(alloc, files, true, rows.as_str())?
-            && prepare_each(alloc, files, false, rows.as_str())?,
-    )
+    told.is_well
+        && stop_each::<D>(alloc, images, true, &task, true)
+        && stop_each::<D>(alloc, images, false, &task, true)
 }
 
-/// Stops the preparation at each call of the log or of the file in turn, until it is done.
-fn prepare_each(
+/// Stops a task at each call of the log or of the file in turn, until it is done.
+fn stop_each<D: Stops>(
     alloc: Global,
-    files: &Files<Stoppable>,
+    images: &Images,
     is_log: bool,
-    rows: &str,
-) -> io::Result<bool> {
+    task: &Task<'_>,
+    may_be_whole: bool,
+) -> bool {
+    let mut is_stopped = may_be_whole;
     for calls in 0..400 {
-        let Some((is_done, found)) = stop_preparing(alloc, copy(alloc, files, is_log, calls)?)?
-        else {
-            continue;
-        };
-        if found.as_str() != rows {
-            return Ok(false);
-        }
-        if is_done {
-            return Ok(true);
+        match stop::<D>(alloc, images, calls_of(is_log, calls), task) {
+            Outcome::Unopened => {}
+            Outcome::Stopped => is_stopped = true,
+            Outcome::Done => return is_stopped,
+            Outcome::Wrong => return false,
         }
     }
-    Ok(false)
+    false
 }
 
-/// Whether the tables were prepared, and the rows that are found after a stop; nothing if the calls do not
-/// suffice to open the files.
-fn stop_preparing<D: Crash + Drop>(
-    alloc: Global,
-    files: Files<D>,
-) -> io::Result<Option<(bool, String)>> {
-    let Some(keeper) = unprepared(alloc, files) else {
-        return Ok(None);
-    };
-    let (is_done, connection) = prepared(alloc, keeper);
-    let Some(keeper) = open(alloc, left(connection)) else {
-        return Err(wrong());
-    };
-    Ok(Some((is_done, text_found(alloc, keeper)?)))
-}
-
-/// The connection of a keeper, once its tables were to be prepared, and whether that was done.
-fn prepared<S: Alter + Drop>(alloc: Global, mut keeper: SqliteKeeper<S>) -> (bool, Connection<S>) {
-    let is_done = keeper.prepare(alloc).is_ok();
-    (is_done, keeper.into_connection())
-}
-
-/// Stops a commit at each call of the log or of the file in turn, until it is done.
-fn stop_each(
-    alloc: Global,
-    files: &Files<Stoppable>,
-    is_log: bool,
-    batch: &Batch<'_>,
-) -> io::Result<bool> {
-    let mut is_stopped = false;
-    for calls in 0..200 {
-        let files = copy(alloc, files, is_log, calls)?;
-        let Some((is_done, found)) = stop(alloc, files, batch.changes)? else {
-            continue;
-        };
-        let is_after = found.as_str() == batch.after.as_str();
-        if is_done {
-            return Ok(is_after && (is_stopped || !is_log));
+fn calls_of(is_log: bool, calls: u64) -> Calls {
+    if is_log {
+        Calls {
+            log: calls,
+            db: u64::MAX,
         }
-        if !is_after && found.as_str() != batch.before.as_str() {
-            return Ok(false);
-        }
-        is_stopped = true;
-    }
-    Ok(false)
-}
-
-/// A copy of the files, of which the log or the file passes so many calls on.
-fn copy(
-    alloc: Global,
-    files: &Files<Stoppable>,
-    is_log: bool,
-    calls: u64,
-) -> io::Result<Files<Stoppable>> {
-    let (of_log, of_db) = if is_log {
-        (calls, u64::MAX)
     } else {
-        (u64::MAX, calls)
-    };
-    Ok(Files {
-        log: disk(alloc, files.log.inner().bytes(), of_log)?,
-        db: disk(alloc, files.db.inner().bytes(), of_db)?,
-    })
+        Calls {
+            log: u64::MAX,
+            db: calls,
+        }
+    }
 }
 
-/// A disk with these bytes that passes so many calls on.
-fn disk(alloc: Global, bytes: &[u8], calls: u64) -> io::Result<Stoppable> {
-    let mut disk = Memory::new(alloc);
-    disk.write_at(0, bytes)?;
-    disk.sync()?;
-    Ok(Fuse::new(disk, calls))
+/// How a task over some files comes out.
+fn stop<D: Stops>(alloc: Global, images: &Images, calls: Calls, task: &Task<'_>) -> Outcome {
+    let mut answer = Answer::new(alloc);
+    match crashed_after::<D>(alloc, images, calls, &task.job, &mut answer) {
+        Some(images) => {
+            let told = answered::<D>(alloc, &images, &Job::Tells);
+            outcome_of(task, answer.is_well, &told)
+        }
+        None => Outcome::Unopened,
+    }
 }
 
-/// Whether a commit over the files was done, and the rows that are found after a stop; nothing if the calls
-/// do not suffice to prepare the tables.
-fn stop<D: Crash + Drop>(
-    alloc: Global,
-    files: Files<D>,
-    batch: &[RowChange],
-) -> io::Result<Option<(bool, String)>> {
-    let Some(keeper) = open(alloc, files) else {
-        return Ok(None);
-    };
-    let (is_done, connection) = taken(alloc, keeper, batch)?;
-    let Some(keeper) = open(alloc, left(connection)) else {
-        return Err(wrong());
-    };
-    Ok(Some((is_done, text_found(alloc, keeper)?)))
-}
-
-/// The connection of a keeper, once it took a batch, and whether that was done.
-fn taken<S: Alter + Drop>(
-    alloc: Global,
-    mut keeper: SqliteKeeper<S>,
-    batch: &[RowChange],
-) -> io::Result<(bool, Connection<S>)> {
-    let is_done = commit(alloc, &mut keeper, batch)?.is_ok();
-    Ok((is_done, keeper.into_connection()))
-}
-
-fn text_found<S: Alter + Drop>(alloc: Global, mut keeper: SqliteKeeper<S>) -> io::Result<String> {
-    text_read(alloc, &mut keeper)
-}
-
-/// What a stop leaves of the files.
-fn left<D: Crash + Drop>(connection: Connection<FileStore<D>>) -> Files<D> {
-    let mut files = connection.into_store().close();
-    files.log.crash();
-    files.db.crash();
-    files
+fn outcome_of(task: &Task<'_>, is_done: bool, told: &Answer) -> Outcome {
+    let found = told.rows.as_str();
+    let is_after = told.is_well && found == task.after;
+    let is_before = told.is_well && found == task.before;
+    if is_done && is_after {
+        Outcome::Done
+    } else if !is_done && (is_after || is_before) {
+        Outcome::Stopped
+    } else {
+        Outcome::Wrong
+    }
 }
