@@ -10,6 +10,7 @@ pub mod DueHours
 pub mod Durations
 pub mod EventRows
 pub mod FlagRows
+pub mod LateDays
 pub mod LatestDays
 pub mod LinesLeft
 pub mod ListRows

@@ -1,5 +1,5 @@
 -- The last day with an observation: of listed monitors, of a site and pollutant, and of the office (own).
-use Rattle.std.specs.Prelude.{ℕ, max, Option, Some, None, List, [], ◌∷◌, map, flat_map}
+use Rattle.std.specs.Prelude.{ℕ, ◌*◌, max, Option, Some, None, List, [], ◌∷◌, map, flat_map}
 use Rattle.aq_base.specs.Site.{Site}
 use Rattle.aq_base.specs.declared.monitor.Pollutant.{Pollutant}
 use Rattle.aq_rules.specs.Listed.Monitors.{ListedMonitor, listed_monitor, listed_monitors, monitors_of}
@@ -11,6 +11,11 @@ abbrev pub later : Option ℕ → Option ℕ → Option ℕ
 later None other = other
 later (Some day) None = Some day
 later (Some day) (Some other) = Some (max day other)
+
+-- the first hour of a day, and that of all days if there is none
+abbrev pub first_hour : Option ℕ → ℕ
+first_hour None = 0
+first_hour (Some day) = 24 * day
 
 -- the latest of the last days of monitors
 abbrev pub latest : List ListedMonitor → Option ℕ

@@ -1,15 +1,16 @@
 //! The last day with an observation: of the office, and of a site and pollutant.
-ghost use Rattle.std.specs.Prelude.{◌≡◌, [], map};
+ghost use Rattle.std.specs.Prelude.{◌≡◌, List, [], map};
 ghost use Rattle.std.specs.List.{cons_option};
-ghost use Rattle.aq_listed.specs.LastDay.{last_day, last_day_at, later, latest};
+ghost use Rattle.aq_base.specs.declared.office.OfficeRecord.{OfficeRecord};
+ghost use Rattle.aq_listed.specs.LastDay.{first_hour, last_day, last_day_at, later, latest};
 ghost use Rattle.aq_listed.specs.Registrations.{registered_monitor};
 ghost use Rattle.aq_registry.specs.Registry.{office_with};
 ghost use Rattle.aq_rules.specs.Listed.Monitors as listed;
 ghost use Rattle.aq_rules.specs.Office.Office.{IsOffice};
 ghost use Rattle.aq_series.specs.OfficeView.{office_of};
 
-use crate::monitor_list::listed_monitor;
-use aq_base::{Day, MonitorId, Pollutant, SiteId, Steps};
+use crate::standing_days::observed;
+use aq_base::{Day, Hour, LAST_HOUR, MonitorId, Pollutant, SiteId, Steps};
 use aq_registry::Registry;
 use aq_shelf::Shelf;
 use std::sync::ledger::Ledger;
@@ -66,25 +67,54 @@ pub fn last_day_at<L: Ledger>(
             pollutant,
             poc,
         };
-        day = later(day, last_of_monitor(shelf, registry, &id, steps));
+        day = later_of_monitor(shelf, registry, &id, day, steps);
         after = poc;
     }
     day
 }
 
-/// The last day of a monitor, if it is registered.
-fn last_of_monitor<L: Ledger>(
+/// The later of a day and of the last day of a monitor, if it is registered.
+fn later_of_monitor<L: Ledger>(
     shelf: &Shelf,
     registry: &Registry,
     id: &MonitorId,
+    day: Option<Day>,
     steps: &mut Steps<L>,
 ) -> Option<Day>
-    ensures { result ≡ latest (map (listed.listed_monitor (office_of registry.now shelf.now)) (cons_option (registered_monitor registry.now id.now) [])) }
+    ensures { result ≡ later day (latest (map (listed.listed_monitor (office_of registry.now shelf.now)) (cons_option (registered_monitor registry.now id.now) []))) }
 {
-    let Some(registered) = registry.monitor(*id) else {
-        return None;
-    };
-    listed_monitor(shelf, id, registered, steps).last
+    match registry.monitor(*id) {
+        Some(_) => {
+            let last = last_since(shelf, id, &day, steps);
+            later(day, last)
+        }
+        None => day,
+    }
+}
+
+/// The last day of a monitor, as far as it is not before a day: only what stands from that day on is looked at.
+fn last_since<L: Ledger>(
+    shelf: &Shelf,
+    id: &MonitorId,
+    day: &Option<Day>,
+    steps: &mut Steps<L>,
+) -> Option<Day>
+    ensures { (records : List OfficeRecord) (registered : listed.RegisteredMonitor) → registered.id ≡ id.now
+        → later day.now result ≡ later day.now (listed.listed_monitor (office_of records shelf.now) registered).last }
+{
+    let first = first_hour(day);
+    let number = first.number();
+    observed(shelf.span(*id, first, LAST_HOUR + 1 - number, steps)).last
+}
+
+/// The first hour of a day, and that of all days if there is none.
+fn first_hour(day: &Option<Day>) -> Hour
+    ensures { result ≡ first_hour day.now }
+{
+    match day {
+        Some(day) => Hour::new(24 * u32::from(day.number())),
+        None => Hour::new(0),
+    }
 }
 
 /// The later of two days, if there are any.

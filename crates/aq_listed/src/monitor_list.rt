@@ -97,7 +97,7 @@ fn add_monitor<L: Ledger>(
 
 /// A monitor of this duration that is eligible or not, with what stands of it, by its stretches of
 /// observations and not by a walk over them.
-pub(crate) fn listed_monitor<L: Ledger>(
+fn listed_monitor<L: Ledger>(
     shelf: &Shelf,
     id: &MonitorId,
     registered: (Duration, bool),

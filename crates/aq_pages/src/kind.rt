@@ -1,5 +1,5 @@
 //! The kinds of sheets that the commands of `airdv` print, and the kind of a sheet.
-ghost use Rattle.std.specs.Prelude.{◌≡◌, ◌&&◌, find, map, option_map};
+ghost use Rattle.std.specs.Prelude.{◌≡◌, false, find, map, option_map};
 ghost use Rattle.aq_pages.specs.Kinds as book;
 ghost use Rattle.aq_pages.specs.Kinds.{has_names, kind_named, names_of, same_words};
 
@@ -378,11 +378,27 @@ fn are_named(names: &[&str], heads: &[Line]) -> bool
     }
 }
 
+/// Whether heads and columns are as many as those of a kind. It looks at none of their names.
+fn are_as_many(heads: &[Line], columns: &[Bytes], kind: &Kind) -> bool
+    ensures { result ≡ false → has_names (names_of heads.now) columns.now kind.now ≡ false }
+{
+    if kind.heads.len() != heads.len() {
+        return false;
+    }
+    if kind.columns.len() != columns.len() {
+        return false;
+    }
+    true
+}
+
 /// Whether heads and columns have the names of a kind.
 #[tactic(auto, unfolding(crate::specs::Kinds::has_names))]
 fn is_of(heads: &[Line], columns: &[Bytes], kind: &Kind) -> bool
     ensures { result ≡ has_names (names_of heads.now) columns.now kind.now }
 {
+    if !are_as_many(heads, columns, kind) {
+        return false;
+    }
     are_named(kind.heads, heads) && are_same(kind.columns, columns)
 }
 

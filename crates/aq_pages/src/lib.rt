@@ -12,7 +12,9 @@
 //!   pages, with the style.
 //! - The pieces of such a page, for pages that are made otherwise: `write_escaped`, `write_cell`,
 //!   `write_table_start`, `write_column_names`, `write_table_end`, `write_level_words`, `write_picture` and
-//!   `write_words`. `has_picture` says whether anything is drawn of a kind.
+//!   `write_words`. `are_plain` says that a text is escaped as it is. `has_picture` says whether anything is
+//!   drawn of a kind, `drawn_places` and `is_number` of which words that hangs, and `in_its_place` what stands
+//!   there if nothing is.
 //! - Inside, `kind` says what a sheet is called and what is drawn of it, `words` what its heads and columns
 //!   mean, `subject` what it is about, and `html`, `numbers`, `level`, `bars`, `day` and `year` write it;
 //!   `ranked` has the ten highest days of a year.

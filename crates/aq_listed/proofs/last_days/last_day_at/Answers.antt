@@ -1,4 +1,5 @@
-use Rattle.std.proofs.Common.{length, map, ap, sym, ◌∙◌, arith}
+use Rattle.std.proofs.Common.{[], length, map, refl, ap, sym, ◌∙◌, arith}
+use Rattle.std.specs.List.{cons_option}
 use Rattle.aq_rules.specs.Listed.Monitors.{listed_monitor, monitors_of}
 use Rattle.aq_series.proofs.SitePocs.{pocs-next}
 use Rattle.aq_series.specs.OfficeView.{office_of}
@@ -14,8 +15,8 @@ loop-poc-smaller g c =
 
 pub loop-poc-preserved : goal.loop-poc-preserved
 loop-poc-preserved g c =
-    later_monitor (listed_monitor (office_of c.args.registry.now c.args.shelf.now)) (latest (map (listed_monitor (office_of c.args.registry.now c.args.shelf.now)) (monitors_above c.args.registry.now c.args.site c.args.pollutant 0))) c.loop-poc.day c.last_of_monitor.result c.later-day.result (monitor_of_poc c.args.registry.now c.args.site c.args.pollutant c.in-Some.poc)
-    (monitors_above c.args.registry.now c.args.site c.args.pollutant c.loop-poc.after) (monitors_above c.args.registry.now c.args.site c.args.pollutant c.in-Some.poc) c.later-day.ensures c.last_of_monitor.ensures
+    later_monitor (listed_monitor (office_of c.args.registry.now c.args.shelf.now)) (latest (map (listed_monitor (office_of c.args.registry.now c.args.shelf.now)) (monitors_above c.args.registry.now c.args.site c.args.pollutant 0))) c.loop-poc.day (latest (map (listed_monitor (office_of c.args.registry.now c.args.shelf.now)) (cons_option (monitor_of_poc c.args.registry.now c.args.site c.args.pollutant c.in-Some.poc) []))) c.later_of_monitor-day.result (monitor_of_poc c.args.registry.now c.args.site c.args.pollutant c.in-Some.poc)
+    (monitors_above c.args.registry.now c.args.site c.args.pollutant c.loop-poc.after) (monitors_above c.args.registry.now c.args.site c.args.pollutant c.in-Some.poc) c.later_of_monitor-day.ensures refl
     (monitors_next c.args.registry.now c.args.site c.args.pollutant c.loop-poc.after c.in-Some.poc c.next_poc.ensures.valid (sym c.next_poc.ensures.value ∙ c.in-Some.is)) c.loop-poc.invariant
 
 pub returns-clause-day : goal.returns-clause-day
