@@ -10,7 +10,7 @@
 //! - `Book::check`, `reply_of`, `digest_of`: what becomes of a load's number (`LoadCheck`), and what is
 //!   kept of a load.
 //! - `Book::stage`, `batch`, `take`: a load beside the book (`Staged`), its changes of rows, and the change
-//!   of the book by it.
+//!   of the book by it. `windows_after`: a day's windows after a load, for whoever asks nothing else.
 //! - `Book::windows`, `season`, `is_approved`, `ozone_days`, `ozone_year`, `pm25_year`, `pm10_year`,
 //!   `design_value`, `observations`, `observation_count`: questions; `UnknownSite` and `AskFault` say
 //!   why one has no answer.
@@ -30,6 +30,8 @@
 //!   office with what is staged is the one after the load, and its batch is the book's (`stage`,
 //!   `batch`). Once taken, the book is that of this office; after want of memory nothing stands in it
 //!   (`take`).
+//! - A day's windows after a load are those of the office that it leaves, without a cell of it
+//!   (`windows_after`).
 //! - A question of a site is answered as the book of rules answers it, and refused exactly if no monitor
 //!   of the site is registered, or for want of memory where its answer takes some.
 //! - Each cell that is kept is the office's, in every book (the invariant of `Book`): a load that is taken
@@ -63,6 +65,7 @@ mod ozone;
 mod particle_days;
 mod question;
 mod report;
+mod unsettled;
 mod version_1;
 
 pub use aq_rows::{OpenFault, Place};

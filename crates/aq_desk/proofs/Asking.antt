@@ -40,9 +40,9 @@ lacks-status (lack.NoLoad number) = inr (inr (inr (inr refl)))
 
 -- ---- an answer that was found
 
-pub printout_is : (question : Question) (office : Office) (found kind : answers.Answer) → answer office question ≡ seen found → found ≡ kind → ask_printout question office ≡ answered (seen kind)
+pub of_answer : (P : Printout → Type 0) (question : Question) (office : Office) (found : answers.Answer) → answer office question ≡ seen found → P (answered (seen found)) → P (ask_printout question office)
 unfolding ask_printout
-printout_is question office found kind is same = ap answered (is ∙ ap seen same)
+of_answer P question office found is holds = subst P (ap answered (sym is)) holds
 
 -- ---- and over the tables
 

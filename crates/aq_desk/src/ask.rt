@@ -1,8 +1,9 @@
 //! The commands that ask.
 ghost use Rattle.std.specs.Prelude.{◌≡◌, false, IfErr, IfOk, IsTrue};
 ghost use Rattle.aq_keeper.specs.Told.{told_through};
+ghost use Rattle.aq_office.specs.Answers.{seen};
 ghost use Rattle.aq_rules.specs.Questions.Asking.{is_asked};
-ghost use Rattle.aq_desk.specs.Ask.{IsUnanswered, ask_outcome, ask_printout};
+ghost use Rattle.aq_desk.specs.Ask.{IsUnanswered, answered, ask_outcome, ask_printout};
 ghost use Rattle.aq_desk.specs.Command.{RisesAt, WritesNothing, printed};
 ghost use Rattle.aq_desk.specs.Office.{OnlyMigrates};
 ghost use Rattle.aq_outside.specs.Outside.{OfTold};
@@ -51,7 +52,16 @@ pub(crate) fn text_of_answer(alloc: Global, book: &Book, question: &Question) ->
     ensures text { IfOk result (λ text. ask_printout question.now book.now ≡ printed text) }
     ensures refused { IfErr result (IsUnanswered (ask_printout question.now book.now)) }
 {
-    match answer_to(alloc, book, question)? {
+    let answer = answer_to(alloc, book, question)?;
+    shown_text(alloc, answer)
+}
+
+/// The text of an answer.
+pub(crate) fn shown_text(alloc: Global, answer: Answer) -> Result<Bytes, Stop>
+    ensures text { IfOk result (λ text. answered (seen answer) ≡ printed text) }
+    ensures refused { IfErr result (IsUnanswered (answered (seen answer))) }
+{
+    match answer {
         Answer::Sheets(sheets) => Ok(Bytes::from_vec(texts_of(alloc, sheets.as_slice())?)),
         Answer::Text(text) => Ok(Bytes::from_vec(text)),
         Answer::Lacks(what) => Err(Stop::Lacks(what)),

@@ -1,28 +1,27 @@
 //! The command `scan`.
-ghost use Rattle.std.specs.Prelude.{◌≡◌, ◌<◌, true, IfErr, OnOk};
+ghost use Rattle.std.specs.Prelude.{◌≡◌, true, IfErr, IfOk};
 ghost use Rattle.aq_base.specs.declared.question.Question.TheVariants.{Windows};
 ghost use Rattle.aq_book.specs.Staged.{office_with, Fits};
 ghost use Rattle.aq_rules.specs.Shown.Sheet.{text_of};
 ghost use Rattle.aq_rules.specs.Shown.Sheets.{load_sheet};
-ghost use Rattle.aq_desk.specs.Ask.{ask_printout};
+ghost use Rattle.aq_desk.specs.Ask.{IsUnanswered, ask_printout};
 ghost use Rattle.aq_desk.specs.Command.{after_text, printed, RisesAt, WritesNothing};
 ghost use Rattle.aq_outside.specs.Outside.{OfTold};
 ghost use Rattle.aq_desk.specs.Scan.{scan_answer, scan_outcome};
 ghost use Rattle.aq_desk.specs.Stop.{HasCauses, HasRead, IsCutShort, IsMeasured, IsTaken, Obeys, status_of};
 ghost use Rattle.aq_desk.specs.declared.status.TheConstants.{DOOR_FAILED, KEEPER_FAILED, OUTPUT_FAILED};
 
-use crate::ask::text_of_answer;
+use crate::ask::shown_text;
 use crate::body::{body_of, read_body};
 use crate::stop::Stop;
 use crate::writing::{print_sheet, print_text};
-use aq_base::{Day, Memory, Question, SiteId, Steps};
+use aq_base::{Bytes, Day, SiteId};
 use aq_book::{Book, Staged};
 use aq_forms::Body;
+use aq_office::windows_answer_after;
 use aq_outside::{Sink, Source};
 use aq_reports::load_sheet;
 use std::alloc::Global;
-use std::marker::Brand;
-use std::sync::ledger::{Blank, Ledger};
 
 /// Takes the input as a load over an office of which nothing stands, and prints the reply and then the
 /// day's windows.
@@ -63,30 +62,30 @@ fn answer<O: Sink>(
         (O.seen output.new).faults }
 {
     // A load with this number is not kept, and its digest is not looked at.
-    let mut book = Book::new(alloc);
+    let book = Book::new(alloc);
     let staged = book.stage(alloc, 0, [0; 32], body)?;
-    print_staged(alloc, &mut book, staged, site, day, output)
+    print_staged(alloc, book, staged, site, day, output)
 }
 
-/// Prints the reply to a staged load, and then the day's windows of the book that took it.
+/// Prints the reply to a staged load, and then the day's windows of the office that it leaves.
 fn print_staged<O: Sink>(
     alloc: Global,
-    book: &mut Book,
+    book: Book,
     staged: Staged,
     site: SiteId,
     day: Day,
     output: &mut O,
 ) -> Result<(), Stop>
-    requires { Fits staged book.old }
+    requires { Fits staged book }
     ensures told { Obeys (after_text (text_of (load_sheet staged.reply))
-        (ask_printout (Windows site day) (office_with staged book.old))) result
+        (ask_printout (Windows site day) (office_with staged book))) result
         (O.seen output.old) (O.seen output.new) }
     ensures taken { IsTaken (status_of result) }
     ensures output_failed { RisesAt OUTPUT_FAILED (status_of result) (O.seen output.old).faults
         (O.seen output.new).faults }
 {
     print_reply(alloc, &staged, output)?;
-    print_taken(alloc, book, staged, site, day, output)
+    print_windows(alloc, book, staged, site, day, output)
 }
 
 /// Prints the reply to a staged load.
@@ -101,52 +100,40 @@ fn print_reply<O: Sink>(alloc: Global, staged: &Staged, output: &mut O) -> Resul
     print_sheet(alloc, &sheet, output)
 }
 
-/// Takes a staged load, and prints the day's windows.
-fn print_taken<O: Sink>(
+/// Prints the day's windows of the office that a staged load leaves, if the site is registered in it.
+fn print_windows<O: Sink>(
     alloc: Global,
-    book: &mut Book,
+    book: Book,
     staged: Staged,
     site: SiteId,
     day: Day,
     output: &mut O,
 ) -> Result<(), Stop>
-    requires { Fits staged book.old }
-    ensures told { Obeys (ask_printout (Windows site day) (office_with staged book.old)) result
+    requires { Fits staged book }
+    ensures told { Obeys (ask_printout (Windows site day) (office_with staged book)) result
         (O.seen output.old) (O.seen output.new) }
     ensures taken { IsTaken (status_of result) }
     ensures output_failed { RisesAt OUTPUT_FAILED (status_of result) (O.seen output.old).faults
         (O.seen output.new).faults }
 {
-    take_uncounted::<Brand>(book, staged, Blank::new(1))?;
-    print_windows(alloc, book, site, day, output)
+    let text = text_of_windows(alloc, book, staged, site, day)?;
+    print_text(text.as_slice(), output)
 }
 
-/// Takes a staged load, on a counter of its own, which nobody reads.
-fn take_uncounted<L: Ledger>(book: &mut Book, staged: Staged, blank: Blank) -> Result<(), Memory>
-    requires name { blank.name ≡ L.name }
-    requires parts { blank.parts ≡ L.parts }
-    requires some { 0 < L.parts }
-    requires fits { Fits staged book.old }
-    ensures { OnOk result (book.new ≡ office_with staged book.old) }
-{
-    let mut steps = Steps::<L>::new(blank);
-    book.take(staged, &mut steps)
-}
-
-/// Prints the day's windows of a registered site.
-fn print_windows<O: Sink>(
+/// The text of the day's windows of the office that a staged load leaves.
+fn text_of_windows(
     alloc: Global,
-    book: &Book,
+    book: Book,
+    staged: Staged,
     site: SiteId,
     day: Day,
-    output: &mut O,
-) -> Result<(), Stop>
-    ensures told { Obeys (ask_printout (Windows site day) book.now) result (O.seen output.old)
-        (O.seen output.new) }
-    ensures taken { IsTaken (status_of result) }
-    ensures output_failed { RisesAt OUTPUT_FAILED (status_of result) (O.seen output.old).faults
-        (O.seen output.new).faults }
+) -> Result<Bytes, Stop>
+    requires { Fits staged book }
+    ensures text { IfOk result
+        (λ text. ask_printout (Windows site day) (office_with staged book) ≡ printed text) }
+    ensures refused { IfErr result
+        (IsUnanswered (ask_printout (Windows site day) (office_with staged book))) }
 {
-    let text = text_of_answer(alloc, book, &Question::Windows(site, day))?;
-    print_text(text.as_slice(), output)
+    let answer = windows_answer_after(alloc, book, staged, site, day)?;
+    shown_text(alloc, answer)
 }

@@ -1,6 +1,8 @@
 //! The answers to questions about an office.
 ghost use Rattle.std.specs.Prelude.{◌≡◌, ◌<◌, IfOk, IsTrue};
 ghost use Rattle.aq_base.specs.declared.question.Question.{Question as Asked};
+ghost use Rattle.aq_base.specs.declared.question.Question.TheVariants.{Windows};
+ghost use Rattle.aq_book.specs.Staged.{office_with, Fits};
 ghost use Rattle.aq_rules.specs.Office.Office.{IsOffice, Office};
 ghost use Rattle.aq_rules.specs.Questions.Answer as questions;
 ghost use Rattle.aq_rules.specs.Questions.Asking.{is_asked};
@@ -18,10 +20,12 @@ use crate::lists::{
 };
 use crate::loads::loads_of;
 use crate::reports::reports_of;
-use crate::sheets::{export_of, pm10_of, pm25_of, reply_of, report_of, value_of, windows_of};
+use crate::sheets::{
+    answer_of_windows, export_of, pm10_of, pm25_of, reply_of, report_of, value_of, windows_of,
+};
 use crate::what_if::{decisive_of, what_if_of};
-use aq_base::{Items, Memory, Question, SiteId, Steps};
-use aq_book::Book;
+use aq_base::{Day, Items, Memory, Question, SiteId, Steps};
+use aq_book::{Book, Staged};
 use aq_rules::shown::well_formed::{answers_are_well_formed, sheets_of_lists_are_well_formed};
 use aq_sheets::{Sheet, list};
 use std::alloc::Global;
@@ -79,6 +83,42 @@ pub fn answer_to(alloc: Global, book: &Book, question: &Question) -> Result<Answ
     ensures shown { IsOffice book.now → IfOk result (λ found. IsShown found) }
 {
     counted::<Brand>(alloc, book, question, Blank::new(1))
+}
+
+/// The answer to a day's 8-hour averages over the office that a load leaves which fits the book: one that was
+/// staged on it. No cell of that office is brought up to date for it, and the book is gone. Nobody counts the
+/// steps.
+pub fn windows_answer_after(
+    alloc: Global,
+    book: Book,
+    staged: Staged,
+    site: SiteId,
+    day: Day,
+) -> Result<Answer, Memory>
+    requires { Fits staged book }
+    ensures { IfOk result (λ found. questions.answer (office_with staged book) (Windows site day) ≡ seen found) }
+{
+    windows_after::<Brand>(alloc, book, staged, site, day, Blank::new(1))
+}
+
+/// The same on a counter of its own, which nobody reads.
+fn windows_after<L: Ledger>(
+    alloc: Global,
+    book: Book,
+    staged: Staged,
+    site: SiteId,
+    day: Day,
+    blank: Blank,
+) -> Result<Answer, Memory>
+    requires name { blank.name ≡ L.name }
+    requires parts { blank.parts ≡ L.parts }
+    requires some { 0 < L.parts }
+    requires fits { Fits staged book }
+    ensures { IfOk result (λ found. questions.answer (office_with staged book) (Windows site day) ≡ seen found) }
+{
+    let mut steps = Steps::<L>::new(blank);
+    let found = book.windows_after(staged, site, day, &mut steps)?;
+    answer_of_windows(alloc, site, day, found)
 }
 
 /// The same on a counter of its own, which nobody reads.

@@ -1,14 +1,17 @@
 //! The answers of one sheet or one text.
-ghost use Rattle.std.specs.Prelude.{◌≡◌, ◌≤◌, IfOk, IsTrue};
+ghost use Rattle.std.specs.Prelude.{◌≡◌, ◌≤◌, is_ok, IfOk, IsTrue};
 ghost use Rattle.aq_base.specs.Calendar.{is_design_year, is_year};
 ghost use Rattle.aq_base.specs.declared.question.Question.TheVariants as question;
-ghost use Rattle.aq_rules.specs.Questions.Answer.{answer};
+ghost use Rattle.aq_rules.specs.Office.Office.{Office};
+ghost use Rattle.aq_rules.specs.Ozone.OzoneDay as ozone;
+ghost use Rattle.aq_rules.specs.Questions.Answer.{answer, is_registered};
 ghost use Rattle.aq_rules.specs.Shown.OtherSheets.{report_answer};
 ghost use Rattle.aq_office.specs.Answers.{IsShown, seen};
 
 use crate::answers::{Answer, Lack};
 use aq_base::{Day, Memory, Pollutant, SiteId, Standard, Steps};
 use aq_book::{AskFault, Book, UnknownSite};
+use aq_ozone::DayWindows;
 use aq_reports::{load_sheet, pm10_sheet, pm25_sheet, report_sheet, value_sheet, windows_sheet};
 use aq_sheets::{Sheet, export_of as export_text};
 use std::alloc::Global;
@@ -96,7 +99,6 @@ pub(crate) fn reply_of(alloc: Global, book: &Book, number: u32) -> Result<Answer
 }
 
 /// The 8-hour averages of a day.
-#[tactic(auto, unfolding(aq_rules::specs::Questions::Answer::answer, aq_rules::specs::Shown::Sheets::windows_answer))]
 pub(crate) fn windows_of<L: Ledger>(
     alloc: Global,
     book: &Book,
@@ -106,7 +108,22 @@ pub(crate) fn windows_of<L: Ledger>(
 ) -> Result<Answer, Memory>
     ensures { IfOk result (λ found. answer book.now (question.Windows site day) ≡ seen found) }
 {
-    match book.windows(site, day, steps) {
+    answer_of_windows(alloc, site, day, book.windows(site, day, steps))
+}
+
+/// The 8-hour averages of a day, which were found in an office, or that the site is not registered in it.
+#[tactic(auto, unfolding(aq_rules::specs::Questions::Answer::answer, aq_rules::specs::Shown::Sheets::windows_answer))]
+pub(crate) fn answer_of_windows(
+    alloc: Global,
+    site: SiteId,
+    day: Day,
+    found: Result<DayWindows, UnknownSite>,
+) -> Result<Answer, Memory>
+    ensures { (office : Office) → is_ok found ≡ is_registered office site
+        → IfOk found (λ windows. windows ≡ ozone.windows office site day)
+        → IfOk result (λ found. answer office (question.Windows site day) ≡ seen found) }
+{
+    match found {
         Ok(windows) => Answer::of_sheet(alloc, windows_sheet(alloc, site, day, &windows)?),
         Err(UnknownSite) => Ok(Answer::no_site(site)),
     }

@@ -7,4 +7,4 @@ returns-in_err-print_reply-clause-told g c =
     cut_behind _ _ c.in_err-print_reply.field-0.0 c.from_residual.result _ _ (stopped_by _ _ c.from_residual.ensures.1) c.in_err-print_reply.ensures.cut c.in_err-print_reply.ensures.told
 
 pub returns-clause-told : goal.returns-clause-told
-returns-clause-told g c = taken_behind _ _ _ _ _ _ _ c.in_ok-print_reply.ensures.told c.print_taken.ensures.told
+returns-clause-told g c = taken_behind _ _ _ _ _ _ _ c.in_ok-print_reply.ensures.told c.print_windows.ensures.told
